@@ -110,6 +110,7 @@ check_feature macros ''
     cd ../bindings/rust/macros && cargo fmt --check && cd ../features/macros &&
         cargo clippy --offline --quiet -p timefd_macros -- -D warnings
 ) || fail "the macro of the crate has a fault"
+./tools
 check_feature serde 'librust-serde-derive-dev, librust-serde-json-dev' serde serde_derive serde_json
 check_feature time librust-time-dev time
 check_feature chrono librust-chrono-dev chrono

@@ -5,8 +5,8 @@
        timefd_answer answer = timefd_judge(TIMEFD_VERSION_3, (const uint8_t *)text, strlen(text));
        if (answer.status == TIMEFD_ACCEPTED) { .. }
 
-   Three more headers are over this one: timefd_text.h for texts that end with a 0, timefd_time.h for the times of <time.h>, and
-   timefd_names.h for the names and sentences of the numbers here.
+   Three more headers are over this one: timefd_text.h for texts of `char`, with a 0 at their end or with a length, timefd_time.h for
+   the times of <time.h>, and timefd_names.h for the names and sentences of the numbers here.
 
    What every call needs, beside what it says itself:
 
@@ -255,7 +255,7 @@ timefd_answer timefd_convert(uint32_t from, uint32_t to, const uint8_t *text, si
 #define TIMEFD_REASON_DATETIME_ONLY 3u      /* Ruby's `DateTime` alone has it */
 #define TIMEFD_REASON_DAY_PERIOD 4u         /* it writes a period of the day, like `in the morning` */
 #define TIMEFD_REASON_ERA 5u                /* it writes an era, and version 3 has none */
-#define TIMEFD_REASON_FLAG 6u               /* no such flag, and none with a width, may stand in front of this directive */
+#define TIMEFD_REASON_FLAG 6u               /* this directive takes no such flag, and none with a width */
 #define TIMEFD_REASON_FRACTION_WIDTH 7u     /* it writes a fraction of a second of more than nine digits */
 #define TIMEFD_REASON_GMT_OFFSET 8u         /* it writes an offset as `GMT+1` */
 #define TIMEFD_REASON_HOUR_FROM_0_OR_24 9u  /* it counts hours from 0 to 11 or from 1 to 24 */
@@ -271,19 +271,19 @@ timefd_answer timefd_convert(uint32_t from, uint32_t to, const uint8_t *text, si
 #define TIMEFD_REASON_QUARTER 19u           /* it writes a quarter, and version 3 has none */
 #define TIMEFD_REASON_READING_ONLY 20u      /* it can be read, and not be written */
 #define TIMEFD_REASON_RESERVED 21u          /* the character is reserved */
-#define TIMEFD_REASON_TOO_MANY_LETTERS 22u  /* no pattern has so many of this letter */
+#define TIMEFD_REASON_TOO_MANY_LETTERS 22u  /* no pattern repeats this letter so often */
 #define TIMEFD_REASON_TWO_DIGIT_YEAR 36u    /* it reads two digits of a year, which tell no century */
 #define TIMEFD_REASON_TWO_LETTER_NAME 23u   /* it writes a weekday in two letters */
 #define TIMEFD_REASON_UNCLOSED_QUOTE 24u    /* no quote closes this one */
 #define TIMEFD_REASON_UNIT_OF_DAY 25u       /* it counts milliseconds or nanoseconds from midnight on */
 #define TIMEFD_REASON_UNKNOWN_DIRECTIVE 26u /* the dialect has no such directive */
-#define TIMEFD_REASON_UNKNOWN_LETTER 27u    /* the letter has no meaning, and stands outside quotes */
+#define TIMEFD_REASON_UNKNOWN_LETTER 27u    /* the letter has no meaning and isn't quoted */
 #define TIMEFD_REASON_UNSUPPORTED 28u       /* libraries differ in what it means, or have it not */
 #define TIMEFD_REASON_VARIABLE_FRACTION 29u /* it writes as many digits of a fraction as it has, or none */
 #define TIMEFD_REASON_VARIABLE_OFFSET 30u   /* it writes as much of an offset as there is */
 #define TIMEFD_REASON_VARIABLE_WIDTH 31u    /* its width depends on the value */
 #define TIMEFD_REASON_WEEK_OF_MONTH 32u     /* it counts weeks or weekdays within the month */
-#define TIMEFD_REASON_WIDTH 33u             /* a width stands in front of the directive */
+#define TIMEFD_REASON_WIDTH 33u             /* the directive has a width */
 #define TIMEFD_REASON_Z_FOR_UTC 34u         /* it writes `Z` for an offset of zero */
 #define TIMEFD_REASON_ZONE_NAME 35u         /* it writes the name of a time zone */
 

@@ -22,7 +22,7 @@ static inline const char *timefd_status_sentence(uint32_t status) {
     switch (status) {
     case TIMEFD_ACCEPTED: return "the text is accepted";
     case TIMEFD_REFUSED: return "the text is no format description";
-    case TIMEFD_NOT_UTF8: return "the bytes are no UTF-8";
+    case TIMEFD_NOT_UTF8: return "the bytes aren't UTF-8";
     case TIMEFD_NO_MEMORY: return "memory ran out";
     case TIMEFD_UNKNOWN_KIND: return "there is no language with this number";
     case TIMEFD_UNSHOWN: return "a component shows nothing of the moment";
@@ -158,7 +158,7 @@ static inline const char *timefd_reason_sentence(uint32_t reason) {
     case TIMEFD_REASON_DATETIME_ONLY: return "Ruby's `DateTime` alone has it";
     case TIMEFD_REASON_DAY_PERIOD: return "it writes a period of the day, like `in the morning`";
     case TIMEFD_REASON_ERA: return "it writes an era, and version 3 has none";
-    case TIMEFD_REASON_FLAG: return "no such flag, and none with a width, may stand in front of this directive";
+    case TIMEFD_REASON_FLAG: return "this directive takes no such flag, and none with a width";
     case TIMEFD_REASON_FRACTION_WIDTH: return "it writes a fraction of a second of more than nine digits";
     case TIMEFD_REASON_GMT_OFFSET: return "it writes an offset as `GMT+1`";
     case TIMEFD_REASON_HOUR_FROM_0_OR_24: return "it counts hours from 0 to 11 or from 1 to 24";
@@ -174,19 +174,19 @@ static inline const char *timefd_reason_sentence(uint32_t reason) {
     case TIMEFD_REASON_QUARTER: return "it writes a quarter, and version 3 has none";
     case TIMEFD_REASON_READING_ONLY: return "it can be read, and not be written";
     case TIMEFD_REASON_RESERVED: return "the character is reserved";
-    case TIMEFD_REASON_TOO_MANY_LETTERS: return "no pattern has so many of this letter";
+    case TIMEFD_REASON_TOO_MANY_LETTERS: return "no pattern repeats this letter so often";
     case TIMEFD_REASON_TWO_DIGIT_YEAR: return "it reads two digits of a year, which tell no century";
     case TIMEFD_REASON_TWO_LETTER_NAME: return "it writes a weekday in two letters";
     case TIMEFD_REASON_UNCLOSED_QUOTE: return "no quote closes this one";
     case TIMEFD_REASON_UNIT_OF_DAY: return "it counts milliseconds or nanoseconds from midnight on";
     case TIMEFD_REASON_UNKNOWN_DIRECTIVE: return "the dialect has no such directive";
-    case TIMEFD_REASON_UNKNOWN_LETTER: return "the letter has no meaning, and stands outside quotes";
+    case TIMEFD_REASON_UNKNOWN_LETTER: return "the letter has no meaning and isn't quoted";
     case TIMEFD_REASON_UNSUPPORTED: return "libraries differ in what it means, or have it not";
     case TIMEFD_REASON_VARIABLE_FRACTION: return "it writes as many digits of a fraction as it has, or none";
     case TIMEFD_REASON_VARIABLE_OFFSET: return "it writes as much of an offset as there is";
     case TIMEFD_REASON_VARIABLE_WIDTH: return "its width depends on the value";
     case TIMEFD_REASON_WEEK_OF_MONTH: return "it counts weeks or weekdays within the month";
-    case TIMEFD_REASON_WIDTH: return "a width stands in front of the directive";
+    case TIMEFD_REASON_WIDTH: return "the directive has a width";
     case TIMEFD_REASON_Z_FOR_UTC: return "it writes `Z` for an offset of zero";
     case TIMEFD_REASON_ZONE_NAME: return "it writes the name of a time zone";
     }
@@ -216,14 +216,14 @@ static inline const char *timefd_reason_cure(uint32_t reason) {
     case TIMEFD_REASON_PLATFORM: return "Write a directive that all platforms have.";
     case TIMEFD_REASON_QUARTER: return "Write the month, or count the quarter in a program.";
     case TIMEFD_REASON_READING_ONLY: return "Write a directive for writing.";
-    case TIMEFD_REASON_RESERVED: return "Quote it, if it is to stand for itself, or leave it out.";
+    case TIMEFD_REASON_RESERVED: return "Quote it if it is meant as text, or leave it out.";
     case TIMEFD_REASON_TOO_MANY_LETTERS: return "Write fewer of them.";
     case TIMEFD_REASON_TWO_DIGIT_YEAR: return "Read by a format with all digits of the year.";
     case TIMEFD_REASON_TWO_LETTER_NAME: return "Write the short name, of three letters.";
-    case TIMEFD_REASON_UNCLOSED_QUOTE: return "Close it; a quote that stands for itself is written twice.";
+    case TIMEFD_REASON_UNCLOSED_QUOTE: return "Close it; write a literal quote twice.";
     case TIMEFD_REASON_UNIT_OF_DAY: return "Write hour, minute, second and fraction.";
-    case TIMEFD_REASON_UNKNOWN_DIRECTIVE: return "Write one that it has; a `%` that stands for itself is written twice.";
-    case TIMEFD_REASON_UNKNOWN_LETTER: return "Quote it, if it is to stand for itself.";
+    case TIMEFD_REASON_UNKNOWN_DIRECTIVE: return "Write one that it has; write a literal `%` twice.";
+    case TIMEFD_REASON_UNKNOWN_LETTER: return "Quote it if it is meant as text.";
     case TIMEFD_REASON_UNSUPPORTED: return "Write a directive that has one meaning.";
     case TIMEFD_REASON_VARIABLE_FRACTION: return "Write a fixed number of digits.";
     case TIMEFD_REASON_VARIABLE_OFFSET: return "Write the offset with its minutes.";

@@ -35,7 +35,7 @@ def about(it, field):
     if field == "sign_is_mandatory" and "range:extended" in it.words:
         return "Whether a year from 0 to 9,999 has a `+`; a later one always has."
     if field == "case_sensitive" and "is_uppercase" in it.fields:
-        return "Whether reading tells capital and small letters apart."
+        return "Whether reading distinguishes capital and small letters."
     return FIELDS[field]["about"]
 
 

@@ -1,7 +1,7 @@
-"""The tables of the dialects: rows of what stands in a format and what it means, and why a part has no text of version 3.
+"""The tables of the dialects: rows of texts in a format and what they mean, and why a part has no text of version 3.
 
 `dialects/NAME.toml` has the rows of a dialect, measured against the real programs, and `dialects/reasons.toml` the reasons. Flags are
-spelled out here, and what a dialect doesn't know becomes a row with a reason: so the longest row that stands at a place decides it.
+spelled out here, and what a dialect doesn't know becomes a row with a reason: so the longest row at a position decides it.
 """
 import functools
 import json
@@ -54,7 +54,7 @@ def of_percent(table):
 
 
 def of_escapes(escape, rows, reserved):
-    """The rows of an escape before a directive or a character of ASCII, which stand for themselves then. Before others it is refused."""
+    """The rows of an escape before a directive or a character of ASCII, which are literal then. Before others it is refused."""
     printable = string.ascii_letters + string.digits + string.punctuation + " "
     escaped = [text for text in rows if text not in reserved] + [c for c in printable if c not in rows and c not in (escape, "[")]
     written = {escape + text: {"v3": f"\\{text}" if text == "]" else text} for text in escaped}
@@ -84,13 +84,13 @@ def rows_of(name):
 
 
 def key_of(name, text):
-    """The byte by which a row is found: the one after the `%`, or the first; the row of `%` alone has none."""
+    """The byte that selects a row: the one after the `%`, or the first; the row of `%` alone has none."""
     return text.encode()[1:2] if load(name)["kind"] == "percent" else text.encode()[:1]
 
 
 @functools.cache
 def groups_of(name):
-    """The rows by the byte that finds them, the longest first. The row of `%` alone stands where no other does."""
+    """The rows by the byte that selects them, the longest first. The row of `%` alone counts where no other does."""
     groups = {}
     for text, row in sorted(rows_of(name).items(), key=lambda it: -len(it[0].encode())):
         groups.setdefault(key_of(name, text), {})[text] = row
@@ -139,7 +139,7 @@ def byte_literal(key):
 
 
 def constant_name(key):
-    """The name of the rows that a byte finds, as `SMALL_D`, `HYPHEN`, `DIGIT_ZERO`."""
+    """The name of the rows that a byte selects, such as `SMALL_D`, `HYPHEN`, `DIGIT_ZERO`."""
     named = {"\n": "LINE_FEED", "\r": "CARRIAGE_RETURN", "-": "HYPHEN", "_": "UNDERSCORE", "^": "CARET", "#": "HASH", ".": "DOT"}
     if key[0] >= 0x80:
         return "LINE_SEPARATOR"
@@ -148,7 +148,7 @@ def constant_name(key):
 
 
 def rust_constant(key, rows):
-    """The rows that a byte finds."""
+    """The rows that a byte selects."""
     written = [rust_row(*row) for row in rows.items()]
     begin = f"const {constant_name(key)}: &[Row] = &["
     line = f"{begin}{', '.join(written)}];"
@@ -203,7 +203,7 @@ def specified_row(text, row):
     return f"{codes(text)} means {codes(row['v3'])}"
 
 
-# What finds a row, as the code says it.
+# What selects a row, as the code says it.
 KEYS = {"percent": "of the directives with this byte after the `%`", "runs": "that begin with this byte", "layout": "that begin with this byte"}
 
 
@@ -218,12 +218,12 @@ def rust_match(name, part, about, others):
 
 
 def rust_keys(name):
-    """The bytes that find rows."""
+    """The bytes that select rows."""
     kept = {'"': '\\"', "\\": "\\\\", "\n": "\\n", "\r": "\\r"}
     keys = [key for part in parts_of(name).values() for key in part]
     listed = "".join(f"\\x{key[0]:X}" if key[0] >= 0x80 else kept.get(chr(key[0]), chr(key[0])) for key in keys)
     unfolded = ", ".join(f"crate::specs::{camel(name)}::{it}" for it in definitions(name))
-    return (f"/// The bytes that find rows.\n#[tactic(auto, unfolding({unfolded}))]\n"
+    return (f"/// The bytes that select rows.\n#[tactic(auto, unfolding({unfolded}))]\n"
             f"pub fn {name}_keys() -> &'static [u8]\n    ensures {{ result.now ≡ keys_of {name}_groups }}\n{{\n    KEYS\n}}\n\n"
             f'const KEYS: &[u8] = b"{listed}";\n\n')
 
@@ -238,7 +238,7 @@ def rust_table(name):
     constants = "\n".join(rust_constant(*group) for group in own.items())
     matches = rust_match(name, "groups", f"The rows {KEYS[load(name)['kind']]}", "marked_rows(byte)" if len(parts) > 1 else "&[]")
     if "marked" in parts:
-        matches += rust_match(name, "marked", "Those of the directives with a flag, a digit or another mark there", "&[]")
+        matches += rust_match(name, "marked", "The rows of directives with a flag, a digit or another mark after the `%`", "&[]")
     return (f"//! The rows of {TITLES[name]}. `tables/write` writes them.\n\n"
             "ghost use Rattle.std.specs.Prelude.{◌≡◌};\nghost use Rattle.timefd_dialect.specs.Groups.{keys_of, rows_at};\n"
             f"ghost use Rattle.timefd_dialect.specs.{camel(name)}.{{{', '.join(definitions(name))}}};\n"
@@ -251,7 +251,7 @@ def definitions(name):
 
 
 def specified_group(key, rows):
-    """A group of rows that a byte finds."""
+    """A group of rows that a byte selects."""
     between = " ∷ " if len(rows) == 1 else "\n    ∷ "
     return f"under {key[0]} ({between.join([specified_row(*row) for row in rows.items()] + ['[]'])})"
 
@@ -275,17 +275,17 @@ def specified_table(name):
     uses.append("use Rattle.timefd_dialect.specs.Groups.{Group, under}")
     uses.append(f"use Rattle.timefd_dialect.specs.Rows.{{{', '.join(words)}}}")
     parts = parts_of(name)
-    text = f"-- The rows of {TITLES[name]}, by the byte that finds them, the longest first.\n" + "\n".join(uses) + "\n"
+    text = f"-- The rows of {TITLES[name]}, by the byte that selects them, the longest first.\n" + "\n".join(uses) + "\n"
     for part, groups in reversed(parts.items()):
         end = f"{name}_marked" if part == "groups" and "marked" in parts else "[]"
         listed = "\n    ∷ ".join([specified_group(*group) for group in groups.items()] + [end])
-        about = "" if part == "groups" else "-- those with a flag, a digit or another mark\n"
+        about = "" if part == "groups" else "-- the groups of a flag, a digit or another mark\n"
         text += f"\n{about}unfoldable pub {name}_{part} : List Group\n{name}_{part} =\n    {listed}\n"
     return text
 
 
 def rust_rows():
-    """The functions that answer the rows that a byte finds in each table, and these bytes."""
+    """The functions that return the rows that a byte selects in each table, and these bytes."""
     rows = "".join(f"            Dialect::{camel(name)} => {name}_rows(byte),\n" for name in NAMES)
     keys = "".join(f"            Dialect::{camel(name)} => {name}_keys(),\n" for name in NAMES)
     uses = "".join(f"use crate::tables::{name}::{{{name}_keys, {name}_rows}};\n" for name in sorted(NAMES))
@@ -294,11 +294,11 @@ def rust_rows():
             "ghost use Rattle.timefd_dialect.specs.Rows.{entries};\n"
             "ghost use Rattle.timefd_dialect.specs.Tables.{groups_of};\n\n"
             f"use crate::dialect::Dialect;\nuse crate::row::Row;\n{uses}\nimpl Dialect {{\n"
-            "    /// The rows that this byte finds, the longest first.\n"
+            "    /// The rows that this byte selects, the longest first.\n"
             "    pub fn rows_at(self, byte: u8) -> &'static [Row]\n"
             "        ensures { entries result.now ≡ rows_at byte (groups_of self) }\n    {\n"
             f"        match self {{\n{rows}        }}\n    }}\n\n"
-            "    /// The bytes that find rows.\n"
+            "    /// The bytes that select rows.\n"
             "    pub fn keys(self) -> &'static [u8]\n"
             "        ensures { result.now ≡ keys_of (groups_of self) }\n    {\n"
             f"        match self {{\n{keys}        }}\n    }}\n}}\n")
@@ -313,7 +313,7 @@ def specified_tables():
             "use Rattle.timefd_dialect.specs.Dialects.{leading_of, unknown_rows}\n"
             "use Rattle.timefd_dialect.specs.Groups.{Group, all_rows}\n"
             f"use Rattle.timefd_dialect.specs.Rows.{{Entry}}\n{uses}\n"
-            "-- those that a byte finds\n"
+            "-- the rows that a byte selects, in groups\n"
             f"abbrev pub groups_of : Dialect → List Group\n{rows}\n"
             "abbrev pub rows_of : Dialect → List Entry\n"
             "rows_of dialect = all_rows (groups_of dialect) ++ unknown_rows (leading_of dialect)\n")
@@ -334,9 +334,9 @@ def rust_arm(row, key):
 
 def reason_enum():
     match = {key: "".join(rust_arm(row, key) for row in reasons()) for key in ("name", "sentence", "cure")}
-    told = {"name": "Its name, as `zone-name`.",
+    told = {"name": "The name of the reason, such as `zone-name`.",
             "sentence": "Why a part has no text of version 3, as a sentence without a capital and a full stop.",
-            "cure": "What to do, in a sentence."}
+            "cure": "What to do about it, in a sentence."}
     functions = "\n".join(
         f"    /// {told[key]}\n    pub fn {key}(self) -> &'static str\n        ensures {{ result.now ≡ spec.{key} self }}\n"
         f"    {{\n        match self {{\n{match[key]}        }}\n    }}\n" for key in match)
@@ -354,7 +354,7 @@ def reason_enum():
 
 def specified_reasons():
     names = [camel(row["name"]) for row in reasons()]
-    text = ("-- What is told of each reason.\nuse Rattle.std.specs.Prelude.{Bool, true, false, codes}\n"
+    text = ("-- What is reported about each reason.\nuse Rattle.std.specs.Prelude.{Bool, true, false, codes}\n"
             "use Rattle.timefd_component.specs.Tree.{Text}\n"
             "use Rattle.timefd_dialect.specs.declared.reason.Reason.{Reason}\n"
             f"use Rattle.timefd_dialect.specs.declared.reason.Reason.TheVariants.{{{', '.join(names)}}}\n")
@@ -396,9 +396,9 @@ def bound_arm(row, key):
 
 def bound_reasons():
     """The reasons in the crate for Rust."""
-    told = {"name": "Its name, as `zone-name`.",
+    told = {"name": "The name of the reason, such as `zone-name`.",
             "sentence": "Why a part has no text of version 3, as a sentence without a capital and a full stop.",
-            "cure": "What to do, in a sentence."}
+            "cure": "What to do about it, in a sentence."}
     functions = "".join(
         f"\n    /// {told[key]}\n    #[must_use]\n    pub fn {key}(self) -> &'static str {{\n        match self {{\n"
         f"{''.join(bound_arm(row, key) for row in reasons())}        }}\n    }}\n" for key in told)
@@ -407,7 +407,7 @@ def bound_reasons():
             "/// Why a part of a format has no text of version 3.\n"
             "#[derive(Debug, Clone, Copy, PartialEq, Eq, Hash)]\n#[non_exhaustive]\n"
             f"pub enum Reason {{\n{rust_variants('    ')}}}\n\nimpl Reason {{\n"
-            "    /// The one that the header has this number for.\n"
+            "    /// The reason with this number in the header.\n"
             f"    pub(crate) fn from_number(number: u32) -> Option<Self> {{\n        Some(match number {{\n{numbers}"
             f"            _ => return None,\n        }})\n    }}\n{functions}}}\n")
 
@@ -426,7 +426,7 @@ def python_reasons():
             "        reason = int.__new__(cls, number)\n        reason._value_ = number\n"
             "        reason.sentence = sentence\n        reason.cure = cure\n        return reason\n\n"
             f"{rows}\n    def __str__(self) -> str:\n"
-            '        """The name that `timefd_format` has, as `zone-name`."""\n'
+            '        """The name that `timefd_format` prints, such as `zone-name`."""\n'
             '        return self.name.lower().replace("_", "-")\n')
 
 

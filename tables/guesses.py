@@ -61,17 +61,19 @@ def code():
     return ("//! Descriptions that dates and times are often written by, likeliest first. `tables/write` writes them.\n\n"
             "ghost use Rattle.std.specs.Prelude.{◌≡◌};\nghost use Rattle.timefd_guess.specs.Candidates as spec;\n\n"
             "use crate::candidate::{Candidate, candidate};\n\n"
-            f"/// Where descriptions are from.\n#[derive(Clone, Copy)]\npub enum Group {{\n{variants}}}\n\n"
+            f"/// Where descriptions come from.\n#[derive(Clone, Copy)]\npub enum Group {{\n{variants}}}\n\n"
             "/// The groups, likeliest first.\npub fn all_groups() -> &'static [Group]\n    ensures { result.now ≡ spec.all_groups }\n"
             f"{{\n    &[\n{listed}    ]\n}}\n\n"
-            "impl Group {\n    /// Its descriptions, likeliest first.\n    pub fn rows(self) -> &'static [Candidate]\n"
+            "impl Group {\n    /// The descriptions of the group, likeliest first.\n    pub fn rows(self) -> &'static [Candidate]\n"
             f"        ensures {{ spec.entries result.now ≡ spec.rows_of self }}\n    {{\n        match self {{\n{arms}        }}\n    }}\n}}\n"
             f"{functions}{constants}")
 
 
 def specified_row(row):
     if "swapped" in row:
-        return f"{dialects.codes(row['text'])} swaps_to {dialects.codes(row['swapped'])}"
+        text, swapped = dialects.codes(row["text"]), dialects.codes(row["swapped"])
+        line = f"{text} swaps_to {swapped}"
+        return line if len(line) <= 150 else f"{text}\n    swaps_to {swapped}"
     return f"alone ({dialects.codes(row['text'])})"
 
 
@@ -85,7 +87,7 @@ def specification():
             "use Rattle.timefd_guess.specs.declared.candidate.Candidate.{Candidate}\n"
             "use Rattle.timefd_guess.specs.declared.candidates.Group.{Group}\n"
             f"use Rattle.timefd_guess.specs.declared.candidates.Group.TheVariants.{{{', '.join(map(variant, groups()))}}}\n\n"
-            "-- a description, and the one in which day and month stand in each other's place\n"
+            "-- a description, and the same one with day and month swapped\n"
             "pub record Entry : Type 0 where\n  pub text : Text\n  pub swapped : Option Text\n\n"
             "abbrev pub alone : Text → Entry\nalone text = record { text = text; swapped = None }\n\n"
             "infix 80 ◌swaps_to◌\nabbrev pub ◌swaps_to◌ : Text → Text → Entry\n"
@@ -100,7 +102,7 @@ def specification():
             + "".join(f"rows_of {variant(it)} = {definition(it)}_entries\n" for it in groups())
             + "\nabbrev pub all_groups : List Group\nall_groups =\n    "
             + "\n    ∷ ".join([variant(it) for it in groups()] + ["[]"])
-            + "\n\n-- the rows of groups in turn\nabbrev pub rows_in : List Group → List Entry\nrows_in [] = []\n"
+            + "\n\n-- the rows of groups, one group after another\nabbrev pub rows_in : List Group → List Entry\nrows_in [] = []\n"
             "rows_in (group ∷ groups) = rows_of group ++ rows_in groups\n\n"
             "abbrev pub all_entries : List Entry\nall_entries = rows_in all_groups\n")
 

@@ -169,7 +169,7 @@ TABLES = [
         "crates/timefd_component/src/reserved.rt",
         Between(("pub fn reserved_bytes", MATCH), "        Component::Subsecond("), reserved,
     ),
-    Table(INNER_FILE, Between((f"pub enum {INNER}",), "    /// Text as it stands, lent."), lambda: variants(MODERN)),
+    Table(INNER_FILE, Between((f"pub enum {INNER}",), "    /// Text as it is written, borrowed."), lambda: variants(MODERN)),
     Table(
         INNER_FILE, Between((f"impl From<Component> for {INNER}", "match component.modern() {"), "            Component::Month("),
         lambda: arms(MODERN, lambda it: f"{INNER}::{it.variant}(fields)", "fields", 12),

@@ -13,7 +13,7 @@ def is_wider(row):
 
 
 def of_dialect(name):
-    """The texts of version 3 that are read otherwise than by themselves, each with what it is read by, as a row."""
+    """The texts of version 3 that something other than the text itself reads, each with what reads it, as a row."""
     found, uses = {}, {}
     for text, row in dialects.rows_of(name).items():
         if SHORT_YEAR in row.get("v3", ""):
@@ -28,11 +28,11 @@ def of_dialect(name):
 
 
 def code():
-    text = ("//! What the texts of each dialect's rows are read by. `tables/write` writes this file.\n\n"
+    text = ("//! What reads the texts that each dialect's rows write. `tables/write` writes this file.\n\n"
             "ghost use Rattle.std.specs.Prelude.{◌≡◌};\nghost use Rattle.timefd_dialect.specs.Readings as spec;\n"
             "ghost use Rattle.timefd_dialect.specs.Rows.{entries};\n\n"
             "use crate::dialect::Dialect;\nuse crate::reason::Reason;\nuse crate::row::{NotBefore, Range, Row, Verdict, row};\n\n"
-            "impl Dialect {\n    /// The texts of its rows that are read otherwise than by themselves.\n"
+            "impl Dialect {\n    /// For reading: each text of the dialect's rows that another text reads, with that text.\n"
             "    pub fn readings(self) -> &'static [Row]\n        ensures { entries result.now ≡ spec.readings_of self }\n"
             "    {\n        match self {\n")
     text += "".join(f"            Dialect::{dialects.camel(name)} => {name}_readings(),\n" for name in dialects.NAMES) + "        }\n    }\n}\n"
@@ -62,7 +62,7 @@ def rust_row(text, row):
 
 
 def specification():
-    text = ("-- What the texts of each dialect's rows are read by.\nuse Rattle.std.specs.Prelude.{codes, List, [], ◌∷◌}\n"
+    text = ("-- What reads the texts that each dialect's rows write.\nuse Rattle.std.specs.Prelude.{codes, List, [], ◌∷◌}\n"
             "use Rattle.timefd_dialect.specs.declared.dialect.Dialect.{Dialect}\n"
             f"use Rattle.timefd_dialect.specs.declared.dialect.Dialect.TheVariants.{{{', '.join(map(dialects.camel, dialects.NAMES))}}}\n"
             "use Rattle.timefd_dialect.specs.declared.reason.Reason.TheVariants.{TwoDigitYear}\n"

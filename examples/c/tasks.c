@@ -54,13 +54,11 @@ static int log_lines(const char *config, const char *moment) {
 }
 
 static int rewrite_column(const char *from, const char *to) {
-    char line[ROOM], date[ROOM], text[ROOM];
+    char line[ROOM], text[ROOM];
     timefd_date_answer read;
     for (int number = 1; next_line(stdin, line); number++) {
         size_t len = strcspn(line, ",");
-        memcpy(date, line, len);
-        date[len] = 0;
-        if (timefd_read_date_text(TIMEFD_VERSION_3, from, date, &read) &&
+        if (timefd_read_date_chars(TIMEFD_VERSION_3, from, strlen(from), line, len, &read) &&
             timefd_format_text(TIMEFD_VERSION_3, to, &read.moment, text, sizeof text, NULL)) {
             printf("%s%s\n", text, line + len);
             continue;

@@ -27,13 +27,16 @@ const char *tm_of_moment(const struct field *fields);
 /* as_gmtime FIRST STEP COUNT: so many times, each as the C library has it. */
 const char *as_gmtime(const struct field *fields);
 
-/* texts.c: each call over a text that ends with a 0, beside the one over bytes. */
+/* texts.c: each call over a text that ends with a 0 or has a length, beside the one over bytes. */
 const char *judge_text(const struct field *fields);
 const char *check_text(const struct field *fields);
 const char *diagnose_text(const struct field *fields);
+const char *warnings_text(const struct field *fields);
 const char *convert_text(const struct field *fields);
 const char *convert_format_text(const struct field *fields);
 const char *read_text(const struct field *fields);
+const char *read_within_text(const struct field *fields);
+const char *read_composites_text(const struct field *fields);
 const char *format_text(const struct field *fields);
 const char *format_nodes_text(const struct field *fields);
 const char *read_date_text(const struct field *fields);

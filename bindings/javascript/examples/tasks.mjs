@@ -1,6 +1,6 @@
 // Three tasks with formats of dates:
 //
-//     node tasks.mjs log CONFIG [MOMENT] < MESSAGES    writes each line behind the time, by the format under `timestamp` of a TOML file
+//     node tasks.mjs log CONFIG [MOMENT] < MESSAGES    writes each line after the time, by the format under `timestamp` of a TOML file
 //     node tasks.mjs column FROM TO < IN.csv           rewrites the dates of the first column; a line whose date isn't read stays as it is
 //     node tasks.mjs check < FORMATS                   says of each format how long a date gets, or what is wrong
 

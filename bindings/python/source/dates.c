@@ -8,7 +8,7 @@
 #define ROOM 256
 #define PREPARED "timefd._timefd.prepared"
 
-/* A description that was parsed: its nodes, and behind them the bytes of its literals. */
+/* A description that was parsed: its nodes, and after them the bytes of its literals. */
 typedef struct {
     size_t node_count, literal_count;
     timefd_node nodes[];

@@ -2,7 +2,9 @@
 
 import copy
 import datetime
+import pathlib
 import pickle
+import re
 import unittest
 
 from found import timefd
@@ -68,15 +70,22 @@ class Characters(unittest.TestCase):
 class Names(unittest.TestCase):
     def test_names_are_those_in_brackets(self):
         rows = [
-            ("[year]", "year shows nothing: there is no date"),
-            ("[month repr:short]", "month shows nothing: there is no date"),
-            ("[week_number]", "week_number shows nothing: there is no date"),
-            ("[unix_timestamp]", "unix_timestamp shows nothing: there is no date"),
-            ("[offset_hour]", "offset_hour shows nothing: there is no offset from UTC"),
+            ("[year]", "the component `year` shows nothing: the value has no date"),
+            ("[month repr:short]", "the component `month` shows nothing: the value has no date"),
+            ("[week_number]", "the component `week_number` shows nothing: the value has no date"),
+            ("[unix_timestamp]", "the component `unix_timestamp` shows nothing: the value has no date"),
+            ("[offset_hour]", "the component `offset_hour` shows nothing: the value has no offset from UTC"),
         ]
         for text, wanted in rows:
             self.assertEqual(str(raised(timefd.format, text, datetime.time(5))), wanted)
-        self.assertEqual(str(raised(timefd.read, "[hour]", "x")), "hour was expected at byte 0")
+        self.assertEqual(str(raised(timefd.read, "[hour]", "x")), "the component `hour` was expected at byte 0")
+
+    def test_parts_are_named_as_in_c(self):
+        header = (pathlib.Path(__file__).resolve().parents[3] / "examples/timefd_names.h")
+        if not header.exists():
+            self.skipTest("SKIPPED: the words of timefd_names.h, which lies in the repository")
+        rows = re.findall(r'case TIMEFD_PART_(\w+): return "(.*)";', header.read_text())
+        self.assertEqual([(it.name, it.words) for it in timefd.Part], rows)
 
     def test_each_name_begins_a_bracket(self):
         more = {"ignore": " count:1"}

@@ -49,7 +49,7 @@ class Writes(unittest.TestCase):
             self.assertEqual([str(it) for it in Format(text, language).warnings], wanted, text)
 
     def test_a_component_that_shows_nothing(self):
-        with self.assertRaisesRegex(timefd.NothingShown, "^offset_hour shows nothing: there is no offset from UTC$"):
+        with self.assertRaisesRegex(timefd.NothingShown, "^the component `offset_hour` shows nothing: the value has no offset from UTC$"):
             Format("[offset_hour]").format(datetime.time(5))
 
     def test_several_threads(self):

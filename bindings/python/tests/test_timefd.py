@@ -72,7 +72,7 @@ class Formats(unittest.TestCase):
         with self.assertRaises(timefd.NothingShown) as caught:
             timefd.format("[month] [hour]", datetime.date(2026, 11, 23))
         self.assertEqual(caught.exception.component, Name.HOUR_24)
-        self.assertEqual(str(caught.exception), "hour shows nothing: there is no time of day")
+        self.assertEqual(str(caught.exception), "the component `hour` shows nothing: the value has no time of day")
 
     def test_a_text_that_is_refused(self):
         with self.assertRaises(timefd.InvalidDescription):
@@ -116,7 +116,7 @@ class Dates(unittest.TestCase):
         self.assertEqual((caught.exception.part, caught.exception.is_missing), (timefd.Part.YEAR, True))
         with self.assertRaises(timefd.NoMoment) as caught:
             timefd.read("[weekday] [year]-[month]-[day]", "Tuesday 2026-11-23")
-        self.assertEqual(str(caught.exception), "weekday disagrees with what else was read")
+        self.assertEqual(str(caught.exception), "the weekday disagrees with what else was read")
 
     def test_values_that_datetime_has_not(self):
         for text, moment in (("", ""), ("[year]-[ordinal]", "-0001-001"), ("[year]-[ordinal] [offset_hour]", "2026-001 00")):

@@ -109,7 +109,7 @@ class NothingShown(Error):
         self.component = component
 
     def __str__(self) -> str:
-        return f"{self.component.in_brackets} shows nothing: {self.args[1]}"
+        return f"the component `{self.component.in_brackets}` shows nothing: {self.args[1]}"
 
 
 class Unread(enum.IntEnum):
@@ -122,34 +122,46 @@ class Unread(enum.IntEnum):
 
 
 class Part(enum.IntEnum):
-    """What can be read of a moment, by its number in `timefd.h`."""
+    """What can be read of a moment, by its number in `timefd.h`. `words` says it.
 
-    DAY = 1
-    MONTH = 2
-    ORDINAL = 3
-    WEEKDAY = 4
-    ISO_WEEK = 5
-    SUNDAY_WEEK = 6
-    MONDAY_WEEK = 7
-    YEAR_LAST_TWO = 8
-    CENTURY = 9
-    YEAR = 10
-    ISO_YEAR_LAST_TWO = 11
-    ISO_CENTURY = 12
-    ISO_YEAR = 13
-    HOUR = 14
-    HOUR_12 = 15
-    PERIOD = 16
-    MINUTE = 17
-    SECOND = 18
-    SUBSECOND = 19
-    OFFSET_HOUR = 20
-    OFFSET_MINUTE = 21
-    OFFSET_SECOND = 22
-    UNIX_SECOND = 23
-    UNIX_MILLISECOND = 24
-    UNIX_MICROSECOND = 25
-    UNIX_NANOSECOND = 26
+    >>> Part.YEAR_LAST_TWO.words
+    'last two digits of the year'
+    """
+
+    words: str
+
+    def __new__(cls, number: int, words: str = "") -> Part:
+        part = int.__new__(cls, number)
+        part._value_ = number
+        part.words = words
+        return part
+
+    DAY = 1, "day"
+    MONTH = 2, "month"
+    ORDINAL = 3, "day of the year"
+    WEEKDAY = 4, "weekday"
+    ISO_WEEK = 5, "ISO week"
+    SUNDAY_WEEK = 6, "week from Sunday"
+    MONDAY_WEEK = 7, "week from Monday"
+    YEAR_LAST_TWO = 8, "last two digits of the year"
+    CENTURY = 9, "century"
+    YEAR = 10, "year"
+    ISO_YEAR_LAST_TWO = 11, "last two digits of the ISO year"
+    ISO_CENTURY = 12, "century of the ISO year"
+    ISO_YEAR = 13, "ISO year"
+    HOUR = 14, "hour"
+    HOUR_12 = 15, "hour of twelve"
+    PERIOD = 16, "period"
+    MINUTE = 17, "minute"
+    SECOND = 18, "second"
+    SUBSECOND = 19, "fraction of a second"
+    OFFSET_HOUR = 20, "hour of the offset"
+    OFFSET_MINUTE = 21, "minute of the offset"
+    OFFSET_SECOND = 22, "second of the offset"
+    UNIX_SECOND = 23, "Unix timestamp in seconds"
+    UNIX_MILLISECOND = 24, "Unix timestamp in milliseconds"
+    UNIX_MICROSECOND = 25, "Unix timestamp in microseconds"
+    UNIX_NANOSECOND = 26, "Unix timestamp in nanoseconds"
 
 
 class NotRead(Error):
@@ -172,7 +184,7 @@ class NotRead(Error):
         return _characters(self.moment, self.index)
 
     def __str__(self) -> str:
-        name = None if self.component is None else self.component.in_brackets
+        name = "" if self.component is None else f"the component `{self.component.in_brackets}`"
         words = {
             Unread.READS_NOTHING: f"{name} was expected",
             Unread.READS_ANOTHER_VALUE: f"{name} has a different value",
@@ -192,4 +204,4 @@ class NoMoment(Error):
 
     def __str__(self) -> str:
         words = "was not read" if self.is_missing else "disagrees with what else was read"
-        return f"{self.part.name.lower()} {words}"
+        return f"the {self.part.words} {words}"

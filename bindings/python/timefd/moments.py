@@ -38,7 +38,7 @@ def read(
     >>> read("[day]/[month]/[year]", "23/1x/2026")
     Traceback (most recent call last):
     ...
-    timefd.errors.NotRead: month was expected at byte 3
+    timefd.errors.NotRead: the component `month` was expected at byte 3
 
     It is a `timezone` where an offset alone was read. What is shorter than a microsecond is dropped. `Format` has calls that
     answer one of these types alone.

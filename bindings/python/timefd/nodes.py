@@ -71,7 +71,7 @@ class Padding(enum.IntEnum):
 
 
 class TrailingInput(enum.IntEnum):
-    """What becomes of input behind the end."""
+    """What becomes of input after the end."""
 
     PROHIBIT = 1
     DISCARD = 2

@@ -10,9 +10,9 @@ from timefd.nodes import Name
 from timefd.reason import Reason
 
 _REASONS = {
-    1: "there is no date",
-    2: "there is no time of day",
-    3: "there is no offset from UTC",
+    1: "the value has no date",
+    2: "the value has no time of day",
+    3: "the value has no offset from UTC",
     4: "the year has too many digits",
     5: "the instant is in no year from -999999 to 999999 of UTC",
 }

@@ -53,7 +53,7 @@ class Reason(enum.IntEnum):
     )
     FLAG = (
         6,
-        "no such flag, and none with a width, may stand in front of this directive",
+        "this directive takes no such flag, and none with a width",
         "Leave the flag and the width out, or choose another directive.",
     )
     FRACTION_WIDTH = (
@@ -129,11 +129,11 @@ class Reason(enum.IntEnum):
     RESERVED = (
         21,
         "the character is reserved",
-        "Quote it, if it is to stand for itself, or leave it out.",
+        "Quote it if it is meant as text, or leave it out.",
     )
     TOO_MANY_LETTERS = (
         22,
-        "no pattern has so many of this letter",
+        "no pattern repeats this letter so often",
         "Write fewer of them.",
     )
     TWO_DIGIT_YEAR = (
@@ -149,7 +149,7 @@ class Reason(enum.IntEnum):
     UNCLOSED_QUOTE = (
         24,
         "no quote closes this one",
-        "Close it; a quote that stands for itself is written twice.",
+        "Close it; write a literal quote twice.",
     )
     UNIT_OF_DAY = (
         25,
@@ -159,12 +159,12 @@ class Reason(enum.IntEnum):
     UNKNOWN_DIRECTIVE = (
         26,
         "the dialect has no such directive",
-        "Write one that it has; a `%` that stands for itself is written twice.",
+        "Write one that it has; write a literal `%` twice.",
     )
     UNKNOWN_LETTER = (
         27,
-        "the letter has no meaning, and stands outside quotes",
-        "Quote it, if it is to stand for itself.",
+        "the letter has no meaning and isn't quoted",
+        "Quote it if it is meant as text.",
     )
     UNSUPPORTED = (
         28,
@@ -193,7 +193,7 @@ class Reason(enum.IntEnum):
     )
     WIDTH = (
         33,
-        "a width stands in front of the directive",
+        "the directive has a width",
         "Leave the width out, and write what it fills as a literal, like `0[day]` for `%3d`.",
     )
     Z_FOR_UTC = (
@@ -208,5 +208,5 @@ class Reason(enum.IntEnum):
     )
 
     def __str__(self) -> str:
-        """The name that `timefd_format` has, as `zone-name`."""
+        """The name that `timefd_format` prints, such as `zone-name`."""
         return self.name.lower().replace("_", "-")

@@ -16,12 +16,12 @@ pub enum Component {
     },
     /// Month as an abbreviated English name.
     MonthShort {
-        /// Whether reading tells capital and small letters of the name apart.
+        /// Whether reading distinguishes capital and small letters of the name.
         case_sensitive: bool,
     },
     /// Month as a full English name.
     MonthLong {
-        /// Whether reading tells capital and small letters of the name apart.
+        /// Whether reading distinguishes capital and small letters of the name.
         case_sensitive: bool,
     },
     /// Month as a number.
@@ -36,12 +36,12 @@ pub enum Component {
     },
     /// Day of the week as an abbreviated English name.
     WeekdayShort {
-        /// Whether reading tells capital and small letters of the name apart.
+        /// Whether reading distinguishes capital and small letters of the name.
         case_sensitive: bool,
     },
     /// Day of the week as a full English name.
     WeekdayLong {
-        /// Whether reading tells capital and small letters of the name apart.
+        /// Whether reading distinguishes capital and small letters of the name.
         case_sensitive: bool,
     },
     /// Day of the week as a number, where Sunday comes first.
@@ -154,7 +154,7 @@ pub enum Component {
     Period {
         /// Whether the letters are capital ones.
         is_uppercase: bool,
-        /// Whether reading tells capital and small letters apart.
+        /// Whether reading distinguishes capital and small letters.
         case_sensitive: bool,
     },
     /// Second within the minute.
@@ -211,7 +211,7 @@ pub enum Component {
     },
     /// End of the input.
     End {
-        /// What becomes of input behind the end.
+        /// What becomes of input after the end.
         trailing_input: TrailingInput,
     },
 }

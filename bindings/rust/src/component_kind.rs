@@ -16,7 +16,7 @@ use crate::component::Component;
 /// assert_eq!((*component, component.name()), (ComponentKind::Hour24, "hour"));
 /// assert_eq!(
 ///     error.to_string(),
-///     "the component `hour` shows nothing: the moment has no time of day"
+///     "the component `hour` shows nothing: the value has no time of day"
 /// );
 /// # Ok::<(), timefd::RangeError>(())
 /// ```

@@ -33,7 +33,7 @@ impl<'a> Content<'a> {
     #[inline]
     pub(crate) fn of(node: &RawNode, text: &'a str) -> Self {
         match node.what {
-            LITERAL => Self::Literal(literal::lent(text, node.start, node.count)),
+            LITERAL => Self::Literal(literal::borrowed(text, node.start, node.count)),
             COMPONENT => Self::Component(decode::component(node).expect(AS_THE_HEADER_SAYS)),
             _ => Self::Nested(nesting(node), node.start as u32), // A u32 counts the nodes.
         }

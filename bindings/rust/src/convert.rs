@@ -44,7 +44,7 @@ pub fn convert(
     // The library is asked once more, as it has said how much room it wants.
     let mut long = buffer::filled(first.value, 0).ok_or(NO_MEMORY)?;
     let second = converted(from, to, text, &mut long)?;
-    assert_eq!(second.written, long.len(), "there was room for what the library told");
+    assert_eq!(second.written, long.len(), "there was room for what the library reported");
     Ok(String::from_utf8(long).expect("a description is text"))
 }
 
@@ -62,9 +62,9 @@ pub fn v1_to_v2(text: &str) -> Result<String, ParseError> {
     convert(Version::One, Version::Two, text).map_err(ConvertError::of_text)
 }
 
-/// Writes a description of version 2 anew as one of version 3 that has the same items: in small
+/// Rewrites a description of version 2 as one of version 3 that has the same items: in small
 /// letters, with those modifiers alone that aren't version 3's default, and the range of each year
-/// that has one. Versions 2 and 3 read the answer alike, and writing it anew changes nothing.
+/// that has one. Versions 2 and 3 read the answer alike, and writing it again changes nothing.
 ///
 /// # Errors
 ///

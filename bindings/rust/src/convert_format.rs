@@ -114,7 +114,7 @@ const SHORT: usize = 256;
 fn long_text(dialect: Dialect, format: &str, len: usize) -> Result<String, ConvertFormatError> {
     let mut long = buffer::filled(len, 0).ok_or(ConvertFormatError::OutOfMemory)?;
     let answer = converted(dialect, format, &mut long)?;
-    assert_eq!(answer.written, long.len(), "there was room for what the library told");
+    assert_eq!(answer.written, long.len(), "there was room for what the library reported");
     Ok(String::from_utf8(long).expect("a description is text"))
 }
 

@@ -110,7 +110,6 @@ impl<'a> FormatDescription<'a> {
     }
 
     /// The description of a tree that was made before.
-    #[cfg(feature = "macros")]
     pub(crate) const fn of_tree(language: Language, tree: Tree<'a>, max_bytes: usize) -> Self {
         Self { language, tree, max_bytes }
     }
@@ -264,7 +263,7 @@ fn read_long(
     let (mut nodes, mut literals) = nodes.zip(literals).ok_or(ParseError::OutOfMemory)?;
     let answer = sys::read(language.number(), text, &mut nodes, &mut literals);
     expect_accepted(language, text, answer.status)?;
-    assert!(answer.written, "there was room for what the library told");
+    assert!(answer.written, "there was room for what the library reported");
     Ok((nodes, literals))
 }
 

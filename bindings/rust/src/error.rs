@@ -20,7 +20,7 @@ use crate::sys;
 pub enum ParseError {
     /// The text is no description.
     Invalid(Fault),
-    /// Memory ran out: for what a description holds, or for what is told of a fault, which is
+    /// Memory ran out: for what a description holds, or for what is reported of a fault, which is
     /// copied. The library itself finds a fault without memory.
     OutOfMemory,
 }

@@ -131,7 +131,7 @@ pub struct Fault {
     kind: FaultKind,
     start: usize,
     end: usize,
-    /// The sentence, and behind it the nearest word.
+    /// The sentence, and after it the nearest word.
     words: Box<str>,
     sentence_len: usize,
 }
@@ -177,15 +177,15 @@ impl Fault {
     }
 
     /// The fault of a text that the language of a number refuses. `None` where there is no memory
-    /// for what is told of it.
+    /// for what is reported of it.
     pub(crate) fn of(kind: u32, text: &str) -> Option<Self> {
         let (mut sentence, mut word) = ([0; SHORT], [0; LONGEST_WORD]);
-        let told = sys::diagnose(kind, text, &mut sentence, &mut word);
-        let fault = told.fault;
+        let reported = sys::diagnose(kind, text, &mut sentence, &mut word);
+        let fault = reported.fault;
         if fault.out_of_memory {
             return None;
         }
-        let sentence_len = told.answer.sentence_len;
+        let sentence_len = reported.answer.sentence_len;
         let word = &word[..fault.nearest_written];
         let mut words = buffer::filled(sentence_len + word.len(), 0)?;
         let (front, back) = words.split_at_mut(sentence_len);
@@ -194,7 +194,10 @@ impl Fault {
             front.copy_from_slice(&sentence[..sentence_len]);
         } else {
             let second = sys::check(kind, text, front);
-            assert_eq!(second.written, sentence_len, "there was room for what the library told");
+            assert_eq!(
+                second.written, sentence_len,
+                "there was room for what the library reported"
+            );
         }
         Some(Self {
             kind: FaultKind::from_number(fault.code).expect("a code of the header"),

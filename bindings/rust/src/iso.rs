@@ -86,7 +86,7 @@ impl FromStr for Time {
 impl FromStr for Moment {
     type Err = ReadError;
 
-    /// Reads a date, a time of day, or both with a `T`, a `t` or a space between them; and behind
+    /// Reads a date, a time of day, or both with a `T`, a `t` or a space between them; and after
     /// them an offset: `Z`, `z`, or `+01:00`.
     fn from_str(text: &str) -> Result<Self, ReadError> {
         let (local, zone) = split_zone(text);

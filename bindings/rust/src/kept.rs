@@ -1,4 +1,4 @@
-//! Lists that a description keeps: made when a text was read, or written by `format_description!`.
+//! Lists that a description keeps: made when a text was read, or constants.
 
 use alloc::boxed::Box;
 use core::ops::Deref;
@@ -7,7 +7,6 @@ use core::ops::Deref;
 #[derive(Debug, Clone)]
 pub(crate) enum Kept<T: 'static> {
     Own(Box<[T]>),
-    #[cfg(feature = "macros")]
     Constant(&'static [T]),
 }
 
@@ -18,7 +17,6 @@ impl<T> Deref for Kept<T> {
     fn deref(&self) -> &[T] {
         match self {
             Self::Own(list) => list,
-            #[cfg(feature = "macros")]
             Self::Constant(list) => list,
         }
     }

@@ -29,13 +29,13 @@ impl Lack {
         })
     }
 
-    /// The reason as a part of a sentence.
+    /// The reason as a part of a sentence, in the words of the library.
     pub(crate) fn words(self) -> &'static str {
         match self {
-            Self::NoDate => "the moment has no date",
-            Self::NoTime => "the moment has no time of day",
-            Self::NoOffset => "the moment has no offset from UTC",
-            Self::YearTooLong => "it shows no year of so many digits",
+            Self::NoDate => "the value has no date",
+            Self::NoTime => "the value has no time of day",
+            Self::NoOffset => "the value has no offset from UTC",
+            Self::YearTooLong => "the year has too many digits",
             Self::InstantOutOfRange => "the instant is in no year from -999999 to 999999 of UTC",
         }
     }

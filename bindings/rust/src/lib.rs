@@ -13,6 +13,7 @@
 //!     match part {
 //!         Part::Literal(text) => println!("{text:?}"),
 //!         Part::Component(component) => println!("{component:?}"),
+//!         _ => {} // later versions may have more
 //!     }
 //! }
 //! println!("at most {} bytes", description.max_bytes_needed());
@@ -81,10 +82,11 @@ mod moment;
 mod moment_part;
 mod node;
 mod parts;
+#[cfg(not(feature = "macros"))]
+mod prepared;
 #[cfg(feature = "macros")]
 #[doc(hidden)]
 pub mod prepared;
-#[cfg(feature = "std")]
 pub mod presets;
 mod range;
 mod read;

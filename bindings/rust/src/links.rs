@@ -1,7 +1,7 @@
 //! The links between nodes, by which walks go forwards, backwards and down with neither recursion
 //! nor memory.
 //!
-//! A node stands behind all that is below it. The next member of the node around it is told by a
+//! A node follows all that is below it. The next member of the node around it is given by a
 //! field that says nothing else, or nothing that isn't known without it: of a literal `bytes`, which
 //! its length tells; of a component `start`, which is its own index; of a node with members `count`,
 //! which a walk over them tells.

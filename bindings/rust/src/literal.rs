@@ -23,7 +23,7 @@ pub(crate) const ASCII: &str = {
 
 /// The literal of so many bytes that has this place: in `ASCII` where it has one byte, or else in the
 /// text.
-pub(crate) fn lent(text: &str, place: usize, count: usize) -> &str {
+pub(crate) fn borrowed(text: &str, place: usize, count: usize) -> &str {
     let lender = if count == 1 { ASCII } else { text };
     &lender[place..place + count]
 }
@@ -56,8 +56,8 @@ impl<'a, 'b> Literals<'a, 'b> {
         self.at == 0
     }
 
-    /// By which place so many bytes from an index among the library's are [`lent`]. The text holds
-    /// them behind the literal before. `None` where it doesn't, which the library never answers.
+    /// By which place so many bytes from an index among the library's are [`borrowed`]. The text holds
+    /// them after the literal before. `None` where it doesn't, which the library never answers.
     #[inline]
     pub(crate) fn place(&mut self, start: usize, count: usize) -> Option<usize> {
         if count == 1 {
@@ -86,12 +86,12 @@ fn find(text: &str, from: usize, sought: &[u8]) -> Option<usize> {
 
 /// The same of few bytes, or of the front of many.
 fn find_short(text: &str, from: usize, sought: &[u8]) -> Option<usize> {
-    let (first, behind) = sought.split_first()?;
+    let (first, after) = sought.split_first()?;
     let mut at = from;
     loop {
         at += find_byte(text.as_bytes().get(at..)?, *first)? + 1;
-        let rest = text.as_bytes().get(at..at + behind.len())?;
-        if rest.iter().zip(behind).all(|(byte, wanted)| byte == wanted) {
+        let rest = text.as_bytes().get(at..at + after.len())?;
+        if rest.iter().zip(after).all(|(byte, wanted)| byte == wanted) {
             return Some(at - 1);
         }
     }

@@ -3,14 +3,14 @@
 use std::format;
 use std::string::String;
 
-use super::{Literals, lent};
+use super::{Literals, borrowed};
 
 /// Literals of two bytes and more: such as are found by their first byte, and such as are too long for
 /// that; some with their own front in front of them.
 const SOUGHT: [&str; 6] =
     [", ", "é", "aab", "abcdefghijklmnop", "abcdefghijklmnopq", "aaaaaaaaaaaaaaaaaaab"];
 
-/// What the library's bytes are lent as, in turn.
+/// What the library's bytes are borrowed as, in turn.
 fn lent_in_turn(text: &str, literals: &[&str]) -> Option<String> {
     let bytes = literals.concat();
     let mut found = Literals::new(text, bytes.as_bytes());
@@ -20,7 +20,7 @@ fn lent_in_turn(text: &str, literals: &[&str]) -> Option<String> {
         .map(|literal| {
             let place = found.place(start, literal.len())?;
             start += literal.len();
-            Some(lent(text, place, literal.len()))
+            Some(borrowed(text, place, literal.len()))
         })
         .collect()
 }
@@ -48,10 +48,10 @@ fn the_text_lends_long_ones() {
     let text = "[day] of [month]";
     let mut literals = Literals::new(text, b" of /");
     let place = literals.place(0, 4).expect("the text has it");
-    assert!(std::ptr::eq(lent(text, place, 4), &text[5..9]));
+    assert!(std::ptr::eq(borrowed(text, place, 4), &text[5..9]));
     assert!(!literals.are_ascii());
     let place = literals.place(4, 1).expect("each text has it");
-    assert_eq!(lent(text, place, 1), "/");
+    assert_eq!(borrowed(text, place, 1), "/");
 }
 
 #[test]

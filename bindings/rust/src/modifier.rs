@@ -111,7 +111,7 @@ impl SubsecondDigits {
     }
 }
 
-/// What becomes of input behind the end.
+/// What becomes of input after the end.
 #[derive(Debug, Clone, Copy, Default, PartialEq, Eq, Hash)]
 #[non_exhaustive]
 pub enum TrailingInput {

@@ -37,7 +37,7 @@ pub struct Moment {
     pub date: Option<Date>,
     /// The time of day.
     pub time: Option<Time>,
-    /// How many seconds the clock is ahead of UTC, behind it as a negative number: less than 26
+    /// How many seconds the clock is ahead of UTC, behind as a negative number: less than 26
     /// hours.
     pub offset_seconds: Option<i32>,
 }

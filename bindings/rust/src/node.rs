@@ -15,7 +15,7 @@ pub enum Node<'a> {
     Literal(&'a str),
     /// A part of a date or time.
     Component(Component),
-    /// Its members, one behind another.
+    /// Its members, one after another.
     Compound(Members<'a>),
     /// A part that input may have or not. A formatter writes it where `format` is true.
     Optional {
@@ -160,10 +160,10 @@ impl<'a> Nodes<'a> {
         Self { tree, next: Members::items(tree).front, left: tree.len() }
     }
 
-    /// Where to go on behind a node and all below it.
-    fn behind(&self, index: u32) -> u32 {
+    /// Where to go on after a node and all below it.
+    fn after(&self, index: u32) -> u32 {
         let mut index = index;
-        // The last member leads back to the first, and the node of which it is one stands behind it.
+        // The last member leads back to the first, and the node of which it is one follows it.
         while self.tree.next(index) <= index {
             index += 1;
             if index == self.tree.len() {
@@ -183,7 +183,7 @@ impl<'a> Iterator for Nodes<'a> {
         if self.tree.begin(item.index) < item.index {
             self.next = self.tree.next(item.index - 1); // the first member
         } else if self.left > 0 {
-            self.next = self.behind(item.index);
+            self.next = self.after(item.index);
         }
         Some(item)
     }

@@ -9,6 +9,7 @@ use crate::tree::Tree;
 
 /// A part of what a formatter writes.
 #[derive(Debug, Clone, Copy, PartialEq, Eq)]
+#[non_exhaustive]
 pub enum Part<'a> {
     /// Text that stands for itself.
     Literal(&'a str),

@@ -1,5 +1,6 @@
-//! What `format_description!` writes in the place of a text: a description made of constants.
+//! Descriptions made of constants: what `format_description!` writes instead of a text, and the presets.
 
+#[cfg(feature = "macros")]
 pub use timefd_macros::format_description;
 
 use crate::description::FormatDescription;

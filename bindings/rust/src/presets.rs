@@ -1,4 +1,5 @@
-//! Descriptions of formats that standards have. Each is parsed once, when it is first used.
+//! Descriptions of formats that standards have. They are constants: nothing is parsed when a program
+//! runs.
 //!
 //! ```
 //! use timefd::{Moment, presets};
@@ -11,17 +12,20 @@
 //!
 //! They write no fraction of a second; a [`Moment`](crate::Moment) that shows itself does.
 
-use std::sync::LazyLock;
+mod nodes;
 
 use crate::description::FormatDescription;
-use crate::version::Version;
 
-/// A description that is parsed when it is first used.
-pub type Preset = LazyLock<FormatDescription<'static>>;
+/// A description that is a constant.
+pub type Preset = &'static FormatDescription<'static>;
 
 macro_rules! presets {
     ($($(#[$meta:meta])* $name:ident = $text:expr;)*) => {
-        $($(#[$meta])* pub static $name: Preset = LazyLock::new(|| parsed($text));)*
+        $($(#[$meta])* pub const $name: Preset = &nodes::$name($text);)*
+
+        /// Each preset, by its name.
+        #[cfg(test)]
+        const ALL: &[(&str, Preset)] = &[$((stringify!($name), $name)),*];
     };
 }
 
@@ -62,9 +66,70 @@ presets! {
     );
 }
 
-fn parsed(text: &'static str) -> FormatDescription<'static> {
-    match FormatDescription::parse(Version::Three, text) {
-        Ok(description) => description,
-        Err(error) => panic!("{error}"),
+#[cfg(test)]
+mod tests {
+    use std::format;
+    use std::string::String;
+    use std::vec::Vec;
+
+    use super::ALL;
+    use crate::description::FormatDescription;
+    use crate::sys::RawNode;
+    use crate::tree::Shape;
+    use crate::version::Version;
+
+    fn node(node: &RawNode) -> String {
+        let first = [
+            node.what,
+            node.component,
+            node.padding,
+            node.sign_is_mandatory,
+            node.case_sensitive,
+            node.one_indexed,
+            node.is_uppercase,
+            node.digits,
+            node.trailing_input,
+            node.format,
+        ];
+        let RawNode { ignored, bytes, start, count, .. } = node;
+        format!("    node({first:?}, {ignored}, {bytes}, {start}, {count}),\n")
+    }
+
+    /// The function of a preset in `presets/nodes.rs`, from what the library reads its text as.
+    fn source(name: &str, text: &str) -> String {
+        let read = FormatDescription::parse(Version::Three, text).expect(text);
+        let nodes: String = read.tree.nodes.iter().map(node).collect();
+        let bytes = read.max_bytes_needed();
+        let call = match &read.tree.shape {
+            Shape::Flat { is_ascii } => {
+                format!("flat(LANGUAGE, text, {name}_NODES, {is_ascii}, {bytes})")
+            }
+            Shape::Nested { items, written } => {
+                let written: Vec<u32> = written.to_vec();
+                format!("nested(LANGUAGE, text, {name}_NODES, {items}, &{written:?}, {bytes})")
+            }
+        };
+        format!(
+            "pub(super) const fn {name}(text: &'static str) -> FormatDescription<'static> {{\n    \
+             {call}\n}}\n\nconst {name}_NODES: &[Node] = &[\n{nodes}];\n"
+        )
+    }
+
+    /// White space apart, as `rustfmt` breaks lines.
+    fn squeezed(text: &str) -> String {
+        text.split_whitespace().collect::<String>().replace(",)", ")").replace(",]", "]")
+    }
+
+    #[test]
+    fn the_constants_are_what_is_parsed() {
+        let file = squeezed(include_str!("presets/nodes.rs"));
+        let sources: Vec<_> = ALL.iter().map(|(name, it)| source(name, it.text())).collect();
+        let lacking: String =
+            sources.into_iter().filter(|it| !file.contains(&squeezed(it))).collect();
+        assert!(lacking.is_empty(), "src/presets/nodes.rs wants this:\n{lacking}");
+        for (name, preset) in ALL {
+            let read = FormatDescription::parse(Version::Three, preset.text()).expect(name);
+            assert_eq!((*preset, preset.max_bytes_needed()), (&read, read.max_bytes_needed()));
+        }
     }
 }

@@ -14,7 +14,7 @@ pub enum Reason {
     DayPeriod,
     /// It writes an era, and version 3 has none.
     Era,
-    /// No such flag, and none with a width, may stand in front of this directive.
+    /// This directive takes no such flag, and none with a width.
     Flag,
     /// It writes a fraction of a second of more than nine digits.
     FractionWidth,
@@ -46,7 +46,7 @@ pub enum Reason {
     ReadingOnly,
     /// The character is reserved.
     Reserved,
-    /// No pattern has so many of this letter.
+    /// No pattern repeats this letter so often.
     TooManyLetters,
     /// It reads two digits of a year, which tell no century.
     TwoDigitYear,
@@ -58,7 +58,7 @@ pub enum Reason {
     UnitOfDay,
     /// The dialect has no such directive.
     UnknownDirective,
-    /// The letter has no meaning, and stands outside quotes.
+    /// The letter has no meaning and isn't quoted.
     UnknownLetter,
     /// Libraries differ in what it means, or have it not.
     Unsupported,
@@ -70,7 +70,7 @@ pub enum Reason {
     VariableWidth,
     /// It counts weeks or weekdays within the month.
     WeekOfMonth,
-    /// A width stands in front of the directive.
+    /// The directive has a width.
     Width,
     /// It writes `Z` for an offset of zero.
     ZForUtc,
@@ -79,7 +79,7 @@ pub enum Reason {
 }
 
 impl Reason {
-    /// The one that the header has this number for.
+    /// The reason with this number in the header.
     pub(crate) fn from_number(number: u32) -> Option<Self> {
         Some(match number {
             1 => Self::Backslash,
@@ -122,7 +122,7 @@ impl Reason {
         })
     }
 
-    /// Its name, as `zone-name`.
+    /// The name of the reason, such as `zone-name`.
     #[must_use]
     pub fn name(self) -> &'static str {
         match self {
@@ -174,9 +174,7 @@ impl Reason {
             Self::DatetimeOnly => "Ruby's `DateTime` alone has it",
             Self::DayPeriod => "it writes a period of the day, like `in the morning`",
             Self::Era => "it writes an era, and version 3 has none",
-            Self::Flag => {
-                "no such flag, and none with a width, may stand in front of this directive"
-            }
+            Self::Flag => "this directive takes no such flag, and none with a width",
             Self::FractionWidth => "it writes a fraction of a second of more than nine digits",
             Self::GmtOffset => "it writes an offset as `GMT+1`",
             Self::HourFrom0Or24 => "it counts hours from 0 to 11 or from 1 to 24",
@@ -194,25 +192,25 @@ impl Reason {
             Self::Quarter => "it writes a quarter, and version 3 has none",
             Self::ReadingOnly => "it can be read, and not be written",
             Self::Reserved => "the character is reserved",
-            Self::TooManyLetters => "no pattern has so many of this letter",
+            Self::TooManyLetters => "no pattern repeats this letter so often",
             Self::TwoDigitYear => "it reads two digits of a year, which tell no century",
             Self::TwoLetterName => "it writes a weekday in two letters",
             Self::UnclosedQuote => "no quote closes this one",
             Self::UnitOfDay => "it counts milliseconds or nanoseconds from midnight on",
             Self::UnknownDirective => "the dialect has no such directive",
-            Self::UnknownLetter => "the letter has no meaning, and stands outside quotes",
+            Self::UnknownLetter => "the letter has no meaning and isn't quoted",
             Self::Unsupported => "libraries differ in what it means, or have it not",
             Self::VariableFraction => "it writes as many digits of a fraction as it has, or none",
             Self::VariableOffset => "it writes as much of an offset as there is",
             Self::VariableWidth => "its width depends on the value",
             Self::WeekOfMonth => "it counts weeks or weekdays within the month",
-            Self::Width => "a width stands in front of the directive",
+            Self::Width => "the directive has a width",
             Self::ZForUtc => "it writes `Z` for an offset of zero",
             Self::ZoneName => "it writes the name of a time zone",
         }
     }
 
-    /// What to do, in a sentence.
+    /// What to do about it, in a sentence.
     #[must_use]
     pub fn cure(self) -> &'static str {
         match self {
@@ -238,16 +236,14 @@ impl Reason {
             Self::Platform => "Write a directive that all platforms have.",
             Self::Quarter => "Write the month, or count the quarter in a program.",
             Self::ReadingOnly => "Write a directive for writing.",
-            Self::Reserved => "Quote it, if it is to stand for itself, or leave it out.",
+            Self::Reserved => "Quote it if it is meant as text, or leave it out.",
             Self::TooManyLetters => "Write fewer of them.",
             Self::TwoDigitYear => "Read by a format with all digits of the year.",
             Self::TwoLetterName => "Write the short name, of three letters.",
-            Self::UnclosedQuote => "Close it; a quote that stands for itself is written twice.",
+            Self::UnclosedQuote => "Close it; write a literal quote twice.",
             Self::UnitOfDay => "Write hour, minute, second and fraction.",
-            Self::UnknownDirective => {
-                "Write one that it has; a `%` that stands for itself is written twice."
-            }
-            Self::UnknownLetter => "Quote it, if it is to stand for itself.",
+            Self::UnknownDirective => "Write one that it has; write a literal `%` twice.",
+            Self::UnknownLetter => "Quote it if it is meant as text.",
             Self::Unsupported => "Write a directive that has one meaning.",
             Self::VariableFraction => "Write a fixed number of digits.",
             Self::VariableOffset => "Write the offset with its minutes.",

@@ -365,7 +365,7 @@ pub(crate) fn check(kind: u32, text: &str, sentence: &mut [u8]) -> Answer {
 }
 
 /// What the text is in a language, with the front of the sentence of its fault, the nearest word
-/// where its buffer has room for it, and what else is told of the fault.
+/// where its buffer has room for it, and what else is reported of the fault.
 pub(crate) fn diagnose(kind: u32, text: &str, sentence: &mut [u8], word: &mut [u8]) -> Diagnosis {
     expect_version();
     // SAFETY: the pointers and the lengths are those of three slices that are borrowed for the

@@ -26,7 +26,7 @@ pub(crate) struct Tree<'a> {
     /// What lends the literals.
     pub(crate) text: Cow<'a, str>,
     /// The nodes as the library wrote them, but that `start` of a literal is the place by which it is
-    /// lent, and that they are linked where some have members.
+    /// borrowed, and that they are linked where some have members.
     pub(crate) nodes: Kept<RawNode>,
     pub(crate) shape: Shape,
 }
@@ -73,7 +73,7 @@ impl<'a> Tree<'a> {
     }
 }
 
-/// Gives each literal the place by which it is lent, and answers whether nodes are flat: literals and
+/// Gives each literal the place by which it is borrowed, and answers whether nodes are flat: literals and
 /// components alone. `None` where a literal has no place.
 #[inline]
 fn settle(nodes: &mut [RawNode], literals: &mut Literals<'_, '_>) -> Option<bool> {
@@ -104,7 +104,7 @@ fn link(nodes: &mut [RawNode]) -> Result<Shape, BuildError> {
 }
 
 impl Tree<'_> {
-    /// The same, lent its literals by a text of its own.
+    /// The same, borrowed its literals by a text of its own.
     pub(crate) fn into_owned(self) -> Tree<'static> {
         let Self { text, nodes, shape } = self;
         Tree { text: Cow::Owned(text.into_owned()), nodes, shape }

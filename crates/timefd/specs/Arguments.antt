@@ -32,7 +32,7 @@ with_limit limit Two = option_map (λ n. (Two, n)) limit
 with_limit limit Three = option_map (λ n. (Three, n)) limit
 with_limit limit Strftime = None
 
--- the kind, and the most nested descriptions around one another
+-- the kind, and how many nested descriptions there may be around one another
 abbrev pub arguments : List Text → Option (Kind × ℕ)
 arguments [] = None
 arguments (word ∷ []) = option_map (λ kind. (kind, nesting_limit)) (kind_named word)

@@ -1,4 +1,4 @@
--- The line that is said of a text.
+-- The line that answers a text.
 use Rattle.std.specs.Prelude.{ℕ, ◌≡◌, List, [], ◌∷◌, ◌++◌, codes, IsUtf8}
 use Rattle.std.specs.Fmt.{decimal}
 use Rattle.timefd_component.specs.Tree.{Text, Tree}
@@ -20,18 +20,18 @@ items_line count = codes "ok items " ++ (decimal count ++ newline)
 abbrev pub bytes_line : ℕ → Text
 bytes_line count = codes "ok bytes " ++ (decimal count ++ newline)
 
--- the line of a text of the language that holds so much: items, or in version 3 reserved bytes
+-- the line for a text of the language with this many items, or in version 3 reserved bytes
 abbrev pub amount_line : Language → ℕ → Text
 amount_line (Version One) count = items_line count
 amount_line (Version Two) count = items_line count
 amount_line (Version Three) count = bytes_line count
 amount_line Strftime count = items_line count
 
--- the line of a text that spells the list
+-- the line for a text that spells the list
 abbrev pub ok_line : Language → List Tree → Text
 ok_line language list = amount_line language (amount language list)
 
--- the line of a text with the fault
+-- the line for a text with the fault
 abbrev pub fault_line : Fault → Text
 fault_line f = sentence f ++ newline
 

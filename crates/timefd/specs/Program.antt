@@ -9,6 +9,6 @@ abbrev pub request : List Text → Option (Kind × ℕ)
 request [] = None
 request (name ∷ words) = arguments words
 
--- The arguments ask for a kind and a limit, of which this holds.
+-- The arguments ask for a kind and a limit, and this holds for them.
 abbrev pub Asks : List Text → (Kind → ℕ → Type 0) → Type 0
 Asks args P = (kind : Kind) × (limit : ℕ) × (request args ≡ Some (kind, limit)) × P kind limit

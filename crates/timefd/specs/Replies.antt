@@ -1,4 +1,4 @@
--- What a reply is to a text.
+-- Which reply is right for a text.
 use Rattle.std.specs.Prelude.{ℕ, string_bytes}
 use Rattle.timefd_component.specs.Tree.{Text}
 use Rattle.timefd.specs.declared.end.RunEnd.{RunEnd}
@@ -15,7 +15,7 @@ abbrev pub end_of : Reply → RunEnd
 end_of (Accepted line) = RunEnd.Accepted
 end_of (Refused line) = RunEnd.Refused
 
--- The reply has the line of the text.
+-- The reply has the line for the text.
 abbrev pub IsReply : Kind → ℕ → Text → Reply → Type 0
 IsReply kind limit text (Accepted line) = IsOkLine kind limit text (string_bytes line)
 IsReply kind limit text (Refused line) = IsFaultLine kind limit text (string_bytes line)

@@ -6,12 +6,12 @@ use Rattle.timefd_component.specs.Tree.{Text}
 use Rattle.timefd.specs.declared.end.RunEnd.{RunEnd}
 use Rattle.timefd.specs.declared.end.RunEnd.TheVariants.{Accepted, Refused, Memory, ReadFailed, WriteFailed, NotUtf8}
 
--- The reader is read to its end, and its bytes are so.
+-- The reader is read to its end, and this holds for its bytes.
 abbrev pub EndsAt : (Text → Type 0) → Option Text → Option Text → Type 0
 EndsAt IsSo left_before left_after = (bytes : Text) × ReadsAll left_before left_after bytes
     × IsSo bytes
 
--- The reader is read to its end, and what is written is one line of all its bytes.
+-- The reader is read to its end, and what is written is one line about all its bytes.
 abbrev pub Answers : (Text → Text → Type 0) → Option Text → Option Text → Option Text → Option Text
     → Type 0
 Answers IsLine left_before left_after written_before written_after =
@@ -19,7 +19,7 @@ Answers IsLine left_before left_after written_before written_after =
     × ReadsAll left_before left_after bytes × IsLine bytes line
     × Appends written_before written_after line
 
--- The line of the text is written.
+-- This end says that the line for the text is written.
 abbrev pub IsAnswer : RunEnd → Type 0
 IsAnswer Accepted = ⊤
 IsAnswer Refused = ⊤
@@ -28,7 +28,7 @@ IsAnswer ReadFailed = ⊥
 IsAnswer WriteFailed = ⊥
 IsAnswer NotUtf8 = ⊥
 
--- It is said of all the bytes that were read.
+-- This end says something about all the bytes that were read.
 abbrev pub IsOfText : RunEnd → Type 0
 IsOfText Accepted = ⊤
 IsOfText Refused = ⊤
@@ -37,7 +37,7 @@ IsOfText ReadFailed = ⊥
 IsOfText WriteFailed = ⊥
 IsOfText NotUtf8 = ⊤
 
--- Nothing is written.
+-- This end says that nothing is written.
 abbrev pub IsSilent : RunEnd → Type 0
 IsSilent Accepted = ⊥
 IsSilent Refused = ⊥

@@ -1,4 +1,4 @@
-//! How a run ends, and the exit status that tells it.
+//! How a run ends, and the exit status that reports it.
 
 ghost use Rattle.std.specs.Prelude.{◌≡◌};
 ghost use Rattle.timefd.specs.Status.{status};
@@ -8,7 +8,7 @@ ghost use Rattle.timefd.specs.Status.{status};
 pub enum RunEnd {
     /// The text is a description, and the line says how much it holds.
     Accepted,
-    /// The text is no description, and the line says why.
+    /// The text isn't a description, and the line says why.
     Refused,
     /// Memory ran out, and nothing is written.
     Memory,
@@ -16,7 +16,7 @@ pub enum RunEnd {
     ReadFailed,
     /// The writer failed, and part of the line may be out.
     WriteFailed,
-    /// The bytes are no text, and nothing is written.
+    /// The bytes aren't UTF-8, and nothing is written.
     NotUtf8,
 }
 

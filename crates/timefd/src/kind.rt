@@ -50,7 +50,7 @@ impl Kind {
     }
 }
 
-// The limit that an argument names: digits alone, where Rust reads a plus too.
+// The limit that an argument names: digits alone, though Rust also reads a plus sign.
 fn limit_named(word: &str) -> Option<u8>
     ensures { result ≡ spec.limit_named word.now }
 {
@@ -68,8 +68,8 @@ fn limit_named(word: &str) -> Option<u8>
     }
 }
 
-/// The kind, and how many nested descriptions there may be around one another, which the words
-/// after the program's name give: `None` where they are no arguments of the program.
+/// The kind, and how many nested descriptions there may be around one another, by the words after
+/// the program's name. `None` if they aren't arguments of the program.
 pub fn arguments(words: &[String]) -> Option<(Kind, u8)>
     ensures exact { result ≡ spec.arguments (map string_bytes words.now) }
     ensures within { IfSome result (λ x. x.1 ≤ nesting_limit) }

@@ -1,7 +1,7 @@
 //! `timefd KIND [LIMIT]`, with `1`, `2`, `3` or `strftime` as the kind: reads a format description
-//! of that kind from the standard input, and says on the standard output what it holds, or why it
-//! is none. The limit, for the kinds `1`, `2` and `3`, is how many nested descriptions may stand
-//! around one another.
+//! of that kind from the standard input, and says on the standard output how much it holds, or why
+//! it isn't one. The limit, for the kinds `1`, `2` and `3`, is how many nested descriptions there
+//! may be around one another.
 #![tactic(auto)]
 
 mod end;
@@ -17,7 +17,7 @@ use std::env;
 use std::process::ExitCode;
 use timefd_streams::{FromReader, ToWriter};
 
-// The status where the arguments can't be had.
+// The exit status if the arguments can't be had.
 const NO_ARGUMENTS: u8 = 3;
 
 // All arguments, of which the first is the program's name.

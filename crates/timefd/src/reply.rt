@@ -1,4 +1,4 @@
-//! What is said of a text.
+//! The reply to a text.
 
 ghost use Rattle.std.specs.Prelude.{◌≡◌, ◌≤◌, IfOk, string_bytes};
 ghost use Rattle.timefd_fault.specs.Faults.{fault_of};
@@ -12,12 +12,12 @@ use std::alloc::{AllocError, Global};
 use timefd_items::InvalidFormatDescription;
 use timefd_parse::{DescriptionVersion, Language, ParseError, amount_within};
 
-/// The line that is said of a text.
+/// The line that answers a text.
 #[derive(Debug, Drop)]
 pub enum Reply {
     /// The text is a description: how many items it has, or how many bytes it reserves.
     Accepted(String),
-    /// The text is no description: the sentence of its fault.
+    /// The text isn't a description: the sentence of its fault.
     Refused(String),
 }
 
@@ -31,7 +31,7 @@ impl Reply {
         }
     }
 
-    /// How a run ends that writes this line.
+    /// How a run that writes this line ends.
     pub fn end(&self) -> RunEnd
         ensures { result ≡ end_of self.now }
     {
@@ -42,7 +42,7 @@ impl Reply {
     }
 }
 
-// The line of a text of the language that holds so much.
+// The line for an accepted text: how many items it has, or in version 3 how many bytes it reserves.
 fn amount_line(alloc: Global, language: Language, count: usize) -> Result<String, AllocError>
     ensures { IfOk result (λ line. string_bytes line ≡ spec.amount_line language count) }
 {
@@ -58,8 +58,8 @@ fn fault_line(alloc: Global, fault: &InvalidFormatDescription) -> Result<String,
     format!(in alloc; "{fault}\n")
 }
 
-/// The line of the text as a description of this kind, with at most `limit` nested descriptions
-/// around one another. An `Err` says that memory ran out, and nothing of the text.
+/// The reply to the text as a description of this kind, with at most `limit` nested descriptions
+/// around one another. An `Err` says that memory ran out, and nothing about the text.
 pub fn reply_to(alloc: Global, kind: Kind, limit: u8, text: &str) -> Result<Reply, AllocError>
     requires { limit ≤ nesting_limit }
     ensures { IfOk result (IsReply kind limit text.now) }

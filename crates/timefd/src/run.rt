@@ -14,9 +14,9 @@ use timefd_parse::NESTING_LIMIT;
 use timefd_streams::transfer::{ReadError, read_all, write_all};
 use timefd_streams::{Failed, Sink, Source};
 
-/// Reads a text of this kind to the reader's end, and writes the line that is said of it.
+/// Reads a text of this kind to the reader's end, and writes the line that answers it.
 pub fn run<R: Source, W: Sink>(alloc: Global, kind: Kind, reader: &mut R, writer: &mut W) -> RunEnd
-    // All bytes are read, and one line of theirs is written, and nothing else.
+    // All bytes are read, and one line about them is written, and nothing else.
     ensures accepted { result ≡ RunEnd.Accepted
         → Answers (IsOkLine kind nesting_limit) (R.remaining reader.old) (R.remaining reader.new)
         (W.contents writer.old) (W.contents writer.new) }
@@ -26,16 +26,16 @@ pub fn run<R: Source, W: Sink>(alloc: Global, kind: Kind, reader: &mut R, writer
     ensures not_utf8 { result ≡ RunEnd.NotUtf8
         → EndsAt (λ bytes. ¬ IsUtf8 bytes) (R.remaining reader.old) (R.remaining reader.new) }
 
-    // What is said of a text is said of a whole one.
+    // An answer is about the whole text, and its whole line is written and flushed.
     ensures read { IsOfText result → IsFalse (R.has_failed reader.new) }
     ensures written { IsAnswer result → IsFalse (W.has_failed writer.new) }
     ensures flushed { IsAnswer result → IsTrue (W.is_flushed writer.new) }
 
-    // A failure is answered only where there is one.
+    // A failure is reported only if a call failed.
     ensures read_failed { result ≡ RunEnd.ReadFailed → IsTrue (R.has_failed reader.new) }
     ensures write_failed { result ≡ RunEnd.WriteFailed → IsTrue (W.has_failed writer.new) }
 
-    // The writer is as it was, where nothing is said.
+    // The writer is unchanged if nothing is written.
     ensures silent { IsSilent result → writer.new ≡ writer.old }
 {
     run_within(alloc, kind, NESTING_LIMIT, reader, writer)
@@ -51,7 +51,7 @@ pub fn run_within<R: Source, W: Sink>(
 ) -> RunEnd
     requires { limit ≤ nesting_limit }
 
-    // All bytes are read, and one line of theirs is written, and nothing else.
+    // All bytes are read, and one line about them is written, and nothing else.
     ensures accepted { result ≡ RunEnd.Accepted
         → Answers (IsOkLine kind limit) (R.remaining reader.old) (R.remaining reader.new)
         (W.contents writer.old) (W.contents writer.new) }
@@ -61,16 +61,16 @@ pub fn run_within<R: Source, W: Sink>(
     ensures not_utf8 { result ≡ RunEnd.NotUtf8
         → EndsAt (λ bytes. ¬ IsUtf8 bytes) (R.remaining reader.old) (R.remaining reader.new) }
 
-    // What is said of a text is said of a whole one.
+    // An answer is about the whole text, and its whole line is written and flushed.
     ensures read { IsOfText result → IsFalse (R.has_failed reader.new) }
     ensures written { IsAnswer result → IsFalse (W.has_failed writer.new) }
     ensures flushed { IsAnswer result → IsTrue (W.is_flushed writer.new) }
 
-    // A failure is answered only where there is one.
+    // A failure is reported only if a call failed.
     ensures read_failed { result ≡ RunEnd.ReadFailed → IsTrue (R.has_failed reader.new) }
     ensures write_failed { result ≡ RunEnd.WriteFailed → IsTrue (W.has_failed writer.new) }
 
-    // The writer is as it was, where nothing is said.
+    // The writer is unchanged if nothing is written.
     ensures silent { IsSilent result → writer.new ≡ writer.old }
 {
     let bytes = match read_all(alloc, reader) {

@@ -1,4 +1,4 @@
--- What is answered of a text of strftime in which a composite letter is one node.
+-- The answer about a text of strftime in which a composite letter is one node.
 use Rattle.std.proofs.Common.{◌≡◌, ◌∙◌, List, [], ◌∷◌, ◌++◌, Some, length, map, IsUtf8, refl, sym, ap, arith}
 use Rattle.std.proofs.lemmas.List.{length-map}
 use Rattle.timefd_component.specs.Tree.{Text, Tree}
@@ -20,7 +20,7 @@ use Rattle.timefd_c.specs.Composites.{ReadsComposites}
 use Rattle.timefd_c.specs.Reading.{report_in}
 use Rattle.timefd_c.proofs.AnswerLemmas as answers
 use Rattle.timefd_c.proofs.LongestLemmas.{is_longest}
-use Rattle.timefd_c.proofs.ReadingLemmas.{silent, told}
+use Rattle.timefd_c.proofs.ReadingLemmas.{silent, reported}
 use Rattle.timefd_c_read.proofs.RoomLemmas.{items_within}
 
 -- the literals of pieces are those of their trees
@@ -32,7 +32,7 @@ pub composites_reported : (bytes : Text) (ns ms : List Node) (a b : Text) (r : R
     → ((list : List Tree) × SpellsStrftime bytes list × IsReportOfPieces list ns ms a b r)
     → ((list : List Tree) → SpellsStrftime bytes list → IsReportOfPieces list ns ms a b r)
     → ((f : Fault) → FaultIn Strftime nesting_limit bytes f → ⊥)
-    → ReadsComposites bytes ns ms a b (told r)
+    → ReadsComposites bytes ns ms a b (reported r)
 composites_reported bytes ns ms a b r utf8 found spelled no_fault =
     let all = found.2.2 in
     let few = items_within bytes found.0 found.1 in
@@ -41,7 +41,7 @@ composites_reported bytes ns ms a b r utf8 found spelled no_fault =
     record {
       answers = answers.accepting (Some Strftime) nesting_limit bytes (List Tree)
           (Describes (Some Strftime) bytes)
-          (λ list. IsReportOfPieces list ns ms a b (report_in (told r)))
+          (λ list. IsReportOfPieces list ns ms a b (report_in (reported r)))
           (answers.some_not_none Strftime) r.value utf8 found.0 (utf8, found.1)
           (λ list d. spelled list d.1) (λ f h. no_fault f h.1);
       nodes = λ e. omega (arith, all.nodes, all.value, count);

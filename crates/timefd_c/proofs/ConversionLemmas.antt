@@ -1,4 +1,4 @@
--- What is answered of a conversion that was made, of a text that has a fault, and where memory ran out.
+-- The answer about a conversion that was made, about a text with a fault, and if memory ran out.
 use Rattle.std.proofs.Common.{ℕ, ◌≡◌, ◌≤◌, ◌<◌, ◌++◌, [], Some, length, drop, IsUtf8, refl, ap, sym, subst, ◌∙◌, arith}
 use Rattle.timefd_component.specs.Tree.{Text}
 use Rattle.timefd_fault.specs.Faults.{Fault}
@@ -7,10 +7,10 @@ use Rattle.timefd_parse.specs.declared.language.Language.{Language}
 use Rattle.timefd_parse.specs.Language.{FaultIn}
 use Rattle.timefd_fault.specs.declared.borrowed_parse_error.BorrowedParseError.{BorrowedParseError}
 use Rattle.timefd_fault.specs.declared.borrowed_parse_error.BorrowedParseError.TheVariants as errors
-use Rattle.timefd_fault.specs.BorrowedFaults.{lent_fault, IsLent, IsLentOf, IsMemory}
+use Rattle.timefd_fault.specs.BorrowedFaults.{to_borrowed_fault, IsBorrowed, IsBorrowedOf, IsMemory}
 use Rattle.timefd_convert.specs.declared.conversion.Conversion.{Conversion}
 use Rattle.timefd_c.specs.Answers.{IsAnswer, error_answer, plain}
-use Rattle.timefd_c.specs.Conversions.{ConvertsBy, FitsRoom, FitsTwice, IsConverted, IsToldOf}
+use Rattle.timefd_c.specs.Conversions.{ConvertsBy, FitsRoom, FitsTwice, IsConverted, IsReportedOf}
 use Rattle.timefd_c.specs.declared.answer.TheConstants.{ACCEPTED, NO_MEMORY, REFUSED}
 use Rattle.timefd_c.proofs.AnswerLemmas as answers
 
@@ -26,7 +26,7 @@ module _ (language : Language) (IsOne HasItems : Text → Text → Type 0) (byte
       (record { status = ACCEPTED; value = length text; sentence_len = 0; written = written })
   written_or_kept before after text written utf8 is same one no_fault whole too_short = record {
     answers = answers.accepting (Some language) nesting_limit bytes Text (IsConverted IsOne bytes)
-        (IsToldOf HasItems bytes
+        (IsReportedOf HasItems bytes
         (record { status = ACCEPTED; value = length text; sentence_len = 0; written = written }))
         (answers.some_not_none language) (length text) utf8 text (utf8, is)
         (λ other other_is. (
@@ -42,33 +42,32 @@ module _ (language : Language) (IsOne HasItems : Text → Text → Type 0) (byte
     no_sentence = refl;
   }
 
-  -- the same, where what was written is the text as it is lent, and the value its length as it was
-  -- taken
-  pub converted : (before after text lent : Text) (value written : ℕ)
-      → lent ≡ text → value ≡ length text → IsUtf8 bytes
+  -- the same, if the written bytes are the borrowed text and the value is the length of the text
+  pub converted : (before after text borrowed : Text) (value written : ℕ)
+      → borrowed ≡ text → value ≡ length text → IsUtf8 bytes
       → IsOne bytes text → HasItems bytes text
       → ((other : Text) → IsOne bytes other → text ≡ other)
       → ((f : Fault) → FaultIn language nesting_limit bytes f → ⊥)
-      → (length lent ≤ length before → (after ≡ lent ++ drop (length lent) before)
-      × (written ≡ length lent))
-      → (length before < length lent → (after ≡ before) × (written ≡ 0))
+      → (length borrowed ≤ length before → (after ≡ borrowed ++ drop (length borrowed) before)
+      × (written ≡ length borrowed))
+      → (length before < length borrowed → (after ≡ before) × (written ≡ 0))
       → ConvertsBy language IsOne HasItems bytes before after
       (record { status = ACCEPTED; value = value; sentence_len = 0; written = written })
-  converted before after text lent value written lent_is value_is utf8 is same one no_fault whole
+  converted before after text borrowed value written borrowed_is value_is utf8 is same one no_fault whole
       too_short =
       subst (λ n. ConvertsBy language IsOne HasItems bytes before after
       (record { status = ACCEPTED; value = n; sentence_len = 0; written = written }))
       (sym value_is)
       (written_or_kept before after text written utf8 is same one no_fault
       (subst (λ t. length t ≤ length before → (after ≡ t ++ drop (length t) before)
-      × (written ≡ length t)) lent_is whole)
-      (subst (λ t. length before < length t → (after ≡ before) × (written ≡ 0)) lent_is
+      × (written ≡ length t)) borrowed_is whole)
+      (subst (λ t. length before < length t → (after ≡ before) × (written ≡ 0)) borrowed_is
       too_short))
 
-  -- where nothing was written, the status and the value are all that is answered
+  -- if nothing was written, the answer is only the status and the value
   silent : (buffer : Text) (status value : ℕ) → (status ≡ ACCEPTED → ⊥) → status ≤ NO_MEMORY
       → IsAnswer (Some language) nesting_limit bytes Text (IsConverted IsOne bytes)
-      (IsToldOf HasItems bytes (plain status value)) status value
+      (IsReportedOf HasItems bytes (plain status value)) status value
       → ConvertsBy language IsOne HasItems bytes buffer buffer (plain status value)
   silent buffer status value not_accepted known is = record {
     answers = is;
@@ -79,25 +78,25 @@ module _ (language : Language) (IsOne HasItems : Text → Text → Type 0) (byte
     no_sentence = refl;
   }
 
-  -- where nothing was converted, for this error
+  -- if nothing was converted because of this error
   pub unconverted : (buffer : Text) (e : BorrowedParseError) → IsUtf8 bytes
-      → IsLentOf (FaultIn language nesting_limit bytes) e
+      → IsBorrowedOf (FaultIn language nesting_limit bytes) e
       → ((other : Text) → IsOne bytes other → IsMemory e)
-      → ((f : Fault) → FaultIn language nesting_limit bytes f → IsLent f e) → (bytes ≡ [] → ⊥)
+      → ((f : Fault) → FaultIn language nesting_limit bytes f → IsBorrowed f e) → (bytes ≡ [] → ⊥)
       → ConvertsBy language IsOne HasItems bytes buffer buffer (error_answer e)
   unconverted buffer (errors.Invalid f) utf8 has not_spelled one not_empty =
       silent buffer REFUSED f.index (λ e. omega (arith, e)) (omega arith)
       (answers.refusing (Some language) nesting_limit bytes Text (IsConverted IsOne bytes)
-      (IsToldOf HasItems bytes (plain REFUSED f.index)) (answers.some_not_none language)
-      (lent_fault f) (utf8, has) (λ other other_is. not_spelled other other_is.1)
+      (IsReportedOf HasItems bytes (plain REFUSED f.index)) (answers.some_not_none language)
+      (to_borrowed_fault f) (utf8, has) (λ other other_is. not_spelled other other_is.1)
       (λ g h. one g h.1) (λ some nil. not_empty nil))
   unconverted buffer (errors.Memory m) utf8 has not_spelled one not_empty =
       silent buffer NO_MEMORY 0 (λ e. omega (arith, e)) (omega arith)
       (answers.unread (Some language) nesting_limit bytes Text (IsConverted IsOne bytes)
-      (IsToldOf HasItems bytes (plain NO_MEMORY 0)) (answers.some_not_none language)
+      (IsReportedOf HasItems bytes (plain NO_MEMORY 0)) (answers.some_not_none language)
       (λ some invalid. invalid utf8) (λ f h. one f h.1) (λ some nil. not_empty nil))
 
--- nothing is too long that is not accepted
+-- a text that isn't accepted is never too long
 pub error_fits : (bytes : Text) (e : BorrowedParseError) → FitsTwice bytes (error_answer e)
 error_fits bytes (errors.Invalid f) = λ e. absurd (omega (arith, e))
 error_fits bytes (errors.Memory m) = λ e. absurd (omega (arith, e))

@@ -1,4 +1,4 @@
--- The numbers of a moment are taken for that moment, and are in their ranges.
+-- The numbers of a moment mean that moment, and are in their ranges.
 use Rattle.std.proofs.Common.{rules, ◌≡◌, ◌∙◌, ◌≤◌, ◌+◌, ◌/◌, ◌%◌, ◌==◌, ℕ, ℤ, pos, ◌+ℤ◌, unsigned_abs, nat_lt, Bool, true, false, Option, Some, None, is_some, refl, sym, ap}
 use Rattle.timefd_c.specs.declared.moment.MomentFields.{MomentFields}
 use Rattle.timefd_c.specs.Moments.{AreNumbers, AreOfDate, AreOfTime, IsDate, IsMoment, IsOffset, IsTime, date_bit, date_range, first_of, offset_bit, offset_number, offset_range, range_fault, time_bit, time_range}
@@ -10,7 +10,7 @@ use Rattle.timefd_moment.specs.declared.moment.Moment.{Moment}
 use Rattle.timefd_moment.specs.declared.offset.UtcOffset.{UtcOffset}
 use Rattle.timefd_moment.specs.declared.time.Time.{Time}
 
--- which parts the sum tells as known
+-- which parts the sum says are known
 
 date_known : (d : Option Date) (t : Option Time) (o : Option UtcOffset)
     → ((date_bit d + time_bit t + offset_bit o) % 2 == 1) ≡ is_some d

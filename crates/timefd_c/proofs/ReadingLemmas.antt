@@ -1,4 +1,4 @@
--- What is answered of a text that was read as nodes, and of one that has a fault.
+-- The answer about a text that was read as nodes, and about one that has a fault.
 use Rattle.std.proofs.Common.{◌∙◌, ◌++◌, ◌∷◌, [], IsTrue, take, drop, sym, ℕ, ◌≡◌, ◌+◌, ◌≤◌, length, List, Option, Some, IsUtf8, false, refl, ap, arith}
 use Rattle.std.proofs.Math.Seq.{take-append_seam}
 use Rattle.timefd_component.specs.Tree.{Text, Tree, pack}
@@ -24,8 +24,8 @@ use Rattle.timefd_c_read.specs.Reports.{IsReport, parts, tops}
 use Rattle.timefd_c.specs.Reading.{Reads, Tells}
 use Rattle.timefd_c.proofs.AnswerLemmas as answers
 
-abbrev pub told : Report → ReadAnswer
-told r = record {
+abbrev pub reported : Report → ReadAnswer
+reported r = record {
   status = ACCEPTED;
   value = r.value;
   nodes = r.nodes;
@@ -79,7 +79,7 @@ parts_back (Version Three) limit bytes list spelled =
     (modernity_law Three limit 0 bytes list spelled))
 parts_back Strftime limit bytes list spelled = trees_back list (strftime_modernity_law bytes list spelled)
 
--- the fronts are what was written
+-- the fronts of the buffers are what was written
 fronts_back : (ts : List Tree) (ns ms : List Node) (a b : Text) (nodes literals : ℕ)
     → nodes ≡ length ts → literals ≡ length (literals_of ts)
     → ms ≡ nodes_from 0 0 ts ++ drop (length ts) ns
@@ -102,18 +102,18 @@ read_back_of language limit bytes list ns ms a b r spelled report written =
     (report.nodes_written written) (report.literals_written written)
     ∙ parts_back language limit bytes list spelled
 
-pub reported : (language : Language) (limit : ℕ) (bytes : Text) (ns ms : List Node) (a b : Text)
+pub nodes_reported : (language : Language) (limit : ℕ) (bytes : Text) (ns ms : List Node) (a b : Text)
     (r : Report) → IsUtf8 bytes
     → ((list : List Tree) × SpellsIn language limit bytes list
     × IsReport language list ns ms a b r)
     → ((list : List Tree) → SpellsIn language limit bytes list
     → IsReport language list ns ms a b r)
     → ((f : Fault) → FaultIn language limit bytes f → ⊥)
-    → Reads (Some language) limit bytes ns ms a b (told r)
-reported language limit bytes ns ms a b r utf8 found spelled no_fault = record {
+    → Reads (Some language) limit bytes ns ms a b (reported r)
+nodes_reported language limit bytes ns ms a b r utf8 found spelled no_fault = record {
   answers = answers.accepting (Some language) limit bytes (List Tree)
       (DescribesWithin (Some language) limit bytes)
-      (λ list. Tells (Some language) list ns ms a b (told r)) (answers.some_not_none language)
+      (λ list. Tells (Some language) list ns ms a b (reported r)) (answers.some_not_none language)
       r.value utf8 found.0 (utf8, found.1) (λ list d. spelled list d.1)
       (λ f h. no_fault f h.1);
   read = λ e written list d. read_back_of language limit bytes list ns ms a b r d.1
@@ -132,7 +132,7 @@ reported language limit bytes ns ms a b r utf8 found spelled no_fault = record {
   memory = λ l is none e. omega (arith, e);
 }
 
--- a text with a fault, of which the status and its index are answered
+-- a text with a fault; the answer has the status and the index
 pub faulted : (language : Language) (limit : ℕ) (bytes : Text) (ns ms : List Node) (a b : Text)
     (f : Fault) → IsUtf8 bytes → FaultIn language limit bytes f
     → ((list : List Tree) → SpellsIn language limit bytes list → ⊥)

@@ -11,7 +11,7 @@ use Rattle.timefd_c_read.specs.Reports.{parts}
 use Rattle.timefd_c_read.proofs.RoomLemmas.{all_walked_bytes, pack_bytes, pack_count, spelled_within, strftime_within, walked_bytes}
 use Rattle.timefd_c.specs.Reading.{most_nodes, most_literals}
 
--- What is told of a text that spells the list.
+-- What is reported of a text that spells the list.
 
 pub nodes_within : (language : Language) (limit : ℕ) (bytes : Text) (list : List Tree) (nodes : ℕ)
     → SpellsIn language limit bytes list → nodes ≡ length (parts language list)

@@ -1,7 +1,7 @@
--- What a verdict says, its answer says.
+-- The answer says what the verdict says.
 use Rattle.std.proofs.Common.{ℕ, ◌≡◌, ◌≢◌, List, [], Option, Some, None, IsFalse, IsSome, IsUtf8, refl, subst, arith}
 use Rattle.timefd_fault.specs.Faults.{Fault}
-use Rattle.timefd_fault.specs.BorrowedFaults.{HasShortWords, lent_fault}
+use Rattle.timefd_fault.specs.BorrowedFaults.{HasShortWords, to_borrowed_fault}
 use Rattle.timefd_fault.specs.declared.borrowed_fault.BorrowedFault.{BorrowedFault}
 use Rattle.timefd_fault.specs.RuleKinds.{rule_kind}
 use Rattle.timefd_language.specs.Grammar.{nesting_limit}
@@ -17,11 +17,11 @@ use Rattle.timefd_c.proofs.AnswerLemmas as answers
 use Rattle.timefd_c.specs.Languages.{SpellsIn, FaultIn, amount}
 use Rattle.timefd_c.specs.Verdicts.{Says, Accepts, Refuses, IsAccepted}
 
--- of a refused text, whatever was written of its sentence
+-- for a refused text, whatever was written of its sentence
 pub refusal : (language : Option Language) (bytes : Text) (f : BorrowedFault) (len written : ℕ)
     → Says language bytes (Refused f)
     → ((list : List Tree) → IsUtf8 bytes → SpellsIn language bytes list → ⊥)
-    → ((g : Fault) → IsUtf8 bytes → FaultIn language bytes g → lent_fault f ≡ g)
+    → ((g : Fault) → IsUtf8 bytes → FaultIn language bytes g → to_borrowed_fault f ≡ g)
     → (language ≡ None → ◌≡◌ {A = Verdict} (Refused f) UnknownKind)
     → (IsSome language → bytes ≡ [] → ⊥)
     → Judges language bytes
@@ -31,7 +31,7 @@ refusal language bytes f len written says spelled faulty no_language empty = rec
       (Counts language
       (record { status = REFUSED; value = f.index; sentence_len = len; written = written }))
       (λ none. let is : Refused f ≡ UnknownKind = no_language none in absurd cc)
-      (lent_fault f) says (λ list d. spelled list d.0 d.1) (λ g h. faulty g h.0 h.1) empty;
+      (to_borrowed_fault f) says (λ list d. spelled list d.0 d.1) (λ g h. faulty g h.0 h.1) empty;
   memory = λ l is lax status. omega (arith, status);
 }
 
@@ -78,12 +78,12 @@ judged language bytes UnknownKind says spelled faulty no_text no_language empty 
 refused_same : (f g : BorrowedFault) → ◌≡◌ {A = Verdict} (Refused f) (Refused g) → f ≡ g
 refused_same f g same = cc
 
--- A fault that was found has short words, so that its sentence can be written.
+-- A fault that was found has short words, so its sentence can be written.
 pub refused_short : (language : Option Language) (bytes : Text) (v : Verdict) (f : BorrowedFault)
     → v ≡ Refused f → Says language bytes v → HasShortWords (rule_kind f.rule)
 refused_short (Some language) bytes (Refused g) f same says =
     subst (λ (b : BorrowedFault). HasShortWords (rule_kind b.rule)) (refused_same g f same)
-    (short_in language nesting_limit bytes (lent_fault g) says.1)
+    (short_in language nesting_limit bytes (to_borrowed_fault g) says.1)
 refused_short None bytes (Refused g) f same says = absurd says.1
 refused_short language bytes (Accepted n) f same says = absurd cc
 refused_short language bytes NotUtf8 f same says = absurd cc

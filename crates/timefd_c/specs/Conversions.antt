@@ -1,4 +1,4 @@
--- What is answered to C of a text of one language that is rewritten as one of another.
+-- The answer to C about a text that is converted from one language to another.
 use Rattle.std.specs.Prelude.{ℕ, ◌≡◌, ◌≢◌, ◌≤◌, ◌<◌, ◌*◌, ◌++◌, Option, Some, None, length, drop, IsUtf8}
 use Rattle.timefd_component.specs.Tree.{Text}
 use Rattle.timefd_language.specs.Grammar.{nesting_limit}
@@ -13,36 +13,36 @@ use Rattle.timefd_c.specs.declared.answer.TheConstants.{ACCEPTED, NO_CONVERSION,
 use Rattle.timefd_c.specs.declared.answer.Answer.{Answer}
 use Rattle.timefd_c.specs.Answers.{IsAnswer, plain}
 
--- The bytes are a text, and this is the one that it is rewritten to.
+-- The bytes are a text, and `converted` is the text that it is converted to.
 abbrev pub IsConverted : (Text → Text → Type 0) → Text → Text → Type 0
 IsConverted IsOne bytes converted = IsUtf8 bytes × IsOne bytes converted
 
--- The later version spells this text with the items that this one spells the bytes with, and the
--- value is its length.
-abbrev pub IsToldOf : (Text → Text → Type 0) → Text → Answer → Text → Type 0
-IsToldOf HasItems bytes answer converted =
+-- In the later version `converted` has the items that the bytes have in their own, and the value is its
+-- length.
+abbrev pub IsReportedOf : (Text → Text → Type 0) → Text → Answer → Text → Type 0
+IsReportedOf HasItems bytes answer converted =
     HasItems bytes converted × (answer.value ≡ length converted)
 
--- The answer says what the bytes, a text of the language, are rewritten to, or why they are not, and
--- of the buffer, which held `before` and holds `after`, how much of it that is. `IsOne` says which
--- text it is, and `HasItems` that it means the same.
+-- The answer says what the bytes, a text of the language, are converted to, or why they are not, and how
+-- much of that is in the buffer, which held `before` and holds `after`. `IsOne` says which text it is, and
+-- `HasItems` that it means the same.
 pub record ConvertsBy (language : Language) (IsOne HasItems : Text → Text
     → Type 0) (bytes before after : Text) (answer : Answer) : Type 0 where
   pub answers : IsAnswer (Some language) nesting_limit bytes Text (IsConverted IsOne bytes)
-      (IsToldOf HasItems bytes answer) answer.status answer.value
-  -- The language has a kind, so that there are four statuses.
+      (IsReportedOf HasItems bytes answer) answer.status answer.value
+  -- The language exists, so there are four statuses.
   pub status : answer.status ≤ NO_MEMORY
   -- A buffer with room for the whole text begins with it, and keeps its other bytes.
   pub whole : answer.status ≡ ACCEPTED → answer.value ≤ length before
       → (converted : Text) → IsConverted IsOne bytes converted
       → (after ≡ converted ++ drop answer.value before) × (answer.written ≡ answer.value)
-  -- Any other buffer is as it was, and so is each where there is no such text.
+  -- Any other buffer is unchanged, and so is every buffer if there is no such text.
   pub too_short : answer.status ≡ ACCEPTED → length before < answer.value
       → (after ≡ before) × (answer.written ≡ 0)
   pub kept : answer.status ≢ ACCEPTED → (after ≡ before) × (answer.written ≡ 0)
   pub no_sentence : answer.sentence_len ≡ 0
 
--- Twice the room of the bytes is always enough.
+-- Twice the length of the bytes is always enough room.
 abbrev pub FitsTwice : Text → Answer → Type 0
 FitsTwice bytes answer = answer.status ≡ ACCEPTED → answer.value ≤ 2 * length bytes
 
@@ -55,7 +55,7 @@ Converts bytes before after answer =
 abbrev pub Modernizes : Text → Text → Text → Answer → Type 0
 Modernizes = ConvertsBy (Version Two) IsWrittenOf KeepsItemsOf
 
--- So much room is always enough, where a bound is known.
+-- This much room is always enough, if a bound is known.
 abbrev pub FitsRoom : Conversion → Text → Answer → Type 0
 FitsRoom conversion bytes answer =
     answer.status ≡ ACCEPTED → conversions.FitsIn conversion (length bytes) answer.value
@@ -67,17 +67,17 @@ ConvertsTo conversion bytes before after answer =
     (conversions.KeepsItems conversion) bytes before after answer
     × FitsRoom conversion bytes answer
 
--- This status and no value are answered, and the buffer is as it was.
+-- The answer has this status and no value, and the buffer is unchanged.
 abbrev pub IsSilent : ℕ → Text → Text → Answer → Type 0
 IsSilent status before after answer = (answer ≡ plain status 0) × (after ≡ before)
 
--- Where there is no conversion, that is answered.
+-- The conversion, if there is one; otherwise the answer says that there is none.
 abbrev pub ConvertsWhere : Option Conversion → Text → Text → Text → Answer → Type 0
 ConvertsWhere (Some conversion) bytes before after answer =
     ConvertsTo conversion bytes before after answer
 ConvertsWhere None bytes before after answer = IsSilent NO_CONVERSION before after answer
 
--- From one language to another, where both numbers have one.
+-- From one language to another, if both exist.
 abbrev pub ConvertsBetween : Option Language → Option Language → Text → Text → Text → Answer
     → Type 0
 ConvertsBetween (Some from) (Some to) bytes before after answer =

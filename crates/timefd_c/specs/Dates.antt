@@ -1,4 +1,4 @@
--- What is answered to C of a text that is to be read as a date.
+-- The answer to C about a text that is read as a date.
 use Rattle.std.specs.Prelude.{ℕ, ◌≡◌, IsSome, IsUtf8, List, Option, None, Result, Ok, Err}
 use Rattle.timefd_c.specs.declared.answer.TheConstants.{ACCEPTED, REFUSED, NOT_UTF8, NO_MEMORY, UNKNOWN_KIND}
 use Rattle.timefd_c.specs.declared.date_answer.DateAnswer.{DateAnswer}
@@ -25,21 +25,21 @@ use Rattle.timefd_description.specs.ReadAnswers.{IsReadAs, fields_in}
 use Rattle.timefd_description.specs.declared.read_error.ReadTextError.{ReadTextError}
 use Rattle.timefd_description.specs.declared.read_error.ReadTextError.TheVariants as fails
 
--- the numbers of why a part does not read
+-- the number of the reason why a part doesn't match
 abbrev pub reason_number : Reason → ℕ
 reason_number (for.Unread c) = 1
 reason_number (for.Contradiction c) = 2
 reason_number for.Literal = 3
 reason_number for.Trailing = 4
 
--- the number of the component that does not read, or 0 where it is none
+-- the number of the component that doesn't match, or 0 if it is no component
 abbrev pub component_in : Reason → ℕ
 component_in (for.Unread c) = (component_node c 0).component
 component_in (for.Contradiction c) = (component_node c 0).component
 component_in for.Literal = 0
 component_in for.Trailing = 0
 
--- the numbers of what can be read of a date, a time of day, an offset and an instant
+-- the numbers of the parts of a date, a time of day, an offset and an instant that can be read
 
 abbrev pub date_part_number : DatePart → ℕ
 date_part_number DatePart.Day = 1
@@ -81,7 +81,7 @@ part_number (part.Time p) = time_part_number p
 part_number (part.Offset p) = offset_part_number p
 part_number (part.Instant p) = instant_part_number p
 
--- the answer with this status and value, where nothing was read
+-- the answer with this status and value, if nothing was read
 abbrev pub silent : ℕ → ℕ → DateAnswer
 silent status value = record {
   status = status;
@@ -92,9 +92,9 @@ silent status value = record {
   moment = unknown;
 }
 
--- The answer has the numbers of the moment, and timefd_format takes them for it.
+-- The answer has the numbers of the moment, and timefd_format takes these for the same moment.
 pub record IsRead (m : Moment) (answer : DateAnswer) : Type 0 where
-  pub told : answer ≡ record (silent ACCEPTED 0) { moment = answer.moment }
+  pub reported : answer ≡ record (silent ACCEPTED 0) { moment = answer.moment }
   pub numbers : AreNumbers m answer.moment
   pub same : IsMoment answer.moment m
   pub in_range : range_fault answer.moment ≡ None
@@ -109,7 +109,7 @@ abbrev pub value_answer : ValueError → DateAnswer
 value_answer (error.Missing p) = record (silent MISSING 0) { part = part_number p }
 value_answer (error.Contradiction p) = record (silent CONTRADICTION 0) { part = part_number p }
 
--- The answer tells the moment that was read, or why none was.
+-- The answer has the moment that was read, or the reason why none was.
 abbrev pub Answers : Result Moment ReadTextError → DateAnswer → Type 0
 Answers (Ok m) answer = IsRead m answer
 Answers (Err (fails.Fault f)) answer = answer ≡ silent REFUSED f.index
@@ -117,14 +117,13 @@ Answers (Err (fails.Unread u)) answer = answer ≡ unread_answer u
 Answers (Err (fails.Value v)) answer = answer ≡ value_answer v
 Answers (Err (fails.Memory e)) answer = answer ≡ silent NO_MEMORY 0
 
--- By a description of these items the date is read as `IsReadAs` says, and that is answered.
+-- By a description of these items the date is read as `IsReadAs` says, and the answer says so.
 abbrev pub ReadsBy : List Tree → Text → DateAnswer → Type 0
 ReadsBy list date answer =
     (read : Result Moment ReadTextError) × IsReadAs (fields_in list date) read
     × Answers read answer
 
--- The answer says what the bytes of the date show by the bytes of a description in the language, or why
--- they show nothing.
+-- The answer says what the date shows by a description in the language, or why it shows nothing.
 pub record ReadsDate (language : Option Language) (bytes date : Text) (answer : DateAnswer) : Type 0 where
   pub unknown_kind : language ≡ None → answer ≡ silent UNKNOWN_KIND 0
   pub not_utf8 : IsSome language → ¬ (IsUtf8 bytes) → answer ≡ silent NOT_UTF8 0

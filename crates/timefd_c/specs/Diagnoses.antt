@@ -1,4 +1,4 @@
--- What is answered to C of a fault.
+-- The answer to C about a fault.
 use Rattle.std.specs.Prelude.{ℕ, ◌≡◌, ◌≤◌, ◌<◌, ◌++◌, true, false, Option, Some, None, length, drop}
 use Rattle.timefd_component.specs.Tree.{Text}
 use Rattle.timefd_fault.specs.Faults.{Fault}
@@ -33,7 +33,7 @@ code_number NestedInComponent = 17
 code_number DuplicateModifier = 18
 code_number RefusedModifier = 19
 
--- what is told where there is no fault
+-- what is reported if there is no fault
 abbrev pub no_fault : FaultFields
 no_fault = record {
   code = 0;
@@ -44,24 +44,24 @@ no_fault = record {
   nearest_written = 0;
 }
 
--- The word stands at the front of the buffer, if that has room for all of it, and what is behind it is
--- as it was. Where there is none the length is 0.
-abbrev pub IsWordTold : Option Text → Text → Text → ℕ → ℕ → Type 0
-IsWordTold (Some word) before after len written =
+-- The buffer begins with the word if all of it fits, and is otherwise unchanged. If there is no word, the
+-- length is 0.
+abbrev pub IsWordReported : Option Text → Text → Text → ℕ → ℕ → Type 0
+IsWordReported (Some word) before after len written =
     (len ≡ length word)
     × (length word ≤ length before
     → (after ≡ word ++ drop (length word) before) × (written ≡ length word))
     × (length before < length word → (after ≡ before) × (written ≡ 0))
-IsWordTold None before after len written = (after ≡ before) × (len ≡ 0) × (written ≡ 0)
+IsWordReported None before after len written = (after ≡ before) × (len ≡ 0) × (written ≡ 0)
 
 -- The code is that of the fault, the bytes at fault are those of the linter's diagnosis, and the word is
--- the nearest one that its help names.
+-- the nearest one that the diagnosis's help names.
 pub record IsDiagnosed (language : Language) (text : Text) (f : Fault) (before after : Text)
     (d : FaultFields) : Type 0 where
   pub code : d.code ≡ code_number (code_of f.kind)
   pub start : d.start ≡ f.index
   pub end : d.end ≡ end_of language text f
   pub nearest : d.out_of_memory ≡ false → (help : Help) × IsHelpFor language text f help
-      × IsWordTold (nearest_in help) before after d.nearest_len d.nearest_written
+      × IsWordReported (nearest_in help) before after d.nearest_len d.nearest_written
   pub unsought : d.out_of_memory ≡ true
-      → IsWordTold None before after d.nearest_len d.nearest_written
+      → IsWordReported None before after d.nearest_len d.nearest_written

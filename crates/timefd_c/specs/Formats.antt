@@ -1,4 +1,4 @@
--- What is answered to C of a text that is to write a moment.
+-- The answer to C about a text that a moment is written by.
 use Rattle.std.specs.Prelude.{ℕ, ◌≡◌, ◌≢◌, ◌≤◌, ◌<◌, ◌++◌, ◌⊎◌, IsSome, IsUtf8, List, Option, Some, None, Result, Ok, Err, length, drop}
 use Rattle.timefd_c.specs.declared.answer.TheConstants.{ACCEPTED, REFUSED, NOT_UTF8, NO_MEMORY, UNKNOWN_KIND}
 use Rattle.timefd_c.specs.declared.format_answer.FormatAnswer.{FormatAnswer}
@@ -18,7 +18,7 @@ use Rattle.timefd_moment.specs.declared.component_range.ComponentRange.TheVarian
 use Rattle.timefd_moment.specs.declared.moment.Moment.{Moment}
 use Rattle.timefd_parse.specs.declared.language.Language.{Language}
 
--- the numbers of why a component shows nothing
+-- the number of the reason why a component shows nothing
 abbrev pub lack_number : Lack → ℕ
 lack_number lacks.NoDate = 1
 lack_number lacks.NoTime = 2
@@ -26,7 +26,7 @@ lack_number lacks.NoOffset = 3
 lack_number lacks.YearTooLong = 4
 lack_number lacks.InstantOutOfRange = 5
 
--- the numbers of what is out of its range
+-- the number of what is out of its range
 abbrev pub range_number : ComponentRange → ℕ
 range_number ranges.Year = 1
 range_number ranges.Month = 2
@@ -38,7 +38,7 @@ range_number ranges.Nanosecond = 7
 range_number ranges.Offset = 8
 range_number ranges.Instant = 9
 
--- the answer with this status and value, where nothing was written
+-- the answer with this status and value, if nothing was written
 abbrev pub silent : ℕ → ℕ → FormatAnswer
 silent status value =
     record { status = status; reason = 0; component = 0; value = value; written = 0 }
@@ -58,21 +58,20 @@ range_answer e = record (silent OUT_OF_RANGE 0) { reason = range_number e }
 abbrev pub text_answer : Text → ℕ → FormatAnswer
 text_answer text written = record (silent ACCEPTED (length text)) { written = written }
 
--- The text stands at the front of the buffer, if that has room for all of it, and what is behind it is as
--- it was.
-pub record IsTold (text before after : Text) (answer : FormatAnswer) : Type 0 where
-  pub told : answer ≡ text_answer text answer.written
+-- The buffer begins with the text if all of it fits, and is otherwise unchanged.
+pub record IsReported (text before after : Text) (answer : FormatAnswer) : Type 0 where
+  pub reported : answer ≡ text_answer text answer.written
   pub whole : length text ≤ length before
       → (after ≡ text ++ drop (length text) before) × (answer.written ≡ length text)
   pub too_short : length before < length text → (after ≡ before) × (answer.written ≡ 0)
 
--- What is to be written is told, or memory ran out.
+-- The answer has the text or the reason why there is none, or says that memory ran out.
 abbrev pub Shows : Result Text Unshown → Text → Text → FormatAnswer → Type 0
-Shows (Ok text) before after answer = IsTold text before after answer ⊎ (answer ≡ silent NO_MEMORY 0)
+Shows (Ok text) before after answer = IsReported text before after answer ⊎ (answer ≡ silent NO_MEMORY 0)
 Shows (Err u) before after answer = (answer ≡ unshown_answer u) ⊎ (answer ≡ silent NO_MEMORY 0)
 
 -- The answer says what the bytes, as a text of the language, write of the moment, or why they write
--- nothing; and the buffer, which held `before`, holds `after`.
+-- nothing. The buffer held `before` and holds `after`.
 pub record FormatsBy (language : Option Language) (bytes : Text) (m : Moment) (before after : Text)
     (answer : FormatAnswer) : Type 0 where
   pub unknown_kind : language ≡ None → answer ≡ silent UNKNOWN_KIND 0
@@ -82,7 +81,7 @@ pub record FormatsBy (language : Option Language) (bytes : Text) (m : Moment) (b
       → Shows (written_all m (trees list)) before after answer
   pub kept : answer.status ≢ ACCEPTED → after ≡ before
 
--- The same of the numbers of a moment. Where one of them is out of its range that is answered, whatever
+-- The same for the numbers of a moment. If one of them is out of its range, the answer says so, whatever
 -- the text is.
 pub record Formats (language : Option Language) (bytes : Text) (fields : MomentFields)
     (before after : Text) (answer : FormatAnswer) : Type 0 where

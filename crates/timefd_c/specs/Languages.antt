@@ -1,4 +1,4 @@
--- The language of a number, and what a text is in it.
+-- The language with a number, and what a text is in it.
 use Rattle.std.specs.Prelude.{ℕ, ◌==◌, if◌then◌else◌, Option, Some, None, List}
 use Rattle.timefd_component.specs.Tree.{Text, Tree}
 use Rattle.timefd_fault.specs.Faults.{Fault}
@@ -8,7 +8,7 @@ use Rattle.timefd_parse.specs.declared.language.Language.TheVariants.{Version, S
 use Rattle.timefd_language.specs.Grammar.{nesting_limit}
 use Rattle.timefd_parse.specs.Language as spec
 
--- the language of a number, if it has one
+-- the language with a number, if there is one
 abbrev pub language_of : ℕ → Option Language
 language_of number =
     if number == 1 then Some (Version One)
@@ -17,25 +17,25 @@ language_of number =
     else if number == 4 then Some Strftime
     else None
 
--- The text spells the list in the language, with at most so many nested descriptions around one
--- another.
+-- The text spells the list in the language, with at most `limit` nested descriptions around one another.
 abbrev pub SpellsWithin : Option Language → ℕ → Text → List Tree → Type 0
 SpellsWithin (Some language) limit text list = spec.SpellsIn language limit text list
 SpellsWithin None limit text list = ⊥
 
--- The rules of the language assign the fault to the text, where at most so many may be nested.
+-- The rules of the language assign the fault to the text, with at most `limit` nested descriptions around
+-- one another.
 abbrev pub FaultWithin : Option Language → ℕ → Text → Fault → Type 0
 FaultWithin (Some language) limit text f = spec.FaultIn language limit text f
 FaultWithin None limit text f = ⊥
 
--- The same, nested at most as deep as there may be.
+-- The same two, with the greatest limit on nesting.
 abbrev pub SpellsIn : Option Language → Text → List Tree → Type 0
 SpellsIn language text list = SpellsWithin language nesting_limit text list
 
 abbrev pub FaultIn : Option Language → Text → Fault → Type 0
 FaultIn language text f = FaultWithin language nesting_limit text f
 
--- how many items a text has that spells the list, or in version 3 how many bytes it reserves
+-- how many items the list has, or in version 3 how many bytes it reserves
 abbrev pub amount : Option Language → List Tree → ℕ
 amount (Some language) list = spec.amount language list
 amount None list = 0

@@ -1,4 +1,4 @@
--- The moment of the numbers that C gives.
+-- The moment with the numbers that C passes.
 use Rattle.std.specs.Prelude.{ℕ, ◌≡◌, ◌+◌, ◌/◌, ◌%◌, ◌==◌, nat_lt, if◌then◌else◌, Bool, IsTrue, IsFalse, Option, Some, None, Result, Ok, Err, ℤ, pos, ◌+ℤ◌, unsigned_abs}
 use Rattle.timefd_c.specs.declared.moment.MomentFields.{MomentFields}
 use Rattle.timefd_moment.specs.Calendar.{counted}
@@ -11,7 +11,7 @@ use Rattle.timefd_moment.specs.declared.moment.Moment.{Moment}
 use Rattle.timefd_moment.specs.declared.offset.UtcOffset.{UtcOffset}
 use Rattle.timefd_moment.specs.declared.time.Time.{Time}
 
--- What is known: 1 stands for the date, 2 for the time of day, 4 for the offset.
+-- What is known: 1 for the date, 2 for the time of day, 4 for the offset.
 
 abbrev pub has_date : MomentFields → Bool
 has_date f = f.known % 2 == 1
@@ -22,7 +22,7 @@ has_time f = f.known / 2 % 2 == 1
 abbrev pub has_offset : MomentFields → Bool
 has_offset f = f.known / 4 % 2 == 1
 
--- the number of a part that is out of its range, where the part is known
+-- the number that is out of its range in a part, if the part is known
 
 abbrev pub date_range : MomentFields → Option ComponentRange
 date_range f = if has_date f then date_fault f.year f.month f.day else None
@@ -40,7 +40,7 @@ abbrev pub first_of : Option ComponentRange → Option ComponentRange → Option
 first_of (Some e) other = Some e
 first_of None other = other
 
--- the first number that is out of its range: of the date, of the time of day, of the offset
+-- the first number that is out of its range, in the order date, time of day, offset
 abbrev pub range_fault : MomentFields → Option ComponentRange
 range_fault f = first_of (date_range f) (first_of (time_range f) (offset_range f))
 
@@ -60,22 +60,22 @@ abbrev pub IsOffset : MomentFields → Option UtcOffset → Type 0
 IsOffset f (Some o) = IsTrue (has_offset f) × (signed o.is_negative o.seconds ≡ f.offset_seconds)
 IsOffset f None = IsFalse (has_offset f)
 
--- The moment of the numbers.
+-- The moment has the numbers.
 abbrev pub IsMoment : MomentFields → Moment → Type 0
 IsMoment f m = IsDate f m.date × IsTime f m.time × IsOffset f m.offset
 
--- A part of the moment, or the number of it that is out of its range.
+-- A part of the moment, or the number of that part that is out of its range.
 abbrev pub IsPart : {A : Type 0} → Option ComponentRange → (Option A → Type 0)
     → Result (Option A) ComponentRange → Type 0
 IsPart fault Is (Ok part) = Is part × (fault ≡ None)
 IsPart fault Is (Err e) = fault ≡ Some e
 
--- The moment of the numbers, or the first number that is out of its range.
+-- The moment with the numbers, or the first number that is out of its range.
 abbrev pub IsMomentOf : MomentFields → Result Moment ComponentRange → Type 0
 IsMomentOf f (Ok m) = IsMoment f m × (range_fault f ≡ None)
 IsMomentOf f (Err e) = range_fault f ≡ Some e
 
--- The numbers of a moment, in which those of what isn't known are 0.
+-- The numbers of a moment. The numbers of a part that isn't known are 0.
 
 abbrev pub unknown : MomentFields
 unknown = record {

@@ -1,4 +1,4 @@
--- What is answered to C of nodes that a date is to be read by.
+-- The answer to C about nodes that a date is read by.
 use Rattle.std.specs.List.{list_all}
 use Rattle.std.specs.Prelude.{ℕ, ◌≡◌, IsUtf8, List, Bool, true, false, Some, None}
 use Rattle.timefd_c.specs.Dates.{ReadsBy, silent}
@@ -16,8 +16,8 @@ use Rattle.timefd_component.specs.Tree.{Text}
 abbrev pub are_texts : Text → List Node → Bool
 are_texts literals nodes = list_all (λ n. is_text (role_in literals n)) nodes
 
--- The answer says what the bytes of the date show by the nodes, or which one is no part of a description,
--- or that a literal or the date is no text.
+-- The answer says what the date shows by the nodes, or which node is not part of a description, or that a
+-- literal or the date isn't UTF-8.
 pub record ReadsNodes (nodes : List Node) (literals date : Text) (answer : DateAnswer) : Type 0 where
   pub no_description : (at : ℕ) → node_fault literals nodes ≡ Some at → answer ≡ silent NO_DESCRIPTION at
   pub not_utf8 : node_fault literals nodes ≡ None → are_texts literals nodes ≡ false

@@ -1,4 +1,4 @@
--- What is answered to C of nodes that are to write a moment.
+-- The answer to C about nodes that a moment is written by.
 use Rattle.std.specs.Prelude.{ℕ, ◌≡◌, ◌≢◌, ◌≤◌, ◌<◌, ◌++◌, List, Some, None, Result, Ok, Err, length, drop}
 use Rattle.timefd_c.specs.declared.answer.TheConstants.{ACCEPTED, NO_MEMORY}
 use Rattle.timefd_c.specs.declared.format_answer.FormatAnswer.{FormatAnswer}
@@ -15,31 +15,31 @@ use Rattle.timefd_moment.specs.declared.component_range.ComponentRange.{Componen
 use Rattle.timefd_moment.specs.declared.moment.Moment.{Moment}
 use Rattle.timefd_node_list.specs.Nodes.{kept_bytes}
 
--- The text stands at the front of the buffer, if that has room for all of it, and what is behind it is as
--- it was. Its length is told, at most the greatest `usize`.
-pub record IsToldOf (text before after : Text) (answer : FormatAnswer) : Type 0 where
-  pub told : answer ≡ record (silent ACCEPTED (kept_bytes (length text))) { written = answer.written }
+-- The buffer begins with the text if all of it fits, and is otherwise unchanged. The answer has the length,
+-- at most the greatest `usize`.
+pub record IsReportedOf (text before after : Text) (answer : FormatAnswer) : Type 0 where
+  pub reported : answer ≡ record (silent ACCEPTED (kept_bytes (length text))) { written = answer.written }
   pub whole : length text ≤ length before
       → (after ≡ text ++ drop (length text) before) × (answer.written ≡ length text)
   pub too_short : length before < length text → (after ≡ before) × (answer.written ≡ 0)
 
--- What is to be written is told, or the first component that shows nothing.
+-- The answer has the text, or the first component that shows nothing.
 abbrev pub ShowsBy : Result Text Unshown → Text → Text → FormatAnswer → Type 0
-ShowsBy (Ok text) before after answer = IsToldOf text before after answer
+ShowsBy (Ok text) before after answer = IsReportedOf text before after answer
 ShowsBy (Err u) before after answer = (answer ≡ unshown_answer u) × (after ≡ before)
 
--- The answer says what the nodes write of the moment, or which one is no part of a description; and the
--- buffer, which held `before`, holds `after`.
+-- The answer says what the nodes write of the moment, or which node is not part of a description. The
+-- buffer held `before` and holds `after`.
 pub record FormatsNodesBy (nodes : List Node) (literals : Text) (m : Moment) (before after : Text)
     (answer : FormatAnswer) : Type 0 where
   pub no_description : (at : ℕ) → node_fault literals nodes ≡ Some at
       → (answer ≡ silent NO_DESCRIPTION at) × (after ≡ before)
   pub shows : node_fault literals nodes ≡ None
       → ShowsBy (written_all m (trees (node_trees literals nodes))) before after answer
-  -- It takes no memory, so none runs out.
+  -- Writing takes no memory, so it can't run out.
   pub memory : answer.status ≢ NO_MEMORY
 
--- The same of the numbers of a moment. Where one of them is out of its range that is answered, whatever
+-- The same for the numbers of a moment. If one of them is out of its range, the answer says so, whatever
 -- the nodes are.
 pub record FormatsNodes (nodes : List Node) (literals : Text) (fields : MomentFields)
     (before after : Text) (answer : FormatAnswer) : Type 0 where

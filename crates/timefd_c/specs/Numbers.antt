@@ -1,4 +1,4 @@
--- The numbers of `examples/timefd.h`, but those of nodes.
+-- The numbers of `examples/timefd.h`, except those of nodes.
 use Rattle.std.specs.Prelude.{◌≡◌, Some, None}
 use Rattle.timefd_language.specs.declared.description_version.DescriptionVersion.TheVariants.{One, Two, Three}
 use Rattle.timefd_parse.specs.declared.language.Language.TheVariants.{Version, Strftime}
@@ -31,7 +31,7 @@ pub record Numbers : Type 0 where
   pub version_2 : language_of 2 ≡ Some (Version Two)
   pub version_3 : language_of 3 ≡ Some (Version Three)
   pub strftime : language_of 4 ≡ Some Strftime
-  -- the dialects, of which no language has a number
+  -- the dialects; no dialect has the number of a language
   pub python : dialect_of 101 ≡ Some dialects.Python
   pub c : dialect_of 102 ≡ Some dialects.C
   pub gnu : dialect_of 103 ≡ Some dialects.Gnu

@@ -1,4 +1,4 @@
--- What is answered to C of a text that is read as nodes.
+-- The answer to C about a text that is read as nodes.
 use Rattle.std.specs.Prelude.{ℕ, ◌≡◌, ◌≢◌, ◌+◌, ◌-◌, ◌*◌, ◌^◌, ◌<◌, ◌≤◌, IsFalse, IsTrue, List, Option, Some, None, length, take}
 use Rattle.timefd_component.specs.Texts.{RendersAll}
 use Rattle.timefd_component.specs.Tree.{Text, Tree, trees}
@@ -25,20 +25,20 @@ report_in answer =
           answer.written;
     }
 
--- The answer reports the list, and the buffers have its nodes and literals, where both have room.
+-- The answer reports the list. If both buffers have room, they begin with its nodes and literals.
 abbrev pub Tells : Option Language → List Tree → List Node → List Node → Text → Text → ReadAnswer
     → Type 0
 Tells (Some language) list nodes_before nodes_after before after answer =
     IsReport language list nodes_before nodes_after before after (report_in answer)
 Tells None list nodes_before nodes_after before after answer = ⊥
 
--- The front nodes, with the front literals, read as the list.
+-- The written nodes, with the written literals, read as the list.
 abbrev pub ReadAs : Option Language → List Tree → List Node → Text → ReadAnswer → Type 0
 ReadAs (Some language) list nodes literals answer =
     read_nodes (take answer.literals literals) (take answer.nodes nodes) ≡ Some (tops language list)
 ReadAs None list nodes literals answer = ⊥
 
--- A text with so many bytes has at most so many nodes. Strftime's `%c` has fourteen.
+-- A text of `len` bytes has at most this many nodes. Strftime's `%c` has fourteen.
 abbrev pub most_nodes : Option Language → ℕ → ℕ
 most_nodes None len = 0
 most_nodes (Some (Version One)) len = len
@@ -46,23 +46,23 @@ most_nodes (Some (Version Two)) len = len
 most_nodes (Some (Version Three)) len = len + 1
 most_nodes (Some Strftime) len = 7 * len
 
--- Its literals have at most so many bytes. Those of versions 1, 2 and 3 stand in the text, and `%c`
--- of strftime has six.
+-- The literals of a text of `len` bytes have at most this many bytes. In versions 1, 2 and 3 they are in
+-- the text; strftime's `%c` has six.
 abbrev pub most_literals : Option Language → ℕ → ℕ
 most_literals None len = 0
 most_literals (Some (Version v)) len = len
 most_literals (Some Strftime) len = 3 * len
 
--- A rendering of the list has so many bytes, and none has more. Where a `usize` counts no more, a
--- rendering has so many at least.
+-- A rendering of the list has `bytes` bytes, and none has more. If that is more than a `usize` counts,
+-- `bytes` is the greatest one, and a rendering has at least that many.
 pub record IsLongest (list : List Tree) (bytes : ℕ) : Type 0 where
   pub reached : (text : Text) × RendersAll (trees list) text × (bytes ≤ length text)
   pub most : bytes < 2 ^ 64 - 1 → (text : Text) → RendersAll (trees list) text
       → length text ≤ bytes
 
--- The answer says what the bytes are in the language, where there is one, with at most `limit` nested
--- descriptions around one another; and of the buffers, which held `nodes_before` and `before` and hold
--- `nodes_after` and `after`, what was written.
+-- The answer says what the bytes are in the language, if there is one, with at most `limit` nested
+-- descriptions around one another, and what was written to the buffers, which held `nodes_before` and
+-- `before` and hold `nodes_after` and `after`.
 pub record Reads (language : Option Language) (limit : ℕ) (bytes : Text)
     (nodes_before nodes_after : List Node) (before after : Text) (answer : ReadAnswer) : Type 0 where
   pub answers : IsAnswer language limit bytes (List Tree) (DescribesWithin language limit bytes)
@@ -75,20 +75,20 @@ pub record Reads (language : Option Language) (limit : ℕ) (bytes : Text)
   -- A text of version 3 has at most one node more than bytes.
   pub within : answer.status ≡ ACCEPTED → language ≡ Some (Version Three)
       → answer.nodes ≤ length bytes + 1
-  -- So much room is always enough.
+  -- This much room is always enough.
   pub nodes_within : answer.nodes ≤ most_nodes language (length bytes)
   pub literals_within : answer.literals ≤ most_literals language (length bytes)
-  -- In every language the longest rendering is told. In version 3 it has the bytes of the value.
+  -- In every language the answer has the length of the longest rendering. In version 3 it is the value.
   pub longest : answer.status ≡ ACCEPTED → (list : List Tree)
       → DescribesWithin language limit bytes list → IsLongest list answer.bytes
   pub reserved : answer.status ≡ ACCEPTED → language ≡ Some (Version Three)
       → answer.bytes ≡ answer.value
-  -- Where no text is read, as the language is unknown or the bytes are no text, nothing is written.
+  -- If the language is unknown or the bytes aren't UTF-8, nothing is written.
   pub nodes_kept : answer.status ≢ ACCEPTED → answer.status ≢ REFUSED → answer.status ≢ NO_MEMORY
       → nodes_after ≡ nodes_before
   pub literals_kept : answer.status ≢ ACCEPTED → answer.status ≢ REFUSED
       → answer.status ≢ NO_MEMORY → after ≡ before
   pub none_counted : answer.status ≢ ACCEPTED → (answer.nodes ≡ 0) × (answer.literals ≡ 0)
       × IsFalse answer.written × (answer.bytes ≡ 0)
-  -- Only what version 3 nests takes memory.
+  -- Only nested descriptions of version 3 take memory.
   pub memory : (l : Language) → language ≡ Some l → TakesNone l (length bytes) → answer.status ≢ NO_MEMORY

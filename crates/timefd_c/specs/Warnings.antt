@@ -1,4 +1,4 @@
--- What is answered to C of the warnings of a description.
+-- The answer to C about the warnings of a description.
 use Rattle.std.specs.Prelude.{ℕ, ◌≡◌, ◌≢◌, ◌≤◌, ◌⊎◌, ◌++◌, List, [], ◌∷◌, Option, Some, None, IsSome, IsUtf8, drop, filter, flat_map, length, map, min, take}
 use Rattle.timefd_c.specs.declared.answer.TheConstants.{ACCEPTED, REFUSED, NOT_UTF8, NO_MEMORY, UNKNOWN_KIND}
 use Rattle.timefd_c.specs.declared.warning_fields.WarningFields.{WarningFields}
@@ -36,51 +36,51 @@ warning_number UnsettledWidth = 12
 warning_number UnsettledYear = 13
 warning_number DeprecatedComponent = 14
 
--- A warning is one of the text as a whole, which has so many bytes.
+-- A warning is about the text as a whole, which has `len` bytes.
 abbrev pub fields_of : ℕ → Warning → WarningFields
 fields_of len w = record { code = warning_number w; start = 0; end = len }
 
--- the warnings that a text has which spells the list, in the order in which the linter tells them
+-- the warnings of a text that spells the list, in the order in which the linter reports them
 abbrev pub warnings_of : Language → Text → List Tree → List WarningFields
 warnings_of language text list =
     map (fields_of (length text)) (filter (λ w. warns (style_of language) w (leaves_in list)) all)
 
--- nothing of one that is allowed
+-- the warning, unless it is allowed
 abbrev pub reported_at : Level → ℕ → Warning → List WarningFields
 reported_at Allowed len w = []
 reported_at Warned len w = fields_of len w ∷ []
 reported_at Denied len w = fields_of len w ∷ []
 
--- those of some warnings that aren't allowed
+-- the warnings among these that aren't allowed
 abbrev pub reported_of : Levels → ℕ → List Warning → List WarningFields
 reported_of found len ws = flat_map (λ w. reported_at (level_of found w) len w) ws
 
--- the answer with this status and value, where there are no warnings
+-- the answer with this status and value, if there are no warnings
 abbrev pub silent : ℕ → ℕ → WarningsAnswer
 silent status value = record { status = status; value = value; count = 0; written = 0 }
 
--- The buffer has the first of these, as far as there is room, and what is behind them is as it was.
-pub record AreWritten (reported before after : List WarningFields) (answer : WarningsAnswer) : Type 0 where
-  pub count : answer.count ≡ length reported
-  pub written : answer.written ≡ min (length reported) (length before)
-  pub front : after ≡ take answer.written reported ++ drop answer.written before
+-- The buffer begins with the first of these, as far as they fit, and is otherwise unchanged.
+pub record AreWritten (nodes_reported before after : List WarningFields) (answer : WarningsAnswer) : Type 0 where
+  pub count : answer.count ≡ length nodes_reported
+  pub written : answer.written ≡ min (length nodes_reported) (length before)
+  pub front : after ≡ take answer.written nodes_reported ++ drop answer.written before
 
--- Of a text that spells the list: all warnings that it has are reported, and no others; or memory ran out, and nothing
--- is written.
-abbrev pub IsTold : Language → Text → List Tree → List WarningFields → List WarningFields
+-- For a text that spells the list: all warnings that it has are reported, and no others; or memory ran out,
+-- and nothing is written.
+abbrev pub IsReported : Language → Text → List Tree → List WarningFields → List WarningFields
     → WarningsAnswer → Type 0
-IsTold language text list before after answer =
+IsReported language text list before after answer =
     ((answer.status ≡ ACCEPTED) × (answer.value ≡ amount language list)
     × AreWritten (warnings_of language text list) before after answer)
     ⊎ ((answer ≡ silent NO_MEMORY 0) × (after ≡ before))
 
--- The same of a text in a language, where there is one.
-abbrev pub IsToldIn : Option Language → Text → List Tree → List WarningFields → List WarningFields
+-- The same for a text in a language, if there is one.
+abbrev pub IsReportedIn : Option Language → Text → List Tree → List WarningFields → List WarningFields
     → WarningsAnswer → Type 0
-IsToldIn (Some language) text list before after answer = IsTold language text list before after answer
-IsToldIn None text list before after answer = ⊥
+IsReportedIn (Some language) text list before after answer = IsReported language text list before after answer
+IsReportedIn None text list before after answer = ⊥
 
--- The answer says what the bytes are in the language, where there is one, and the buffer has the warnings of a
+-- The answer says what the bytes are in the language, if there is one, and the buffer has the warnings of a
 -- description.
 pub record Warns (language : Option Language) (bytes : Text) (before after : List WarningFields)
     (answer : WarningsAnswer) : Type 0 where
@@ -88,7 +88,7 @@ pub record Warns (language : Option Language) (bytes : Text) (before after : Lis
   pub not_utf8 : IsSome language → ¬ (IsUtf8 bytes) → answer ≡ silent NOT_UTF8 0
   pub faulty : (f : Fault) → HasFault language bytes f → answer ≡ silent REFUSED f.index
   pub spelled : (list : List Tree) → Describes language bytes list
-      → IsToldIn language bytes list before after answer
+      → IsReportedIn language bytes list before after answer
   pub kept : answer.status ≢ ACCEPTED → after ≡ before
-  -- So much room is always enough.
+  -- This much room is always enough.
   pub few : answer.count ≤ 14

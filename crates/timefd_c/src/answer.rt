@@ -1,46 +1,46 @@
-//! What is answered to C.
+//! The answers to C.
 
 ghost use Rattle.std.specs.Prelude.{◌≡◌, false};
 ghost use Rattle.timefd_c.specs.Answers.{error_answer};
 
 use timefd_parse::BorrowedParseError;
 
-/// The status of a text that is a description. The value counts its items, or in version 3 the
-/// bytes that it reserves.
+/// The status of a text that is a description. The value is the number of its items, or in version
+/// 3 the number of bytes that it reserves.
 pub const ACCEPTED: u32 = 0;
 
-/// The status of a text that is no description. The value is the index of its fault, in bytes from
-/// the text's start.
+/// The status of a text that isn't a description. The value is the index of its fault, in bytes
+/// from the start of the text.
 pub const REFUSED: u32 = 1;
 
-/// The status of bytes that are no UTF-8. The value is 0.
+/// The status of bytes that aren't UTF-8. The value is 0.
 pub const NOT_UTF8: u32 = 2;
 
-/// The status where memory ran out. The text has no fault then. The value is 0.
+/// The status if memory ran out. Then the text has no fault. The value is 0.
 pub const NO_MEMORY: u32 = 3;
 
-/// The status where the number is that of no language. The value is 0.
+/// The status if no language has the number. The value is 0.
 pub const UNKNOWN_KIND: u32 = 4;
 
-/// The status where there is no conversion from one language to another. The value is 0.
+/// The status if there is no conversion from one language to the other. The value is 0.
 pub const NO_CONVERSION: u32 = 7;
 
-/// What is said of a text.
+/// The answer about a text.
 #[repr(C)]
 #[derive(Debug, Clone, Copy, PartialEq, Eq)]
 pub struct Answer {
-    /// One of the first five statuses, or of a conversion any of the six.
+    /// One of the first five statuses, or from a conversion any of the six.
     pub status: u32,
-    /// What the status counts: items, reserved bytes, the bytes of the converted text, or those before
-    /// the fault.
+    /// What the status counts: items, reserved bytes, the bytes of the converted text, or the bytes
+    /// before the fault.
     pub value: usize,
-    /// How many bytes the whole sentence of the fault has, where one was to be written, or else 0.
+    /// How many bytes the whole sentence of the fault has if one was asked for, or else 0.
     pub sentence_len: usize,
-    /// How many bytes of the sentence were written.
+    /// How many bytes of the sentence, or of the converted text, were written.
     pub written: usize,
 }
 
-// So large is it in `examples/timefd.h`.
+// `examples/timefd.h` declares it with this size.
 const _: () = prove!(size_of::<Answer>() == 32);
 
 const _: () = prove!(align_of::<Answer>() == 8);
@@ -59,7 +59,7 @@ impl Answer {
         }
     }
 
-    /// The answer where a text was not converted, for this error.
+    /// The answer for a text that was not converted because of this error.
     pub(crate) fn of_error(error: BorrowedParseError) -> Answer
         ensures { result ≡ error_answer error.entry }
     {
@@ -70,32 +70,32 @@ impl Answer {
     }
 }
 
-/// What is said of a text that is read as nodes.
+/// The answer about a text that is read as nodes.
 #[repr(C)]
 #[derive(Debug, Clone, Copy, PartialEq, Eq)]
 pub struct ReadAnswer {
-    /// One of the five statuses.
+    /// One of the first five statuses.
     pub status: u32,
     /// What the status counts: items, reserved bytes, or the bytes before the fault.
     pub value: usize,
     /// How many nodes an accepted text has, or else 0.
     pub nodes: usize,
-    /// How many bytes its literals have together, or else 0.
+    /// How many bytes the literals of an accepted text have together, or else 0.
     pub literals: usize,
-    /// Whether both buffers had room for all of them.
+    /// Whether both buffers had room for everything.
     pub written: bool,
-    /// How many bytes the longest rendering of an accepted text has, in each language, at most
+    /// How many bytes the longest rendering of an accepted text has, in any language, at most
     /// `usize::MAX`, or else 0.
     pub bytes: usize,
 }
 
-// So large is it in `examples/timefd.h`.
+// `examples/timefd.h` declares it with this size.
 const _: () = prove!(size_of::<ReadAnswer>() == 48);
 
 const _: () = prove!(align_of::<ReadAnswer>() == 8);
 
 impl ReadAnswer {
-    /// The answer with this status and value, where nothing was written.
+    /// The answer with this status and value, if nothing was written.
     #[inline(always)]
     pub(crate) fn plain(status: u32, value: usize) -> ReadAnswer
         ensures { result ≡ record {

@@ -1,4 +1,4 @@
-//! The function that C calls for a text of strftime whose composite letters are single nodes.
+//! The function that C calls to read a text of strftime with one node for each composite letter.
 
 ghost use Rattle.timefd_c.specs.Composites.{ReadsComposites};
 
@@ -7,9 +7,10 @@ use timefd_c_nodes::Node;
 use timefd_c_read::{read_composites, text_of};
 use timefd_parse::BorrowedParseError;
 
-/// Says what `timefd_judge` says of a text of strftime, and writes its nodes and the bytes of its
-/// literals as `timefd_read` does, but a composite letter is one node: where its list stands among the
-/// nodes that `timefd_read` writes of `COMPOSITES` of `timefd_c_read`. It takes no memory.
+/// Says what `timefd_judge` says of a text of strftime, and writes the nodes and the bytes of the
+/// literals as `timefd_read` does, except that a composite letter is one node. This node says where
+/// the letter's list is among the nodes that `timefd_read` writes for `COMPOSITES` of
+/// `timefd_c_read`. It takes no memory.
 #[unsafe(no_mangle)]
 pub extern "C" fn timefd_read_composites(
     text: &[u8],

@@ -1,4 +1,4 @@
-//! Texts of one language converted to another, for C.
+//! Conversions between languages, for C.
 
 ghost use Rattle.std.specs.Prelude.{◌≡◌};
 ghost use Rattle.timefd_c.specs.Conversions.{ConvertsBetween, ConvertsTo};
@@ -10,8 +10,8 @@ use timefd_c_read::text_of;
 use timefd_convert::{Conversion, conversion_between, convert_by_borrowed};
 use timefd_parse::Language;
 
-/// Rewrites a text of one language as one of another, where there are both, and writes it over the
-/// front of the buffer, if that has room for all of it.
+/// Converts a text of one language to another, if both exist and there is a conversion, and writes
+/// the result to the front of the buffer if all of it fits.
 pub fn convert_between(
     alloc: Global,
     from: Option<Language>,
@@ -33,7 +33,8 @@ pub fn convert_between(
     }
 }
 
-/// The same by this conversion.
+/// Converts a text by this conversion, and writes the result to the front of the buffer if all of
+/// it fits.
 fn convert_bytes(alloc: Global, conversion: Conversion, text: &[u8], buffer: &mut [u8]) -> Answer
     ensures converts { ConvertsTo conversion text.now buffer.old buffer.new result }
 {

@@ -1,4 +1,4 @@
-//! What is answered to C of a format of another language.
+//! The answer to C about a format of another language.
 
 ghost use Rattle.std.specs.Prelude.{◌≡◌, false};
 ghost use Rattle.timefd_c.specs.FormatConversions as spec;
@@ -7,32 +7,32 @@ use crate::answer::{ACCEPTED, REFUSED};
 use crate::reason_code::reason_code;
 use timefd_dialect::{Converted, Refusal};
 
-/// What is said of a format of another language that is converted to version 3.
+/// The answer about a format of another language that is converted to version 3.
 #[repr(C)]
 #[derive(Debug, Clone, Copy, PartialEq, Eq)]
 pub struct ConvertAnswer {
-    /// One of the five statuses of an `Answer`.
+    /// One of the first five statuses of an `Answer`.
     pub status: u32,
     /// Why a part of the format has no text of version 3, or else 0.
     pub reason: u32,
-    /// The length of the text in bytes, or how many bytes of the format stand before that part, or
+    /// The length of the text in bytes, or how many bytes of the format are before that part, or
     /// else 0.
     pub value: usize,
-    /// How many bytes were written: all of the text, or none.
+    /// How many bytes were written: all of the text, or nothing.
     pub written: usize,
-    /// The text writes the same from this year on, or else 0.
+    /// The first year from which on the text writes the same, or else 0.
     pub first_year: u32,
-    /// Whether it does so of offsets of whole minutes alone.
+    /// Whether the text writes the same only for offsets of whole minutes.
     pub whole_minutes: bool,
 }
 
-// So large is it in `examples/timefd.h`.
+// `examples/timefd.h` declares it with this size.
 const _: () = prove!(size_of::<ConvertAnswer>() == 32);
 
 const _: () = prove!(align_of::<ConvertAnswer>() == 8);
 
 impl ConvertAnswer {
-    /// The answer with this status and value, where nothing is written.
+    /// The answer with this status and value, if nothing is written.
     pub(crate) fn silent(status: u32, value: usize) -> ConvertAnswer
         ensures { result ≡ spec.silent status value }
     {
@@ -46,7 +46,7 @@ impl ConvertAnswer {
         }
     }
 
-    /// The answer where a part of the format has no text of version 3.
+    /// The answer if a part of the format has no text of version 3.
     pub(crate) fn refused(refusal: Refusal) -> ConvertAnswer
         ensures { result ≡ spec.refused_answer refusal }
     {
@@ -56,7 +56,7 @@ impl ConvertAnswer {
         }
     }
 
-    /// The answer where the format has this text, of which so many bytes were written.
+    /// The answer if the format has this text, of which `written` bytes were written.
     pub(crate) fn converted(converted: &Converted, written: usize) -> ConvertAnswer
         ensures { result ≡ spec.converted_answer converted.now written }
     {

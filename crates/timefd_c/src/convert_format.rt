@@ -10,8 +10,8 @@ use std::alloc::Global;
 use timefd_c_read::text_of;
 use timefd_dialect::{Converted, Dialect, DialectError, to_version_three};
 
-/// Converts the bytes of a format of the dialect with this number to a text of version 3 that writes
-/// the same, and writes that over the front of the buffer, if that has room for all of it.
+/// Converts a format of the dialect with this number to a text of version 3 that writes the same,
+/// and writes that text to the front of the buffer if all of it fits.
 #[unsafe(no_mangle)]
 pub extern "C" fn timefd_convert_format(
     alloc: Global,
@@ -37,7 +37,7 @@ fn convert_bytes(alloc: Global, dialect: Dialect, format: &[u8], buffer: &mut [u
     answer_found(&found, buffer)
 }
 
-/// The answer on what was found of a format, whose text is written where there is one.
+/// The answer for the result of a conversion. The text is written if there is one.
 fn answer_found(found: &Result<Converted, DialectError>, buffer: &mut [u8]) -> ConvertAnswer
     ensures tells { Tells found.now buffer.old buffer.new result }
 {

@@ -1,4 +1,4 @@
-//! What is answered to C of a text that is to be read as a date.
+//! The answer to C about a text that is read as a date.
 
 ghost use Rattle.std.specs.Prelude.{◌≡◌};
 ghost use Rattle.timefd_c.specs.Dates.{Answers, IsRead, component_in, date_part_number, instant_part_number, offset_part_number, part_number, reason_number, silent, time_part_number, unread_answer, value_answer};
@@ -11,48 +11,48 @@ use timefd_moment::Moment;
 use timefd_read_dates::{ReadError, Reason};
 use timefd_read_moment::{DatePart, InstantPart, OffsetPart, Part, TimePart, ValueError};
 
-/// The status where a part of the date does not read by the description. The value is the byte
-/// index where it begins, and the answer says why it does not read.
+/// The status if a part of the date doesn't match the description. The value is the byte index
+/// where that part begins, and the answer says why it doesn't match.
 pub const UNREAD: u32 = 9;
 
-/// The status where no moment has all that was read. The answer says which part disagrees with
+/// The status if no moment has everything that was read. The answer says which part contradicts the
 /// others.
 pub const CONTRADICTION: u32 = 10;
 
-/// The status where what was read determines no moment. The answer says which part was not read.
+/// The status if what was read determines no moment. The answer says which part is missing.
 pub const MISSING: u32 = 11;
 
-/// The status where the bytes of the date are no UTF-8, and those of the description are, whatever
-/// they say. The value is 0.
+/// The status if the bytes of the date aren't UTF-8 and those of the description are, whatever the
+/// description says. The value is 0.
 pub const DATE_NOT_UTF8: u32 = 12;
 
-/// What is said of a date that is read by a description.
+/// The answer about a date that is read by a description.
 #[repr(C)]
 #[derive(Debug, Clone, Copy, PartialEq, Eq)]
 pub struct DateAnswer {
-    /// One of the five statuses of an `Answer`, `UNREAD`, `CONTRADICTION`, `MISSING` or
-    /// `DATE_NOT_UTF8`.
+    /// One of the first five statuses of an `Answer`, or `UNREAD`, `CONTRADICTION`, `MISSING`,
+    /// `DATE_NOT_UTF8` or, for nodes, `NO_DESCRIPTION`.
     pub status: u32,
-    /// Why a part of the date does not read, or else 0.
+    /// Why a part of the date doesn't match, or else 0.
     pub reason: u32,
-    /// The number that nodes have for the component that does not read, or else 0.
+    /// The number that nodes have for the component that doesn't match, or else 0.
     pub component: u32,
-    /// Which part disagrees or was not read, or else 0.
+    /// Which part contradicts the others or is missing, or else 0.
     pub part: u32,
-    /// How many bytes of the description stand before its fault, or how many of the date before the
-    /// part that does not read, or else 0.
+    /// The index of the description's fault, or of the first part of the date that doesn't match,
+    /// in bytes, or the index of the node that is not part of a description, or else 0.
     pub value: usize,
-    /// What was read, or else nothing.
+    /// What was read, or else a moment of which nothing is known.
     pub moment: MomentFields,
 }
 
-// So large is it in `examples/timefd.h`.
+// `examples/timefd.h` declares it with this size.
 const _: () = prove!(size_of::<DateAnswer>() == 48);
 
 const _: () = prove!(align_of::<DateAnswer>() == 8);
 
 impl DateAnswer {
-    /// What is answered of a date that was read, or not read for this error.
+    /// The answer for a date that was read, or not read because of this error.
     pub(crate) fn of(read: &Result<Moment, ReadTextError<'_>>) -> DateAnswer
         ensures { Answers read.now result }
     {
@@ -65,7 +65,7 @@ impl DateAnswer {
         }
     }
 
-    /// The answer with this status and value, where nothing was read.
+    /// The answer with this status and value, if nothing was read.
     pub(crate) fn silent(status: u32, value: usize) -> DateAnswer
         ensures { result ≡ silent status value }
     {
@@ -125,7 +125,7 @@ fn reason_code(reason: Reason) -> u32
     }
 }
 
-// The number of the component that does not read, or 0 where it is none.
+// The number of the component that doesn't match, or 0 if it is no component.
 fn component_code(reason: Reason) -> u32
     ensures { result ≡ component_in reason }
 {

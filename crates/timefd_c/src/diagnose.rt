@@ -1,4 +1,4 @@
-//! The function that C calls for a fault, whole.
+//! The function that C calls for all that there is to say of a fault.
 
 ghost use Rattle.std.specs.Prelude.{◌≡◌, ◌≢◌, ◌<◌, ◌≤◌, ◌++◌, ℕ, Some, length, take, drop};
 ghost use Rattle.std.specs.Str.{IsCharBoundary};
@@ -16,9 +16,9 @@ use std::alloc::Global;
 use timefd_c_read::text_of;
 use timefd_parse::{BorrowedParseError, Language, NESTING_LIMIT, amount_all_borrowed};
 
-/// Says what `timefd_check` says, and of a refused text which fault it is, which bytes are at fault,
-/// and the nearest of the words that are allowed there, which is written over the front of its
-/// buffer, if that has room for all of it.
+/// Says what `timefd_check` says. Of a refused text it also says which fault it is, which bytes are
+/// at fault, and which of the words that are allowed there is the nearest. This word is written to
+/// the front of its buffer if all of it fits.
 #[unsafe(no_mangle)]
 pub extern "C" fn timefd_diagnose(
     alloc: Global,
@@ -36,21 +36,21 @@ pub extern "C" fn timefd_diagnose(
     ensures undiagnosed { result.answer.status ≢ REFUSED
         → (result.fault ≡ no_fault) × (word.new ≡ word.old) }
 
-    // The length of the sentence, its front, and behind that what the buffer held.
+    // The length of the sentence, as much of it as fits, and then what the buffer held before.
     ensures full_len { IfRefused (language_of kind) text.now result.answer (λ full.
         result.answer.sentence_len ≡ length full) }
     ensures front { IfRefused (language_of kind) text.now result.answer (λ full.
         sentence.new ≡ take result.answer.written full
         ++ drop result.answer.written sentence.old) }
 
-    // The front has room, ends between two characters, and no longer one does so.
+    // The written part fits, ends between two characters, and no longer one does.
     ensures room { result.answer.written ≤ length sentence.old }
     ensures whole { IfRefused (language_of kind) text.now result.answer (λ full.
         IsCharBoundary full result.answer.written) }
     ensures most { IfRefused (language_of kind) text.now result.answer (λ full. (i : ℕ) →
         result.answer.written < i → i ≤ length sentence.old → ¬ (IsCharBoundary full i)) }
 
-    // Where nothing is refused, nothing is written.
+    // If nothing is refused, nothing is written.
     ensures kept { result.answer.status ≢ REFUSED → sentence.new ≡ sentence.old }
     ensures no_sentence { result.answer.status ≢ REFUSED
         → (result.answer.sentence_len ≡ 0) × (result.answer.written ≡ 0) }
@@ -69,7 +69,7 @@ pub extern "C" fn timefd_diagnose(
     }
 }
 
-// What is told of the fault that bytes have in a language.
+// What there is to say of the fault that the bytes have in a language.
 fn fault_in(alloc: Global, language: Option<Language>, bytes: &[u8], word: &mut [u8]) -> FaultFields
     ensures { (l : Language) → language ≡ Some l → (f : Fault) → HasFault (Some l) bytes.now f
         → IsDiagnosed l bytes.now f word.old word.new result }

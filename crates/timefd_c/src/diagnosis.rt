@@ -1,10 +1,10 @@
-//! What is answered to C of a text whose fault is told whole.
+//! The answer to C with all that there is to say of a fault.
 
 ghost use Rattle.std.specs.Prelude.{◌≡◌, option_map};
-ghost use Rattle.timefd_fault.specs.BorrowedFaults.{lent_fault};
+ghost use Rattle.timefd_fault.specs.BorrowedFaults.{to_borrowed_fault};
 ghost use Rattle.timefd_fault.specs.Placed.{IsPlaced};
 ghost use Rattle.timefd_c.specs.Diagnoses as spec;
-ghost use Rattle.timefd_c.specs.Diagnoses.{IsDiagnosed, IsWordTold, no_fault};
+ghost use Rattle.timefd_c.specs.Diagnoses.{IsDiagnosed, IsWordReported, no_fault};
 
 use crate::answer::Answer;
 use crate::whole::write_whole;
@@ -12,35 +12,36 @@ use std::alloc::Global;
 use timefd_diagnosis::{Code, help_against, span_of};
 use timefd_parse::{BorrowedFault, Language};
 
-/// What is told of a fault, beside its sentence. Of a text that is not refused all of it is 0.
+/// What there is to say of a fault, besides its sentence. All of it is 0 if the text is not
+/// refused.
 #[repr(C)]
 #[derive(Debug, Clone, Copy, PartialEq, Eq)]
 pub struct FaultFields {
-    /// The number of its code.
+    /// The number of the fault's code.
     pub code: u32,
-    /// Whether memory ran out while the nearest word was sought. Then it is not told.
+    /// Whether memory ran out during the search for the nearest word. Then there is none here.
     pub out_of_memory: bool,
-    /// The index of the first of the bytes at fault, that of the fault itself.
+    /// The index of the first byte at fault, which is the index of the fault itself.
     pub start: usize,
-    /// The index behind the last of them.
+    /// The index after the last byte at fault.
     pub end: usize,
-    /// How many bytes the nearest allowed word has, or 0 where none is near.
+    /// How many bytes the nearest allowed word has, or 0 if none is near.
     pub nearest_len: usize,
-    /// How many of them were written: all, or none.
+    /// How many bytes of the word were written: all, or none.
     pub nearest_written: usize,
 }
 
-/// What is said of a text, with its fault whole.
+/// The answer about a text, with all that there is to say of its fault.
 #[repr(C)]
 #[derive(Debug, Clone, Copy, PartialEq, Eq)]
 pub struct Diagnosis {
-    /// What `timefd_check` answers.
+    /// What `timefd_check` returns.
     pub answer: Answer,
-    /// What else is told of the fault.
+    /// What else there is to say of the fault.
     pub fault: FaultFields,
 }
 
-// So large are they in `examples/timefd.h`.
+// `examples/timefd.h` declares them with these sizes.
 const _: () = prove!(size_of::<FaultFields>() == 40);
 
 const _: () = prove!(size_of::<Diagnosis>() == 72);
@@ -48,7 +49,7 @@ const _: () = prove!(size_of::<Diagnosis>() == 72);
 const _: () = prove!(align_of::<Diagnosis>() == 8);
 
 impl FaultFields {
-    /// Those where there is no fault.
+    /// The fields if there is no fault.
     pub(crate) fn none() -> FaultFields
         ensures { result ≡ no_fault }
     {
@@ -62,7 +63,8 @@ impl FaultFields {
         }
     }
 
-    /// Those of a fault of a text, and the nearest word in the buffer, if that has room for it.
+    /// The fields for a fault of a text. The nearest word is written to the buffer if all of it
+    /// fits.
     pub(crate) fn of(
         alloc: Global,
         language: Language,
@@ -70,8 +72,8 @@ impl FaultFields {
         fault: BorrowedFault<'_>,
         word: &mut [u8],
     ) -> FaultFields
-        requires { IsPlaced text.now (lent_fault fault) }
-        ensures { IsDiagnosed language text.now (lent_fault fault.entry) word.old word.new result }
+        requires { IsPlaced text.now (to_borrowed_fault fault) }
+        ensures { IsDiagnosed language text.now (to_borrowed_fault fault.entry) word.old word.new result }
     {
         let span = span_of(language, text, fault);
         let code = code_number(Code::of(fault.rule));
@@ -99,10 +101,10 @@ impl FaultFields {
     }
 }
 
-/// Writes the word over the front of the buffer, if there is one and the buffer has room for all of
-/// it. It answers how many bytes the word has, and how many were written.
+/// Writes the word to the front of the buffer, if there is a word and all of it fits. It returns
+/// how many bytes the word has, and how many were written.
 fn write_word(word: Option<&'static str>, buffer: &mut [u8]) -> (usize, usize)
-    ensures { IsWordTold (option_map (λ w. w.now) word.entry) buffer.old buffer.new result.0 result.1 }
+    ensures { IsWordReported (option_map (λ w. w.now) word.entry) buffer.old buffer.new result.0 result.1 }
 {
     match word {
         Some(word) => (word.len(), write_whole(word, buffer)),

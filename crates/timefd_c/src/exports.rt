@@ -25,26 +25,26 @@ pub extern "C" fn timefd_judge(alloc: Global, kind: u32, text: &[u8]) -> Answer
     verdict_on(alloc, from_number(kind), text).answer()
 }
 
-/// Says what `timefd_judge` says, and writes the sentence of the fault over the front of the
-/// buffer: as many of its characters as the buffer has room for.
+/// Says what `timefd_judge` says, and writes the sentence of the fault to the front of the buffer:
+/// as many of its characters as fit.
 #[unsafe(no_mangle)]
 pub extern "C" fn timefd_check(alloc: Global, kind: u32, text: &[u8], sentence: &mut [u8]) -> Answer
     ensures judges { Judges (language_of kind) text.now result }
 
-    // The length of the sentence, its front, and behind that what the buffer held.
+    // The length of the sentence, as much of it as fits, and then what the buffer held before.
     ensures full_len { IfRefused (language_of kind) text.now result (λ full.
         result.sentence_len ≡ length full) }
     ensures front { IfRefused (language_of kind) text.now result (λ full.
         sentence.new ≡ take result.written full ++ drop result.written sentence.old) }
 
-    // The front has room, ends between two characters, and no longer one does so.
+    // The written part fits, ends between two characters, and no longer one does.
     ensures room { result.written ≤ length sentence.old }
     ensures whole { IfRefused (language_of kind) text.now result (λ full.
         IsCharBoundary full result.written) }
     ensures most { IfRefused (language_of kind) text.now result (λ full. (i : ℕ) →
         result.written < i → i ≤ length sentence.old → ¬ (IsCharBoundary full i)) }
 
-    // Where nothing is refused, nothing is written.
+    // If nothing is refused, nothing is written.
     ensures kept { result.status ≢ REFUSED → sentence.new ≡ sentence.old }
     ensures no_sentence { result.status ≢ REFUSED
         → (result.sentence_len ≡ 0) × (result.written ≡ 0) }
@@ -62,8 +62,8 @@ pub extern "C" fn timefd_check(alloc: Global, kind: u32, text: &[u8], sentence: 
     }
 }
 
-/// Rewrites a text of version 1 as one of version 2, which has the same items, and writes it over
-/// the front of the buffer, if that has room for all of it. The value is its length in bytes.
+/// Converts a text of version 1 to a text of version 2 with the same items, and writes that to the
+/// front of the buffer if all of it fits. The value is its length in bytes.
 #[unsafe(no_mangle)]
 pub extern "C" fn timefd_v1_to_v2(alloc: Global, text: &[u8], buffer: &mut [u8]) -> Answer
     ensures converts { Converts text.now buffer.old buffer.new result }
@@ -82,8 +82,8 @@ pub extern "C" fn timefd_v1_to_v2(alloc: Global, text: &[u8], buffer: &mut [u8])
     }
 }
 
-/// Writes a text of version 2 anew as one of version 3, which has the same items, and writes that
-/// over the front of the buffer, if that has room for all of it. The value is its length in bytes.
+/// Converts a text of version 2 to a text of version 3 with the same items, and writes that to the
+/// front of the buffer if all of it fits. The value is its length in bytes.
 #[unsafe(no_mangle)]
 pub extern "C" fn timefd_v2_to_v3(alloc: Global, text: &[u8], buffer: &mut [u8]) -> Answer
     ensures converts { Modernizes text.now buffer.old buffer.new result }
@@ -102,8 +102,8 @@ pub extern "C" fn timefd_v2_to_v3(alloc: Global, text: &[u8], buffer: &mut [u8])
     }
 }
 
-/// Rewrites a text of the language with one number as one of the language with another, and writes it
-/// over the front of the buffer, if that has room for all of it. The value is its length in bytes.
+/// Converts a text of the language with one number to the language with another, and writes the
+/// result to the front of the buffer if all of it fits. The value is its length in bytes.
 #[unsafe(no_mangle)]
 pub extern "C" fn timefd_convert(
     alloc: Global,

@@ -15,8 +15,8 @@ use timefd_description::{FormatTextError, format_text};
 use timefd_moment::Moment;
 use timefd_parse::Language;
 
-/// Writes the moment by the bytes, a text of the language with this number, over the front of the
-/// buffer, if that has room for all that the text writes. The value is its length in bytes.
+/// Writes the moment by a text of the language with this number, to the front of the buffer if all
+/// that the text writes fits. The value is the length of that in bytes.
 #[unsafe(no_mangle)]
 pub extern "C" fn timefd_format(
     alloc: Global,

@@ -1,4 +1,4 @@
-//! What is answered to C of a text that is to write a moment.
+//! The answer to C about a text that a moment is written by.
 
 ghost use Rattle.std.specs.Prelude.{◌≡◌};
 ghost use Rattle.timefd_c.specs.Formats.{lack_number, range_answer, range_number, silent, unshown_answer};
@@ -7,40 +7,41 @@ use timefd_c_nodes::component_node;
 use timefd_format::{Lack, Unshown};
 use timefd_moment::ComponentRange;
 
-/// The status where a component shows nothing of the moment. The answer says which, and why.
+/// The status if a component shows nothing of the moment. The answer says which one, and why.
 pub const UNSHOWN: u32 = 5;
 
-/// The status where a number of the moment is out of its range. The answer says which.
+/// The status if a number of the moment is out of its range. The answer says which one.
 pub const OUT_OF_RANGE: u32 = 6;
 
-/// The status where nodes are no description. The value is the index of the first one that is no part
-/// of one.
+/// The status if nodes aren't a description. The value is the index of the first node that is not
+/// part of one.
 pub const NO_DESCRIPTION: u32 = 8;
 
-/// What is said of a text or of nodes that are to write a moment.
+/// The answer about a text, or nodes, that a moment is written by.
 #[repr(C)]
 #[derive(Debug, Clone, Copy, PartialEq, Eq)]
 pub struct FormatAnswer {
-    /// One of the five statuses of an `Answer`, `UNSHOWN`, `OUT_OF_RANGE` or `NO_DESCRIPTION`.
+    /// One of the first five statuses of an `Answer`, or `UNSHOWN`, `OUT_OF_RANGE` or
+    /// `NO_DESCRIPTION`.
     pub status: u32,
     /// Why a component shows nothing, or which number is out of its range, or else 0.
     pub reason: u32,
     /// The number that nodes have for the component that shows nothing, or else 0.
     pub component: u32,
-    /// The length of the text in bytes, or how many bytes stand before the fault, or the index of the
-    /// node that is no part of a description, or else 0.
+    /// The length of the text in bytes, or the index of the fault in bytes, or the index of the
+    /// node that is not part of a description, or else 0.
     pub value: usize,
-    /// How many bytes were written: all of the text, or none.
+    /// How many bytes were written: all of the text, or nothing.
     pub written: usize,
 }
 
-// So large is it in `examples/timefd.h`.
+// `examples/timefd.h` declares it with this size.
 const _: () = prove!(size_of::<FormatAnswer>() == 32);
 
 const _: () = prove!(align_of::<FormatAnswer>() == 8);
 
 impl FormatAnswer {
-    /// The answer with this status and value, where nothing was written.
+    /// The answer with this status and value, if nothing was written.
     pub(crate) fn silent(status: u32, value: usize) -> FormatAnswer
         ensures { result ≡ silent status value }
     {
@@ -53,7 +54,7 @@ impl FormatAnswer {
         }
     }
 
-    /// The answer where a component shows nothing.
+    /// The answer if a component shows nothing.
     pub(crate) fn unshown(unshown: Unshown) -> FormatAnswer
         ensures { result ≡ unshown_answer unshown }
     {
@@ -66,7 +67,7 @@ impl FormatAnswer {
         }
     }
 
-    /// The answer where a number of the moment is out of its range.
+    /// The answer if a number of the moment is out of its range.
     pub(crate) fn out_of_range(range: ComponentRange) -> FormatAnswer
         ensures { result ≡ range_answer range }
     {

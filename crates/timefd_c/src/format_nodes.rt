@@ -9,8 +9,8 @@ use timefd_c_format::{NodesError, format_nodes};
 use timefd_c_nodes::Node;
 use timefd_moment::Moment;
 
-/// Writes the moment by nodes, as `timefd_read` writes them, and the bytes of their literals over the
-/// front of the buffer, if that has room for all that they write. It takes no memory.
+/// Writes the moment by nodes, as `timefd_read` writes them, and the bytes of their literals, to
+/// the front of the buffer if all that they write fits. It takes no memory.
 #[unsafe(no_mangle)]
 pub extern "C" fn timefd_format_nodes(
     nodes: &[Node],

@@ -1,4 +1,4 @@
-//! What is known of the numbers that C sees.
+//! What holds for the numbers that C sees.
 
 ghost use Rattle.timefd_c.specs.Numbers.{Numbers};
 

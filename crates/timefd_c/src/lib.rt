@@ -1,10 +1,14 @@
-//! The readers for C, and for Rust outside of this workspace: two functions that say of the bytes
-//! of a text what they are in a language, which a number names, one that tells the fault of a text
-//! whole, and one its warnings, three that rewrite a text as one of a later version, one that converts
-//! a format of another language to version 3, three that write the nodes of a description, one of them
-//! within a limit on nesting, one with single nodes for composite letters, two that write a date and
-//! time, by a description or by such nodes, and two that read them so. `examples/timefd.h` declares
-//! them.
+//! The functions for C, and for Rust outside of this workspace. A number names a language.
+//!
+//! `timefd_judge` and `timefd_check` say what a text is in a language, `timefd_diagnose` says all
+//! there is to say of its fault, and `timefd_warnings` reports its warnings. `timefd_v1_to_v2`,
+//! `timefd_v2_to_v3` and `timefd_convert` convert a text to another language, and
+//! `timefd_convert_format` converts a format of another library to version 3. `timefd_read`,
+//! `timefd_read_within` (with a limit on nesting) and `timefd_read_composites` (with one node for
+//! each composite letter) write the nodes of a description. `timefd_format` and
+//! `timefd_format_nodes` write a date and time by a description or by such nodes, and
+//! `timefd_read_date` and `timefd_read_nodes` read them. `timefd_version` returns the number of this
+//! version. `examples/timefd.h` declares all of these.
 #![tactic(auto)]
 
 mod answer;

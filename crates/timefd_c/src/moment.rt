@@ -1,4 +1,4 @@
-//! The moment that C gives, or is given.
+//! The moment as C passes and receives it.
 
 ghost use Rattle.std.specs.Prelude.{◌≡◌, ◌≤◌, None};
 ghost use Rattle.timefd_c.specs.Moments as spec;
@@ -10,14 +10,15 @@ use timefd_moment::{ComponentRange, Date, Moment, Time, UtcOffset};
 #[repr(C)]
 #[derive(Debug, Clone, Copy, PartialEq, Eq)]
 pub struct MomentFields {
-    /// Which of the three are known: 1 for the date, 2 for the time of day, 4 for the offset, or the
-    /// sum of these. Numbers of what isn't known are not looked at.
+    /// Which parts are known: 1 for the date, 2 for the time of day, 4 for the offset, or the sum
+    /// of these. The numbers of a part that isn't known are ignored.
     pub known: u32,
     /// The year, from -999,999 to 999,999.
     pub year: i32,
     /// The nanosecond of the second, below 1,000,000,000.
     pub nanosecond: u32,
-    /// How many seconds the clock is ahead of UTC, behind it as a negative number: less than 26 hours.
+    /// How many seconds the clock is ahead of UTC, or behind it if negative: less than 26 hours
+    /// either way.
     pub offset_seconds: i32,
     /// The month, from 1.
     pub month: u8,
@@ -31,13 +32,13 @@ pub struct MomentFields {
     pub second: u8,
 }
 
-// So large is it in `examples/timefd.h`.
+// `examples/timefd.h` declares it with this size.
 const _: () = prove!(size_of::<MomentFields>() == 24);
 
 const _: () = prove!(align_of::<MomentFields>() == 4);
 
 impl MomentFields {
-    /// Those of what is not known.
+    /// The numbers of a moment of which nothing is known.
     pub(crate) fn unknown() -> MomentFields
         ensures { result ≡ unknown }
     {
@@ -54,12 +55,12 @@ impl MomentFields {
         }
     }
 
-    /// The numbers of a moment. Those of what is not known are 0.
+    /// The numbers of a moment. The numbers of a part that isn't known are 0.
     #[tactic(auto, using(crate::proofs::MomentLemmas::same, crate::proofs::MomentLemmas::in_range))]
     pub fn of(moment: Moment) -> MomentFields
         ensures numbers { AreNumbers moment result }
 
-        // `moment` takes them for the same moment.
+        // `moment` gives the same moment back.
         ensures same { IsMoment result moment }
         ensures in_range { range_fault result ≡ None }
     {
@@ -84,7 +85,7 @@ impl MomentFields {
         }
     }
 
-    /// The moment of these numbers. An `Err` names the first one that is out of its range.
+    /// The moment with these numbers. An `Err` names the first number that is out of its range.
     pub fn moment(&self) -> Result<Moment, ComponentRange>
         ensures { IsMomentOf self.now result }
     {

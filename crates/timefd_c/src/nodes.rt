@@ -15,7 +15,7 @@ use timefd_parse::{BorrowedParseError, NESTING_LIMIT};
 /// The number of this version, 0.2.0: a million for each major one, a thousand for each minor one.
 pub const VERSION: u32 = 2_000;
 
-/// The number of this version, so that a program can compare it with its header's.
+/// The number of this version. A program can compare it with the number in its header.
 #[unsafe(no_mangle)]
 pub extern "C" fn timefd_version() -> u32
     ensures { result ≡ VERSION }
@@ -24,8 +24,8 @@ pub extern "C" fn timefd_version() -> u32
 }
 
 /// Says what `timefd_judge` says, and writes the nodes of a description and the bytes of its
-/// literals over the fronts of the buffers, as far as there is room. If either has no room for all, or
-/// the text is refused, both may hold parts of them.
+/// literals to the fronts of the buffers, as far as they fit. If either buffer is too short, or the
+/// text is refused, both may hold parts of them.
 #[unsafe(no_mangle)]
 pub extern "C" fn timefd_read(
     alloc: Global,
@@ -40,8 +40,8 @@ pub extern "C" fn timefd_read(
     read_bytes(alloc, kind, text, nodes, literals, NESTING_LIMIT)
 }
 
-/// Says and writes what `timefd_read` does, with at most `limit` nested descriptions around one another:
-/// a text that nests more is refused. A limit above `NESTING_LIMIT` counts as that.
+/// Does what `timefd_read` does, with at most `limit` nested descriptions around one another: a
+/// text that nests deeper is refused. A limit above `NESTING_LIMIT` counts as `NESTING_LIMIT`.
 #[unsafe(no_mangle)]
 pub extern "C" fn timefd_read_within(
     alloc: Global,
@@ -57,9 +57,9 @@ pub extern "C" fn timefd_read_within(
     read_bytes(alloc, kind, text, nodes, literals, limit_from(limit))
 }
 
-/// Says what the bytes are in the language with this number, with at most `limit` nested descriptions
-/// around one another, and writes what they are.
-// It is one function for both calls, so that the readers have one caller, into which they are inlined.
+/// Says what the bytes are in the language with this number, with at most `limit` nested
+/// descriptions around one another, and writes the nodes and literals.
+// Both calls share this function, so that the readers have one caller and are inlined there.
 #[inline(never)]
 fn read_bytes(
     alloc: Global,

@@ -8,7 +8,8 @@ ghost use Rattle.timefd_c.specs.Languages.{language_of};
 use timefd_dialect::Dialect;
 use timefd_parse::{DescriptionVersion, Language, NESTING_LIMIT};
 
-/// The language of a number: each version has its own, strftime has 4, and no other number has one.
+/// The language with a number: each version has its own, strftime has 4, and no other number has
+/// one.
 #[inline(always)]
 pub fn from_number(number: u32) -> Option<Language>
     ensures { result ≡ language_of number }
@@ -22,7 +23,7 @@ pub fn from_number(number: u32) -> Option<Language>
     }
 }
 
-/// The dialect of a number. None has the number of a language.
+/// The dialect with a number. No dialect has the number of a language.
 #[inline(always)]
 pub fn dialect_from(number: u32) -> Option<Dialect>
     ensures { result ≡ dialect_of number }
@@ -41,7 +42,8 @@ pub fn dialect_from(number: u32) -> Option<Dialect>
     }
 }
 
-/// The limit on nesting that a number is. One above `NESTING_LIMIT` counts as that.
+/// The limit on nesting that a number means. A number above `NESTING_LIMIT` counts as
+/// `NESTING_LIMIT`.
 #[inline(always)]
 pub fn limit_from(number: u32) -> u8
     ensures { result ≡ min number nesting_limit }

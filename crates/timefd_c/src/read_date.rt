@@ -11,8 +11,8 @@ use timefd_c_read::text_of;
 use timefd_description::read_text;
 use timefd_parse::Language;
 
-/// Reads the bytes of a date by the bytes of a description, a text of the language with this number,
-/// and answers the moment that they show: what is known of a date, a time of day and an offset.
+/// Reads a date by a description, a text of the language with this number, and returns the moment
+/// that the date shows: what is known of a date, a time of day and an offset.
 #[unsafe(no_mangle)]
 pub extern "C" fn timefd_read_date(alloc: Global, kind: u32, text: &[u8], date: &[u8]) -> DateAnswer
     ensures reads { ReadsDate (language_of kind) text.now date.now result }

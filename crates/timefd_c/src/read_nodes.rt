@@ -25,8 +25,8 @@ use timefd_node_list::{Leaf, View};
 use timefd_read_dates::{NO_FIELDS, fill_leaf_fields, read_fields};
 use timefd_read_moment::moment;
 
-/// Reads the bytes of a date by nodes, as `timefd_read` writes them, and the bytes of their literals,
-/// and answers the moment that they show.
+/// Reads a date by nodes, as `timefd_read` writes them, and the bytes of their literals, and
+/// returns the moment that the date shows.
 #[unsafe(no_mangle)]
 pub extern "C" fn timefd_read_nodes(
     alloc: Global,
@@ -36,7 +36,7 @@ pub extern "C" fn timefd_read_nodes(
 ) -> DateAnswer
     ensures reads { ReadsNodes nodes.now literals.now date.now result }
 {
-    // Most nodes have no members. Then they are read by without a second look.
+    // Most nodes have no members. Then the leaves are enough to read by.
     if let Some(leaves) = leaves_of(alloc, nodes, literals) {
         return read_by_leaves(&leaves, date);
     }

@@ -1,4 +1,4 @@
-//! What is said of bytes.
+//! What bytes are in a language.
 
 ghost use Rattle.std.specs.Prelude.{◌≡◌, ◌≢◌, [], List, Some, None, IsFalse, IsSome, IsUtf8};
 ghost use Rattle.timefd_component.specs.Tree.{Tree};
@@ -20,9 +20,9 @@ use timefd_parse::{
 pub enum Verdict<'a> {
     /// A description: how many items it has, or in version 3 how many bytes it reserves.
     Accepted(usize),
-    /// No description, for this fault.
+    /// Not a description, because of this fault.
     Refused(BorrowedFault<'a>),
-    /// No UTF-8.
+    /// Not UTF-8.
     NotUtf8,
     /// Memory ran out. Then the bytes are a text without a fault.
     NoMemory,
@@ -31,7 +31,7 @@ pub enum Verdict<'a> {
 }
 
 impl<'a> Verdict<'a> {
-    /// The answer of this verdict, with no sentence.
+    /// The answer for this verdict, without a sentence.
     #[inline(always)]
     pub fn answer(&self) -> Answer
         ensures { result ≡ answer_of self.now }
@@ -46,13 +46,13 @@ impl<'a> Verdict<'a> {
     }
 }
 
-/// What the bytes are in the language, where there is one.
+/// What the bytes are in the language, if there is one.
 #[inline(always)]
 pub fn verdict_on(alloc: Global, language: Option<Language>, bytes: &[u8]) -> Verdict<'_>
-    // What is said is so.
+    // What the verdict says is true.
     ensures says { Says language bytes.now result }
 
-    // What is so is said: a description unless memory runs out, and a fault always.
+    // What is true is said: a description unless memory runs out, and a fault always.
     ensures spelled { (list : List Tree) → IsUtf8 bytes.now → SpellsIn language bytes.now list
         → Accepts (amount language list) result }
     ensures faulty { (f : Fault) → IsUtf8 bytes.now → FaultIn language bytes.now f
@@ -60,7 +60,7 @@ pub fn verdict_on(alloc: Global, language: Option<Language>, bytes: &[u8]) -> Ve
     ensures no_text { IsSome language → ¬ (IsUtf8 bytes.now) → result ≡ Verdict.NotUtf8 }
     ensures no_language { language ≡ None → result ≡ Verdict.UnknownKind }
 
-    // The empty text takes no memory, and any text takes none in a language that is counted.
+    // The empty text takes no memory, and no text does in the languages without nesting.
     ensures empty { IsSome language → bytes.now ≡ [] → IsAccepted result }
     ensures memory { (l : Language) → language ≡ Some l → IsFalse (takes_memory l)
         → result ≢ Verdict.NoMemory }

@@ -1,4 +1,4 @@
-//! What is answered to C of the warnings of a description.
+//! The answer to C about the warnings of a description.
 
 ghost use Rattle.std.specs.Prelude.{◌≡◌, ◌++◌, OnOk};
 ghost use Rattle.timefd_c.specs.Warnings as spec;
@@ -6,33 +6,33 @@ ghost use Rattle.timefd_c.specs.Warnings as spec;
 use std::alloc::AllocError;
 use timefd_warnings::{Level, Warning};
 
-/// A warning of a text that is accepted.
+/// A warning about an accepted text.
 #[repr(C)]
 #[derive(Debug, Clone, Copy, PartialEq, Eq)]
 pub struct WarningFields {
-    /// The number of its code.
+    /// The number of the warning's code.
     pub code: u32,
-    /// The index of the first of the bytes that it speaks of.
+    /// The index of the first byte that the warning is about.
     pub start: usize,
-    /// The index behind the last of them.
+    /// The index after the last byte that the warning is about.
     pub end: usize,
 }
 
-/// What is said of a text whose warnings are asked for.
+/// The answer about a text whose warnings are asked for.
 #[repr(C)]
 #[derive(Debug, Clone, Copy, PartialEq, Eq)]
 pub struct WarningsAnswer {
-    /// One of the five statuses of an `Answer`.
+    /// One of the first five statuses of an `Answer`.
     pub status: u32,
     /// What the status counts: items, reserved bytes, or the bytes before the fault.
     pub value: usize,
     /// How many warnings an accepted text has, or else 0.
     pub count: usize,
-    /// How many of them were written, the first ones.
+    /// How many warnings were written: the first ones.
     pub written: usize,
 }
 
-// So large are they in `examples/timefd.h`.
+// `examples/timefd.h` declares them with these sizes.
 const _: () = prove!(size_of::<WarningFields>() == 24);
 
 const _: () = prove!(align_of::<WarningFields>() == 8);
@@ -42,7 +42,7 @@ const _: () = prove!(size_of::<WarningsAnswer>() == 32);
 const _: () = prove!(align_of::<WarningsAnswer>() == 8);
 
 impl WarningsAnswer {
-    /// The answer with this status and value, where there are no warnings.
+    /// The answer with this status and value, if there are no warnings.
     pub(crate) fn silent(status: u32, value: usize) -> WarningsAnswer
         ensures { result ≡ spec.silent status value }
     {
@@ -55,25 +55,26 @@ impl WarningsAnswer {
     }
 }
 
-/// Adds a warning of a text of so many bytes, if it isn't allowed. An `Err` says that memory ran out.
+/// Adds a warning about a text of `len` bytes, unless the warning is allowed. An `Err` says that
+/// memory ran out.
 pub fn push_warning(
-    reported: &mut Vec<WarningFields>,
+    nodes_reported: &mut Vec<WarningFields>,
     level: Level,
     warning: Warning,
     len: usize,
 ) -> Result<(), AllocError>
-    ensures { OnOk result (reported.new.items ≡ reported.old.items ++ spec.reported_at level len warning) }
+    ensures { OnOk result (nodes_reported.new.items ≡ nodes_reported.old.items ++ spec.reported_at level len warning) }
 {
     match level {
         Level::Allowed => Ok(()),
         Level::Warned | Level::Denied => {
-            reported.push(fields(warning, len))?;
+            nodes_reported.push(fields(warning, len))?;
             Ok(())
         }
     }
 }
 
-// A warning is one of the text as a whole.
+// A warning is about the text as a whole.
 fn fields(warning: Warning, len: usize) -> WarningFields
     ensures { result ≡ spec.fields_of len warning }
 {

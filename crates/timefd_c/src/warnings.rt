@@ -6,7 +6,7 @@ ghost use Rattle.timefd_language.specs.Grammar.{nesting_limit};
 ghost use Rattle.timefd_parse.specs.Language.{SpellsIn, amount};
 ghost use Rattle.timefd_c.specs.Languages.{language_of};
 ghost use Rattle.timefd_c.specs.Warnings as spec;
-ghost use Rattle.timefd_c.specs.Warnings.{IsTold, Warns};
+ghost use Rattle.timefd_c.specs.Warnings.{IsReported, Warns};
 
 use crate::answer::{ACCEPTED, NO_MEMORY, NOT_UTF8, REFUSED, UNKNOWN_KIND};
 use crate::numbers::from_number;
@@ -17,8 +17,8 @@ use timefd_lint_warnings::found_in;
 use timefd_parse::{BorrowedParseError, Language, NESTING_LIMIT, amount_all_borrowed};
 use timefd_warnings::{Level, Levels, Warning};
 
-/// Says what `timefd_judge` says, and writes the warnings that an accepted text has over the front of
-/// the buffer, as far as there is room, in the order of the linter.
+/// Says what `timefd_judge` says, and writes the warnings of an accepted text to the front of the
+/// buffer, as far as they fit, in the order in which the linter reports them.
 #[unsafe(no_mangle)]
 pub extern "C" fn timefd_warnings(
     alloc: Global,
@@ -53,7 +53,7 @@ fn warn_of(
     }
 }
 
-// What is answered of a text that is accepted with this value.
+// The answer for a text that is accepted with this value.
 #[tactic(auto, using(crate::proofs::WarningLemmas::is_reported))]
 fn accepted(
     alloc: Global,
@@ -64,54 +64,55 @@ fn accepted(
 ) -> WarningsAnswer
     ensures { (list : List Tree) → SpellsIn language nesting_limit text.now list
         → value ≡ amount language list
-        → IsTold language text.now list warnings.old warnings.new result }
+        → IsReported language text.now list warnings.old warnings.new result }
 {
     match warnings_in(alloc, language, text) {
-        Ok(reported) => WarningsAnswer {
+        Ok(nodes_reported) => WarningsAnswer {
             status: ACCEPTED,
             value,
-            count: reported.len(),
-            written: write_front(&reported, warnings),
+            count: nodes_reported.len(),
+            written: write_front(&nodes_reported, warnings),
         },
         Err(AllocError) => WarningsAnswer::silent(NO_MEMORY, 0),
     }
 }
 
-// The warnings of a text that is accepted.
+// The warnings of an accepted text.
 fn warnings_in(
     alloc: Global,
     language: Language,
     text: &str,
 ) -> Result<Vec<WarningFields>, AllocError>
     ensures { (list : List Tree) → SpellsIn language nesting_limit text.now list
-        → IfOk result (λ reported. reported.items ≡ spec.warnings_of language text.now list) }
+        → IfOk result (λ nodes_reported. nodes_reported.items ≡ spec.warnings_of language text.now list) }
 {
     let found = found_in(alloc, language, text, Levels::all_at(Level::Warned))?;
     reported_of(alloc, found, text.len(), Warning::all())
 }
 
-// Those of some warnings that aren't allowed.
+// The warnings among these that aren't allowed.
 fn reported_of(
     alloc: Global,
     found: Levels,
     len: usize,
     warnings: &[Warning],
 ) -> Result<Vec<WarningFields>, AllocError>
-    ensures { IfOk result (λ reported. reported.items ≡ spec.reported_of found len warnings.now) }
+    ensures { IfOk result (λ nodes_reported. nodes_reported.items ≡ spec.reported_of found len warnings.now) }
 {
-    let mut reported = Vec::new(alloc);
+    let mut nodes_reported = Vec::new(alloc);
     for warning in warnings {
-        push_warning(&mut reported, found.level_of(*warning), *warning, len)?;
+        push_warning(&mut nodes_reported, found.level_of(*warning), *warning, len)?;
     }
-    Ok(reported)
+    Ok(nodes_reported)
 }
 
-// Writes the first warnings over the front of the buffer, as far as there is room, and counts these.
-fn write_front(reported: &[WarningFields], buffer: &mut [WarningFields]) -> usize
-    ensures count { result ≡ min (length reported.now) (length buffer.old) }
-    ensures front { buffer.new ≡ take result reported.now ++ drop result buffer.old }
+// Writes the first warnings to the front of the buffer, as far as they fit, and returns how many it
+// wrote.
+fn write_front(nodes_reported: &[WarningFields], buffer: &mut [WarningFields]) -> usize
+    ensures count { result ≡ min (length nodes_reported.now) (length buffer.old) }
+    ensures front { buffer.new ≡ take result nodes_reported.now ++ drop result buffer.old }
 {
-    let count = reported.len().min(buffer.len());
-    buffer[..count].copy_from_slice(&reported[..count]);
+    let count = nodes_reported.len().min(buffer.len());
+    buffer[..count].copy_from_slice(&nodes_reported[..count]);
     count
 }

@@ -1,9 +1,9 @@
-//! Bytes in a buffer that has room for all of them.
+//! Bytes written to a buffer if all of them fit.
 
 ghost use Rattle.std.specs.Prelude.{◌≡◌, ◌<◌, ◌≤◌, ◌++◌, length, drop};
 
-/// Writes the text over the front of the buffer, if that has room for all of it, and says how many
-/// bytes were written.
+/// Writes the text to the front of the buffer if all of it fits, and returns how many bytes were
+/// written.
 pub fn write_whole(text: &str, buffer: &mut [u8]) -> usize
     ensures whole { length text.now ≤ length buffer.old
         → (buffer.new ≡ text.now ++ drop (length text.now) buffer.old) × (result ≡ length text.now) }
@@ -13,7 +13,8 @@ pub fn write_whole(text: &str, buffer: &mut [u8]) -> usize
     write_bytes(text.as_bytes(), buffer)
 }
 
-/// The same of bytes.
+/// Writes the bytes to the front of the buffer if all of them fit, and returns how many were
+/// written.
 pub fn write_bytes(bytes: &[u8], buffer: &mut [u8]) -> usize
     ensures whole { length bytes.now ≤ length buffer.old
         → (buffer.new ≡ bytes.now ++ drop (length bytes.now) buffer.old)

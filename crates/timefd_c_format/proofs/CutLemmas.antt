@@ -1,4 +1,4 @@
--- Nodes with one more behind them, and the nodes in front of the last trees.
+-- Nodes with one more after them, and the nodes in front of the last trees.
 use Rattle.std.proofs.Common.{◌≡◌, ◌∙◌, ℕ, zero, suc, ◌+◌, ◌-◌, ◌≤◌, ◌==◌, nat_lt, if◌then◌else◌, Bool, true, false, List, [], ◌∷◌, ◌++◌, Option, Some, None, length, take, get_or, drop, ◌<◌, refl, sym, ap, subst, arith, length-append, ltb-false, add-one, drop-cons}
 use Rattle.std.proofs.lemmas.Bool.{le-leb, le-ltb}
 use Rattle.std.proofs.lemmas.List.{take_all, take_more}
@@ -9,7 +9,7 @@ use Rattle.timefd_node_list.specs.Nodes.{Role, text, shown, together, perhaps, e
 use Rattle.timefd_node_list.proofs.NodeLemmas.{before-one_more, before_zero, length-before}
 use Rattle.timefd_c_nodes.specs.declared.node.Node.{Node}
 use Rattle.timefd_c_nodes.specs.Decoding.{component_of, format_of, grown_with, read_on, read_nodes, with_component, with_members, with_optional}
-use Rattle.timefd_c_format.specs.Nodes.{count_behind, fault_behind, fault_from, node_fault, node_trees, trees_of}
+use Rattle.timefd_c_format.specs.Nodes.{count_after, fault_after, fault_from, node_fault, node_trees, trees_of}
 use Rattle.timefd_c_format.specs.Parts.{by_kind, part_role, perhaps_role, role, role_in, shown_role}
 use Rattle.timefd_c_format.specs.declared.part.Kind.TheVariants as kind
 use Rattle.timefd_c_format.specs.declared.part.Part.{Part as NodePart}
@@ -24,7 +24,7 @@ as_part r = record { role = r; nodes = 0; bytes = 0 }
 pub same_role : (r s : Role) → Some r ≡ Some s → r ≡ s
 same_role r s e = cc
 
--- the trees so far, and one node more that is a part of a description
+-- the trees so far, and one more node that is part of a description
 members_more : (count : ℕ) (make : List Tree → Tree) (ts : List Tree) → count ≤ length ts
     → with_members count make ts ≡ Some (before count ts ++ make (ending count ts) ∷ [])
 members_more count make ts h =
@@ -34,7 +34,7 @@ members_more count make ts h =
 leaf_more : (ts : List Tree) (t : Tree) → Some (ts ++ t ∷ []) ≡ Some (before 0 ts ++ t ∷ [])
 leaf_more ts t = ap (λ us. Some (us ++ t ∷ [])) (sym (before_zero ts))
 
--- What a node makes of the trees so far, where it is this and its bytes are these.
+-- What a node makes of the trees so far, given its kind and its bytes.
 more_by : (ts : List Tree) (a b c d e far : Bool) (bytes : Text) (co : Option Component) (k : ℕ)
     (fl : Option Bool) (r : Role) → arity r ≤ length ts
     → by_kind (if a then Some kind.Literal else if b then Some kind.Component
@@ -81,20 +81,20 @@ pub record Opened (count : ℕ) (o : Option Role) (rest : ℕ → Option ℕ) : 
   pub on : rest (count - arity role + 1) ≡ None
 
 pub opened_step : (at count : ℕ) (o : Option Role) (rest : ℕ → Option ℕ)
-    → fault_behind at (count_behind count o) rest ≡ None → Opened count o rest
+    → fault_after at (count_after count o) rest ≡ None → Opened count o rest
 opened_step at count None rest e = absurd cc
 opened_step at count (Some r) rest e = by (nat_lt count (arity r)) refl e
   where
     by : (b : Bool) → nat_lt count (arity r) ≡ b
-        → fault_behind at (if b then None else Some (count - arity r + 1)) rest ≡ None
+        → fault_after at (if b then None else Some (count - arity r + 1)) rest ≡ None
         → Opened count (Some r) rest
     by true is e = absurd cc
     by false is e = record { role = r; is = refl; fits = ltb-false count (arity r) is; on = e }
 
-pub behind_step : (at count : ℕ) (r : Role) (rest : ℕ → Option ℕ) → arity r ≤ count
-    → fault_behind at (count_behind count (Some r)) rest ≡ rest (count - arity r + 1)
-behind_step at count r rest h =
-    ap (λ b. fault_behind at (if b then None else Some (count - arity r + 1)) rest) (le-ltb count (arity r) h)
+pub after_step : (at count : ℕ) (r : Role) (rest : ℕ → Option ℕ) → arity r ≤ count
+    → fault_after at (count_after count (Some r)) rest ≡ rest (count - arity r + 1)
+after_step at count r rest h =
+    ap (λ b. fault_after at (if b then None else Some (count - arity r + 1)) rest) (le-ltb count (arity r) h)
 
 pub grown_length : (ts : List Tree) (r : Role) → arity r ≤ length ts
     → length (grown ts (as_part r)) ≡ length ts - arity r + 1
@@ -105,7 +105,7 @@ grown_length ts r h =
       length-before (arity r) ts,
     )
 
--- One node behind others, where all of them are parts of a description.
+-- One node after others, all of which are parts of a description.
 pub record Cut (l : Text) (at : ℕ) (ns : List Node) (n : Node) (ts : List Tree) : Type 0 where
   pub front : fault_from l at ns (length ts) ≡ None
   pub fs : List Tree
@@ -125,8 +125,8 @@ cut_last l at (x ∷ ns) n ts e =
     let len : length us ≡ length ts - arity o.role + 1 = grown_length ts o.role o.fits in
     let c = cut_last l (at + 1) ns n us (ap (fault_from l (at + 1) (ns ++ n ∷ [])) len ∙ o.on) in
     record {
-      front = ap (λ r. fault_behind at (count_behind (length ts) r) (fault_from l (at + 1) ns)) o.is
-          ∙ behind_step at (length ts) o.role (fault_from l (at + 1) ns) o.fits
+      front = ap (λ r. fault_after at (count_after (length ts) r) (fault_from l (at + 1) ns)) o.is
+          ∙ after_step at (length ts) o.role (fault_from l (at + 1) ns) o.fits
           ∙ ap (fault_from l (at + 1) ns) (sym len) ∙ c.front;
       fs = c.fs;
       read = ap (read_on l ns) (whole_role l x ts o.role o.is o.fits) ∙ c.read;
@@ -164,10 +164,10 @@ last_cut l ns n h is e =
     cut_last l 0 (take (length ns - 1) ns) n []
     (ap (λ xs. fault_from l 0 xs 0) (sym (split_at ns n h is)) ∙ e)
 
-read_behind : (l : Text) (ns ms : List Node) (ts : Option (List Tree))
+read_after : (l : Text) (ns ms : List Node) (ts : Option (List Tree))
     → read_on l (ns ++ ms) ts ≡ read_on l ms (read_on l ns ts)
-read_behind l [] ms ts = refl
-read_behind l (n ∷ ns) ms ts = read_behind l ns ms (grown_with l n ts)
+read_after l [] ms ts = refl
+read_after l (n ∷ ns) ms ts = read_after l ns ms (grown_with l n ts)
 
 pub last_trees : (l : Text) (ns : List Node) (n : Node) → 1 ≤ length ns
     → n ≡ get_or ns (length ns - 1) n → (c : Cut l 0 (take (length ns - 1) ns) n [])
@@ -175,7 +175,7 @@ pub last_trees : (l : Text) (ns : List Node) (n : Node) → 1 ≤ length ns
 last_trees l ns n h is c =
     let front : List Node = take (length ns - 1) ns in
     ap (λ xs. trees_of (read_nodes l xs)) (split_at ns n h is)
-    ∙ ap trees_of (read_behind l front (n ∷ []) (Some []))
+    ∙ ap trees_of (read_after l front (n ∷ []) (Some []))
     ∙ ap (λ o. trees_of (grown_with l n o)) c.read
     ∙ ap trees_of (whole_role l n c.fs c.role c.is c.fits)
     ∙ ap (λ o. grown (trees_of o) (as_part c.role)) (sym c.read)
@@ -190,7 +190,8 @@ take_take (suc q) zero xs h = absurd (omega (arith, h))
 take_take (suc q) (suc k) [] h = refl
 take_take (suc q) (suc k) (x ∷ xs) h = ap (λ ys. x ∷ ys) (take_take q k xs (omega (arith, h)))
 
--- so many trees of which the last is this are that one, and the others of its members and before them
+-- in front of the last `left` trees, of which the very last is this part's, is what is in front of the
+-- others and of the part's members
 pub skipped_one : (fs : List Tree) (r : Role) (left : ℕ) → 1 ≤ left → arity r ≤ length fs
     → left ≤ length (grown fs (as_part r))
     → before left (grown fs (as_part r)) ≡ before (left - 1 + arity r) fs
@@ -213,27 +214,27 @@ pub skipped_fits : (fs : List Tree) (r : Role) (left : ℕ) → 1 ≤ left → a
     → left ≤ length (grown fs (as_part r)) → left - 1 + arity r ≤ length fs
 skipped_fits fs r left one fits there = omega (arith, one, fits, there, grown_length fs r fits)
 
--- One node further on.
+-- One node further.
 
 fault_cut : (l : Text) (ns : List Node) (at count : ℕ) (d : Node) → at < length ns
     → fault_from l at (drop at ns) count
-    ≡ fault_behind at (count_behind count (role_in l (get_or ns at d))) (fault_from l (at + 1) (drop (at + 1) ns))
+    ≡ fault_after at (count_after count (role_in l (get_or ns at d))) (fault_from l (at + 1) (drop (at + 1) ns))
 fault_cut l ns at count d below =
     let first : drop at ns ≡ get_or ns at d ∷ drop (at + 1) ns = rw add-one (drop-cons ns at d below) in
     ap (λ xs. fault_from l at xs count) first
 
 pub fault_step : (l : Text) (ns : List Node) (at count b : ℕ) (d : Node) (whole : Option ℕ) → at < length ns
-    → count_behind count (role_in l (get_or ns at d)) ≡ Some b
+    → count_after count (role_in l (get_or ns at d)) ≡ Some b
     → fault_from l at (drop at ns) count ≡ whole
     → fault_from l (at + 1) (drop (at + 1) ns) b ≡ whole
 fault_step l ns at count b d whole below e so_far =
-    sym (ap (λ o. fault_behind at o (fault_from l (at + 1) (drop (at + 1) ns))) e)
+    sym (ap (λ o. fault_after at o (fault_from l (at + 1) (drop (at + 1) ns))) e)
     ∙ sym (fault_cut l ns at count d below) ∙ so_far
 
 some_same : (x y : ℕ) → Some x ≡ Some y → x ≡ y
 some_same x y e = cc
 
-pub one_more_at_most : (count b : ℕ) (o : Option Role) → count_behind count o ≡ Some b → b ≤ count + 1
+pub one_more_at_most : (count b : ℕ) (o : Option Role) → count_after count o ≡ Some b → b ≤ count + 1
 one_more_at_most count b None e = absurd cc
 one_more_at_most count b (Some r) e = by (nat_lt count (arity r)) e
   where
@@ -241,7 +242,7 @@ one_more_at_most count b (Some r) e = by (nat_lt count (arity r)) e
     by true e = absurd cc
     by false e = omega (arith, some_same (count - arity r + 1) b e)
 
--- The last node, as it is read out of the list.
+-- The last node, as it is read from the list.
 
 last_read : (ns : List Node) (d : Node) → 1 ≤ length ns
     → get_or ns (length ns - 1) d ≡ get_or ns (length ns - 1) (get_or ns (length ns - 1) d)
@@ -279,7 +280,7 @@ module _ (l : Text) (ns : List Node) (d : Node) (there : 1 ≤ length ns) (sound
       ∙ ap (λ r. grown (node_trees l (take (length ns - 1) ns)) (as_part r))
       (sym (same_role (role p) the_cut.role (e ∙ the_cut.is)))
 
--- The nodes in front of an index, and the one that has it.
+-- The nodes in front of an index, and the node with that index.
 
 prefix_from : (l : Text) (at count k : ℕ) (ns : List Node) → fault_from l at ns count ≡ None
     → fault_from l at (take k ns) count ≡ None
@@ -287,8 +288,8 @@ prefix_from l at count zero ns e = refl
 prefix_from l at count (suc k) [] e = refl
 prefix_from l at count (suc k) (x ∷ ns) e =
     let o = opened_step at count (role_in l x) (fault_from l (at + 1) ns) e in
-    ap (λ r. fault_behind at (count_behind count r) (fault_from l (at + 1) (take k ns))) o.is
-    ∙ behind_step at count o.role (fault_from l (at + 1) (take k ns)) o.fits
+    ap (λ r. fault_after at (count_after count r) (fault_from l (at + 1) (take k ns))) o.is
+    ∙ after_step at count o.role (fault_from l (at + 1) (take k ns)) o.fits
     ∙ prefix_from l (at + 1) (count - arity o.role + 1) k ns o.on
 
 all_false : (b : Bool) → b ≡ true → b ≡ false → ⊥
@@ -321,7 +322,7 @@ module _ (l : Text) (ns : List Node) (at : ℕ) (d : Node) (there : at < length 
   at_grown p e =
       let n : Node = get_or ns at d in
       ap (λ xs. trees_of (read_nodes l xs)) at_split
-      ∙ ap trees_of (read_behind l (take at ns) (n ∷ []) (Some []))
+      ∙ ap trees_of (read_after l (take at ns) (n ∷ []) (Some []))
       ∙ ap (λ o. trees_of (grown_with l n o)) at_cut.read
       ∙ ap trees_of (whole_role l n at_cut.fs at_cut.role at_cut.is at_cut.fits)
       ∙ ap (λ o. grown (trees_of o) (as_part at_cut.role)) (sym at_cut.read)

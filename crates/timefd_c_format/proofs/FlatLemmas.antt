@@ -1,4 +1,4 @@
--- Nodes without members, from the first one on.
+-- Nodes without members, from the first to the last.
 use Rattle.std.proofs.Common.{◌≡◌, ◌∙◌, ℕ, ◌+◌, ◌-◌, ◌≤◌, ◌<◌, ◌&&◌, Bool, true, false, List, [], ◌∷◌, ◌++◌, Option, Some, None, length, take, drop, get_or, map, refl, sym, ap, subst, arith, add-one, drop-cons}
 use Rattle.std.proofs.lemmas.List.{drop_all, map-append}
 use Rattle.std.proofs.lemmas.Str.{is_utf8-from_IsUtf8}
@@ -15,11 +15,11 @@ use Rattle.timefd_c_nodes.specs.declared.node.Node.{Node}
 use Rattle.timefd_c_nodes.specs.Decoding.{grown_with, read_nodes, read_on}
 use Rattle.timefd_c_format.specs.Flat.{IsLeaf}
 use Rattle.timefd_c_format.specs.Literals.{is_text, is_textual}
-use Rattle.timefd_c_format.specs.Nodes.{fault_behind, count_behind, fault_from, node_fault, node_trees, trees_of}
+use Rattle.timefd_c_format.specs.Nodes.{fault_after, count_after, fault_from, node_fault, node_trees, trees_of}
 use Rattle.timefd_c_format.specs.Parts.{role_in}
-use Rattle.timefd_c_format.proofs.CutLemmas.{as_part, behind_step, grown_length, whole_role}
+use Rattle.timefd_c_format.proofs.CutLemmas.{as_part, after_step, grown_length, whole_role}
 
--- The nodes in front of a place are these trees, and what is left decides the rest.
+-- The nodes in front of an index are these trees, and the remaining nodes decide the rest.
 pub record AreInFront (l : Text) (ns : List Node) (at : ℕ) (ts : List Tree) : Type 0 where
   pub fault : fault_from l at (drop at ns) (length ts) ≡ node_fault l ns
   pub read : read_on l (drop at ns) (Some ts) ≡ read_nodes l ns
@@ -33,7 +33,7 @@ texts_on : (l : Text) (n : Node) (ns : List Node) → is_text (role_in l n) ≡ 
     → list_all (λ n. is_text (role_in l n)) (n ∷ ns) ≡ list_all (λ n. is_text (role_in l n)) ns
 texts_on l n ns e = ap (λ b. b && list_all (λ n. is_text (role_in l n)) ns) e
 
--- One more of them, that has no members.
+-- One more of them, without members.
 pub one_in_front : (l : Text) (ns : List Node) (at : ℕ) (d : Node) (ts : List Tree) (leaf : Leaf)
     → at < length ns → IsLeaf l (get_or ns at d) leaf → AreInFront l ns at ts
     → AreInFront l ns (at + 1) (ts ++ leaf_tree leaf ∷ [])
@@ -48,8 +48,8 @@ one_in_front l ns at d ts leaf below is front =
     let same : us ≡ ts ++ leaf_tree leaf ∷ [] = grown_leaf ts r leaf is.alone is.tree in
     subst (λ vs. AreInFront l ns (at + 1) vs) same (record {
       fault = ap (fault_from l (at + 1) rest) len
-          ∙ sym (behind_step at (length ts) r (fault_from l (at + 1) rest) fits)
-          ∙ sym (ap (λ o. fault_behind at (count_behind (length ts) o) (fault_from l (at + 1) rest)) is.is)
+          ∙ sym (after_step at (length ts) r (fault_from l (at + 1) rest) fits)
+          ∙ sym (ap (λ o. fault_after at (count_after (length ts) o) (fault_from l (at + 1) rest)) is.is)
           ∙ sym (ap (λ xs. fault_from l at xs (length ts)) cut)
           ∙ front.fault;
       read = sym (ap (read_on l rest) (whole_role l n ts r is.is fits))

@@ -1,4 +1,4 @@
--- Nodes from the first one on.
+-- Nodes from the first to the last.
 use Rattle.std.proofs.Common.{ℕ, ◌≡◌, ◌∙◌, ◌+◌, ◌-◌, ◌<◌, ◌≤◌, if◌then◌else◌, Bool, true, false, List, [], ◌∷◌, ◌++◌, Option, Some, None, length, take, drop, get_or, Result, Ok, Err, refl, sym, ap, subst, arith, append-nil, add-one, drop-cons, length-append, length-take}
 use Rattle.std.proofs.lemmas.List.{drop_all, take-append-drop}
 use Rattle.timefd_component.specs.declared.component.Component.{Component}
@@ -16,19 +16,19 @@ use Rattle.timefd_node_list.proofs.NodeLemmas.{before_zero}
 use Rattle.timefd_c_nodes.specs.declared.node.Node.{Node}
 use Rattle.timefd_c_nodes.specs.Decoding.{read_nodes, read_on}
 use Rattle.timefd_c_format.specs.Forward.{IsAfter, IsForward, role_text}
-use Rattle.timefd_c_format.specs.Nodes.{count_behind, fault_behind, fault_from, node_fault, node_trees, trees_of}
+use Rattle.timefd_c_format.specs.Nodes.{count_after, fault_after, fault_from, node_fault, node_trees, trees_of}
 use Rattle.timefd_c_format.specs.Parts.{by_kind, perhaps_role, shown_role}
 use Rattle.timefd_c_format.specs.declared.forward.Reached.{Reached}
 use Rattle.timefd_c_format.specs.declared.part.Kind.{Kind}
 use Rattle.timefd_c_format.specs.declared.part.Kind.TheVariants as kind
-use Rattle.timefd_c_format.proofs.CutLemmas.{as_part, behind_step, grown_length, whole_role}
+use Rattle.timefd_c_format.proofs.CutLemmas.{as_part, after_step, grown_length, whole_role}
 use Rattle.timefd_c_format.proofs.WriteLemmas.{component_by_itself}
 
 followed_none : (x : Result Text Unshown) → followed x (Ok []) ≡ x
 followed_none (Ok a) = ap Ok (append-nil a)
 followed_none (Err u) = refl
 
--- what is written of the trees, once there is one part more
+-- what is written of the trees, with one more part
 forward_shows : (m : Moment) (ts : List Tree) (r : Role) → IsForward r → arity r ≤ length ts
     → written_all m (trees (grown ts (as_part r))) ≡ followed (written_all m (trees ts)) (role_text m r)
 forward_shows m ts (text bytes) is fits =
@@ -96,8 +96,8 @@ one_read m l nodes i count n d old room new at r below is so one = by (role_text
     fault : fault_from l (i + 1) (drop (i + 1) nodes) r.count ≡ node_fault l nodes
     fault =
         ap (fault_from l (i + 1) (drop (i + 1) nodes)) one.counted
-        ∙ sym (behind_step i count one.role (fault_from l (i + 1) (drop (i + 1) nodes)) one.fits)
-        ∙ ap (λ o. fault_behind i (count_behind count o) (fault_from l (i + 1) (drop (i + 1) nodes))) (sym one.is)
+        ∙ sym (after_step i count one.role (fault_from l (i + 1) (drop (i + 1) nodes)) one.fits)
+        ∙ ap (λ o. fault_after i (count_after count o) (fault_from l (i + 1) (drop (i + 1) nodes))) (sym one.is)
         ∙ ap (λ xs. fault_from l i xs count) (sym cut) ∙ so.fault
 
     read : read_on l (drop (i + 1) nodes) (Some (grown so.ts (as_part one.role))) ≡ read_nodes l nodes
@@ -160,7 +160,7 @@ component_is (Some kind.Optional) short bytes o count None c e = absurd cc
 component_is (Some kind.Optional) short bytes o count (Some b) c e = absurd cc
 component_is (Some kind.First) short bytes o count f c e = absurd cc
 
--- what is put once more in a room whose front is as it was
+-- what is put a second time in a buffer whose front is unchanged
 pub again : (x : Result Text Unshown) (old mid new : Text) (at : ℕ) (r : Option ℕ) → IsKept old at mid
     → TriesToAppend x mid at new r → TriesToAppend x old at new r
 again x old mid new at None kept put = record { same = put.same ∙ kept.same; front = put.front ∙ kept.front }

@@ -1,4 +1,5 @@
--- Nodes that read as trees are a description, where each is a part by itself, as those written of trees are.
+-- Nodes that read as trees are a description if each is a part by itself, and the nodes written for trees
+-- are.
 use Rattle.std.proofs.Common.{◌≡◌, ◌≢◌, ◌∙◌, ◌⊎◌, inl, inr, ℕ, ◌+◌, ◌-◌, ◌≤◌, ◌==◌, nat_le, nat_lt, if◌then◌else◌, Bool, true, false, List, [], ◌∷◌, ◌++◌, Option, Some, None, length, take, drop, refl, sym, ap, subst, arith, length-append}
 use Rattle.std.proofs.Math.Dec.{eqb}
 use Rattle.std.proofs.lemmas.Bool.{le-ltb, leb-true}
@@ -15,12 +16,12 @@ use Rattle.timefd_c_nodes.specs.Decoding.{component_of, format_of, grown_with, r
 use Rattle.timefd_c_nodes.specs.Encoding.{component_table, literals_of, node_for, nodes_from, own_text}
 use Rattle.timefd_c_nodes.proofs.DecodeLemmas.{nodes_from-append, trees_back}
 use Rattle.timefd_c_nodes.proofs.WriteLemmas.{literals_of-append}
-use Rattle.timefd_c_format.specs.Nodes.{count_behind, fault_behind, fault_from, node_fault}
+use Rattle.timefd_c_format.specs.Nodes.{count_after, fault_after, fault_from, node_fault}
 use Rattle.timefd_c_format.specs.Parts.{by_kind, perhaps_role, role_in, shown_role}
 use Rattle.timefd_c_format.specs.declared.part.Kind.TheVariants as kind
-use Rattle.timefd_c_format.proofs.CutLemmas.{as_part, behind_step, grown_length, whole_role}
+use Rattle.timefd_c_format.proofs.CutLemmas.{as_part, after_step, grown_length, whole_role}
 
--- A literal's bytes are all among the literals.
+-- All bytes of a literal are among the literals.
 record IsPart (l : Text) (n : Node) : Type 0 where
   pub inside : n.what ≡ 1 → n.start + n.count ≤ length l
 
@@ -28,7 +29,7 @@ abbrev AreParts : Text → List Node → Type 0
 AreParts l [] = ⊤
 AreParts l (n ∷ ns) = IsPart l n × AreParts l ns
 
--- what a node is, where it takes members that are there
+-- what a node is, if it takes members that are there
 record Found (ts : List Tree) (o : Option Role) : Type 0 where
   pub role : Role
   pub is : o ≡ Some role
@@ -76,8 +77,8 @@ found_by ts us false false false false true far bytes co k fl f h = record {
 }
 found_by ts us false false false false false far bytes co k fl f h = absurd cc
 
-pub told : (a b : ℕ) → (a == b) ≡ true → a ≡ b
-told a b e = by (eqb_tells a b) e
+pub equal : (a b : ℕ) → (a == b) ≡ true → a ≡ b
+equal a b e = by (eqb_tells a b) e
   where
     by : ((eqb a b ≡ true) × (a ≡ b)) ⊎ ((eqb a b ≡ false) × (a ≢ b)) → (a == b) ≡ true → a ≡ b
     by (inl x) e = x.1
@@ -89,7 +90,7 @@ found l n ts us p h =
     found_by ts us (n.what == 1) (n.what == 2) (n.what == 3) (n.what == 4) (n.what == 5)
     (nat_lt (length l) (n.start + n.count))
     (take n.count (drop n.start l)) (component_of n) n.count (format_of n)
-    (λ e. le-ltb (length l) (n.start + n.count) (p.inside (told n.what 1 e))) h
+    (λ e. le-ltb (length l) (n.start + n.count) (p.inside (equal n.what 1 e))) h
 
 same_trees : (ts us : List Tree) → Some ts ≡ Some us → ts ≡ us
 same_trees ts us e = cc
@@ -114,8 +115,8 @@ sound_from l at (n ∷ ns) ts us p e =
         same_trees vs (grown ts (as_part f.role)) (sym is ∙ whole_role l n ts f.role f.is f.fits) in
         let size : length vs ≡ length ts - arity f.role + 1 =
         ap length grows ∙ grown_length ts f.role f.fits in
-        ap (λ r. fault_behind at (count_behind (length ts) r) (fault_from l (at + 1) ns)) f.is
-        ∙ behind_step at (length ts) f.role (fault_from l (at + 1) ns) f.fits
+        ap (λ r. fault_after at (count_after (length ts) r) (fault_from l (at + 1) ns)) f.is
+        ∙ after_step at (length ts) f.role (fault_from l (at + 1) ns) f.fits
         ∙ ap (fault_from l (at + 1) ns) (sym size) ∙ go vs e
 
 -- The nodes of trees.

@@ -1,5 +1,5 @@
--- A walk over nodes from the last one to the first: what it has written, if those in front are a description
--- of so many trees as are wanted.
+-- A walk over nodes from the last to the first: what it has written, if the nodes in front are a
+-- description of as many trees as are wanted.
 use Rattle.std.proofs.Common.{ℕ, zero, suc, ◌≡◌, ◌∙◌, ◌+◌, ◌-◌, ◌<◌, ◌≤◌, if◌then◌else◌, nat_lt, Bool, true, false, List, [], ◌∷◌, ◌++◌, Option, Some, None, IfOk, length, take, get_or, ltb-true, ltb-false, refl, sym, ap, subst, arith, append_assoc, append-nil, length-take}
 use Rattle.std.proofs.lemmas.List.{take_all, take_more}
 use Rattle.timefd_component.specs.Tree.{Text, Tree, trees}
@@ -7,22 +7,22 @@ use Rattle.timefd_moment.specs.declared.moment.Moment.{Moment}
 use Rattle.timefd_node_list.specs.Leaves.{leaves_in, role_leaves, unwritten}
 use Rattle.timefd_node_list.specs.Nodes.{Role, text, shown, together, perhaps, either, arity, before, grown}
 use Rattle.timefd_node_list.proofs.NodeLemmas.{before_zero}
-use Rattle.timefd_node_list.proofs.LeafLemmas.{leaf_behind, opened}
-use Rattle.timefd_format.specs.declared.place.Place.{Place}
-use Rattle.timefd_format.specs.declared.place.Place.TheVariants as place
+use Rattle.timefd_node_list.proofs.LeafLemmas.{leaf_after, opened}
+use Rattle.timefd_format.specs.declared.cursor.WriteCursor.{WriteCursor}
+use Rattle.timefd_format.specs.declared.cursor.WriteCursor.TheVariants as cursor
 use Rattle.timefd_format.specs.Writes.{IsIn, Writes}
 use Rattle.timefd_format.specs.Written.{followed, written_all}
 use Rattle.timefd_format.proofs.LeafLemmas.{written_append}
-use Rattle.timefd_format.proofs.WalkLemmas.{writes_behind, writes_in}
+use Rattle.timefd_format.proofs.WalkLemmas.{writes_after, writes_in}
 use Rattle.timefd_c_nodes.specs.declared.node.Node.{Node}
 use Rattle.timefd_c_nodes.specs.Decoding.{read_on}
-use Rattle.timefd_c_format.specs.Nodes.{fault_behind, fault_from, count_behind, node_fault, node_leaves, node_trees, trees_of}
+use Rattle.timefd_c_format.specs.Nodes.{fault_after, fault_from, count_after, node_fault, node_leaves, node_trees, trees_of}
 use Rattle.timefd_c_format.specs.Parts.{role_in}
 use Rattle.timefd_c_format.specs.Walk.{leaves_here, needed, skipped}
-use Rattle.timefd_c_format.proofs.CutLemmas.{as_part, behind_step, cut_last, few, grown_length, last_fits, opened_step, same_role, skipped_one, whole_role}
+use Rattle.timefd_c_format.proofs.CutLemmas.{as_part, after_step, cut_last, few, grown_length, last_fits, opened_step, same_role, skipped_one, whole_role}
 use Rattle.timefd_c_format.proofs.WriteLemmas.{IsPutTo, all_put, by_leaves_in, no_room_for, none_put}
 
--- nodes that are a description, and one more that finds its members among their trees
+-- nodes that are a description, and one more node that finds its members among their trees
 record IsMore (l : Text) (at : ℕ) (ns : List Node) (n : Node) (r : Role) (ts : List Tree) : Type 0 where
   sound : fault_from l at (ns ++ n ∷ []) (length ts) ≡ None
   reads : trees_of (read_on l (ns ++ n ∷ []) (Some ts)) ≡ grown (trees_of (read_on l ns (Some ts))) (as_part r)
@@ -31,8 +31,8 @@ one_node_more : (l : Text) (at : ℕ) (ns : List Node) (n : Node) (r : Role) (ts
     → fault_from l at ns (length ts) ≡ None → role_in l n ≡ Some r
     → arity r ≤ length (trees_of (read_on l ns (Some ts))) → IsMore l at ns n r ts
 one_node_more l at [] n r ts e is fits = record {
-  sound = ap (λ o. fault_behind at (count_behind (length ts) o) (fault_from l (at + 1) [])) is
-      ∙ behind_step at (length ts) r (fault_from l (at + 1) []) fits;
+  sound = ap (λ o. fault_after at (count_after (length ts) o) (fault_from l (at + 1) [])) is
+      ∙ after_step at (length ts) r (fault_from l (at + 1) []) fits;
   reads = ap trees_of (whole_role l n ts r is fits);
 }
 one_node_more l at (x ∷ ns) n r ts e is fits =
@@ -44,8 +44,8 @@ one_node_more l at (x ∷ ns) n r ts e is fits =
     let rest = one_node_more l (at + 1) ns n r us (ap (fault_from l (at + 1) ns) len ∙ o.on) is
     (subst (λ fs. arity r ≤ length (trees_of fs)) (read ns) fits) in
     record {
-      sound = ap (λ q. fault_behind at (count_behind (length ts) q) (fault_from l (at + 1) (ns ++ n ∷ []))) o.is
-          ∙ behind_step at (length ts) o.role (fault_from l (at + 1) (ns ++ n ∷ [])) o.fits
+      sound = ap (λ q. fault_after at (count_after (length ts) q) (fault_from l (at + 1) (ns ++ n ∷ []))) o.is
+          ∙ after_step at (length ts) o.role (fault_from l (at + 1) (ns ++ n ∷ [])) o.fits
           ∙ ap (fault_from l (at + 1) (ns ++ n ∷ [])) (sym len) ∙ rest.sound;
       reads = ap trees_of (read (ns ++ n ∷ [])) ∙ rest.reads
           ∙ ap (λ fs. grown (trees_of fs) (as_part r)) (sym (read ns));
@@ -73,15 +73,15 @@ skipped_needed skip need r h = by (nat_lt 0 skip) (ltb-true 0 skip)
 
 opened_here : (fs : List Tree) (r : Role) → arity r ≤ length fs
     → leaves_in (grown fs (as_part r)) ≡ leaves_in (before (unwritten r) fs) ++ role_leaves r
-opened_here fs (text bytes) h = leaf_behind fs (as_part (text bytes)) _ refl
+opened_here fs (text bytes) h = leaf_after fs (as_part (text bytes)) _ refl
     ∙ ap (λ us. leaves_in us ++ role_leaves (text bytes)) (sym (before_zero fs))
-opened_here fs (shown c) h = leaf_behind fs (as_part (shown c)) _ refl
+opened_here fs (shown c) h = leaf_after fs (as_part (shown c)) _ refl
     ∙ ap (λ us. leaves_in us ++ role_leaves (shown c)) (sym (before_zero fs))
 opened_here fs (together count) h = opened fs (as_part (together count)) h refl ∙ sym (append-nil _)
 opened_here fs (perhaps format) h = opened fs (as_part (perhaps format)) h refl ∙ sym (append-nil _)
 opened_here fs (either count) h = opened fs (as_part (either count)) h refl ∙ sym (append-nil _)
 
--- the leaves that are left in front of a node, and that node
+-- the remaining leaves in front of a node, and that node
 leaves_left : (fs : List Tree) (r : Role) (skip : ℕ) → arity r ≤ length fs → skip ≤ length (grown fs (as_part r))
     → leaves_in (before skip (grown fs (as_part r))) ≡ leaves_in (before (skipped skip r) fs) ++ leaves_here skip r
 leaves_left fs r skip fits h = by (nat_lt 0 skip) (ltb-true 0 skip) (ltb-false 0 skip)
@@ -96,30 +96,30 @@ leaves_left fs r skip fits h = by (nat_lt 0 skip) (ltb-true 0 skip) (ltb-false 0
         ap (λ k. leaves_in (before k (grown fs (as_part r)))) zero_is
         ∙ ap leaves_in (before_zero (grown fs (as_part r))) ∙ opened_here fs r fits
 
-parts_put : (m : Moment) (whole left rest ts : List Tree) (old mid new : Text) (e k : Place)
+parts_put : (m : Moment) (whole left rest ts : List Tree) (old mid new : Text) (e k : WriteCursor)
     → IsPutTo m whole left old mid e → left ≡ rest ++ ts → Writes (written_all m (trees ts)) mid e new k
     → IsPutTo m whole rest old new k
 parts_put m whole left rest ts old mid new e k w is one = record {
   done = ts ++ w.done;
   split = w.split ∙ ap (λ x. x ++ w.done) is ∙ append_assoc rest ts w.done;
-  writes = subst (λ x. Writes x old (place.At (length old)) new k) (sym (written_append m ts w.done))
-      (writes_behind (written_all m (trees ts)) (written_all m (trees w.done)) old mid new
-      (place.At (length old)) e k (omega arith) w.writes one);
+  writes = subst (λ x. Writes x old (cursor.At (length old)) new k) (sym (written_append m ts w.done))
+      (writes_after (written_all m (trees ts)) (written_all m (trees w.done)) old mid new
+      (cursor.At (length old)) e k (omega arith) w.writes one);
   inside = writes_in (written_all m (trees ts)) mid new e k w.inside one;
 }
 
--- all nodes are a description, and what is written are the leaves behind those that are left
-pub record IsLeft (m : Moment) (l : Text) (ns : List Node) (left skip : ℕ) (old new : Text) (at : Place) : Type 0 where
+-- all nodes are a description, and the leaves after the remaining ones are written
+pub record IsLeft (m : Moment) (l : Text) (ns : List Node) (left skip : ℕ) (old new : Text) (at : WriteCursor) : Type 0 where
   pub sound : node_fault l ns ≡ None
   pub put : IsPutTo m (node_leaves l ns) (leaves_in (before skip (node_trees l (take left ns)))) old new at
 
--- those that are left are a description of as many trees as are wanted
+-- the remaining nodes are a description with as many trees as are wanted
 pub record IsFront (l : Text) (ns : List Node) (left need : ℕ) : Type 0 where
   pub sound : node_fault l (take left ns) ≡ None
   pub enough : need ≤ length (node_trees l (take left ns))
 
--- so many nodes are left
-pub record IsWalked (m : Moment) (l : Text) (ns : List Node) (left need skip : ℕ) (old new : Text) (at : Place) : Type 0 where
+-- `left` nodes remain
+pub record IsWalked (m : Moment) (l : Text) (ns : List Node) (left need skip : ℕ) (old new : Text) (at : WriteCursor) : Type 0 where
   pub inside : IsIn (length new) at
   pub within : left ≤ length ns
   pub few : need ≤ left
@@ -129,7 +129,7 @@ pub record IsWalked (m : Moment) (l : Text) (ns : List Node) (left need skip : �
   pub if_sound : node_fault l ns ≡ None → IsFront l ns left need
 
 pub none_walked : (m : Moment) (l : Text) (ns : List Node) (left : ℕ) (old : Text) → left ≡ length ns
-    → IsWalked m l ns left 0 0 old old (place.At (length old))
+    → IsWalked m l ns left 0 0 old old (cursor.At (length old))
 none_walked m l ns left old all =
     let whole : take left ns ≡ ns = take_all left ns (omega (arith, all)) in
     record {
@@ -139,21 +139,21 @@ none_walked m l ns left old all =
       less = omega arith;
       if_left = λ sound enough. record {
         sound = sym (ap (node_fault l) whole) ∙ sound;
-        put = subst (λ ts. IsPutTo m (node_leaves l ns) ts old old (place.At (length old)))
+        put = subst (λ ts. IsPutTo m (node_leaves l ns) ts old old (cursor.At (length old)))
             (ap (node_leaves l) (sym whole) ∙ ap leaves_in (sym (before_zero (node_trees l (take left ns)))))
             (none_put m (node_leaves l ns) old);
       };
       if_sound = λ sound. record { sound = ap (node_fault l) whole ∙ sound; enough = omega arith };
     }
 
--- the nodes in front of one that is left
+-- the nodes in front of the last remaining one
 front_more : (ns : List Node) (d : Node) (left fewer : ℕ) → left ≤ length ns → fewer ≡ left - 1 → 0 < left
     → take left ns ≡ take fewer ns ++ get_or ns fewer d ∷ []
 front_more ns d left fewer within one some =
     let next : left ≡ fewer + 1 = omega (arith, one, some) in
     ap (λ k. take k ns) next ∙ take_more ns fewer d (omega (arith, within, one, some))
 
--- what is known of that node if all are a description
+-- what is known of that node if all nodes are a description
 record IsOpened (l : Text) (ns : List Node) (d : Node) (left need fewer : ℕ) : Type 0 where
   role : Role
   is : role_in l (get_or ns fewer d) ≡ Some role
@@ -183,7 +183,7 @@ opened_one l ns d left need fewer within w one some =
     }
 
 pub one_walked : (m : Moment) (l : Text) (ns : List Node) (d : Node) (r : Role)
-    (left need skip fewer needs skips : ℕ) (old mid new : Text) (e k : Place)
+    (left need skip fewer needs skips : ℕ) (old mid new : Text) (e k : WriteCursor)
     → IsWalked m l ns left need skip old mid e → fewer ≡ left - 1 → 0 < left
     → role_in l (get_or ns fewer d) ≡ Some r → needs ≡ needed need r → needs ≤ fewer → skips ≡ skipped skip r
     → Writes (written_all m (trees (leaves_here skip r))) mid e new k
@@ -223,9 +223,9 @@ one_walked m l ns d r left need skip fewer needs skips old mid new e k w one som
       };
 }
 
--- what means nothing is no part of a description
+-- a node that means nothing is not part of a description
 pub meaningless : (m : Moment) (l : Text) (ns : List Node) (d : Node) (left need skip fewer : ℕ) (old new : Text)
-    (at : Place) → IsWalked m l ns left need skip old new at → fewer ≡ left - 1 → 0 < left
+    (at : WriteCursor) → IsWalked m l ns left need skip old new at → fewer ≡ left - 1 → 0 < left
     → role_in l (get_or ns fewer d) ≡ None → node_fault l ns ≡ None → ⊥
 meaningless m l ns d left need skip fewer old new at w one some none sound =
     let o = opened_one l ns d left need fewer w.within (w.if_sound sound) one some in
@@ -234,9 +234,9 @@ meaningless m l ns d left need skip fewer old new at w one some none sound =
     no_role : (r : Role) → ◌≡◌ {A = Option Role} None (Some r) → ⊥
     no_role r e = absurd cc
 
--- nor is what has too few nodes in front of it
+-- and neither is a node with too few nodes in front of it
 pub too_few : (m : Moment) (l : Text) (ns : List Node) (d : Node) (r : Role) (left need skip fewer : ℕ)
-    (old new : Text) (at : Place) → IsWalked m l ns left need skip old new at → fewer ≡ left - 1 → 0 < left
+    (old new : Text) (at : WriteCursor) → IsWalked m l ns left need skip old new at → fewer ≡ left - 1 → 0 < left
     → role_in l (get_or ns fewer d) ≡ Some r → fewer < needed need r → node_fault l ns ≡ None → ⊥
 too_few m l ns d r left need skip fewer old new at w one some role_is short sound =
     let o = opened_one l ns d left need fewer w.within (w.if_sound sound) one some in
@@ -244,9 +244,9 @@ too_few m l ns d r left need skip fewer old new at w one some role_is short soun
     let least : length (node_trees l (take fewer ns)) ≤ length (take fewer ns) = few l (take fewer ns) o.sound in
     omega (arith, short, o.enough, ap arity same, least, length-take fewer ns)
 
--- What has no room in front of what is written has none.
+-- If a part doesn't fit in front of the written text, the whole text doesn't fit.
 pub not_written : (m : Moment) (l : Text) (ns : List Node) (d : Node) (r : Role) (left need skip fewer : ℕ)
-    (old mid : Text) (end : ℕ) → IsWalked m l ns left need skip old mid (place.At end) → fewer ≡ left - 1 → 0 < left
+    (old mid : Text) (end : ℕ) → IsWalked m l ns left need skip old mid (cursor.At end) → fewer ≡ left - 1 → 0 < left
     → role_in l (get_or ns fewer d) ≡ Some r
     → IfOk (written_all m (trees (leaves_here skip r))) (λ text. end < length text) → node_fault l ns ≡ None
     → IfOk (written_all m (trees (node_trees l ns))) (λ text. length old < length text)
@@ -273,20 +273,20 @@ not_written m l ns d r left need skip fewer old mid end w one some role_is short
     subst (λ x. IfOk x (λ text. length old < length text)) (sym text)
     (no_room_for _ _ _ old mid end short put.writes)
 
--- none are left
-none_left : (m : Moment) (l : Text) (ns : List Node) (left need skip : ℕ) (old new : Text) (at : Place)
+-- no nodes remain
+none_left : (m : Moment) (l : Text) (ns : List Node) (left need skip : ℕ) (old new : Text) (at : WriteCursor)
     → IsWalked m l ns left need skip old new at → left ≡ 0 → IsLeft m l ns left skip old new at
 none_left m l ns left need skip old new at w none =
     w.if_left (ap (λ k. node_fault l (take k ns)) none) (omega (arith, w.few, none))
 
-pub all_sound : (m : Moment) (l : Text) (ns : List Node) (left need skip : ℕ) (old new : Text) (at : Place)
+pub all_sound : (m : Moment) (l : Text) (ns : List Node) (left need skip : ℕ) (old new : Text) (at : WriteCursor)
     → IsWalked m l ns left need skip old new at → left ≡ 0 → node_fault l ns ≡ None
 all_sound m l ns left need skip old new at w none =
     (none_left m l ns left need skip old new at w none).sound
 
-pub all_written : (m : Moment) (l : Text) (ns : List Node) (left need skip : ℕ) (old new : Text) (at : Place)
+pub all_written : (m : Moment) (l : Text) (ns : List Node) (left need skip : ℕ) (old new : Text) (at : WriteCursor)
     → IsWalked m l ns left need skip old new at → left ≡ 0
-    → Writes (written_all m (trees (node_trees l ns))) old (place.At (length old)) new at
+    → Writes (written_all m (trees (node_trees l ns))) old (cursor.At (length old)) new at
 all_written m l ns left need skip old new at w none =
     let empty : leaves_in (before skip (node_trees l (take left ns))) ≡ [] =
     ap (λ k. leaves_in (before skip (node_trees l (take k ns)))) none

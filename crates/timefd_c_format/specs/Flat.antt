@@ -1,4 +1,4 @@
--- Nodes of which none has members, as components and texts.
+-- Nodes without members, as components and texts.
 use Rattle.std.specs.Prelude.{◌≡◌, [], Some, true}
 use Rattle.timefd_component.specs.Tree.{Text}
 use Rattle.timefd_node_list.specs.LeafMeaning.{leaf_tree}
@@ -8,7 +8,7 @@ use Rattle.timefd_c_nodes.specs.declared.node.Node.{Node}
 use Rattle.timefd_c_format.specs.Literals.{is_textual}
 use Rattle.timefd_c_format.specs.Parts.{role_in}
 
--- The node is a part of a description without members, and its tree is that of the component or text.
+-- The node is part of a description and has no members, and its tree is that of the component or text.
 pub record IsLeaf (literals : Text) (n : Node) (leaf : Leaf) : Type 0 where
   pub role : Role
   pub is : role_in literals n ≡ Some role

@@ -1,4 +1,4 @@
--- One node further on, from the first one on.
+-- One step from a node to the next, in order.
 use Rattle.std.specs.Prelude.{ℕ, ◌≡◌, ◌+◌, ◌-◌, ◌≤◌, [], Some, Result, Ok, ⊤}
 use Rattle.timefd_component.specs.Tree.{Text}
 use Rattle.timefd_moment.specs.declared.moment.Moment.{Moment}
@@ -10,7 +10,7 @@ use Rattle.timefd_c_nodes.specs.declared.node.Node.{Node}
 use Rattle.timefd_c_format.specs.Parts.{role_in}
 use Rattle.timefd_c_format.specs.declared.forward.Reached.{Reached}
 
--- what is written of a part beside its members
+-- what is written of a part, without its members
 abbrev pub role_text : Moment → Role → Result Text Unshown
 role_text m (text bytes) = Ok bytes
 role_text m (shown c) = written.shown m c
@@ -26,7 +26,8 @@ IsForward (together count) = ⊤
 IsForward (perhaps format) = ⊥
 IsForward (either count) = ⊥
 
--- the node is a part of a description all of whose members are written, and what it shows beside them is put
+-- the node is part of a description, all of its members are written, and what it shows without them is
+-- appended
 pub record IsAfter (m : Moment) (literals : Text) (n : Node) (count : ℕ) (old : Text) (at : ℕ) (new : Text)
     (r : Reached) : Type 0 where
   pub role : Role

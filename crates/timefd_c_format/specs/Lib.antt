@@ -1,6 +1,6 @@
 pub mod Parts
 pub mod Nodes
-pub mod Places
+pub mod Cursors
 pub mod Walk
 pub mod Texts
 pub mod Laws

@@ -1,4 +1,4 @@
--- Whether the literals of nodes are texts.
+-- Whether the literals of nodes are UTF-8.
 use Rattle.std.specs.Prelude.{Bool, true, Option, Some, None}
 use Rattle.std.specs.Str.{is_utf8}
 use Rattle.timefd_node_list.specs.Nodes.{Role, text, shown, together, perhaps, either}
@@ -11,7 +11,7 @@ is_textual (together count) = true
 is_textual (perhaps format) = true
 is_textual (either count) = true
 
--- whether a node is one of those, or no part of a description
+-- whether a node is not part of a description, or a part as above
 abbrev pub is_text : Option Role → Bool
 is_text None = true
 is_text (Some r) = is_textual r

@@ -1,4 +1,4 @@
--- What a node is, where it is a part of a description.
+-- What a node is as part of a description.
 use Rattle.std.specs.Prelude.{ℕ, ◌+◌, ◌==◌, nat_lt, if◌then◌else◌, Bool, Option, Some, None, take, drop, length}
 use Rattle.timefd_component.specs.declared.component.Component.{Component}
 use Rattle.timefd_component.specs.Tree.{Text}
@@ -21,7 +21,7 @@ abbrev pub part_role : Option Part → Option Role
 part_role None = None
 part_role (Some p) = Some (role p)
 
--- Bytes of the literals, where all of them are there.
+-- Bytes of the literals, if all of them are there.
 abbrev pub literal_role : ℕ → ℕ → Text → Option Role
 literal_role start count literals =
     if nat_lt (length literals) (start + count) then None
@@ -35,7 +35,7 @@ abbrev pub perhaps_role : Option Bool → Option Role
 perhaps_role None = None
 perhaps_role (Some format) = Some (perhaps format)
 
--- A component, where its numbers mean something.
+-- A component, if its numbers mean something.
 abbrev pub component_role : Node → Option Role
 component_role n = shown_role (component_of n)
 
@@ -45,8 +45,7 @@ kind_of n =
     else if n == 3 then Some kind.Compound else if n == 4 then Some kind.Optional
     else if n == 5 then Some kind.First else None
 
--- What a node of this kind is, by what its literal, its component, the number of its members and its flag
--- are.
+-- What a node of this kind is, by its literal, its component, the number of its members and its flag.
 abbrev pub by_kind : Option Kind → Option Role → Option Role → ℕ → Option Role → Option Role
 by_kind None l c n o = None
 by_kind (Some kind.Literal) l c n o = l
@@ -55,7 +54,7 @@ by_kind (Some kind.Compound) l c n o = Some (together n)
 by_kind (Some kind.Optional) l c n o = o
 by_kind (Some kind.First) l c n o = Some (either n)
 
--- What a node is, where its bytes are all among the literals and its numbers mean something.
+-- What a node is, if its bytes are all among the literals and its numbers mean something.
 abbrev pub role_in : Text → Node → Option Role
 role_in literals n =
     by_kind (kind_of n.what) (literal_role n.start n.count literals) (component_role n) n.count

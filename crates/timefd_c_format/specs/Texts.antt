@@ -1,4 +1,4 @@
--- What is answered of nodes that are to write a moment.
+-- The result for nodes that a moment is written by.
 use Rattle.std.specs.Prelude.{◌≡◌, ◌<◌, ◌≤◌, ◌++◌, length, drop, Result, Ok, Err}
 use Rattle.timefd_component.specs.Tree.{Text}
 use Rattle.timefd_node_list.specs.Nodes.{kept_bytes}
@@ -7,15 +7,16 @@ use Rattle.timefd_c_format.specs.declared.format.NodesText.{NodesText}
 use Rattle.timefd_c_format.specs.declared.format.NodesError.{NodesError}
 use Rattle.timefd_c_format.specs.declared.format.NodesError.TheVariants as fails
 
--- The text stands at the front of the buffer, if that has room for all of it, and what is behind it is as
--- it was. Its length is told, at most the greatest `usize`.
+-- The buffer begins with the text if all of it fits, and is otherwise unchanged. The answer has the length,
+-- at most the greatest `usize`.
 pub record IsShown (text before after : Text) (answer : NodesText) : Type 0 where
   pub len : answer.len ≡ kept_bytes (length text)
   pub whole : length text ≤ length before
       → (after ≡ text ++ drop (length text) before) × (answer.written ≡ length text)
   pub too_short : length before < length text → (after ≡ before) × (answer.written ≡ 0)
 
--- What is to be written is, or the first component that shows nothing is told, and the buffer is as it was.
+-- The text is written; or the answer names the first component that shows nothing, and the buffer is
+-- unchanged.
 abbrev pub ShowsNodes : Result Text Unshown → Text → Text → Result NodesText NodesError → Type 0
 ShowsNodes (Ok text) before after (Ok answer) = IsShown text before after answer
 ShowsNodes (Ok text) before after (Err e) = ⊥

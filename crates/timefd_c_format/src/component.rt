@@ -17,7 +17,8 @@ use timefd_modifier::{
     WeekdayMonday, WeekdayShort, WeekdaySunday,
 };
 
-/// The component that the numbers of a node name, where each of them that it has means something.
+/// The component that the numbers of a node name. `None` says that a number that the component has
+/// means nothing.
 #[inline(always)]
 pub(crate) fn component_of(node: &Node) -> Option<Component>
     ensures { result ≡ spec.component_of node.now }

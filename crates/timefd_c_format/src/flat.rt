@@ -1,5 +1,5 @@
-//! Nodes of which none has members, as those of most descriptions are: components and texts, by which
-//! a date is read sooner.
+//! Nodes without members, as most descriptions have only these: components and texts, by which a
+//! date is read faster.
 
 ghost use Rattle.std.specs.List.{list_all};
 ghost use Rattle.std.specs.Prelude.{◌≡◌, IfSome, IsUtf8, None, map, true};
@@ -14,8 +14,8 @@ use std::alloc::Global;
 use timefd_c_nodes::Node;
 use timefd_node_list::Leaf;
 
-/// What nodes are, where they are components and texts in turn. `None` says nothing of them: it comes
-/// too where memory ran out.
+/// The components and texts that nodes are, one after another. `None` says that the nodes are
+/// something else, or that memory ran out.
 #[tactic(auto, using(crate::proofs::FlatLemmas::none_in_front, crate::proofs::FlatLemmas::one_more, crate::proofs::FlatLemmas::sound_all, crate::proofs::FlatLemmas::texts_all, crate::proofs::FlatLemmas::trees_all))]
 pub fn leaves_of<'l>(alloc: Global, nodes: &[Node], literals: &'l [u8]) -> Option<Vec<Leaf<'l>>>
     ensures sound { IfSome result (λ leaves. node_fault literals.now nodes.now ≡ None) }

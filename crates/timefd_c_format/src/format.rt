@@ -1,4 +1,4 @@
-//! The public call.
+//! The public function.
 
 ghost use Rattle.std.specs.Prelude.{◌≡◌, ◌<◌, ◌≤◌, ◌++◌, Err, None, Ok, Some, drop, length};
 ghost use Rattle.timefd_c_format.specs.Nodes as spec;
@@ -17,26 +17,26 @@ use timefd_c_nodes::Node;
 use timefd_format::Unshown;
 use timefd_moment::Moment;
 
-/// How long the text of nodes is, and how much of it was written.
+/// How long the text of nodes is, and how many bytes of it were written.
 #[derive(Debug, Clone, Copy)]
 pub struct NodesText {
     /// The length of the text in bytes, at most `usize::MAX`.
     pub len: usize,
-    /// How many bytes were written: all of the text, or none.
+    /// How many bytes were written: all of the text, or nothing.
     pub written: usize,
 }
 
 /// Why nodes write nothing.
 #[derive(Debug, Clone, Copy)]
 pub enum NodesError {
-    /// The node with this index is the first one that is no part of a description.
+    /// The node with this index is the first one that is not part of a description.
     NoDescription(usize),
-    /// A component shows nothing of the moment. It is the first such one.
+    /// A component shows nothing of the moment. It is the first one that does.
     Unshown(Unshown),
 }
 
-/// Writes the moment by nodes over the front of the buffer, if that has room for all that they write.
-/// Else, and after an `Err`, the buffer is as it was. It takes no memory.
+/// Writes the moment by nodes to the front of the buffer if all that they write fits. Otherwise,
+/// and after an `Err`, the buffer is unchanged. It takes no memory.
 pub fn format_nodes(
     nodes: &[Node],
     literals: &[u8],
@@ -55,7 +55,8 @@ pub fn format_nodes(
     }
 }
 
-/// The same, whatever the length of the text. What is wrong is reported first, if something is.
+/// Does what `format_nodes` does, however long the text is. An error is found before anything is
+/// written.
 fn format_long(
     moment: Moment,
     nodes: &[Node],
@@ -74,7 +75,7 @@ fn format_long(
     }
 }
 
-/// The same of nodes that are a description: the length of the text is found first.
+/// Does the same for nodes that are a description. It finds the length of the text first.
 #[tactic(auto, using(crate::proofs::WriteLemmas::shows, crate::proofs::WriteLemmas::shows_none))]
 fn format_counted(
     moment: Moment,
@@ -95,8 +96,8 @@ fn format_counted(
     }
 }
 
-/// Writes what nodes show over the front of the buffer, if that has room for it, and says how many
-/// bytes were written.
+/// Writes what nodes show to the front of the buffer if all of it fits, and returns how many bytes
+/// were written.
 #[tactic(auto, using(crate::proofs::WriteLemmas::len_is, crate::proofs::WriteLemmas::len_short, crate::proofs::WriteLemmas::front_written))]
 fn write_front(
     moment: Moment,

@@ -1,4 +1,5 @@
-//! Nodes that write a short text, from the first one on: one walk, which finds whether they are a description.
+//! Nodes that write a short text, from the first to the last: one walk, which also finds whether
+//! they are a description.
 
 ghost use Rattle.std.specs.Prelude.{◌≡◌, ◌+◌, ◌<◌, ◌≤◌, IfSome, None, Some, Ok, length, take};
 ghost use Rattle.timefd_c_format.specs.Forward.{IsAfter};
@@ -16,14 +17,15 @@ use timefd_component::Component;
 use timefd_format::{append_literal, append_quickly, append_slowly};
 use timefd_moment::Moment;
 
-/// How far nodes are written: where what is written ends, and how many trees they are.
+/// How far nodes are written: where the written text ends, and how many trees there are.
 #[derive(Clone, Copy)]
 pub struct Reached {
     pub at: usize,
     pub count: usize,
 }
 
-/// Writes what nodes show over the front of a room, and answers where it ends. `None` says nothing.
+/// Writes what nodes show to the front of a buffer, and returns where it ends. `None` says nothing
+/// about the nodes.
 #[inline(always)]
 #[tactic(auto, using(crate::proofs::ForwardLemmas::none_read, crate::proofs::ForwardLemmas::one_read, crate::proofs::ForwardLemmas::all_sound, crate::proofs::ForwardLemmas::all_shown))]
 pub(crate) fn append_nodes(
@@ -47,7 +49,7 @@ pub(crate) fn append_nodes(
     Some(at)
 }
 
-/// Appends what a node shows by itself. `None` also where not all of its members are written.
+/// Appends what a node shows by itself. It is `None` too if some of its members aren't written.
 #[inline(always)]
 fn append_node(
     moment: &Moment,
@@ -111,7 +113,8 @@ fn append_component_of(
     }
 }
 
-/// The same by the rule of any component. It is decoded again, so that the first one stays in registers.
+/// Appends what the component of a node shows, by the rule for every component. The component is
+/// decoded again, so that the first one stays in registers.
 #[inline(never)]
 fn append_again(moment: &Moment, node: &Node, room: &mut [u8], at: usize) -> Option<usize>
     requires { at + 32 ≤ length room.old }

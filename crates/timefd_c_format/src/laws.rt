@@ -1,8 +1,8 @@
-//! What holds of nodes that are written.
+//! What holds for nodes that are written.
 
 ghost use Rattle.timefd_c_format.specs.Laws.{WrittenAreSound};
 
-/// Of the nodes that `timefd_c_nodes` writes of trees, each is a part of a description.
+/// Each of the nodes that `timefd_c_nodes` writes for trees is part of a description.
 pub fn written_are_sound()
     ensures { WrittenAreSound }
 {}

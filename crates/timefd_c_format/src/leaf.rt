@@ -1,4 +1,4 @@
-//! The parts of nodes that a formatter writes, from the last one on.
+//! The parts of nodes that a formatter writes, from the last to the first.
 
 ghost use Rattle.std.specs.Prelude.{◌≡◌, ◌++◌, ◌∷◌, ◌<◌, ◌≤◌, [], IfSome, MatchOption, None, length};
 ghost use Rattle.timefd_node_list.specs.Nodes.{arity, before, grown};
@@ -15,11 +15,11 @@ use timefd_component::Component;
 pub enum Leaf<'l> {
     /// A component, in its modern form.
     Component(Component),
-    /// Bytes as they stand.
+    /// Bytes, written as they are.
     Literal(&'l [u8]),
 }
 
-/// The last part that is written, and the nodes in front of it.
+/// The last written part, and the nodes in front of it.
 pub(crate) fn split_last<'n, 'l>(
     nodes: &'n [Node],
     literals: &'l [u8],
@@ -60,7 +60,7 @@ fn last_node<'n, 'l>(nodes: &'n [Node], literals: &'l [u8]) -> (&'n [Node], Part
     (&nodes[..count], part)
 }
 
-/// The nodes in front of those of the last trees, so many.
+/// The nodes in front of the last `count` trees.
 #[tactic(auto, using(crate::proofs::CutLemmas::few))]
 fn in_front<'n>(nodes: &'n [Node], literals: &[u8], count: usize) -> &'n [Node]
     requires sound { spec.node_fault literals.now nodes.now ≡ None }

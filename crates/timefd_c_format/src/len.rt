@@ -1,4 +1,4 @@
-//! How long a text of nodes is.
+//! How long the text of nodes is.
 
 ghost use Rattle.std.specs.Prelude.{◌≡◌, None};
 ghost use Rattle.timefd_c_format.specs.Nodes as spec;

@@ -1,4 +1,4 @@
-//! Nodes as a list of version 3's own, which a reader of dates goes through.
+//! Nodes as a list of version 3, which a reader of dates goes through.
 
 ghost use Rattle.std.specs.List.{list_all};
 ghost use Rattle.std.specs.Prelude.{◌≡◌, ◌∷◌, ◌+◌, ◌<◌, ◌≤◌, [], IfOk, None, OnOk, length, take, true};
@@ -15,7 +15,7 @@ use std::alloc::{AllocError, Global};
 use timefd_c_nodes::Node;
 use timefd_node_list::node_list::NodeList;
 
-/// Whether the literals of nodes are UTF-8, each by itself.
+/// Whether each literal of nodes is UTF-8 by itself.
 pub fn are_texts(nodes: &[Node], literals: &[u8]) -> bool
     ensures { result ≡ list_all (λ n. spec.is_text (role_in literals.now n)) nodes.now }
 {
@@ -50,7 +50,7 @@ fn are_utf8(bytes: &[u8]) -> bool
     }
 }
 
-/// The compound of all trees that nodes are. An `Err` says that memory ran out.
+/// All trees that nodes are, as one compound. An `Err` says that memory ran out.
 #[tactic(auto, using(crate::proofs::ListLemmas::all_listed))]
 pub fn listed<'l>(
     alloc: Global,
@@ -70,7 +70,7 @@ pub fn listed<'l>(
     compound_of(list, count)
 }
 
-/// Adds a node to the list of those in front of it, and answers how many trees there are then.
+/// Adds a node to the list of the nodes in front of it, and returns how many trees there are then.
 #[tactic(auto, using(crate::proofs::ListLemmas::counted_on))]
 fn add<'l>(
     list: &mut NodeList<'l>,
@@ -96,7 +96,7 @@ fn add<'l>(
     Ok(count - members(part) + 1)
 }
 
-/// The node of this index.
+/// The node with this index.
 #[tactic(auto, using(crate::proofs::CutLemmas::at_is_there, crate::proofs::CutLemmas::at_members, crate::proofs::CutLemmas::at_grown, crate::proofs::CutLemmas::at_textual))]
 fn part_at<'l>(nodes: &[Node], literals: &'l [u8], at: usize) -> Part<'l>
     requires sound { node_fault literals.now nodes.now ≡ None }
@@ -139,7 +139,7 @@ fn text_in(bytes: &[u8]) -> &str
     str::from_utf8(bytes).unwrap()
 }
 
-/// All trees of a list, so many, as one.
+/// The `count` trees of a list as one.
 #[tactic(auto, using(crate::proofs::ListLemmas::whole_compound))]
 fn compound_of<'l>(list: NodeList<'l>, count: usize) -> Result<NodeList<'l>, AllocError>
     requires { count ≡ length (list_trees list) }

@@ -11,7 +11,7 @@ use crate::modifier::flag_of;
 use timefd_c_nodes::Node;
 use timefd_component::Component;
 
-/// Which of the five a node is.
+/// Which of the five kinds a node is.
 #[derive(Clone, Copy)]
 enum Kind {
     Literal,
@@ -21,21 +21,22 @@ enum Kind {
     First,
 }
 
-/// What a node is, where it is a part of a description.
+/// What a node is as part of a description.
 #[derive(Clone, Copy)]
 pub enum Part<'l> {
-    /// Bytes as they stand.
+    /// Bytes, written as they are.
     Literal(&'l [u8]),
     Component(Component),
-    /// So many members in turn.
+    /// This many members, one after another.
     Compound(usize),
     /// One member, and whether a formatter writes it.
     Optional(bool),
-    /// So many alternatives.
+    /// This many alternatives.
     First(usize),
 }
 
-/// What a node is, where its numbers mean something and its bytes are all among the literals.
+/// What a node is. `None` says that a number of it means nothing, or that its bytes aren't all
+/// among the literals.
 #[inline(always)]
 pub(crate) fn part_of<'l>(node: &Node, literals: &'l [u8]) -> Option<Part<'l>>
     ensures { spec.part_role result ≡ spec.role_in literals.now node.now }
@@ -90,7 +91,7 @@ fn shown_of<'l>(node: &Node) -> Option<Part<'l>>
     Some(Part::Component(component_of(node)?))
 }
 
-/// How many members it takes.
+/// How many members a part takes.
 #[inline(always)]
 pub(crate) fn members(part: Part<'_>) -> usize
     ensures { result ≡ arity (spec.role part.entry) }
@@ -103,7 +104,7 @@ pub(crate) fn members(part: Part<'_>) -> usize
     }
 }
 
-/// How many of its members, the last ones, no formatter writes.
+/// How many members of a part no formatter writes. They are the last ones.
 #[inline(always)]
 pub(crate) fn unwritten_members(part: Part<'_>) -> usize
     ensures { result ≡ unwritten (spec.role part.entry) }

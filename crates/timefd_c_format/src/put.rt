@@ -1,15 +1,15 @@
-//! What is put in front of what is written.
+//! Text put in front of what is already written.
 
 ghost use Rattle.std.specs.Prelude.{◌≤◌, Ok, length};
-ghost use Rattle.timefd_c_format.specs.Places.{TriesToWrite};
+ghost use Rattle.timefd_c_format.specs.Cursors.{TriesToWrite};
 ghost use Rattle.timefd_format.specs.Written.{shown};
 
 use timefd_component::Component;
 use timefd_format::write_component;
 use timefd_moment::Moment;
 
-/// Puts what a component shows in front of what is written. `None` where it shows nothing, or there is
-/// no room.
+/// Puts what a component shows in front of the written text. `None` says that it shows nothing, or
+/// that there is no room.
 #[tactic(auto, using(crate::proofs::WriteLemmas::put_in_front, crate::proofs::WriteLemmas::not_put))]
 #[inline(always)]
 pub(crate) fn put_component(
@@ -27,7 +27,8 @@ pub(crate) fn put_component(
     }
 }
 
-/// Puts bytes in front of what is written. `None` where there is no room. Most literals have one.
+/// Puts bytes in front of the written text. `None` says that there is no room. Most literals have
+/// one byte.
 #[inline(always)]
 pub(crate) fn put_literal(bytes: &[u8], buffer: &mut [u8], end: usize) -> Option<usize>
     requires { end ≤ length buffer.old }

@@ -1,4 +1,4 @@
-//! Nodes that write a short text: written once, in a room of its own, and copied from there.
+//! Nodes that write a short text: it is written to a buffer of its own, and copied from there.
 
 ghost use Rattle.std.specs.Prelude.{◌≡◌, ◌≤◌, ◌<◌, ◌++◌, IfSome, None, Ok, drop, length};
 ghost use Rattle.timefd_c_format.specs.Nodes as spec;
@@ -16,8 +16,8 @@ use timefd_moment::Moment;
 // Few texts are longer.
 const SHORT: usize = 128;
 
-/// Writes the moment by nodes over the front of the buffer, if that has room for it, where all goes
-/// well and the text is a short one. After a `None` the buffer is as it was.
+/// Writes the moment by nodes to the front of the buffer if all of it fits. `None` says that an
+/// error was found, or that the text is too long for this; then the buffer is unchanged.
 #[inline(never)]
 pub(crate) fn format_short(
     moment: &Moment,
@@ -36,7 +36,8 @@ pub(crate) fn format_short(
     }
 }
 
-/// The same from the last node on: no member that isn't written is written in vain.
+/// Does the same from the last node to the first, so that nothing is written for a member that a
+/// formatter leaves out.
 #[inline(never)]
 fn format_back(
     moment: Moment,
@@ -52,7 +53,7 @@ fn format_back(
     format_back_in(moment, nodes, literals, &mut [0; SHORT], buffer)
 }
 
-/// The same, where the text is written in another buffer first.
+/// Does the same, with another buffer to write the text to first.
 #[tactic(auto, using(crate::proofs::ShortLemmas::copied))]
 fn format_back_in(
     moment: Moment,
@@ -70,7 +71,8 @@ fn format_back_in(
     Some(copy_text(&room[at..], buffer))
 }
 
-/// The same from the first node on, where all members are written: in another buffer first.
+/// Does the same from the first node to the last, if all members are written: another buffer is
+/// written to first.
 #[inline(always)]
 #[tactic(auto, using(crate::proofs::ShortLemmas::front_copied))]
 fn format_in(
@@ -89,7 +91,7 @@ fn format_in(
     Some(copy_text(&room[..end], buffer))
 }
 
-/// Copies a text over the front of the buffer, if that has room for all of it.
+/// Copies a text to the front of the buffer if all of it fits.
 #[inline(always)]
 #[tactic(auto, using(crate::proofs::ShortLemmas::whole_or_none))]
 fn copy_text(text: &[u8], buffer: &mut [u8]) -> NodesText
@@ -100,7 +102,8 @@ fn copy_text(text: &[u8], buffer: &mut [u8]) -> NodesText
     NodesText { len, written }
 }
 
-/// The same, and answers how many bytes were written.
+/// Copies a text to the front of the buffer if all of it fits, and returns how many bytes were
+/// written.
 #[inline(always)]
 fn copy_front(text: &[u8], buffer: &mut [u8]) -> usize
     ensures whole { length text.now ≤ length buffer.old

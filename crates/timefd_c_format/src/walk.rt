@@ -6,8 +6,8 @@ ghost use Rattle.timefd_c_format.specs.Walk as spec;
 
 use crate::part::{Part, members, unwritten_members};
 
-/// How many trees have to stand in front of a part: its members, and those of the `need` trees that are
-/// members of what is behind, but for its own. `None` where there are fewer nodes in front of it.
+/// How many trees have to be in front of a part, if `need` trees are wanted of which the last is its
+/// own: the others, and its members. `None` says that there are fewer nodes in front of it.
 #[inline(always)]
 pub(crate) fn needed(part: Part<'_>, need: usize, front: usize) -> Option<usize>
     requires { need ≤ front + 1 }
@@ -22,7 +22,7 @@ pub(crate) fn needed(part: Part<'_>, need: usize, front: usize) -> Option<usize>
     Some(others + members)
 }
 
-/// How many of the last trees in front of a part aren't written, where so many of those that end with
+/// How many of the last trees in front of a part aren't written, if `skip` of the last trees up to
 /// its own aren't.
 #[inline(always)]
 pub(crate) fn skipped(part: Part<'_>, skip: usize, need: usize) -> usize

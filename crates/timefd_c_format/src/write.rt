@@ -1,10 +1,10 @@
-//! The text of nodes, at the end of a buffer: one walk from the last node to the first.
+//! The text of nodes at the end of a buffer: one walk from the last node to the first.
 
 ghost use Rattle.std.specs.Prelude.{◌≡◌, ◌≤◌, IfSome, None, length};
 ghost use Rattle.timefd_c_format.specs.Nodes as spec;
 ghost use Rattle.timefd_c_format.specs.Nodes.{node_trees};
 ghost use Rattle.timefd_c_format.specs.Parts.{role};
-ghost use Rattle.timefd_c_format.specs.Places.{TriesToWrite};
+ghost use Rattle.timefd_c_format.specs.Cursors.{TriesToWrite};
 ghost use Rattle.timefd_c_format.specs.Walk.{leaves_here};
 ghost use Rattle.timefd_component.specs.Tree.{trees};
 ghost use Rattle.timefd_format.specs.Written.{written_all};
@@ -15,8 +15,9 @@ use crate::walk::{needed, skipped};
 use timefd_c_nodes::Node;
 use timefd_moment::Moment;
 
-/// Writes what nodes show of the moment at the end of the buffer, and answers where it begins there.
-/// `None` where they are no description, a component shows nothing, or there is no room.
+/// Writes what nodes show of the moment to the end of the buffer, and returns the index where it
+/// begins. `None` says that the nodes aren't a description, that a component shows nothing, or that
+/// there is no room.
 pub(crate) fn write_nodes(
     moment: Moment,
     nodes: &[Node],
@@ -30,7 +31,8 @@ pub(crate) fn write_nodes(
 {
     let mut at = buffer.len();
     let mut left = nodes.len();
-    // So many of the last trees in front are members of what is behind, and so many aren't written.
+    // `need` of the last trees in front are members of later nodes, and `skip` of them aren't
+    // written.
     let mut need = 0;
     let mut skip = 0;
     'nodes: while left > 0 {
@@ -43,7 +45,7 @@ pub(crate) fn write_nodes(
     Some(at)
 }
 
-/// Puts what a part shows by itself in front of what is written, unless it is skipped.
+/// Puts what a part shows by itself in front of the written text, unless the part is skipped.
 #[inline(always)]
 fn put_part(
     moment: Moment,

@@ -1,4 +1,4 @@
--- The component of a node is the one that it was made of.
+-- The component of a node is the component that the node was made from.
 use Rattle.std.proofs.Common.{◌≡◌, ℕ, zero, suc, ◌<◌, Bool, true, false, Option, Some, refl, ap, ap₂, subst, arith}
 use Rattle.std.proofs.Math.Bridge.{le_prop}
 use native.Mathlib.Nat.{zero-lt-suc}

@@ -1,4 +1,4 @@
--- The nodes of some trees read as these.
+-- The nodes of some trees read as these trees.
 use Rattle.std.proofs.Common.{◌≡◌, ◌∙◌, ℕ, ◌+◌, ◌-◌, ◌≤◌, if◌then◌else◌, List, [], ◌∷◌, ◌++◌, Option, Some, None, length, take, drop, refl, sym, ap, append_assoc, arith, length-append}
 use Rattle.std.proofs.lemmas.Bool.{le-leb}
 use Rattle.std.proofs.lemmas.List.{append-nil}
@@ -86,7 +86,7 @@ taken count make ts us e =
     (before-append ts us count e)
     ∙ ap (λ xs. Some (ts ++ make xs ∷ [])) (ending-append ts us count e)
 
--- the literals of the members are those of the whole
+-- the literals of the members are the literals of the whole
 inner_literals : (xs : List Tree) (t : Tree) (l front back : Text) → own_text t ≡ []
     → l ≡ front ++ literals_of (xs ++ t ∷ []) ++ back → l ≡ front ++ literals_of xs ++ back
 inner_literals xs t l front back none e =
@@ -150,9 +150,9 @@ mutual
       ∙ ap (λ x. front ++ x ++ back) (literals_of-append (walked t) (walked_all us))
       ∙ ap (λ x. x ++ back) (sym (append_assoc front own rest))
       ∙ append_assoc (front ++ own) rest back in
-      let behind : l ≡ (front ++ own) ++ rest ++ back =
+      let after : l ≡ (front ++ own) ++ rest ++ back =
       here ∙ sym (append_assoc (front ++ own) rest back) in
-      let place : used + length own ≡ length (front ++ own) =
+      let position : used + length own ≡ length (front ++ own) =
       omega (arith, u, length-append front own) in
       ap (λ ns. read_on l ns (Some ts)) (nodes_from-append (walked t) (walked_all us) at used)
       ∙ read_on-append l (nodes_from at used (walked t))
@@ -160,7 +160,7 @@ mutual
       ∙ ap (λ o. read_on l (nodes_from (at + length (walked t)) (used + length own) (walked_all us))
       o) (tree_read t at used l front (rest ++ back) ts h.0 here u)
       ∙ trees_read us (at + length (walked t)) (used + length own) l (front ++ own) back
-      (ts ++ t ∷ []) h.1 behind place
+      (ts ++ t ∷ []) h.1 after position
       ∙ ap (λ x. Some x) (append_assoc ts (t ∷ []) (listed us))
 
 -- the nodes of some trees side by side

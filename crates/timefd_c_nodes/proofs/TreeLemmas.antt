@@ -122,29 +122,29 @@ first_is v ms at used start bytes len n e starts reserves long is =
         ∙ ap (λ x. first_node (at - trees_count (trees ms)) x bytes) (long ∙ sym (trees_len_is ms))
         ∙ ap (λ x. first_node (at - trees_count (trees ms)) (trees_len (trees ms)) x) b
 
--- The same, where it is known from which place on the members stand.
+-- The same, if it is known at which position the members begin.
 
-pub compound_behind : (ts : List Tree) (from mid used bytes len : ℕ) (n : Node)
+pub compound_after : (ts : List Tree) (from mid used bytes len : ℕ) (n : Node)
     → mid ≡ from + length (walked_all (trees ts)) → len ≡ length ts
     → bytes ≡ kept_bytes (reserve (compound (trees ts)))
     → n ≡ compound_node from len bytes → n ≡ node_for mid used (compound (trees ts))
-compound_behind ts from mid used bytes len n behind long reserves is =
+compound_after ts from mid used bytes len n after long reserves is =
     compound_is (compound (trees ts)) ts mid used from bytes len n refl
-    (omega (arith, behind, walked_all_length (trees ts))) reserves long is
+    (omega (arith, after, walked_all_length (trees ts))) reserves long is
 
-pub first_behind : (ts : List Tree) (from mid used bytes len : ℕ) (n : Node)
+pub first_after : (ts : List Tree) (from mid used bytes len : ℕ) (n : Node)
     → mid ≡ from + length (walked_all (trees ts)) → len ≡ length ts
     → bytes ≡ kept_bytes (reserve (first (trees ts)))
     → n ≡ first_node from len bytes → n ≡ node_for mid used (first (trees ts))
-first_behind ts from mid used bytes len n behind long reserves is =
+first_after ts from mid used bytes len n after long reserves is =
     first_is (first (trees ts)) ts mid used from bytes len n refl
-    (omega (arith, behind, walked_all_length (trees ts))) reserves long is
+    (omega (arith, after, walked_all_length (trees ts))) reserves long is
 
-pub optional_behind : (t : Tree) (format : Bool) (from mid used bytes : ℕ) (n : Node)
+pub optional_after : (t : Tree) (format : Bool) (from mid used bytes : ℕ) (n : Node)
     → mid ≡ from + length (walked t) → bytes ≡ kept_bytes (reserve (optional format t))
     → n ≡ optional_node from format bytes → n ≡ node_for mid used (optional format t)
-optional_behind t format from mid used bytes n behind reserves is =
-    let start : from ≡ mid - tree_count t = omega (arith, behind, walked_length t) in
+optional_after t format from mid used bytes n after reserves is =
+    let start : from ≡ mid - tree_count t = omega (arith, after, walked_length t) in
     is ∙ ap (λ x. optional_node x format bytes) start ∙
     ap (λ x. optional_node (mid - tree_count t) format x) reserves
 

@@ -4,9 +4,9 @@ use Rattle.std.proofs.lemmas.List.{take-append-drop, take_more_set, drop-set-lt,
 use Rattle.std.proofs.Math.Seq.{drop-append-add, take-append-add}
 use Rattle.timefd_component.specs.Tree.{Text, Tree}
 use Rattle.timefd_c_nodes.specs.declared.node.Node.{Node}
-use Rattle.timefd_c_nodes.specs.declared.place.Place.{Place}
+use Rattle.timefd_c_nodes.specs.declared.position.WritePosition.{WritePosition}
 use Rattle.timefd_c_nodes.specs.Encoding.{nodes_by, own_text, texts_of, literals_of}
-use Rattle.timefd_c_nodes.specs.declared.place.TheConstants.{START}
+use Rattle.timefd_c_nodes.specs.declared.position.TheConstants.{START}
 use Rattle.timefd_c_nodes.specs.Writing.{overwritten, nodes_written, literals_written, WritesParts}
 
 pub texts_of-append : {A : Type 0} → (own : A → Text) (xs ys : List A)
@@ -71,15 +71,15 @@ front_nodes : {A : Type 0} → (node : ℕ → ℕ → A → Node) (own : A → 
     → nodes_written node own at used xs ns ≡ take at ns ++ nodes_by node own at used xs ++ drop
     (at + length xs) ns
 front_nodes node own [] at used ns h =
-    let place : at ≡ at + 0 = omega arith in
+    let position : at ≡ at + 0 = omega arith in
     sym (take-append-drop at ns)
     ∙ ap (λ l. l ++ drop at ns) (sym (append-nil (take at ns)))
-    ∙ ap (λ k. (take at ns ++ []) ++ drop k ns) place
+    ∙ ap (λ k. (take at ns ++ []) ++ drop k ns) position
 front_nodes node own (x ∷ xs) at used ns h =
     let n : Node = node at used x in
     let rest : List Node = nodes_by node own (at + 1) (used + length (own x)) xs in
     let long : length (set ns at n) ≡ length ns = length-set ns at n in
-    let place : at + 1 + length xs ≡ at + length (x ∷ xs) = omega arith in
+    let position : at + 1 + length xs ≡ at + length (x ∷ xs) = omega arith in
     front_nodes node own xs (at + 1) (used + length (own x)) (set ns at n) (omega (arith, h, long))
     ∙ ap (λ l. (l ++ rest) ++ drop (at + 1 + length xs) (set ns at n))
     (take_more_set ns at n (omega (arith, h)))
@@ -87,9 +87,9 @@ front_nodes node own (x ∷ xs) at used ns h =
     (append_assoc (take at ns) (n ∷ []) rest)
     ∙ ap (λ l. (take at ns ++ n ∷ rest) ++ l)
     (drop-set-lt (at + 1 + length xs) ns at n (omega arith))
-    ∙ ap (λ k. (take at ns ++ n ∷ rest) ++ drop k ns) place
+    ∙ ap (λ k. (take at ns ++ n ∷ rest) ++ drop k ns) position
 
--- the bytes up to the end of those that were replaced
+-- the bytes up to the end of the replaced ones
 front_length : (at : ℕ) (text bytes : Text) → at + length text ≤ length bytes
     → at + length text ≡ length (take at bytes ++ text)
 front_length at text bytes h =
@@ -99,10 +99,10 @@ front_length at text bytes h =
       length-take-le at bytes (omega (arith, h)),
     )
 
--- what stands behind the bytes that were replaced
-overwritten-behind : (at k : ℕ) (text bytes : Text) → at + length text ≤ length bytes
+-- what follows the replaced bytes
+overwritten-after : (at k : ℕ) (text bytes : Text) → at + length text ≤ length bytes
     → drop (at + length text + k) (overwritten at text bytes) ≡ drop (at + length text + k) bytes
-overwritten-behind at k text bytes h =
+overwritten-after at k text bytes h =
     let front : Text = take at bytes ++ text in
     ap (λ n. drop (n + k) (front ++ drop (at + length text) bytes)) (front_length at text bytes h)
     ∙ drop-append-add front (drop (at + length text) bytes) k
@@ -115,7 +115,7 @@ overwritten-length at text bytes h =
     length-append front (drop (at + length text) bytes) ∙
     omega (arith, h, front_length at text bytes h, length-drop (at + length text) bytes)
 
--- one byte
+-- one byte is replaced
 pub one_byte : (at : ℕ) (text bytes : Text) → length text ≡ 1 → at + length text ≤ length bytes
     → set bytes at (get_or text 0 0) ≡ overwritten at text bytes
 one_byte at [] bytes one h = absurd (omega (arith, one))
@@ -139,10 +139,10 @@ front_literals : {A : Type 0} → (own : A → Text) (xs : List A) (used : ℕ) 
     → literals_written own used xs bytes ≡ take used bytes ++ texts_of own xs ++ drop
     (used + length (texts_of own xs)) bytes
 front_literals own [] used bytes h =
-    let place : used ≡ used + 0 = omega arith in
+    let position : used ≡ used + 0 = omega arith in
     sym (take-append-drop used bytes)
     ∙ ap (λ l. l ++ drop used bytes) (sym (append-nil (take used bytes)))
-    ∙ ap (λ k. (take used bytes ++ []) ++ drop k bytes) place
+    ∙ ap (λ k. (take used bytes ++ []) ++ drop k bytes) position
 front_literals own (x ∷ xs) used bytes h =
     let text : Text = own x in
     let rest : Text = texts_of own xs in
@@ -150,22 +150,22 @@ front_literals own (x ∷ xs) used bytes h =
     let more : Text = overwritten used text bytes in
     let total : length (text ++ rest) ≡ length text + length rest = length-append text rest in
     let fits : next ≤ length bytes = omega (arith, h, total) in
-    let place : next + length rest ≡ used + length (text ++ rest) = omega (arith, total) in
+    let position : next + length rest ≡ used + length (text ++ rest) = omega (arith, total) in
     front_literals own xs next more (omega (arith, h, total, overwritten-length used text bytes fits))
     ∙ ap (λ l. (l ++ rest) ++ drop (next + length rest) more)
     (overwritten-front used text bytes fits)
     ∙ ap (λ l. ((take used bytes ++ text) ++ rest) ++ l)
-    (overwritten-behind used (length rest) text bytes fits)
+    (overwritten-after used (length rest) text bytes fits)
     ∙ ap (λ l. l ++ drop (next + length rest) bytes) (append_assoc (take used bytes) text rest)
-    ∙ ap (λ k. (take used bytes ++ (text ++ rest)) ++ drop k bytes) place
+    ∙ ap (λ k. (take used bytes ++ (text ++ rest)) ++ drop k bytes) position
 
--- The fronts, once all is written from the first place on.
+-- The fronts, after everything was written from the first position on.
 pub record Fronts {A : Type 0} (node : ℕ → ℕ → A → Node) (own : A → Text) (xs : List A)
     (ns ms : List Node) (a b : Text) : Type 0 where
   pub nodes : ms ≡ nodes_by node own 0 0 xs ++ drop (length xs) ns
   pub literals : b ≡ texts_of own xs ++ drop (length (texts_of own xs)) a
 
-pub fronts : {A : Type 0} → (node : ℕ → ℕ → A → Node) (own : A → Text) (xs : List A) (to : Place)
+pub fronts : {A : Type 0} → (node : ℕ → ℕ → A → Node) (own : A → Text) (xs : List A) (to : WritePosition)
     (ns ms : List Node) (a b : Text) → length xs ≤ length ns → length (texts_of own xs) ≤ length a
     → WritesParts node own xs START to ns ms a b → Fronts node own xs ns ms a b
 fronts node own xs to ns ms a b node_room literal_room w = record {

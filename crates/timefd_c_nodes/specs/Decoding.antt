@@ -1,4 +1,4 @@
--- What nodes say. A number that means nothing says nothing.
+-- What nodes mean. A number without a meaning makes the node mean nothing.
 use Rattle.std.specs.Prelude.{ℕ, zero, suc, ◌-◌, ◌==◌, nat_le, if◌then◌else◌, Bool, true, false, List, [], ◌∷◌, ◌++◌, Option, Some, None, length, take, drop}
 use native.Mathlib.Nat.{zero-lt-suc}
 use Rattle.std.specs.declared.num.NonZeroU16.{NonZeroU16}
@@ -43,7 +43,7 @@ abbrev pub count_of : ℕ → Option NonZeroU16
 count_of zero = None
 count_of (suc n) = Some (record { value = suc n; ok = zero-lt-suc n })
 
--- a component with one modifier, or with two, where their numbers mean something
+-- a component with one modifier, or with two, if their numbers mean something
 abbrev pub with_one : {A : Type 0} → (A → Component) → Option A → Option Component
 with_one make None = None
 with_one make (Some a) = Some (make a)
@@ -144,11 +144,11 @@ component_of n =
     (trailing_input_of n.trailing_input)
     else None
 
--- whether a formatter writes what is optional: the flag of a node that says so, which has one member
+-- whether a formatter writes an optional part: the flag of the node, which has one member
 abbrev pub format_of : Node → Option Bool
 format_of n = if n.count == 1 then flag_of n.format else None
 
--- the trees so far, with the last ones, so many, become one, where they are there
+-- the trees so far, with the last `count` of them made one, if there are as many
 abbrev pub with_members : ℕ → (List Tree → Tree) → List Tree → Option (List Tree)
 with_members count make ts =
     if nat_le count (length ts) then Some
@@ -163,7 +163,7 @@ abbrev pub with_optional : Option Bool → List Tree → Option (List Tree)
 with_optional None ts = None
 with_optional (Some format) ts = with_members 1 (λ us. optional format (pack us)) ts
 
--- the trees so far, and one node more, where it is this and the literals are these
+-- the trees so far, and one more node with these literals, if it is of this kind
 abbrev pub with_node : ℕ → Text → Node → List Tree → Option (List Tree)
 with_node what literals n ts =
     if what == LITERAL then Some (ts ++ literal (take n.count (drop n.start literals)) ∷ [])
@@ -177,12 +177,12 @@ abbrev pub grown_with : Text → Node → Option (List Tree) → Option (List Tr
 grown_with literals n None = None
 grown_with literals n (Some ts) = with_node n.what literals n ts
 
--- the trees so far, and these nodes more
+-- the trees so far, and these nodes
 abbrev pub read_on : Text → List Node → Option (List Tree) → Option (List Tree)
 read_on literals [] ts = ts
 read_on literals (n ∷ ns) ts = read_on literals ns (grown_with literals n ts)
 
--- the trees that nodes read as: each takes its members off the end of those so far, and puts its
+-- the trees that nodes read as: each node takes its members from the end of the trees so far, and puts its
 -- own tree there
 abbrev pub read_nodes : Text → List Node → Option (List Tree)
 read_nodes literals ns = read_on literals ns (Some [])

@@ -58,11 +58,11 @@ blank what = record {
   count = 0;
 }
 
--- The bytes that a node tells, where so many are reserved for it: at most what 32 bits hold.
+-- What the `bytes` field of a node says if this many bytes are reserved for it: at most what 32 bits hold.
 abbrev pub shown_bytes : ℕ → ℕ
 shown_bytes bytes = min bytes (2 ^ 32 - 1)
 
--- bytes of the buffer of literals, from this one on
+-- bytes of the buffer of literals, from an index on
 abbrev pub literal_node : ℕ → ℕ → Node
 literal_node start len = record (blank LITERAL) { start = start; count = len; bytes = shown_bytes len }
 
@@ -186,13 +186,13 @@ component_table deprecated = blank COMPONENT
 abbrev pub component_node : Component → ℕ → Node
 component_node c at = record (component_table c) { start = at }
 
--- how many members
+-- how many members there are
 abbrev pub trees_len : Trees → ℕ
 trees_len no_trees = 0
 trees_len (more_trees t ts) = 1 + trees_len ts
 
--- The node of a tree, which has this index, and before which the literals have so many bytes. The
--- nodes of its members stand right before it.
+-- The node of a tree. It has the index `at`, and `used` bytes of literals are before it. The nodes of its
+-- members are right before it.
 abbrev pub node_for : ℕ → ℕ → Tree → Node
 node_for at used (component c) = component_node c at
 node_for at used (literal bytes) = literal_node used (length bytes)
@@ -208,21 +208,21 @@ abbrev pub own_text : Tree → Text
 own_text (literal bytes) = bytes
 own_text other = []
 
--- the bytes that some parts add to the literals, in turn
+-- the bytes that some parts add to the literals, one after another
 abbrev pub texts_of : {A : Type 0} → (A → Text) → List A → Text
 texts_of own [] = []
 texts_of own (a ∷ parts) = own a ++ texts_of own parts
 
--- the nodes of some parts in turn, of which the first has this index
+-- the nodes of some parts, one after another; the first has the index `at`
 abbrev pub nodes_by : {A : Type 0} → (ℕ → ℕ → A → Node) → (A → Text) → ℕ → ℕ → List A → List Node
 nodes_by node own at used [] = []
 nodes_by node own at used (a ∷ parts) =
     node at used a ∷ nodes_by node own (at + 1) (used + length (own a)) parts
 
--- the literals of some trees in turn
+-- the literals of some trees, one after another
 abbrev pub literals_of : List Tree → Text
 literals_of ts = texts_of own_text ts
 
--- the nodes of some trees in turn, of which the first has this index
+-- the nodes of some trees, one after another; the first has the index `at`
 abbrev pub nodes_from : ℕ → ℕ → List Tree → List Node
 nodes_from at used ts = nodes_by node_for own_text at used ts

@@ -3,31 +3,31 @@ use Rattle.std.specs.Prelude.{ℕ, ◌≡◌, ◌+◌, ◌<◌, ◌≤◌, ◌^�
 use Rattle.timefd_component.specs.Tree.{Text, Tree}
 use Rattle.timefd_node_list.specs.Nodes.{kept_bytes}
 use Rattle.timefd_c_nodes.specs.declared.node.Node.{Node}
-use Rattle.timefd_c_nodes.specs.declared.place.Place.{Place}
-use Rattle.timefd_c_nodes.specs.declared.place.Written.{Written}
+use Rattle.timefd_c_nodes.specs.declared.position.WritePosition.{WritePosition}
+use Rattle.timefd_c_nodes.specs.declared.position.Written.{Written}
 use Rattle.timefd_c_nodes.specs.Encoding.{node_for, own_text, texts_of}
 
--- bytes with some of them replaced from an index on
+-- the bytes, with some of them replaced from an index on
 abbrev pub overwritten : ℕ → Text → Text → Text
 overwritten at text bytes = take at bytes ++ text ++ drop (at + length text) bytes
 
--- nodes once those of some parts are written, of which the first has this index
+-- the nodes after those of some parts were written; the first of these has the index `at`
 abbrev pub nodes_written : {A : Type 0} → (ℕ → ℕ → A → Node) → (A → Text) → ℕ → ℕ → List A
     → List Node → List Node
 nodes_written node own at used [] nodes = nodes
 nodes_written node own at used (a ∷ parts) nodes =
     nodes_written node own (at + 1) (used + length (own a)) parts (set nodes at (node at used a))
 
--- bytes once the literals of some parts are written
+-- the bytes after the literals of some parts were written
 abbrev pub literals_written : {A : Type 0} → (A → Text) → ℕ → List A → Text → Text
 literals_written own used [] bytes = bytes
 literals_written own used (a ∷ parts) bytes =
     literals_written own (used + length (own a)) parts (overwritten used (own a) bytes)
 
--- These parts, each of one node and with these bytes, are written from one place to the other, as far as
+-- These parts, each with one node and these bytes, are written from one position to the other, as far as
 -- there is room: a buffer that has room for all of them has all of them.
 pub record WritesParts {A : Type 0} (node : ℕ → ℕ → A → Node) (own : A → Text) (parts : List A)
-    (from to : Place) (nodes_before nodes_after : List Node) (before after : Text) : Type 0 where
+    (from to : WritePosition) (nodes_before nodes_after : List Node) (before after : Text) : Type 0 where
   pub node_at : to.nodes ≡ from.nodes + length parts
   pub literal_at : to.literals ≡ from.literals + length (texts_of own parts)
   pub node_room : length nodes_after ≡ length nodes_before
@@ -37,20 +37,20 @@ pub record WritesParts {A : Type 0} (node : ℕ → ℕ → A → Node) (own : A
   pub literals : from.literals + length (texts_of own parts) ≤ length before
       → after ≡ literals_written own from.literals parts before
 
--- The same of trees.
-abbrev pub WritesWithin : List Tree → Place → Place → List Node → List Node → Text → Text → Type 0
+-- These trees are written, each with its own node and bytes.
+abbrev pub WritesWithin : List Tree → WritePosition → WritePosition → List Node → List Node → Text → Text → Type 0
 WritesWithin ts from to nodes_before nodes_after before after =
     WritesParts node_for own_text ts from to nodes_before nodes_after before after
 
--- These trees are written from a place on, as far as there is room, and reserve so many bytes.
-pub record IsWritten (ts : List Tree) (reserved : ℕ) (from : Place)
+-- These trees are written from a position on, as far as there is room, and reserve `reserved` bytes.
+pub record IsWritten (ts : List Tree) (reserved : ℕ) (from : WritePosition)
     (nodes_before nodes_after : List Node) (before after : Text) (w : Written) : Type 0 where
   pub within : WritesWithin ts from w.end nodes_before nodes_after before after
   pub bytes : w.bytes ≡ kept_bytes reserved
 
--- A node that adds nothing to the literals, and reserves so many bytes, is written at a place, if there
--- is room for it.
-pub record Puts (node : Node) (reserved : ℕ) (at : Place) (nodes_before nodes_after : List Node)
+-- A node that adds nothing to the literals, and reserves `reserved` bytes, is written at a position if
+-- there is room for it.
+pub record Puts (node : Node) (reserved : ℕ) (at : WritePosition) (nodes_before nodes_after : List Node)
     (w : Written) : Type 0 where
   pub node_at : w.end.nodes ≡ at.nodes + 1
   pub literal_at : w.end.literals ≡ at.literals
@@ -58,11 +58,11 @@ pub record Puts (node : Node) (reserved : ℕ) (at : Place) (nodes_before nodes_
   pub node_room : length nodes_after ≡ length nodes_before
   pub nodes : at.nodes < length nodes_before → nodes_after ≡ set nodes_before at.nodes node
 
--- a `usize` doesn't count the place behind these parts
-abbrev pub ArePast : {A : Type 0} → (A → Text) → List A → Place → Type 0
+-- a `usize` can't count the position after these parts
+abbrev pub ArePast : {A : Type 0} → (A → Text) → List A → WritePosition → Type 0
 ArePast own parts from =
     (2 ^ 64 ≤ from.nodes + length parts) ⊎ (2 ^ 64 ≤ from.literals + length (texts_of own parts))
 
--- the same of trees
-abbrev pub IsPast : List Tree → Place → Type 0
+-- a `usize` can't count the position after these trees
+abbrev pub IsPast : List Tree → WritePosition → Type 0
 IsPast ts from = ArePast own_text ts from

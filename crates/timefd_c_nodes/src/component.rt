@@ -7,7 +7,7 @@ use crate::fields::{cased, end, ignored, indexed, padded, period, signed, subsec
 use crate::node::{COMPONENT, Node};
 use timefd_items::Component;
 
-/// The node of a component whose place is this index.
+/// The node of a component; the node's index is `at`.
 #[inline(always)]
 pub fn component_node(component: Component, at: usize) -> Node
     ensures { result ≡ spec.component_node component at }
@@ -25,10 +25,10 @@ pub fn component_bytes(component: Component) -> usize
     component_node(component, 0).bytes as usize
 }
 
-/// Makes a node that of a component whose place is this index: blank, and then with the number of the
-/// component, those of its modifiers, and the bytes that it reserves. A deprecated component has no number: no
-/// text has one.
-// Each arm writes the fields that its component has right into the node, which a copy would write anew.
+/// Makes a node that of a component; the node's index is `at`. The node is blank, except for the
+/// number of the component, the numbers of its modifiers, and the bytes that it reserves. A
+/// deprecated component has no number: no text has one.
+// Each arm writes the component's fields right into the node. A copy would write all fields again.
 #[inline(always)]
 pub fn make_component(node: &mut Node, component: Component, at: usize)
     ensures { node.new ≡ spec.component_node component at }

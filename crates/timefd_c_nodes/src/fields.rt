@@ -1,4 +1,4 @@
-//! The fields of a node that a component has: each is written right into the node.
+//! The fields of a node that a component has. Each function writes them right into the node.
 
 ghost use Rattle.std.specs.Prelude.{◌≡◌};
 ghost use Rattle.timefd_component.specs.Reserved.{digits_shown};
@@ -16,7 +16,7 @@ pub fn numbered(node: &mut Node, component: u8, bytes: u32)
     node.bytes = bytes;
 }
 
-/// The same, and how it is padded.
+/// The number of a component, the bytes that it reserves, and its padding.
 #[inline(always)]
 pub fn padded(node: &mut Node, component: u8, bytes: u32, padding: Padding)
     ensures { node.new ≡ record node.old {
@@ -29,7 +29,7 @@ pub fn padded(node: &mut Node, component: u8, bytes: u32, padding: Padding)
     numbered(node, component, bytes);
 }
 
-/// The same with how it is padded, and whether its sign is always written.
+/// The number, the bytes, the padding, and whether the sign is always written.
 #[inline(always)]
 pub fn signed(node: &mut Node, component: u8, bytes: u32, padding: Padding, sign_is_mandatory: bool)
     ensures { node.new ≡ record node.old {
@@ -44,7 +44,7 @@ pub fn signed(node: &mut Node, component: u8, bytes: u32, padding: Padding, sign
     numbered(node, component, bytes);
 }
 
-/// The same with whether its sign is always written.
+/// The number, the bytes, and whether the sign is always written.
 #[inline(always)]
 pub fn timestamp(node: &mut Node, component: u8, bytes: u32, sign_is_mandatory: bool)
     ensures { node.new ≡ record node.old {
@@ -57,7 +57,7 @@ pub fn timestamp(node: &mut Node, component: u8, bytes: u32, sign_is_mandatory: 
     numbered(node, component, bytes);
 }
 
-/// The same with whether it is read in this case alone.
+/// The number, the bytes, and whether it is read in its own case only.
 #[inline(always)]
 pub fn cased(node: &mut Node, component: u8, bytes: u32, case_sensitive: bool)
     ensures { node.new ≡ record node.old {
@@ -70,7 +70,7 @@ pub fn cased(node: &mut Node, component: u8, bytes: u32, case_sensitive: bool)
     numbered(node, component, bytes);
 }
 
-/// The same with whether its days are counted from one.
+/// The number, the bytes, and whether days are counted from one.
 #[inline(always)]
 pub fn indexed(node: &mut Node, component: u8, bytes: u32, one_indexed: bool)
     ensures { node.new ≡ record node.old {
@@ -83,7 +83,8 @@ pub fn indexed(node: &mut Node, component: u8, bytes: u32, one_indexed: bool)
     numbered(node, component, bytes);
 }
 
-/// The same with whether it is written in capitals, and whether it is read in this case alone.
+/// The number, the bytes, whether it is written in capitals, and whether it is read in its own case
+/// only.
 #[inline(always)]
 pub fn period(node: &mut Node, component: u8, bytes: u32, is_uppercase: bool, case_sensitive: bool)
     ensures { node.new ≡ record node.old {
@@ -98,7 +99,7 @@ pub fn period(node: &mut Node, component: u8, bytes: u32, is_uppercase: bool, ca
     numbered(node, component, bytes);
 }
 
-/// The same with its digits, as many of which are reserved as are shown at least.
+/// The number, the digits, and the bytes: the most digits that are shown.
 #[inline(always)]
 pub fn subsecond(node: &mut Node, component: u8, digits: SubsecondDigits)
     ensures { node.new ≡ record node.old {
@@ -112,7 +113,7 @@ pub fn subsecond(node: &mut Node, component: u8, digits: SubsecondDigits)
     numbered(node, component, u32::from(number.min(9)));
 }
 
-/// The same with how many bytes are passed over.
+/// The number, and how many bytes a parser skips.
 #[inline(always)]
 pub fn ignored(node: &mut Node, component: u8, count: u16)
     ensures { node.new ≡ record node.old { component = component; bytes = 0; ignored = count } }
@@ -121,7 +122,7 @@ pub fn ignored(node: &mut Node, component: u8, count: u16)
     numbered(node, component, 0);
 }
 
-/// The same with what may follow.
+/// The number, and what may follow the end.
 #[inline(always)]
 pub fn end(node: &mut Node, component: u8, trailing_input: TrailingInput)
     ensures { node.new ≡ record node.old {

@@ -9,14 +9,14 @@ ghost use Rattle.timefd_node_list.specs.Views.{walked, walked_all};
 ghost use Rattle.timefd_c_nodes.specs.Writing.{IsPast, IsWritten};
 
 use crate::node::Node;
-use crate::place::{Place, Written, put, put_component, put_literal};
+use crate::position::{WritePosition, Written, put, put_component, put_literal};
 use timefd_items::{BorrowedFormatItem, item_bytes};
 
-/// Writes items in turn from a place on.
+/// Writes items one after another from a position on.
 #[cycle(write)]
 fn write_all(
     items: &[BorrowedFormatItem<'_>],
-    from: Place,
+    from: WritePosition,
     nodes: &mut [Node],
     literals: &mut [u8],
 ) -> Option<Written>
@@ -34,12 +34,12 @@ fn write_all(
     Some(Written { end, bytes })
 }
 
-/// Writes an item, its own node behind those of its members.
+/// Writes an item: first the nodes of its members, then its own node.
 #[cycle(write)]
 #[inline(always)]
 fn write_item(
     item: &BorrowedFormatItem<'_>,
-    from: Place,
+    from: WritePosition,
     nodes: &mut [Node],
     literals: &mut [u8],
 ) -> Option<Written>
@@ -59,13 +59,13 @@ fn write_item(
     }
 }
 
-/// Writes items in turn from a place on, and the node of all of them, as far as there is room. There is
-/// no answer where a `usize` doesn't count them.
+/// Writes items one after another from a position on, and then the node of all of them, as far as
+/// there is room. `None` says that a `usize` can't count them.
 #[cycle(write)]
 #[inline(never)]
 pub fn write_compound(
     members: &[BorrowedFormatItem<'_>],
-    from: Place,
+    from: WritePosition,
     nodes: &mut [Node],
     literals: &mut [u8],
 ) -> Option<Written>
@@ -78,12 +78,12 @@ pub fn write_compound(
     put(node, inner.bytes, inner.end, nodes)
 }
 
-/// Writes an item, and the node that says that a parser may skip it.
+/// Writes an item, and then the node that says that a parser may skip it.
 #[cycle(write)]
 #[inline(never)]
 fn write_optional(
     member: &BorrowedFormatItem<'_>,
-    from: Place,
+    from: WritePosition,
     nodes: &mut [Node],
     literals: &mut [u8],
 ) -> Option<Written>
@@ -96,12 +96,12 @@ fn write_optional(
     put(node, inner.bytes, inner.end, nodes)
 }
 
-/// Writes items in turn, and the node that says that they are alternatives.
+/// Writes items one after another, and then the node that says that they are alternatives.
 #[cycle(write)]
 #[inline(never)]
 fn write_first(
     members: &[BorrowedFormatItem<'_>],
-    from: Place,
+    from: WritePosition,
     nodes: &mut [Node],
     literals: &mut [u8],
 ) -> Option<Written>
@@ -115,7 +115,7 @@ fn write_first(
     put(node, bytes, inner.end, nodes)
 }
 
-/// The bytes that the first of alternatives reserves, at most `usize::MAX`.
+/// The bytes that the first alternative reserves, at most `usize::MAX`.
 fn first_bytes(members: &[BorrowedFormatItem<'_>]) -> usize
     ensures { result ≡ kept_bytes (reserve (first (trees (item_trees members.now)))) }
 {
@@ -125,7 +125,7 @@ fn first_bytes(members: &[BorrowedFormatItem<'_>]) -> usize
     }
 }
 
-/// Both together, at most `usize::MAX`.
+/// The sum, at most `usize::MAX`.
 fn capped_sum(a: usize, b: usize) -> usize
     ensures { result ≡ kept_bytes (a + b) }
 {

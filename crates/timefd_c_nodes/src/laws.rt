@@ -1,4 +1,4 @@
-//! What is known of nodes.
+//! What holds for nodes.
 
 ghost use Rattle.timefd_c_nodes.specs.Laws.{ReadBack};
 ghost use Rattle.timefd_c_nodes.specs.Numbers.{ComponentNumbers, KindNumbers, ModifierNumbers};
@@ -8,17 +8,17 @@ pub fn read_back()
     ensures { ReadBack }
 {}
 
-/// The numbers of what a node is are those of `examples/timefd.h`.
+/// The numbers of the kinds of nodes are those of `examples/timefd.h`.
 pub fn kind_numbers()
     ensures { KindNumbers }
 {}
 
-/// So are the numbers of components.
+/// The numbers of components are those of `examples/timefd.h`.
 pub fn component_numbers()
     ensures { ComponentNumbers }
 {}
 
-/// So are the numbers of modifiers' values.
+/// The numbers of modifiers' values are those of `examples/timefd.h`.
 pub fn modifier_numbers()
     ensures { ModifierNumbers }
 {}

@@ -1,5 +1,5 @@
-//! Descriptions as nodes of fixed size, for programs in C. This is this port's own: the crate
-//! `timefd_c` hands it on.
+//! Descriptions as nodes of fixed size, for programs in C. This is an addition of this port; the
+//! crate `timefd_c` exports it to C.
 #![tactic(auto)]
 
 mod component;
@@ -8,11 +8,11 @@ mod items;
 pub mod laws;
 mod node;
 mod part;
-mod place;
+mod position;
 mod view;
 
 pub use component::component_node;
 pub use items::write_compound;
 pub use node::Node;
-pub use place::{Place, START, Written, put, put_component, put_literal};
+pub use position::{START, WritePosition, Written, put, put_component, put_literal};
 pub use view::write_view;

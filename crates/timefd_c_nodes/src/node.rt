@@ -9,7 +9,7 @@ pub const LITERAL: u8 = 1;
 /// What a node is: a component with its modifiers.
 pub const COMPONENT: u8 = 2;
 
-/// What a node is: its members in turn.
+/// What a node is: its members, one after another.
 pub const COMPOUND: u8 = 3;
 
 /// What a node is: its one member, which a parser may skip.
@@ -18,14 +18,14 @@ pub const OPTIONAL: u8 = 4;
 /// What a node is: its members as alternatives.
 pub const FIRST: u8 = 5;
 
-/// What a node is: a composite letter of strftime, whose members stand elsewhere.
+/// What a node is: a composite letter of strftime, whose members are elsewhere.
 pub const COMPOSITE: u8 = 6;
 
-/// A part of a description. A field that says nothing of such a part is 0.
+/// A part of a description. A field that doesn't apply to such a part is 0.
 #[repr(C)]
 #[derive(Debug, Clone, Copy, PartialEq, Eq)]
 pub struct Node {
-    /// What it is: one of the six numbers.
+    /// What the node is: one of the six numbers.
     pub what: u8,
     /// Which component: 1 to 37, in the order of `Component`.
     pub component: u8,
@@ -33,7 +33,7 @@ pub struct Node {
     pub padding: u8,
     /// Whether a component always shows its sign: 1 no, 2 yes.
     pub sign_is_mandatory: u8,
-    /// Whether a component is read in its own case alone: 1 no, 2 yes.
+    /// Whether a component is read in its own case only: 1 no, 2 yes.
     pub case_sensitive: u8,
     /// Whether a component counts days of the week from one: 1 no, 2 yes.
     pub one_indexed: u8,
@@ -41,29 +41,29 @@ pub struct Node {
     pub is_uppercase: u8,
     /// The digits of a fraction of a second: 1 to 9, and 10 for one or more.
     pub digits: u8,
-    /// What becomes of input behind the end: 1 it is refused, 2 it is dropped.
+    /// What happens to input after the end: 1 it is refused, 2 it is dropped.
     pub trailing_input: u8,
-    /// Whether a formatter writes what is optional: 1 no, 2 yes.
+    /// Whether a formatter writes an optional part: 1 no, 2 yes.
     pub format: u8,
     /// How many bytes a parser skips: 1 to 65535.
     pub ignored: u16,
-    /// The bytes that are reserved for it, at most `u32::MAX`.
+    /// How many bytes are reserved for the node, at most `u32::MAX`.
     pub bytes: u32,
-    /// Of a literal the index of its first byte among the literals, of any other node the index of
-    /// the first node of its members, which is its own where it has none. The members of a composite
-    /// letter stand among the nodes of a text of their own.
+    /// The index of the first byte among the literals (of a literal), or of the first node of the
+    /// members (of any other node; its own index if it has none). The members of a composite letter
+    /// are among the nodes of another text.
     pub start: usize,
-    /// How many bytes a literal has, and how many members any other node.
+    /// How many bytes a literal has, or how many members any other node has.
     pub count: usize,
 }
 
-// So large is it in `examples/timefd.h`.
+// `examples/timefd.h` declares it with this size.
 const _: () = prove!(size_of::<Node>() == 32);
 
 const _: () = prove!(align_of::<Node>() == 8);
 
 impl Node {
-    /// The node of which nothing is known but what it is.
+    /// The node with this kind and nothing else.
     #[inline(always)]
     pub const fn blank(what: u8) -> Node
         ensures { result ≡ spec.blank what }
@@ -99,7 +99,7 @@ impl Node {
         }
     }
 
-    /// The node of members in turn.
+    /// The node of members one after another.
     #[inline(always)]
     pub fn compound(start: usize, count: usize, bytes: usize) -> Node
         ensures { result ≡ spec.compound_node start count bytes }
@@ -153,7 +153,7 @@ impl Node {
     }
 }
 
-/// The bytes that a node tells, where so many are reserved for it.
+/// What the `bytes` field of a node says if this many bytes are reserved for it.
 #[inline(always)]
 fn shown_bytes(bytes: usize) -> u32
     ensures { result ≡ spec.shown_bytes bytes }
@@ -161,7 +161,7 @@ fn shown_bytes(bytes: usize) -> u32
     u32::try_from(bytes).unwrap_or(u32::MAX)
 }
 
-/// The number of a flag: 0 is left for a node that has none.
+/// The number of a flag. A node without the flag has 0.
 #[inline(always)]
 pub fn flag_number(flag: bool) -> u8
     ensures { result ≡ spec.flag_number flag }

@@ -1,4 +1,4 @@
-//! What is written of one part of a description of version 3.
+//! One part of a description of version 3 is written.
 
 ghost use Rattle.std.specs.Prelude.{◌≡◌, ◌-◌, ◌∷◌, [], None, IfSome};
 ghost use Rattle.timefd_component.specs.Reserved.{tree_count};
@@ -6,15 +6,15 @@ ghost use Rattle.timefd_node_list.specs.Views.{view_tree};
 ghost use Rattle.timefd_c_nodes.specs.Writing.{IsPast, WritesWithin};
 
 use crate::node::Node;
-use crate::place::{Place, Written, put, put_component, put_literal};
+use crate::position::{WritePosition, Written, put, put_component, put_literal};
 use timefd_items::{Shape, View};
 
-/// Writes its node and its bytes at a place, as far as there is room, where its members stand right
-/// before that. There is no answer where a `usize` doesn't count them.
+/// Writes the node of a part and its bytes at a position, as far as there is room. The members are
+/// right before the position. `None` says that a `usize` can't count what is written.
 #[inline(always)]
 pub fn put_part(
     part: View<'_, '_>,
-    at: Place,
+    at: WritePosition,
     nodes: &mut [Node],
     literals: &mut [u8],
 ) -> Option<Written>
@@ -43,8 +43,8 @@ pub fn put_part(
     }
 }
 
-/// The index of the first node of its members.
-fn first_inner(part: View<'_, '_>, at: Place) -> usize
+/// The index of the first node of a part's members.
+fn first_inner(part: View<'_, '_>, at: WritePosition) -> usize
     ensures { result ≡ at.nodes - (tree_count (view_tree part.entry) - 1) }
 {
     at.nodes.saturating_sub(part.part_count().saturating_sub(1))

@@ -6,17 +6,17 @@ ghost use Rattle.timefd_c_nodes.specs.Writing.{IsPast, WritesWithin};
 
 use crate::node::Node;
 use crate::part::put_part;
-use crate::place::Place;
+use crate::position::WritePosition;
 use timefd_items::View;
 
-/// Writes its nodes and literals from a place on, as far as there is room. The answer is the place
-/// behind them, where a `usize` counts them.
+/// Writes the nodes and literals of a description from a position on, as far as there is room, and
+/// returns the position after them. `None` says that a `usize` can't count them.
 pub fn write_view(
     view: View<'_, '_>,
-    from: Place,
+    from: WritePosition,
     nodes: &mut [Node],
     literals: &mut [u8],
-) -> Option<Place>
+) -> Option<WritePosition>
     ensures some { IfSome result (λ end. WritesWithin (walked (view_tree view.entry)) from end
         nodes.old nodes.new literals.old literals.new) }
     ensures none { result ≡ None → IsPast (walked (view_tree view.entry)) from }

@@ -1,4 +1,4 @@
--- Bytes below 128, by lanes that are compared.
+-- Bytes below 128, from a comparison of lanes.
 use Rattle.std.proofs.Common.{◌≡◌, ℕ, zero, suc, ◌+◌, ◌-◌, ◌*◌, ◌%◌, ◌^◌, ◌≤◌, ◌<◌, Bool, true, false, not, nat_eq, nat_le, cond, List, [], ◌∷◌, length, map, get_or, slice_index, replicate, inl, inr, w8, refl, sym, ap, ◌∙◌, arith, IsTrue, subst}
 use Rattle.std.proofs.lemmas.Bool.{cases_lt, leb-false}
 use Rattle.std.proofs.lemmas.List.{get_or_past, length-replicate}
@@ -7,7 +7,7 @@ use Rattle.std.specs.Simd.Lanes.{zip2, mask_l, top}
 use Rattle.std.specs.Str.{IsAscii}
 use Rattle.timefd_parse.proofs.BeginLemmas.{zero_of}
 
--- where no lane is marked, each is low
+-- if no lane is marked, each byte is low
 none_high : (xs : List ℕ) (n : ℕ) → length xs ≡ n → mask_l (zip2 (λ a b. nat_le a b) (replicate n 128) xs) ≡ 0
     → (i : ℕ) → i < n → get_or xs i 0 < 128
 none_high [] n long e i below = absurd (omega (arith, long, below))
@@ -41,19 +41,19 @@ all_low xs n long small is =
     ∙ ap (λ ms. mask_l ms % 2 ^ 64) (sym (tops_compared w8 (λ a b. nat_le a b) (replicate n 128) xs))
     ∙ zero_of _ is)
 
--- low bytes, and so many more
+-- low bytes, and `n` more
 pub low_more : (bytes : List ℕ) (at n : ℕ) → ((i : ℕ) → i < at → slice_index bytes i < 128)
     → ((i : ℕ) → i < n → slice_index bytes (at + i) < 128)
     → (i : ℕ) → i < at + n → slice_index bytes i < 128
 low_more bytes at n low next i below =
     elim (cases_lt i at) [
       | inl before ↦ low i before
-      | inr behind ↦
-          let same : at + (i - at) ≡ i = omega (arith, behind) in
-          subst (λ (k : ℕ). slice_index bytes k < 128) same (next (i - at) (omega (arith, below, behind)))
+      | inr after ↦
+          let same : at + (i - at) ≡ i = omega (arith, after) in
+          subst (λ (k : ℕ). slice_index bytes k < 128) same (next (i - at) (omega (arith, below, after)))
     ]
 
--- low bytes in front, and the last ones, which may overlap
+-- low bytes in front, and the last `n`, which may overlap with them
 pub all_ascii : (bytes : List ℕ) (at n : ℕ) → length bytes - at ≤ n → n ≤ length bytes
     → ((i : ℕ) → i < at → slice_index bytes i < 128)
     → ((i : ℕ) → i < n → slice_index bytes (length bytes - n + i) < 128) → IsAscii bytes

@@ -1,8 +1,8 @@
--- A `usize` counts the nodes of a text, and the bytes of its literals, where each item has one node.
+-- A `usize` counts the nodes of a text, and the bytes of its literals, if each item has one node.
 use Rattle.std.proofs.Common.{ℕ, ◌≡◌, ◌+◌, ◌*◌, ◌<◌, ◌≤◌, ◌^◌, ◌⊎◌, inl, inr, Bool, true, false, List, [], ◌∷◌, ◌++◌, length, length-append, refl, sym, ap, subst, arith}
 use Rattle.timefd_fault.specs.declared.borrowed_parse_error.BorrowedParseError.{BorrowedParseError}
-use Rattle.timefd_fault.specs.declared.borrowed_parse_error.BorrowedParseError.TheVariants as told
-use Rattle.timefd_fault.specs.BorrowedFaults.{IsLent, IsRefusal}
+use Rattle.timefd_fault.specs.declared.borrowed_parse_error.BorrowedParseError.TheVariants as reported
+use Rattle.timefd_fault.specs.BorrowedFaults.{IsBorrowed, IsRefusal}
 use Rattle.timefd_component.specs.Tree.{Text, Tree, component, literal, compound, optional, first}
 use Rattle.timefd_fault.specs.Faults.{Fault}
 use Rattle.timefd_language.specs.declared.description_version.DescriptionVersion.{DescriptionVersion}
@@ -25,8 +25,8 @@ use Rattle.timefd_strftime.specs.declared.piece.StrftimePiece.{StrftimePiece}
 use Rattle.timefd_strftime.specs.PieceMeaning.{piece_tree}
 use Rattle.timefd_strftime.specs.StrftimeReading.{BeginsWithPiece, IsStrftimeFaultIn}
 use Rattle.timefd_c_nodes.specs.declared.node.Node.{Node}
-use Rattle.timefd_c_nodes.specs.declared.place.Place.{Place}
-use Rattle.timefd_c_nodes.specs.declared.place.Written.{Written}
+use Rattle.timefd_c_nodes.specs.declared.position.WritePosition.{WritePosition}
+use Rattle.timefd_c_nodes.specs.declared.position.Written.{Written}
 use Rattle.timefd_c_nodes.specs.Encoding.{literals_of, own_text}
 use Rattle.timefd_c_nodes.proofs.TreeLemmas.{walked_length}
 use Rattle.timefd_c_nodes.specs.Writing.{IsPast, IsWritten}
@@ -34,22 +34,22 @@ use Rattle.timefd_c_read.specs.Pieces.{PieceIsPast, PieceIsWritten}
 use Rattle.timefd_c_read.specs.Reports.{IsCounted}
 use Rattle.timefd_c_read.proofs.RoomLemmas.{bytes_in, items_within, spelled_within, strftime_within, walked_bytes}
 
--- The place is within what was read of a text, of which so much is left.
-pub record Fits (end : Place) (text rest : Text) : Type 0 where
+-- The position is within what was read of a text, of which `rest` remains.
+pub record Fits (end : WritePosition) (text rest : Text) : Type 0 where
   pub nodes : end.nodes + length rest ≤ length text
   pub literals : end.literals + length rest ≤ length text
 
 -- the same with the members of composite letters
-pub record FitsMembers (end : Place) (text rest : Text) : Type 0 where
+pub record FitsMembers (end : WritePosition) (text rest : Text) : Type 0 where
   pub nodes : end.nodes + 7 * length rest ≤ 7 * length text
   pub literals : end.literals + 3 * length rest ≤ 3 * length text
 
--- where a piece is one node, or not
-abbrev pub FitsIf : Bool → Place → Text → Text → Type 0
+-- if a piece is one node, or not
+abbrev pub FitsIf : Bool → WritePosition → Text → Text → Type 0
 FitsIf true end text rest = Fits end text rest
 FitsIf false end text rest = FitsMembers end text rest
 
--- What stands in front of the rest is a piece, and has no fewer bytes than that adds to the literals.
+-- In front of the rest is a piece, which has no fewer bytes than it adds to the literals.
 pub record IsFront (text : Text) (tree : Tree) (rest : Text) : Type 0 where
   pub front : Text
   pub whole : text ≡ front ++ rest
@@ -70,7 +70,7 @@ directive_front text piece rest begins =
       own = omega (arith, few.literals, length-append (own_text (piece_tree piece)) []);
     }
 
--- what it adds with its members
+-- what a piece adds with its members
 record IsMembersFront (text : Text) (tree : Tree) (rest : Text) : Type 0 where
   front : Text
   whole : text ≡ front ++ rest
@@ -89,7 +89,7 @@ members_front text piece rest begins =
       literals = omega (arith, few.literals, walked_bytes (piece_tree piece));
     }
 
-pub fits_more : (one : Bool) (text rest after : Text) (piece : StrftimePiece) (at : Place) (w : Written)
+pub fits_more : (one : Bool) (text rest after : Text) (piece : StrftimePiece) (at : WritePosition) (w : Written)
     (ns ms : List Node) (a b : Text) → BeginsWithPiece rest piece after
     → PieceIsWritten one piece at ns ms a b w → FitsIf one at text rest → FitsIf one w.end text after
 fits_more false text rest after piece at w ns ms a b begins is fits =
@@ -108,8 +108,8 @@ fits_more true text rest after piece at w ns ms a b begins is fits =
       literals = omega (arith, fits.literals, is.within.literal_at, f.own, own, ap length f.whole, cut);
     }
 
--- A `usize` counts the place behind each piece.
-pub none_past : (one : Bool) (text rest after : Text) (piece : StrftimePiece) (at : Place) → length text < 2 ^ 64
+-- A `usize` counts the position after each piece.
+pub none_past : (one : Bool) (text rest after : Text) (piece : StrftimePiece) (at : WritePosition) → length text < 2 ^ 64
     → IsCounted one (length text) → BeginsWithPiece rest piece after → FitsIf one at text rest
     → PieceIsPast one piece at → ⊥
 none_past false text rest after piece at small counted begins fits past =
@@ -153,7 +153,7 @@ piece_front v limit text tree rest leads less =
     }
 
 pub leaf_fits : (v : DescriptionVersion) (limit : ℕ) (text rest after : Text) (piece : Piece) (tree : Tree)
-    (at : Place) (w : Written) (ns ms : List Node) (a b : Text) → Leads v limit 0 rest tree after
+    (at : WritePosition) (w : Written) (ns ms : List Node) (a b : Text) → Leads v limit 0 rest tree after
     → length after < length rest → IsLeafTree piece tree
     → IsWritten (walked tree) (reserve tree) at ns ms a b w → Fits at text rest → Fits w.end text after
 leaf_fits v limit text rest after (pieces.Literal bytes) tree at w ns ms a b leads less leaf is fits =
@@ -187,7 +187,7 @@ leaf_fits v limit text rest after (pieces.Component c count) tree at w ns ms a b
 leaf_fits v limit text rest after pieces.Compound tree at w ns ms a b leads less leaf is fits = absurd leaf
 
 pub leaf_counted : (v : DescriptionVersion) (limit : ℕ) (text rest after : Text) (piece : Piece) (tree : Tree)
-    (at : Place) → length text < 2 ^ 64 → Leads v limit 0 rest tree after → length after < length rest
+    (at : WritePosition) → length text < 2 ^ 64 → Leads v limit 0 rest tree after → length after < length rest
     → IsLeafTree piece tree → Fits at text rest → IsPast (walked tree) at → ⊥
 leaf_counted v limit text rest after (pieces.Literal bytes) tree at small leads less leaf fits past =
     by (subst (λ t. IsFront rest t after) leaf (piece_front v limit rest tree after leads less))
@@ -213,25 +213,25 @@ leaf_counted v limit text rest after (pieces.Component c count) tree at small le
     by f (inr many) = omega (arith, small, fits.literals, many, f.some, ap length f.whole, length-append f.front after)
 leaf_counted v limit text rest after pieces.Compound tree at small leads less leaf fits past = absurd leaf
 
--- What isn't want of memory is refused for its fault.
+-- What doesn't run out of memory is refused for its fault.
 
-is_refusal : (r : BorrowedParseError) (f : Fault) → IsLent f r → IsRefusal r
-is_refusal (told.Invalid x) f is = tt
-is_refusal (told.Memory x) f is = is
+is_refusal : (r : BorrowedParseError) (f : Fault) → IsBorrowed f r → IsRefusal r
+is_refusal (reported.Invalid x) f is = tt
+is_refusal (reported.Memory x) f is = is
 
 pub refuses : (text : Text) (e : ReadError) (r : BorrowedParseError) → MemoryOr (IsStrftimeFaultIn text) e
-    → IsInvalid e → ((f : Fault) → StrftimeFaultOf text f → IsLent f r) → IsRefusal r
-refuses text errors.Memory r has invalid lent = absurd invalid
-refuses text (errors.Invalid f) r has invalid lent =
+    → IsInvalid e → ((f : Fault) → StrftimeFaultOf text f → IsBorrowed f r) → IsRefusal r
+refuses text errors.Memory r has invalid borrowed = absurd invalid
+refuses text (errors.Invalid f) r has invalid borrowed =
     is_refusal r (raised (ill_fault has.1) (length (directives_text has.0)))
-    (lent (raised (ill_fault has.1) (length (directives_text has.0)))
+    (borrowed (raised (ill_fault has.1) (length (directives_text has.0)))
     (has.0, has.1, has.2, has.3, has.4, refl))
 
 pub refuses_version : (v : DescriptionVersion) (limit : ℕ) (text : Text) (e : ReadError) (r : BorrowedParseError)
-    → MemoryOr (IsFaultIn v limit 0 text) e → IsInvalid e → ((f : Fault) → FaultOf v limit text f → IsLent f r)
+    → MemoryOr (IsFaultIn v limit 0 text) e → IsInvalid e → ((f : Fault) → FaultOf v limit text f → IsBorrowed f r)
     → IsRefusal r
-refuses_version v limit text errors.Memory r has invalid lent = absurd invalid
-refuses_version v limit text (errors.Invalid f) r has invalid lent =
+refuses_version v limit text errors.Memory r has invalid borrowed = absurd invalid
+refuses_version v limit text (errors.Invalid f) r has invalid borrowed =
     is_refusal r (raised (broken_fault has.1) (length (spelling has.0)))
-    (lent (raised (broken_fault has.1) (length (spelling has.0)))
+    (borrowed (raised (broken_fault has.1) (length (spelling has.0)))
     (has.0, has.1, has.2, has.3, has.4, refl))

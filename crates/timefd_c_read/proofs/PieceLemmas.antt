@@ -11,9 +11,9 @@ use Rattle.timefd_strftime.specs.declared.piece.StrftimePiece.{StrftimePiece}
 use Rattle.timefd_strftime.specs.declared.piece.StrftimePiece.TheVariants.{Literal, Component, Composite}
 use Rattle.timefd_strftime.specs.PieceMeaning.{piece_tree}
 use Rattle.timefd_c_nodes.specs.declared.node.Node.{Node}
-use Rattle.timefd_c_nodes.specs.declared.place.Place.{Place}
-use Rattle.timefd_c_nodes.specs.declared.place.TheConstants.{START}
-use Rattle.timefd_c_nodes.specs.declared.place.Written.{Written}
+use Rattle.timefd_c_nodes.specs.declared.position.WritePosition.{WritePosition}
+use Rattle.timefd_c_nodes.specs.declared.position.TheConstants.{START}
+use Rattle.timefd_c_nodes.specs.declared.position.Written.{Written}
 use Rattle.timefd_c_nodes.specs.Writing.{IsWritten, Puts}
 use Rattle.timefd_c_nodes.proofs.WithinLemmas.{part_node, parts_both, parts_none}
 use Rattle.timefd_c_read.specs.declared.progress.Progress.{Progress}
@@ -33,7 +33,7 @@ HasNoMembers (Component c) = Unit {0}
 HasNoMembers (Composite c) = ⊥
 
 -- a piece without members, which has one node either way
-leaf_written : (one : Bool) (p : StrftimePiece) (at : Place) (ns ms : List Node) (a b : Text)
+leaf_written : (one : Bool) (p : StrftimePiece) (at : WritePosition) (ns ms : List Node) (a b : Text)
     (w : Written) → HasNoMembers p
     → IsWritten (walked (piece_tree p)) (reserve (piece_tree p)) at ns ms a b w
     → PieceIsWritten one p at ns ms a b w
@@ -62,7 +62,7 @@ leaf_written true (Component c) at ns ms a b w leaf is = record {
 }
 leaf_written true (Composite c) at ns ms a b w leaf is = absurd leaf
 
-pub leaf_some : (one : Bool) (p : StrftimePiece) (at : Place) (ns ms : List Node) (a b : Text)
+pub leaf_some : (one : Bool) (p : StrftimePiece) (at : WritePosition) (ns ms : List Node) (a b : Text)
     (r : Option Written) → HasNoMembers p
     → IfSome r (IsWritten (walked (piece_tree p)) (reserve (piece_tree p)) at ns ms a b)
     → IfSome r (PieceIsWritten one p at ns ms a b)
@@ -79,7 +79,7 @@ few_bytes TimeOf24 = refl
 few_bytes Offset = refl
 
 -- a composite letter as one node
-pub composite_written : (c : CompositeLetter) (at : Place) (ns ms : List Node) (a : Text)
+pub composite_written : (c : CompositeLetter) (at : WritePosition) (ns ms : List Node) (a : Text)
     (r : Option Written) → IfSome r (Puts (node_of c) (reserve (composite_tree c)) at ns ms)
     → IfSome r (PieceIsWritten true (Composite c) at ns ms a a)
 composite_written c at ns ms a None puts = puts
@@ -89,7 +89,7 @@ composite_written c at ns ms a (Some w) puts = record {
   bytes = puts.bytes ∙ few_bytes c;
 }
 
--- Pieces in turn.
+-- Pieces, one after another.
 
 pub no_pieces : (one : Bool) (ns : List Node) (a : Text) → PiecesAreWritten one [] ns ns a a NOTHING
 no_pieces true ns a = (

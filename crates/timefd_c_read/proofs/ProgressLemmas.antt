@@ -4,8 +4,8 @@ use Rattle.timefd_component.specs.Reserved.{reserve, reserve_all}
 use Rattle.timefd_component.specs.Tree.{Text, Tree, component, literal, compound, optional, first, trees}
 use Rattle.timefd_node_list.specs.Views.{walked, walked_all}
 use Rattle.timefd_c_nodes.specs.declared.node.Node.{Node}
-use Rattle.timefd_c_nodes.specs.declared.place.TheConstants.{START}
-use Rattle.timefd_c_nodes.specs.declared.place.Written.{Written}
+use Rattle.timefd_c_nodes.specs.declared.position.TheConstants.{START}
+use Rattle.timefd_c_nodes.specs.declared.position.Written.{Written}
 use Rattle.timefd_c_nodes.specs.Writing.{IsWritten, WritesWithin}
 use Rattle.timefd_c_nodes.proofs.TreeLemmas.{walked_length}
 use Rattle.timefd_c_nodes.proofs.WithinLemmas.{within_both, within_none}

@@ -2,7 +2,7 @@
 use Rattle.std.proofs.Common.{◌≡◌, ℕ, ◌^◌, ◌<◌, ◌≤◌, ◌↔◌, Bool, IsFalse, IsTrue, Ok, Err, List, length, refl, sym, ap, subst, arith}
 use Rattle.std.proofs.lemmas.Bool.{true≢false}
 use Rattle.timefd_fault.specs.declared.borrowed_parse_error.BorrowedParseError.{BorrowedParseError}
-use Rattle.timefd_fault.specs.BorrowedFaults.{IsLent, IsLentOf, IsMemory}
+use Rattle.timefd_fault.specs.BorrowedFaults.{IsBorrowed, IsBorrowedOf, IsMemory}
 use Rattle.timefd_component.specs.Reserved.{reserve, reserve_all}
 use Rattle.timefd_component.specs.Tree.{Text, Tree, pack, trees}
 use Rattle.timefd_fault.specs.Faults.{Fault}
@@ -17,9 +17,9 @@ use Rattle.timefd_parse.specs.Language.{FaultIn, SpellsIn}
 use Rattle.timefd_parse.proofs.ParseLemmas.{one}
 use Rattle.timefd_strftime.proofs.DirectiveLemmas.{one as strftime_one}
 use Rattle.timefd_c_nodes.specs.declared.node.Node.{Node}
-use Rattle.timefd_c_nodes.specs.declared.place.Place.{Place}
-use Rattle.timefd_c_nodes.specs.declared.place.Written.{Written}
-use Rattle.timefd_c_nodes.specs.declared.place.TheConstants.{START}
+use Rattle.timefd_c_nodes.specs.declared.position.WritePosition.{WritePosition}
+use Rattle.timefd_c_nodes.specs.declared.position.Written.{Written}
+use Rattle.timefd_c_nodes.specs.declared.position.TheConstants.{START}
 use Rattle.timefd_c_nodes.specs.Encoding.{node_for, own_text, texts_of}
 use Rattle.timefd_c_nodes.specs.Writing.{IsWritten, WritesParts, WritesWithin}
 use Rattle.timefd_c_nodes.proofs.WriteLemmas.{fronts}
@@ -28,7 +28,7 @@ use Rattle.timefd_c_read.specs.declared.report.Report.{Report}
 use Rattle.timefd_c_read.specs.Progress.{HasWritten}
 use Rattle.timefd_c_read.specs.Reports.{IsRead, IsReadAs, IsReport, Reports, ReportsParts}
 
-abbrev pub report : ℕ → ℕ → Place → Bool → Report
+abbrev pub report : ℕ → ℕ → WritePosition → Bool → Report
 report value bytes end written = record {
   value = value;
   bytes = bytes;
@@ -38,13 +38,13 @@ report value bytes end written = record {
   written = written;
 }
 
--- all that stands before a place has room
-abbrev pub Fit : Place → List Node → Text → Type 0
+-- there is room for everything before a position
+abbrev pub Fit : WritePosition → List Node → Text → Type 0
 Fit end ns a = (end.nodes ≤ length ns) × (end.literals ≤ length a)
 
--- what was written as far as there was room
+-- what was written as far as there was room is reported
 pub reports_parts : {A : Type 0} → (node : ℕ → ℕ → A → Node) (own : A → Text) (all : List A)
-    (counted greatest value bytes : ℕ) (end : Place) (ns ms : List Node) (a b : Text) (t : Bool)
+    (counted greatest value bytes : ℕ) (end : WritePosition) (ns ms : List Node) (a b : Text) (t : Bool)
     (r : Report) → WritesParts node own all START end ns ms a b
     → (IsTrue t ↔ Fit end ms b) → value ≡ counted → bytes ≡ greatest → r ≡ report value bytes end t
     → ReportsParts node own all counted greatest ns ms a b r
@@ -71,7 +71,7 @@ reports_parts node own all counted greatest value bytes end ns ms a b t r w fits
       omega (arith, (fits.0 h).1, w.literal_at, w.literal_room),
     )
 
-pub reports_within : (ts : List Tree) (counted greatest value bytes : ℕ) (end : Place)
+pub reports_within : (ts : List Tree) (counted greatest value bytes : ℕ) (end : WritePosition)
     (ns ms : List Node) (a b : Text) (t : Bool) (r : Report) → WritesWithin ts START end ns ms a b
     → (IsTrue t ↔ Fit end ms b) → value ≡ counted → bytes ≡ greatest → r ≡ report value bytes end t
     → Reports ts counted greatest ns ms a b r
@@ -79,7 +79,7 @@ reports_within ts counted greatest value bytes end ns ms a b t r w fits counts r
     reports_parts node_for own_text ts counted greatest value bytes end ns ms a b t r w fits counts
     reserves is
 
--- Items in turn.
+-- Items, one after another.
 
 pub items_report : (list : List Tree) (p : Progress) (ns ms : List Node) (a b : Text) (t : Bool)
     (r : Report) → HasWritten list ns ms a b p → (IsTrue t ↔ Fit p.end ms b)
@@ -98,7 +98,7 @@ lax_report One list ns ms a b r lax is = is
 lax_report Two list ns ms a b r lax is = is
 lax_report Three list ns ms a b r lax is = absurd (true≢false lax)
 
--- All as one tree, whose bytes a `usize` counts.
+-- Everything as one tree, whose bytes a `usize` counts.
 pub whole_report : (list : List Tree) (w : Written) (ns ms : List Node) (a b : Text) (t : Bool)
     (r : Report) → IsWritten (walked (pack list)) (reserve (pack list)) START ns ms a b w
     → reserve (pack list) < 2 ^ 64 → (IsTrue t ↔ Fit w.end ms b)
@@ -108,7 +108,7 @@ whole_report list w ns ms a b t r is small fits e =
     reports_within (walked (pack list)) (reserve (pack list)) (reserve (pack list)) w.bytes w.bytes
     w.end ns ms a b t r is.within fits exact exact e
 
--- The same of a tree that is built.
+-- The report on a tree is one on an equal tree.
 pub tree_report : (t u : Tree) (ns ms : List Node) (a b : Text) (r : Report) → t ≡ u
     → Reports (walked t) (reserve t) (reserve t) ns ms a b r
     → Reports (walked u) (reserve u) (reserve u) ns ms a b r
@@ -118,21 +118,21 @@ tree_report t u ns ms a b r is reports =
 -- What was read.
 
 pub read_as : (language : Language) (limit : ℕ) (text : Text) (list : List Tree)
-    (IsTold : List Tree → Report → Type 0) (r : Report) → SpellsIn language limit text list
-    → IsTold list r → IsReadAs language limit text IsTold (Ok r)
-read_as (Version v) limit text list IsTold r spells is = record {
+    (IsReported : List Tree → Report → Type 0) (r : Report) → SpellsIn language limit text list
+    → IsReported list r → IsReadAs language limit text IsReported (Ok r)
+read_as (Version v) limit text list IsReported r spells is = record {
   found = (list, spells, is);
   fault = tt;
   spelled = λ other s.
-      subst (λ l. IsTold l r) ((one v limit text).one_list list other spells s) is;
+      subst (λ l. IsReported l r) ((one v limit text).one_list list other spells s) is;
   refused = λ f h. (one v limit text).not_both list f spells h;
   empty = λ e. refl;
 }
-read_as Strftime limit text list IsTold r spells is = record {
+read_as Strftime limit text list IsReported r spells is = record {
   found = (list, spells, is);
   fault = tt;
   spelled = λ other s.
-      subst (λ l. IsTold l r) ((strftime_one text).one_list list other spells s) is;
+      subst (λ l. IsReported l r) ((strftime_one text).one_list list other spells s) is;
   refused = λ f h. (strftime_one text).not_both list f spells h;
   empty = λ e. refl;
 }
@@ -144,12 +144,12 @@ accepted language limit text list ns ms a b r spells is =
     read_as language limit text list (λ l x. IsReport language l ns ms a b x) r spells is
 
 pub not_read : (language : Language) (limit : ℕ) (text : Text)
-    (IsTold : List Tree → Report → Type 0) (e : BorrowedParseError)
-    → IsLentOf (FaultIn language limit text) e
+    (IsReported : List Tree → Report → Type 0) (e : BorrowedParseError)
+    → IsBorrowedOf (FaultIn language limit text) e
     → ((list : List Tree) → SpellsIn language limit text list → IsMemory e)
-    → ((f : Fault) → FaultIn language limit text f → IsLent f e) → 0 < length text
-    → IsReadAs language limit text IsTold (Err e)
-not_read language limit text IsTold e fault spelled refused some = record {
+    → ((f : Fault) → FaultIn language limit text f → IsBorrowed f e) → 0 < length text
+    → IsReadAs language limit text IsReported (Err e)
+not_read language limit text IsReported e fault spelled refused some = record {
   found = tt;
   fault = fault;
   spelled = spelled;

@@ -16,7 +16,7 @@ use Rattle.timefd_language.specs.Head.{Head, head_text, placed}
 use Rattle.timefd_language.specs.Names.{Row, row_of}
 use Rattle.timefd_language.specs.Verdict.{PlacedDescription, bad_modifiers, settings, made, is_formatted, only, component_verdict, verdict}
 use Rattle.timefd_language.specs.Grammar.{Pieces, no_pieces, run, escape, closing, bracket, Nested, no_nested, nested, spelling, nested_text, items, ArePieces, AreNested, parts_from}
-use Rattle.timefd_language.proofs.Roomy.{behind_ok, made_ok, verdict_has}
+use Rattle.timefd_language.proofs.Roomy.{after_ok, made_ok, verdict_has}
 use Rattle.timefd_parse.specs.declared.language.Language.TheVariants.{Version, Strftime}
 use Rattle.timefd_parse.specs.Language.{SpellsIn}
 use Rattle.timefd_c_nodes.proofs.WriteLemmas.{literals-length}
@@ -110,7 +110,7 @@ component_within : (strict : Bool) (h : Head) (ps : List PlacedDescription) (tre
 component_within strict h ps tree None e = absurd cc
 component_within strict h ps tree (Some r) e =
     let leaf = made_ok strict h (r.component (settings strict r.keys (placed h))) tree
-    (behind_ok (bad_modifiers strict r.keys [] (placed h))
+    (after_ok (bad_modifiers strict r.keys [] (placed h))
     (made strict h (r.component (settings strict r.keys (placed h)))) tree e) in
     subst (IsWithin ps) leaf.1 (record { nodes = omega arith; literals = omega arith })
 
@@ -260,14 +260,14 @@ strftime_within bytes list h =
       );
     }
 
--- An item of a letter adds at most two bytes to the literals, by itself.
+-- An item of a letter by itself adds at most two bytes to the literals.
 
 letters_short : (f : Flag) → Each (λ l. length (own_text (l.item f)) ≤ 2) letters
 letters_short f =
     each-passes (λ l. nat_le (length (own_text (l.item f))) 2)
     (λ l. length (own_text (l.item f)) ≤ 2) (λ l e. grind (arith, e)) letters refl
 
--- as many items as bytes at most, and as many bytes of literals, where members don't count
+-- at most as many items as bytes, and at most as many bytes of literals, if members don't count
 pub record ItemsWithin (list : List Tree) (text : Text) : Type 0 where
   pub nodes : length list ≤ length text
   pub literals : length (literals_of list) ≤ length text

@@ -19,16 +19,17 @@ use Rattle.timefd_c_read.specs.declared.composite.TheConstants.{COMPOSITES}
 abbrev pub composite_tree : Composite → Tree
 composite_tree c = compound (trees (composite_list c))
 
--- the composite letters, in the order in which their lists stand
+-- the composite letters, in the order of their lists
 abbrev pub all_composites : List Composite
 all_composites =
     DateAndTime ∷ ShortDate ∷ IsoDate ∷ TimeOf12 ∷ HourAndMinute ∷ TimeOf24 ∷ Offset ∷ []
 
--- their items, which one text spells
+-- the items of these letters, which one text spells
 abbrev pub composite_items : List Tree
 composite_items = map composite_tree all_composites
 
--- the index of the first part of each list, among the parts of these items, each behind its members
+-- the index of the first part of each list among the parts of these items, where each part follows its
+-- members
 abbrev pub start_of : Composite → ℕ
 start_of DateAndTime = 0
 start_of ShortDate = 14
@@ -38,7 +39,7 @@ start_of HourAndMinute = 34
 start_of TimeOf24 = 38
 start_of Offset = 44
 
--- where a list stands, how many members it has, and how many bytes they reserve
+-- where a list is, how many members it has, and how many bytes they reserve
 abbrev pub list_of : Composite → CompositeList
 list_of c = record {
   start = start_of c;
@@ -54,14 +55,14 @@ node_of c = composite_node (start_of c) (length (composite_list c)) (reserve (co
 abbrev pub piece_text : StrftimePiece → Text
 piece_text p = own_text (piece_tree p)
 
--- the one node of a piece, which has this index, and before which the literals have so many bytes
+-- the one node of a piece, which has the index `at` and has `used` bytes of literals before it
 abbrev pub piece_node : ℕ → ℕ → StrftimePiece → Node
 piece_node at used (piece.Literal text) = literal_node used (length text.now)
 piece_node at used (piece.Component c) = component_node c at
 piece_node at used (piece.Composite c) = node_of c
 
--- `COMPOSITES` spells the items of all composite letters, and the list of each stands among
--- their parts where its one node says.
+-- `COMPOSITES` spells the items of all composite letters, and the list of each letter is among their parts
+-- where the one node of the letter says.
 pub record ListsStand : Type 0 where
   pub spelled : SpellsStrftime COMPOSITES.now composite_items
   pub stand : (c : Composite)

@@ -1,5 +1,5 @@
--- What is written of a text of strftime, where a composite letter is one node, or its members and a node
--- behind them.
+-- What is written for a text of strftime, where a composite letter is one node, or its members and a node
+-- after them.
 use Rattle.std.specs.Prelude.{◌≡◌, Bool, true, false, List, [], ◌∷◌, length, map}
 use Rattle.timefd_component.specs.Reserved.{reserve, reserve_all}
 use Rattle.timefd_component.specs.Tree.{Text, Tree, trees}
@@ -9,8 +9,8 @@ use Rattle.timefd_parse.specs.declared.language.Language.TheVariants.{Strftime}
 use Rattle.timefd_strftime.specs.declared.piece.StrftimePiece.{StrftimePiece}
 use Rattle.timefd_strftime.specs.PieceMeaning.{piece_tree}
 use Rattle.timefd_c_nodes.specs.declared.node.Node.{Node}
-use Rattle.timefd_c_nodes.specs.declared.place.Place.{Place}
-use Rattle.timefd_c_nodes.specs.declared.place.Written.{Written}
+use Rattle.timefd_c_nodes.specs.declared.position.WritePosition.{WritePosition}
+use Rattle.timefd_c_nodes.specs.declared.position.Written.{Written}
 use Rattle.timefd_c_nodes.specs.Writing.{ArePast, IsPast, IsWritten, WritesParts}
 use Rattle.timefd_c_read.specs.declared.progress.Progress.{Progress}
 use Rattle.timefd_c_read.specs.declared.report.Report.{Report}
@@ -18,15 +18,15 @@ use Rattle.timefd_c_read.specs.Composites.{piece_node, piece_text}
 use Rattle.timefd_c_read.specs.Progress.{HasWritten, HasWrittenParts}
 use Rattle.timefd_c_read.specs.Reports.{IsReport, ReportsParts}
 
--- the one node of a piece is written at a place, as far as there is room
-pub record IsOneNode (p : StrftimePiece) (at : Place) (nodes_before nodes_after : List Node)
+-- the one node of a piece is written at a position, as far as there is room
+pub record IsOneNode (p : StrftimePiece) (at : WritePosition) (nodes_before nodes_after : List Node)
     (before after : Text) (w : Written) : Type 0 where
   pub within : WritesParts piece_node piece_text (p ∷ []) at w.end nodes_before nodes_after before
       after
   pub bytes : w.bytes ≡ kept_bytes (reserve (piece_tree p))
 
 -- a piece is written, as one node or not
-abbrev pub PieceIsWritten : Bool → StrftimePiece → Place → List Node → List Node → Text → Text
+abbrev pub PieceIsWritten : Bool → StrftimePiece → WritePosition → List Node → List Node → Text → Text
     → Written → Type 0
 PieceIsWritten true p at nodes_before nodes_after before after w =
     IsOneNode p at nodes_before nodes_after before after w
@@ -34,12 +34,12 @@ PieceIsWritten false p at nodes_before nodes_after before after w =
     IsWritten (walked (piece_tree p)) (reserve (piece_tree p)) at nodes_before nodes_after before after
     w
 
--- a `usize` doesn't count the place behind a piece
-abbrev pub PieceIsPast : Bool → StrftimePiece → Place → Type 0
+-- a `usize` can't count the position after a piece
+abbrev pub PieceIsPast : Bool → StrftimePiece → WritePosition → Type 0
 PieceIsPast true p at = ArePast piece_text (p ∷ []) at
 PieceIsPast false p at = IsPast (walked (piece_tree p)) at
 
--- the pieces of these items were read and written in turn, each as one node or not
+-- the pieces of these items were read and written one after another, each as one node or not
 abbrev pub PiecesAreWritten : Bool → List Tree → List Node → List Node → Text → Text → Progress
     → Type 0
 PiecesAreWritten true list nodes_before nodes_after before after p =

@@ -6,24 +6,24 @@ ghost use Rattle.timefd_c_nodes.specs.Writing.{Puts};
 ghost use Rattle.timefd_c_read.specs.Composites as spec;
 ghost use Rattle.timefd_c_read.specs.Composites.{composite_tree};
 
-use timefd_c_nodes::{Node, Place, Written, put};
+use timefd_c_nodes::{Node, WritePosition, Written, put};
 use timefd_strftime::Composite;
 
-/// The text whose nodes and literals are the lists of all composite letters.
+/// The text whose nodes and literals are the lists of all composite letters, one after another.
 pub const COMPOSITES: &str = "%c%D%F%r%R%T%z";
 
-/// Where the list of a composite letter stands among the nodes of `COMPOSITES`.
+/// Where the list of a composite letter is among the nodes of `COMPOSITES`.
 #[derive(Clone, Copy)]
 pub struct CompositeList {
-    /// The index of its first node.
+    /// The index of the list's first node.
     pub start: usize,
-    /// How many nodes it has.
+    /// How many members the list has.
     pub len: usize,
-    /// How many bytes it reserves.
+    /// How many bytes the list reserves.
     pub bytes: usize,
 }
 
-/// Where the list of this letter stands.
+/// Where the list of this letter is.
 #[inline(always)]
 fn list_of(composite: Composite) -> CompositeList
     ensures { result ≡ spec.list_of composite }
@@ -40,10 +40,10 @@ fn list_of(composite: Composite) -> CompositeList
     CompositeList { start, len, bytes }
 }
 
-/// Writes the one node of a composite letter at a place, if there is room for it. There is no answer
-/// where a `usize` doesn't count the nodes.
+/// Writes the one node of a composite letter at a position, if there is room for it. `None` says
+/// that a `usize` can't count the nodes.
 #[inline(always)]
-pub fn put_composite(composite: Composite, at: Place, nodes: &mut [Node]) -> Option<Written>
+pub fn put_composite(composite: Composite, at: WritePosition, nodes: &mut [Node]) -> Option<Written>
     ensures some { IfSome result (Puts (spec.node_of composite)
         (reserve (composite_tree composite)) at nodes.old nodes.new) }
     ensures none { result ≡ None → 2 ^ 64 ≤ at.nodes + 1 }

@@ -8,14 +8,18 @@ ghost use Rattle.timefd_node_list.specs.Views.{walked};
 ghost use Rattle.timefd_c_nodes.specs.Writing.{IsPast, IsWritten};
 ghost use Rattle.timefd_parse.specs.Pieces.{IsLeaf, IsLeafTree};
 
-use timefd_c_nodes::{Node, Place, Written, put_component, put_literal};
+use timefd_c_nodes::{Node, WritePosition, Written, put_component, put_literal};
 use timefd_items::Component;
 use timefd_parse::Piece;
 
-/// Writes the node of a component at a place, if there is room for it. There is no answer where a
-/// `usize` doesn't count the nodes.
+/// Writes the node of a component at a position, if there is room for it. `None` says that a
+/// `usize` can't count the nodes.
 #[inline(always)]
-pub fn write_component(component: Component, at: Place, nodes: &mut [Node]) -> Option<Written>
+pub fn write_component(
+    component: Component,
+    at: WritePosition,
+    nodes: &mut [Node],
+) -> Option<Written>
     ensures some { (literals : Text) → IfSome result (IsWritten (walked (spec.component component))
         (reserve (spec.component component)) at nodes.old nodes.new literals literals) }
     ensures none { result ≡ None → 2 ^ 64 ≤ at.nodes + 1 }
@@ -23,12 +27,12 @@ pub fn write_component(component: Component, at: Place, nodes: &mut [Node]) -> O
     put_component(component, at, nodes)
 }
 
-/// Writes the node of a piece that has no nested descriptions at a place, and the bytes of a literal,
-/// as far as there is room. There is no answer where a `usize` doesn't count them.
+/// Writes the node of a piece without nested descriptions at a position, and the bytes of a
+/// literal, as far as there is room. `None` says that a `usize` can't count them.
 #[inline(always)]
 pub fn write_leaf(
     piece: Piece<'_>,
-    at: Place,
+    at: WritePosition,
     nodes: &mut [Node],
     literals: &mut [u8],
 ) -> Option<Written>

@@ -1,6 +1,6 @@
-//! Texts read as nodes, for programs in C. The nodes are written while the text is read, with nothing
-//! else made of it, but where a text of version 3 nests descriptions. This is this port's own: the crate
-//! `timefd_c` hands it on.
+//! Texts read as nodes, for programs in C. The nodes are written while the text is read, and
+//! nothing else is built, except where a text of version 3 nests descriptions. This is an addition
+//! of this port; the crate `timefd_c` exports it to C.
 #![tactic(auto)]
 
 mod composite;

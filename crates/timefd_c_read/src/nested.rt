@@ -1,4 +1,4 @@
-//! Texts of version 3, and long ones that nest descriptions: these are built first, and then written.
+//! Texts of version 3. Long ones that nest descriptions are built first, and then written.
 
 ghost use Rattle.std.specs.Prelude.{◌≡◌, ◌<◌, ◌≤◌, IfSome, length};
 ghost use Rattle.timefd_component.specs.Reserved.{reserve};
@@ -17,11 +17,11 @@ use timefd_parse::{
     BorrowedOutput, BorrowedParseError, DescriptionVersion, Language, parse_all_borrowed,
 };
 
-// A text that has so many bytes may nest many descriptions. They tell whether it does.
+// A text with this many bytes may nest many descriptions. Its front shows whether it does.
 const FRONT: usize = 256;
 
-/// Reads a text of version 3. Where a long one nests descriptions, all is built together, which takes a
-/// few blocks of memory and not one for each.
+/// Reads a text of version 3. If a long text nests descriptions, all of it is built at once, which
+/// takes a few blocks of memory instead of one for each description.
 #[inline(always)]
 pub fn read_version_three<'a>(
     alloc: Global,
@@ -40,8 +40,8 @@ pub fn read_version_three<'a>(
     read_in_turn(alloc, limit, text, nodes, literals)
 }
 
-// Whether a text is long, and a bracket opens in another one, as a nested description's does. The answer of
-// the reader is the same where that is wrong.
+// Whether a text is long, and a bracket opens inside another one, as a nested description's does. A
+// wrong guess doesn't change what the reader returns.
 fn seems_nested(text: &str) -> bool {
     let Some(front) = text.as_bytes().get(..FRONT) else {
         return false;
@@ -61,7 +61,7 @@ fn seems_nested(text: &str) -> bool {
     false
 }
 
-// Builds all before it is written.
+// Builds everything before writing it.
 #[inline(never)]
 fn read_built<'a>(
     alloc: Global,
@@ -87,8 +87,8 @@ fn read_built<'a>(
     }
 }
 
-// Writes what a description is, as far as there is room. There is no answer where a `usize` doesn't
-// count it.
+// Writes a description, as far as there is room. `None` says that a `usize` can't count what is
+// written.
 fn report_description(
     description: &FormatDescriptionV3<'_>,
     nodes: &mut [Node],

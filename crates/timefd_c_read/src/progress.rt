@@ -3,17 +3,17 @@
 ghost use Rattle.std.specs.Prelude.{◌≡◌, ◌<◌};
 ghost use Rattle.timefd_c_read.specs.Progress as spec;
 
-use timefd_c_nodes::{Place, START, Written};
+use timefd_c_nodes::{START, WritePosition, Written};
 
 /// What was read and written so far.
 #[derive(Clone, Copy)]
 pub struct Progress {
     /// How many items were read.
     pub count: usize,
-    /// The bytes that they reserve together, at most `usize::MAX`.
+    /// The bytes that the items reserve together, at most `usize::MAX`.
     pub bytes: usize,
-    /// The place behind what was written, also where it had no room.
-    pub end: Place,
+    /// The position after what was written, even if there was no room for it.
+    pub end: WritePosition,
 }
 
 /// Nothing was read.
@@ -23,7 +23,7 @@ pub const NOTHING: Progress = Progress {
     end: START,
 };
 
-/// One more item was read and written, so that each item has a node.
+/// The progress after one more item, which has a node of its own.
 #[inline(always)]
 pub fn one_more(before: Progress, item: Written) -> Progress
     requires { before.count < item.end.nodes }

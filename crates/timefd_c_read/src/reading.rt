@@ -2,7 +2,7 @@
 
 ghost use Rattle.std.specs.Prelude.{◌≡◌, ◌≤◌, [], List, IfOk, IsOk, MatchResult, length};
 ghost use Rattle.std.specs.Result.{IfErr};
-ghost use Rattle.timefd_fault.specs.BorrowedFaults.{IsLent, IsLentOf, IsMemory, IsRefusal};
+ghost use Rattle.timefd_fault.specs.BorrowedFaults.{IsBorrowed, IsBorrowedOf, IsMemory, IsRefusal};
 ghost use Rattle.timefd_component.specs.Tree.{Tree};
 ghost use Rattle.timefd_fault.specs.Faults as spec;
 ghost use Rattle.timefd_language.specs.Grammar.{nesting_limit};
@@ -19,11 +19,11 @@ use timefd_c_nodes::Node;
 use timefd_parse::{BorrowedParseError, DescriptionVersion, Language, NESTING_LIMIT};
 
 /// Reads a text of a language, and writes its nodes and the bytes of its literals to the fronts of
-/// the buffers, as far as there is room. Of buffers that are too short, and of a text that is refused,
-/// nothing is said: parts may be written. Only what version 3 nests takes memory.
+/// the buffers, as far as there is room. If a buffer is too short, or the text is refused, the
+/// buffers may hold parts of them. Only nested descriptions of version 3 take memory.
 ///
-/// The error is `Invalid` with the fault of the text, or `Memory` where memory ran out. A text that
-/// has a fault is refused for it even then.
+/// The error is `Invalid` with the fault of the text, or `Memory` if memory ran out. A text with a
+/// fault is refused for it even then.
 pub fn read<'a>(
     alloc: Global,
     language: Language,
@@ -31,18 +31,18 @@ pub fn read<'a>(
     nodes: &mut [Node],
     literals: &mut [u8],
 ) -> Result<Report, BorrowedParseError<'a>>
-    // What is accepted is spelled so, and what is refused is refused for the fault that the rules
-    // assign.
+    // An accepted text spells the list, and a refused text has the fault that the rules assign.
     ensures found { IfOk result (λ r. (list : List Tree)
         × SpellsIn language nesting_limit text.now list
         × IsReport language list nodes.old nodes.new literals.old literals.new r) }
-    ensures fault { IfErr result (IsLentOf (FaultIn language nesting_limit text.now)) }
+    ensures fault { IfErr result (IsBorrowedOf (FaultIn language nesting_limit text.now)) }
 
-    // What is spelled is accepted, unless memory runs out, and what has a fault is refused for it.
+    // A text that spells a list is accepted, unless memory runs out, and a text with a fault is
+    // refused for it.
     ensures spelled { (list : List Tree) → SpellsIn language nesting_limit text.now list
         → MatchResult result (IsReport language list nodes.old nodes.new literals.old literals.new) IsMemory }
     ensures refused { (f : spec.Fault) → FaultIn language nesting_limit text.now f
-        → MatchResult result (λ _. ⊥) (IsLent f) }
+        → MatchResult result (λ _. ⊥) (IsBorrowed f) }
 
     // The empty text takes no memory, and neither do versions 1 and 2, nor strftime.
     ensures empty { text.now ≡ [] → IsOk result }
@@ -51,11 +51,11 @@ pub fn read<'a>(
     read_within(alloc, language, NESTING_LIMIT, text, nodes, literals)
 }
 
-/// Reads and writes as `read` does, with at most `limit` nested descriptions around one another. A text
-/// that nests more is refused.
+/// Reads and writes as `read` does, with at most `limit` nested descriptions around one another. A
+/// text that nests deeper is refused.
 ///
-/// The error is `Invalid` with the fault of the text, or `Memory` where memory ran out. A text that
-/// has a fault is refused for it even then.
+/// The error is `Invalid` with the fault of the text, or `Memory` if memory ran out. A text with a
+/// fault is refused for it even then.
 #[inline(always)]
 pub fn read_within<'a>(
     alloc: Global,
@@ -67,18 +67,18 @@ pub fn read_within<'a>(
 ) -> Result<Report, BorrowedParseError<'a>>
     requires { limit ≤ nesting_limit }
 
-    // What is accepted is spelled so, and what is refused is refused for the fault that the rules
-    // assign.
+    // An accepted text spells the list, and a refused text has the fault that the rules assign.
     ensures found { IfOk result (λ r. (list : List Tree)
         × SpellsIn language limit text.now list
         × IsReport language list nodes.old nodes.new literals.old literals.new r) }
-    ensures fault { IfErr result (IsLentOf (FaultIn language limit text.now)) }
+    ensures fault { IfErr result (IsBorrowedOf (FaultIn language limit text.now)) }
 
-    // What is spelled is accepted, unless memory runs out, and what has a fault is refused for it.
+    // A text that spells a list is accepted, unless memory runs out, and a text with a fault is
+    // refused for it.
     ensures spelled { (list : List Tree) → SpellsIn language limit text.now list
         → MatchResult result (IsReport language list nodes.old nodes.new literals.old literals.new) IsMemory }
     ensures refused { (f : spec.Fault) → FaultIn language limit text.now f
-        → MatchResult result (λ _. ⊥) (IsLent f) }
+        → MatchResult result (λ _. ⊥) (IsBorrowed f) }
 
     // The empty text takes no memory, and neither do versions 1 and 2, nor strftime.
     ensures empty { text.now ≡ [] → IsOk result }
@@ -95,9 +95,9 @@ pub fn read_within<'a>(
     }
 }
 
-/// Reads a text of strftime and writes as `read` does, but a composite letter is one node: where its
-/// list stands among the nodes that `read` writes of `COMPOSITES`, which is a text of strftime itself. It
-/// takes no memory.
+/// Reads a text of strftime and writes as `read` does, except that a composite letter is one node.
+/// This node says where the letter's list is among the nodes that `read` writes for `COMPOSITES`,
+/// which is itself a text of strftime. It takes no memory.
 ///
 /// The error is `Invalid` with the fault of the text.
 pub fn read_composites<'a>(
@@ -105,17 +105,16 @@ pub fn read_composites<'a>(
     nodes: &mut [Node],
     literals: &mut [u8],
 ) -> Result<Report, BorrowedParseError<'a>>
-    // What is accepted is spelled so, and what is refused is refused for the fault that the rules
-    // assign.
+    // An accepted text spells the list, and a refused text has the fault that the rules assign.
     ensures found { IfOk result (λ r. (list : List Tree) × SpellsIn Language.Strftime 0 text.now list
         × IsReportOfPieces list nodes.old nodes.new literals.old literals.new r) }
-    ensures fault { IfErr result (IsLentOf (FaultIn Language.Strftime 0 text.now)) }
+    ensures fault { IfErr result (IsBorrowedOf (FaultIn Language.Strftime 0 text.now)) }
 
-    // What is spelled is accepted, and what has a fault is refused for it.
+    // A text that spells a list is accepted, and a text with a fault is refused for it.
     ensures spelled { (list : List Tree) → SpellsIn Language.Strftime 0 text.now list
         → MatchResult result (IsReportOfPieces list nodes.old nodes.new literals.old literals.new) IsMemory }
     ensures refused { (f : spec.Fault) → FaultIn Language.Strftime 0 text.now f
-        → MatchResult result (λ _. ⊥) (IsLent f) }
+        → MatchResult result (λ _. ⊥) (IsBorrowed f) }
     ensures empty { text.now ≡ [] → IsOk result }
     ensures memory { IfErr result IsRefusal }
 {

@@ -1,34 +1,34 @@
-//! What is said of a text that was read.
+//! The report on a text that was read.
 
 ghost use Rattle.std.specs.Prelude.{◌≡◌, ◌≤◌, ◌↔◌, IsTrue, length};
 
-use timefd_c_nodes::{Node, Place};
+use timefd_c_nodes::{Node, WritePosition};
 
-/// What is said of a text that is a description.
+/// The report on a text that is a description.
 #[derive(Debug, Clone, Copy, PartialEq, Eq)]
 pub struct Report {
-    /// How many items it has, or in version 3 how many bytes it reserves.
+    /// How many items the text has, or in version 3 how many bytes it reserves.
     pub value: usize,
-    /// How many bytes its longest rendering has, at most `usize::MAX`.
+    /// How many bytes the longest rendering has, at most `usize::MAX`.
     pub bytes: usize,
-    /// How many nodes it has.
+    /// How many nodes the text has.
     pub nodes: usize,
-    /// How many bytes its literals have together.
+    /// How many bytes the literals have together.
     pub literals: usize,
-    /// Whether both buffers had room for all of it.
+    /// Whether both buffers had room for everything.
     pub written: bool,
 }
 
-/// Whether all that stands before a place has room.
+/// Whether there is room for everything before a position.
 #[inline(always)]
-pub fn has_room(end: Place, nodes: &[Node], literals: &[u8]) -> bool
+pub fn has_room(end: WritePosition, nodes: &[Node], literals: &[u8]) -> bool
     ensures { IsTrue result ↔ ((end.nodes ≤ length nodes.now) × (end.literals ≤ length literals.now)) }
 {
     end.nodes <= nodes.len() && end.literals <= literals.len()
 }
 
 #[inline(always)]
-pub fn report_of(value: usize, bytes: usize, end: Place, written: bool) -> Report
+pub fn report_of(value: usize, bytes: usize, end: WritePosition, written: bool) -> Report
     ensures { result ≡ record {
       value = value;
       bytes = bytes;

@@ -18,7 +18,7 @@ use crate::composite::put_composite;
 use crate::leaf::write_component;
 use crate::progress::{NOTHING, Progress, one_more};
 use crate::report::{Report, has_room, report_of};
-use timefd_c_nodes::{Node, Place, Written, put_literal, write_compound};
+use timefd_c_nodes::{Node, WritePosition, Written, put_literal, write_compound};
 use timefd_fault::read_error::ReadError;
 use timefd_parse::{BorrowedParseError, Language};
 use timefd_strftime::{
@@ -26,7 +26,7 @@ use timefd_strftime::{
 };
 
 /// Reads a text of strftime, with one node for a composite letter, or with its members and a node
-/// behind them. It takes no memory.
+/// after them. It takes no memory.
 pub fn read_strftime<'a, const AS_ONE: bool>(
     text: &'a str,
     nodes: &mut [Node],
@@ -48,8 +48,9 @@ pub fn read_strftime<'a, const AS_ONE: bool>(
     }
 }
 
-/// Writes the pieces of a text, as far as there is room. The error is its fault, or `Memory` where a
-/// `usize` doesn't count what is written; with one node for a composite letter it always does.
+/// Writes the pieces of a text, as far as there is room. The error is the fault of the text, or
+/// `Memory` if a `usize` can't count what is written. With one node for a composite letter it
+/// always can.
 #[inline(always)]
 fn write_pieces<'a, const AS_ONE: bool>(
     text: &'a str,
@@ -76,12 +77,12 @@ fn write_pieces<'a, const AS_ONE: bool>(
     }
 }
 
-/// Writes a piece at a place, as far as there is room. There is no answer where a `usize` doesn't count
+/// Writes a piece at a position, as far as there is room. `None` says that a `usize` can't count
 /// what is written.
 #[inline(always)]
 fn write_piece<const AS_ONE: bool>(
     piece: StrftimePiece<'_>,
-    at: Place,
+    at: WritePosition,
     nodes: &mut [Node],
     literals: &mut [u8],
 ) -> Option<Written>
@@ -101,7 +102,7 @@ fn write_piece<const AS_ONE: bool>(
 #[inline(never)]
 fn write_composite(
     composite: Composite,
-    at: Place,
+    at: WritePosition,
     nodes: &mut [Node],
     literals: &mut [u8],
 ) -> Option<Written>

@@ -1,4 +1,4 @@
-//! The text that some bytes are.
+//! Bytes as text.
 
 ghost use Rattle.std.specs.Prelude.{◌≡◌, ◌≤◌, ◌<◌, ◌+◌, ℕ, IsTrue, MatchResult, length, slice_index};
 ghost use Rattle.std.specs.Str.{IsAscii, IsUtf8};
@@ -6,8 +6,8 @@ ghost use Rattle.std.specs.Str.{IsAscii, IsUtf8};
 use std::simd::prelude::*;
 use std::str::Utf8Error;
 
-/// The text that these bytes are. The error is that they aren't UTF-8. It says what `str::from_utf8`
-/// does, and says so sooner of ASCII, which most formats are.
+/// The bytes as text, or an error if they aren't UTF-8. The result is that of `str::from_utf8`, but
+/// ASCII, which most formats are, takes less time.
 #[inline(always)]
 pub fn text_of(bytes: &[u8]) -> Result<&str, Utf8Error>
     ensures cases { MatchResult result (λ text. (text.now ≡ bytes.now) × IsUtf8 bytes.now)
@@ -36,7 +36,7 @@ fn is_ascii(bytes: &[u8]) -> bool
     len - near <= 16 && are_ascii::<16>(bytes, len - 16)
 }
 
-// Where bytes end of which each is ASCII: near the end, where all are.
+// The end of a front of ASCII bytes. If all bytes are ASCII, it is near the end.
 #[inline(always)]
 fn front_of_ascii<const N: usize>(bytes: &[u8], from: usize) -> usize
     requires lanes { N ≤ 64 }
@@ -56,7 +56,7 @@ fn front_of_ascii<const N: usize>(bytes: &[u8], from: usize) -> usize
     at
 }
 
-// Whether the `N` bytes at a place are ASCII.
+// Whether the `N` bytes from an index on are ASCII.
 #[inline(always)]
 fn are_ascii<const N: usize>(bytes: &[u8], at: usize) -> bool
     requires lanes { N ≤ 64 }
@@ -67,7 +67,7 @@ fn are_ascii<const N: usize>(bytes: &[u8], at: usize) -> bool
     !next.simd_ge(Simd::splat(128)).any()
 }
 
-// The same of all bytes, where they are too few for a vector.
+// Whether all bytes are ASCII, if they are too few for a vector.
 fn few_are_ascii(bytes: &[u8]) -> bool
     ensures { IsTrue result → IsAscii bytes.now }
 {

@@ -19,8 +19,8 @@ use timefd_fault::read_error::ReadError;
 use timefd_items::DescriptionBuilder;
 use timefd_parse::{BorrowedParseError, DescriptionVersion, Language, error_of, next_piece};
 
-/// Reads a text of version 1 or 2, in which a nested description is a fault: one of its own where more
-/// than `limit` would stand around one another. It takes no memory.
+/// Reads a text of version 1 or 2, in which a nested description is a fault: another fault if more
+/// than `limit` are around one another. It takes no memory.
 #[inline(always)]
 pub fn read_version<'a>(
     alloc: Global,
@@ -46,8 +46,8 @@ pub fn read_version<'a>(
     }
 }
 
-/// Writes the pieces of a text, as far as there is room. The error is its fault: a `usize` counts what is
-/// written.
+/// Writes the pieces of a text, as far as there is room. The error is the fault of the text: a
+/// `usize` always counts what is written.
 fn write_pieces<'a>(
     alloc: Global,
     version: DescriptionVersion,

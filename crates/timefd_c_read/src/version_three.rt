@@ -9,7 +9,7 @@ ghost use Rattle.timefd_fault.specs.ReadErrors.{MemoryOr};
 ghost use Rattle.timefd_language.specs.declared.description_version.DescriptionVersion.TheVariants.{Three};
 ghost use Rattle.timefd_node_list.specs.Views.{walked};
 ghost use Rattle.timefd_c_nodes.specs.declared.node.Node as spec_node;
-ghost use Rattle.timefd_c_nodes.specs.declared.place.TheConstants as places;
+ghost use Rattle.timefd_c_nodes.specs.declared.position.TheConstants as positions;
 ghost use Rattle.timefd_c_nodes.specs.Writing.{IsWritten};
 ghost use Rattle.timefd_parse.specs.Pieces.{IsPiece};
 ghost use Rattle.timefd_parse.specs.Read.{IsFaultIn, PiecesToEnd};
@@ -21,13 +21,13 @@ use crate::progress::{NOTHING, Progress, one_more};
 use crate::report::{Report, has_room, report_of};
 use std::alloc::{AllocError, Global};
 use std::mem;
-use timefd_c_nodes::{Node, Place, START, Written, put, write_view};
+use timefd_c_nodes::{Node, START, WritePosition, Written, put, write_view};
 use timefd_fault::read_error::ReadError;
 use timefd_items::DescriptionBuilder;
 use timefd_parse::{BorrowedParseError, DescriptionVersion, Language, Piece, error_of, next_piece};
 
-/// Reads a text of version 3, and writes each piece as it is read. A piece with nested descriptions is
-/// built first.
+/// Reads a text of version 3, and writes each piece as it is read. A piece with nested descriptions
+/// is built first.
 #[inline(always)]
 pub fn read_in_turn<'a>(
     alloc: Global,
@@ -56,13 +56,13 @@ pub fn read_in_turn<'a>(
     }
 }
 
-/// Writes the node of all pieces behind them, as far as there is room, unless there is one piece. There
-/// is no answer where a `usize` doesn't count the nodes.
+/// Writes the node of all pieces after them, as far as there is room, unless there is just one
+/// piece. `None` says that a `usize` can't count the nodes.
 #[inline(always)]
 fn write_whole(all: Progress, nodes: &mut [Node]) -> Option<Written>
     ensures some { (list : List Tree) (before : List spec_node.Node) (text after : Text)
         → HasWritten list before nodes.old text after all
-        → IfSome result (IsWritten (walked (pack list)) (reserve (pack list)) places.START before nodes.new
+        → IfSome result (IsWritten (walked (pack list)) (reserve (pack list)) positions.START before nodes.new
         text after) }
     ensures none { result ≡ None → 2 ^ 64 ≤ all.end.nodes + 1 }
 {
@@ -76,8 +76,8 @@ fn write_whole(all: Progress, nodes: &mut [Node]) -> Option<Written>
     put(node, all.bytes, all.end, nodes)
 }
 
-/// Writes the pieces of a text, as far as there is room. The error is its fault, or `Memory` where
-/// memory runs out or a `usize` doesn't count what is written.
+/// Writes the pieces of a text, as far as there is room. The error is the fault of the text, or
+/// `Memory` if memory runs out or a `usize` can't count what is written.
 fn write_pieces<'a>(
     alloc: Global,
     limit: u8,
@@ -108,14 +108,14 @@ fn write_pieces<'a>(
     }
 }
 
-/// Writes a piece at a place, as far as there is room. There is no answer where memory runs out, or
-/// where a `usize` doesn't count what is written.
+/// Writes a piece at a position, as far as there is room. `None` says that memory ran out, or that
+/// a `usize` can't count what is written.
 #[inline(always)]
 fn write_piece<'a>(
     alloc: Global,
     builder: &mut DescriptionBuilder<'a>,
     piece: Piece<'a>,
-    at: Place,
+    at: WritePosition,
     nodes: &mut [Node],
     literals: &mut [u8],
 ) -> Option<Written>
@@ -132,12 +132,12 @@ fn write_piece<'a>(
     write_leaf(piece, at, nodes, literals)
 }
 
-/// Writes what was built at a place, as far as there is room, and leaves nothing built.
+/// Writes what was built at a position, as far as there is room, and leaves nothing built.
 #[inline(never)]
 fn write_built<'a>(
     alloc: Global,
     builder: &mut DescriptionBuilder<'a>,
-    at: Place,
+    at: WritePosition,
     nodes: &mut [Node],
     literals: &mut [u8],
 ) -> Option<Written>

@@ -1,4 +1,4 @@
--- What a tree reserves is the length of its longest rendering.
+-- A tree reserves the length of its longest rendering.
 use Rattle.std.proofs.Common.{sym, ℕ, ◌≡◌, ◌+◌, ◌-◌, ◌/◌, ◌^◌, ◌<◌, ◌≤◌, inl, inr, max, Bool, true, false, ◌==◌, nat_le, List, [], ◌∷◌, ◌++◌, length, length-append, take, replicate, cond, refl, ◌∙◌, ap, arith, codes, leb-true, leb-false}
 use Rattle.std.specs.Fmt.{decimal, digits}
 use Rattle.std.proofs.lemmas.Fmt.{length-decimal-le_wide}

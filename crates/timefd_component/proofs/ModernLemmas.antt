@@ -1,4 +1,4 @@
--- What deprecated components stand for, and the modern component of a modern one.
+-- The modern forms of deprecated components, and of modern ones.
 use Rattle.std.proofs.Common.{◌≡◌, Bool, true, false, refl}
 use Rattle.std.specs.Prelude.{⊤}
 use Rattle.timefd_modifier.specs.declared.enums.MonthRepr.{MonthRepr}
@@ -18,7 +18,7 @@ use Rattle.timefd_component.specs.declared.component.Component.TheVariants.{Igno
 use Rattle.timefd_component.specs.Modern.{modern, modern_month, modern_weekday, modern_week_number, modern_hour, modern_timestamp, modern_year}
 use Rattle.timefd_component.specs.Laws.{ModernTwice}
 
--- What a deprecated component may stand for: neither a deprecated one nor `ignore`.
+-- What the modern form of a deprecated component may be: neither a deprecated one nor `ignore`.
 abbrev pub IsReplacement : Component → Type 0
 IsReplacement (Month m) = ⊥
 IsReplacement (Weekday w) = ⊥

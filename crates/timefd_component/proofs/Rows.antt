@@ -1,4 +1,4 @@
--- A worked row.
+-- An example.
 use Rattle.std.proofs.Common.{◌≡◌, refl, false}
 use Rattle.timefd_modifier.specs.declared.enums.WeekdayRepr.{WeekdayRepr}
 use Rattle.timefd_component.specs.declared.component.Component.TheVariants.{Weekday, WeekdaySunday}

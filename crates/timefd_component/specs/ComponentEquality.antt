@@ -1,4 +1,4 @@
--- `==` of components is equality, since that of each one's modifiers is.
+-- `==` of components is equality, since `==` of the modifiers of each is.
 use Rattle.std.specs.Prelude.{Bool, true, ◌≡◌, refl}
 use Rattle.std.proofs.Common.{ap}
 use Rattle.std.proofs.lemmas.Bool.{false≢true}

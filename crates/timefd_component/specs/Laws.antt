@@ -1,4 +1,4 @@
--- What holds of the definitions.
+-- The laws of the definitions.
 use Rattle.std.specs.Prelude.{ℕ, ◌≡◌, ◌≤◌, ◌↔◌, true, length}
 use Rattle.timefd_component.specs.declared.component.Component.{Component}
 use Rattle.timefd_component.specs.Tree.{Text, Tree}
@@ -7,7 +7,7 @@ use Rattle.timefd_component.specs.Reserved.{reserve}
 use Rattle.timefd_component.specs.Texts.{Renders}
 use Rattle.timefd_component.specs.Equality.{same_component}
 
--- The modern component of a modern component is itself.
+-- A modern component is its own modern form.
 abbrev pub ModernTwice : Type 0
 ModernTwice = (c : Component) → modern (modern c) ≡ modern c
 
@@ -16,10 +16,10 @@ pub record IsGreatest (Has : Text → Type 0) (k : ℕ) : Type 0 where
   pub reached : (text : Text) × Has text × (length text ≡ k)
   pub most : (text : Text) → Has text → length text ≤ k
 
--- What a tree reserves is the length of some rendering, and none is longer.
+-- A tree reserves the length of its longest rendering.
 abbrev pub ReservesGreatest : Type 0
 ReservesGreatest = (t : Tree) → IsGreatest (Renders t) (reserve t)
 
--- `==` of components is that of their variants and fields.
+-- Two components are `==` exactly if their variants and fields are equal.
 abbrev pub ComponentEquality : Type 0
 ComponentEquality = (a b : Component) → (same_component a b ≡ true) ↔ (a ≡ b)

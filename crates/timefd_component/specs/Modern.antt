@@ -1,5 +1,5 @@
--- The component that a deprecated one stands for: what its fields select, with those fields that
--- are left.
+-- The modern form of a deprecated component: the component that some of its fields select, with the
+-- fields that are left.
 use Rattle.std.specs.Prelude.{◌≡◌, Bool, true, false, ⊤}
 use Rattle.timefd_modifier.specs.declared.month.Month.{Month as MonthFields}
 use Rattle.timefd_modifier.specs.declared.day.Weekday.{Weekday as WeekdayFields}
@@ -36,7 +36,7 @@ modern_week_number WeekNumberRepr.Iso w = WeekNumberIso (record { padding = w.pa
 modern_week_number WeekNumberRepr.Sunday w = WeekNumberSunday (record { padding = w.padding })
 modern_week_number WeekNumberRepr.Monday w = WeekNumberMonday (record { padding = w.padding })
 
--- whether the clock has 12 hours
+-- the first argument says whether the clock has 12 hours
 abbrev pub modern_hour : Bool → HourFields → Component
 modern_hour true h = Hour12 (record { padding = h.padding })
 modern_hour false h = Hour24 (record { padding = h.padding })
@@ -50,7 +50,7 @@ modern_timestamp Microsecond t = UnixTimestampMicrosecond
 modern_timestamp Nanosecond t = UnixTimestampNanosecond
     (record { sign_is_mandatory = t.sign_is_mandatory })
 
--- whether it is based on ISO weeks
+-- the first argument says whether the year is based on ISO weeks
 abbrev pub modern_year : Bool → YearRepr → YearRange → YearFields → Component
 modern_year false Full Extended y =
     CalendarYearFullExtendedRange (record {

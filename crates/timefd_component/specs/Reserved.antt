@@ -1,11 +1,11 @@
--- How many bytes a tree reserves, and how many trees it is.
+-- How many bytes a tree reserves, and how many trees it consists of.
 use Rattle.std.specs.Prelude.{ℕ, ◌+◌, nat_le, if◌then◌else◌, Option, Some, None, length}
 use Rattle.timefd_modifier.specs.declared.enums.SubsecondDigits.{SubsecondDigits}
 use Rattle.timefd_component.specs.declared.component.Component.{Component}
 use Rattle.timefd_component.specs.declared.component.Component.TheVariants.{Day, MonthShort, MonthLong, MonthNumerical, Ordinal, WeekdayShort, WeekdayLong, WeekdaySunday, WeekdayMonday, WeekNumberIso, WeekNumberSunday, WeekNumberMonday, CalendarYearFullExtendedRange, CalendarYearFullStandardRange, CalendarYearCenturyExtendedRange, CalendarYearCenturyStandardRange, IsoYearFullExtendedRange, IsoYearFullStandardRange, IsoYearCenturyExtendedRange, IsoYearCenturyStandardRange, CalendarYearLastTwo, IsoYearLastTwo, Hour12, Hour24, Minute, Second, OffsetMinute, OffsetSecond, Period, Subsecond, OffsetHour, UnixTimestampSecond, UnixTimestampMillisecond, UnixTimestampMicrosecond, UnixTimestampNanosecond, Ignore, End}
 use Rattle.timefd_component.specs.Tree.{Tree, component, literal, compound, optional, first, Trees, no_trees, more_trees}
 
--- how many digits at most
+-- the greatest number of digits
 abbrev pub digits_shown : SubsecondDigits → ℕ
 digits_shown SubsecondDigits.One = 1
 digits_shown SubsecondDigits.Two = 2
@@ -87,6 +87,6 @@ abbrev mutual
   trees_count no_trees = 0
   trees_count (more_trees t ts) = tree_count t + trees_count ts
 
--- so many bytes, where they are at most the limit
+-- this many bytes, if that is at most the limit
 abbrev pub within : ℕ → ℕ → Option ℕ
 within limit bytes = if nat_le bytes limit then Some bytes else None

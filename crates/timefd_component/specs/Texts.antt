@@ -9,7 +9,7 @@ use Rattle.timefd_component.specs.Tree.{Text, Tree, component, literal, compound
 
 -- Numbers.
 
--- a number in decimal, filled on the left by zeros, by spaces or not at all
+-- a number in decimal, filled on the left with zeros, with spaces or not at all
 abbrev pub filled : Padding → ℕ → ℕ → Text
 filled Padding.Zero width n = replicate (width - length (decimal n)) 48 ++ decimal n
 filled Padding.Space width n = replicate (width - length (decimal n)) 32 ++ decimal n
@@ -23,7 +23,7 @@ abbrev pub plus_where : Bool → Text
 plus_where true = codes "+"
 plus_where false = []
 
--- a value from -lowest to highest: its sign, and its magnitude as it is shown
+-- a value from -lowest to highest: its sign, then its magnitude as `shown` writes it
 abbrev pub IsSigned : ℕ → ℕ → (ℕ → Bool) → (ℕ → Text) → Text → Type 0
 IsSigned lowest highest has_plus shown text =
     ((n : ℕ) × (1 ≤ n) × (n ≤ lowest) × (text ≡ codes "-" ++ shown n))
@@ -59,7 +59,7 @@ abbrev pub at_least_one : Text → Text
 at_least_one [] = codes "0"
 at_least_one (b ∷ bytes) = b ∷ bytes
 
--- of the nine digits of a number of nanoseconds, the first k, or all but the zeros at the end
+-- Of the nine digits of a number of nanoseconds, the first few, or all but the zeros at the end.
 abbrev pub subsecond : SubsecondDigits → ℕ → Text
 subsecond SubsecondDigits.One n = take 1 (filled Padding.Zero 9 n)
 subsecond SubsecondDigits.Two n = take 2 (filled Padding.Zero 9 n)
@@ -104,7 +104,7 @@ abbrev pub periods : Bool → List Text
 periods true = codes "AM" ∷ codes "PM" ∷ []
 periods false = codes "am" ∷ codes "pm" ∷ []
 
--- Components. Those that are skipped have the empty text, and so has a deprecated one, which no
+-- Components. `ignore` and `end` have the empty text, and so has a deprecated component, which no
 -- description has.
 
 abbrev pub IsText : Component → Text → Type 0

@@ -22,7 +22,7 @@ abbrev pub trees : List Tree → Trees
 trees [] = no_trees
 trees (t ∷ ts) = more_trees t (trees ts)
 
--- a list of exactly one tree is that tree, any other its compound
+-- A list of exactly one tree means that tree. Any other list means its compound.
 abbrev pub pack : List Tree → Tree
 pack [] = compound no_trees
 pack (t ∷ []) = t
@@ -33,7 +33,7 @@ abbrev pub component_in : Tree → Option Component
 component_in (component c) = Some c
 component_in _ = None
 
--- whether a tree is the compound of none
+-- whether a tree is the compound of no trees
 abbrev pub is_none : Tree → Bool
 is_none (compound no_trees) = true
 is_none _ = false
@@ -43,7 +43,7 @@ abbrev pub trees_in : Tree → Option Trees
 trees_in (compound ts) = Some ts
 trees_in _ = None
 
--- neighbouring literals of a list made one
+-- joins neighbouring literals of a list into one
 abbrev pub before_joined : Tree → List Tree → List Tree
 before_joined (literal a) (literal b ∷ ts) = literal (a ++ b) ∷ ts
 before_joined t ts = t ∷ ts

@@ -1,5 +1,5 @@
-//! How a component prints, and its modifiers alone. Arms that call are dear to prove, so only the
-//! modifiers have them: each other arm is a name.
+//! How a component prints, and how its modifiers print alone. Match arms with calls are expensive to
+//! prove, so only the match on the modifiers has them; the arms of the other match are names.
 
 use crate::component::Component;
 use std::fmt;
@@ -62,7 +62,7 @@ fn variant_name(component: Component) -> &'static str {
     }
 }
 
-/// A component that prints as its modifiers alone, as a part of a description of version 3 does.
+/// A component that prints as its modifiers alone, like a part of a description of version 3.
 #[derive(Clone, Copy)]
 pub struct ModifiersOf(pub Component);
 

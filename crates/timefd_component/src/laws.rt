@@ -1,18 +1,18 @@
-//! What holds of the definitions.
+//! The laws of the definitions.
 
 ghost use Rattle.timefd_component.specs.Laws.{ComponentEquality, ModernTwice, ReservesGreatest};
 
-/// The modern component of a modern component is itself.
+/// A modern component is its own modern form.
 pub fn modern_twice()
     ensures { ModernTwice }
 {}
 
-/// What a tree reserves is the length of some rendering, and none is longer.
+/// A tree reserves the length of its longest rendering.
 pub fn reserves_greatest()
     ensures { ReservesGreatest }
 {}
 
-/// `==` of components is that of their variants and fields.
+/// Two components are `==` exactly if their variants and fields are equal.
 pub fn component_equality()
     ensures { ComponentEquality }
 {}

@@ -1,6 +1,5 @@
-//! The components of descriptions: what each is in its modern form, how many bytes it reserves, and
-//! what a description means, as a tree of components and literals. Users take them from
-//! `timefd_items`.
+//! The components of descriptions: the modern form of each, how many bytes each reserves, and what a
+//! description means, as a tree of components and literals. Users take them from `timefd_items`.
 #![tactic(auto)]
 
 mod component;

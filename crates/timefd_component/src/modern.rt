@@ -1,4 +1,4 @@
-//! From a deprecated component to the one that it stands for.
+//! From a deprecated component to the modern one with the same meaning.
 
 ghost use Rattle.std.specs.Prelude.{◌≡◌, true, false};
 ghost use Rattle.timefd_component.specs.Modern as spec;
@@ -10,7 +10,7 @@ use timefd_modifier::{
 };
 
 impl Component {
-    /// The component that a deprecated one stands for; any other is itself.
+    /// The modern component with the same meaning. A component that isn't deprecated stays as it is.
     #[inline(always)]
     pub fn modern(self) -> Component
         ensures table { result ≡ spec.modern self }

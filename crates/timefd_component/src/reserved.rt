@@ -14,7 +14,7 @@ use timefd_modifier::{
     MonthRepr, SubsecondDigits, UnixTimestampPrecision, WeekdayRepr, YearRange, YearRepr,
 };
 
-/// How many bytes the modern form of a component reserves.
+/// How many bytes the modern form of a component reserves: the length of its longest text.
 #[inline(always)]
 pub fn reserved_bytes(component: Component) -> usize
     ensures { result ≡ reserved (modern component) }

@@ -1,4 +1,4 @@
--- By each conversion, the one text that another is converted to.
+-- For each conversion, the one text that a text is converted to.
 use Rattle.std.proofs.Common.{◌≡◌, ◌∙◌, List, Result, Ok, Err, sym, ap, subst}
 use Rattle.std.specs.Prelude.{MatchResult, string_bytes}
 use Rattle.std.specs.declared.string.String.{String}
@@ -22,12 +22,12 @@ use Rattle.timefd_print.specs.Printed.{printed, printed_all}
 abbrev Answer : Type 0
 Answer = Result (String Global) BorrowedParseError
 
--- this text, or out of memory
+-- this text, or memory ran out
 abbrev Gives : Answer → Text → Type 0
 Gives r text = MatchResult r (λ answer. string_bytes answer ≡ text) IsMemory
 
-wanted : (r : Answer) (told other : Text) → other ≡ told → Gives r told → Gives r other
-wanted r told other is gives = subst (Gives r) (sym is) gives
+wanted : (r : Answer) (reported other : Text) → other ≡ reported → Gives r reported → Gives r other
+wanted r reported other is gives = subst (Gives r) (sym is) gives
 
 one_written : (text a b : Text) → IsWrittenOf text a → IsWrittenOf text b → a ≡ b
 one_written text a b x y =
@@ -35,8 +35,8 @@ one_written text a b x y =
 
 same_written : (r : Answer) (text answer : Text) → IsWrittenOf text answer
     → MatchResult r (λ a. IsWrittenOf text (string_bytes a)) IsMemory → Gives r answer
-same_written (Ok a) text answer is told = one_written text (string_bytes a) answer told is
-same_written (Err e) text answer is told = told
+same_written (Ok a) text answer is reported = one_written text (string_bytes a) answer reported is
+same_written (Err e) text answer is reported = reported
 
 pub one_to_two : (conversion : Conversion) (r : Answer) (text : Text) → conversion ≡ OneToTwo
     → ((ps : Pieces) → IsSpelledBy ps text → Gives r (rewritten ps))

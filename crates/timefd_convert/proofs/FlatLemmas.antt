@@ -1,4 +1,4 @@
--- Pieces of version 3 that spell what is printed of leaves.
+-- Pieces of version 3 that spell the printed text of leaves.
 use Rattle.std.proofs.Common.{ℕ, ◌≡◌, cond, not, Bool, true, false, List, [], ◌∷◌, ◌++◌, refl, sym, ap, ◌∙◌, append_assoc, append-nil}
 use Rattle.timefd_component.specs.declared.component.Component.{Component}
 use Rattle.timefd_component.specs.Modern.{modern, IsModern, AreModern}
@@ -11,7 +11,7 @@ use Rattle.timefd_language.specs.Bytes.{backslash, is_special, is_run_byte, OneO
 use Rattle.timefd_language.specs.Grammar.{Pieces, no_pieces, escape, spelling, items, ArePieces}
 use Rattle.timefd_language.proofs.Join.{join, join-spelling, join-pieces, join-joined, with_run, with_run-spelling, with_run-pieces, with_run-joined, literals_joined}
 use Rattle.timefd_lift.specs.Written.{component_text}
-use Rattle.timefd_lift.proofs.Anew.{components_read_law}
+use Rattle.timefd_lift.proofs.Rewritten.{components_read_law}
 use Rattle.timefd_print.specs.Printed.{escaped, printed, printed_all}
 
 -- pieces that spell the text, and are the list once neighbouring literals are joined
@@ -23,7 +23,7 @@ record Reads (limit : ℕ) (text : Text) (list : List Tree) (ps : Pieces) : Type
 abbrev Reading : ℕ → Text → List Tree → Type 0
 Reading limit text list = (ps : Pieces) × Reads limit text list ps
 
--- the same text and list, grouped otherwise
+-- the same text and list, grouped differently
 regrouped : (limit : ℕ) (text other : Text) (list same : List Tree) → text ≡ other
     → joined list ≡ joined same → Reading limit text list → Reading limit other same
 regrouped limit text other list same e is r = (
@@ -49,7 +49,7 @@ component_front limit c text list counted current r =
       },
     )
 
--- Literals, byte after byte.
+-- Literals, one byte after another.
 
 run_byte : (b : ℕ) → is_special b ≡ false → OneOrMore (is_run_byte Three) (b ∷ [])
 run_byte b e = rw e refl

@@ -1,4 +1,4 @@
--- What is printed of a text of strftime has at most 53 bytes for each of its bytes.
+-- The printed text of a strftime text has at most 53 bytes for each of its bytes.
 use Rattle.std.proofs.Common.{ℕ, ◌≡◌, ◌≤◌, ◌+◌, ◌*◌, ◌||◌, ◌==◌, cond, Bool, true, false, List, [], ◌∷◌, ◌++◌, nat_le, length, length-append, refl, sym, ap, subst, eqb-true, leb-true, arith}
 use Rattle.timefd_component.specs.Tree.{Text, Tree, trees}
 use Rattle.timefd_language.specs.Bytes.{backslash, is_special}
@@ -8,7 +8,7 @@ use Rattle.timefd_language.proofs.Lookup.{Each, each-passes}
 use Rattle.timefd_language.proofs.ModernPieces.{item_has}
 use Rattle.timefd_print.specs.Printed.{escaped, printed, printed_all}
 
--- Letters: of each with each flag it is computed.
+-- Letters: computed for each letter with each flag.
 
 abbrev is_short : Tree → Bool
 is_short t = nat_le (length (printed t)) 106

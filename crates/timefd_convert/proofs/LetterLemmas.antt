@@ -1,4 +1,4 @@
--- What holds of the items of each letter of strftime.
+-- Facts about the items of each letter of strftime.
 use Rattle.std.proofs.Common.{◌≡◌, ◌&&◌, Bool, true, false, List, [], ◌∷◌, refl, sym, subst}
 use Rattle.std.proofs.lemmas.Bool.{and_parts}
 use Rattle.timefd_component.specs.declared.component.Component.{Component}
@@ -14,7 +14,7 @@ use Rattle.timefd_language.proofs.Lookup.{Each, each-passes}
 use Rattle.timefd_language.proofs.ModernPieces.{item_has, strftime_modernity_law}
 use Rattle.timefd_lift.specs.Plain.{IsCounted}
 
--- Leaves, by a test that is computed of each letter.
+-- Leaves, by a test that is computed for each letter.
 
 abbrev has_no_count : Component → Bool
 has_no_count (Ignore m) = false

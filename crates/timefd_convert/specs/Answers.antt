@@ -1,4 +1,4 @@
--- How the text that is answered stands to the text that it was made of.
+-- How the result of a conversion relates to the text that it was made from.
 use Rattle.std.specs.Prelude.{◌≡◌, List}
 use Rattle.timefd_component.specs.Tree.{Text, Tree, joined, pack, trees}
 use Rattle.timefd_convert.specs.Laws.{SpellsFlat}
@@ -11,24 +11,26 @@ use Rattle.timefd_print.specs.Printed.{printed, printed_all}
 
 -- From strftime.
 
--- strftime spells the text with a list, and this is what is printed of the list
+-- strftime spells the text with a list, and this is the list as it is printed
 abbrev pub IsPrintedOf : Text → Text → Type 0
 IsPrintedOf text answer = (list : List Tree) × SpellsStrftime text list
     × (answer ≡ printed_all (trees list))
 
--- Version 3 spells the answer as strftime spells the text, once compounds are taken apart and
--- neighbouring literals are joined.
+-- Version 3 spells the result with the items that strftime spells the text with, once compounds are
+-- taken apart and neighbouring literals are joined.
 abbrev pub HasStrftimeItems : Text → Text → Type 0
 HasStrftimeItems text answer = (list : List Tree) → SpellsStrftime text list
     → SpellsFlat nesting_limit answer list
 
 -- From version 1 to version 3.
 
--- version 1 spells the text, and this is written anew of what it is rewritten to
+-- version 1 spells the text; it is rewritten to version 2, and this is that text written in version
+-- 3
 abbrev pub IsWrittenOver : Text → Text → Type 0
 IsWrittenOver text answer = (between : Text) × IsRewritten text between × IsWrittenOf between answer
 
--- version 3 spells the answer as version 1 spells the text, once neighbouring literals are joined
+-- version 3 spells the result with the items that version 1 spells the text with, once neighbouring
+-- literals are joined
 abbrev pub HasItemsOver : Text → Text → Type 0
 HasItemsOver text answer =
     (list : List Tree) → Spells One nesting_limit 0 text list
@@ -42,7 +44,7 @@ abbrev pub IsNormalOf : Text → Text → Type 0
 IsNormalOf text answer = (list : List Tree) × Spells Three nesting_limit 0 text list
     × (answer ≡ printed (pack list))
 
--- version 3 spells the answer as it spells the text
+-- version 3 spells the result with the tree that it spells the text with
 abbrev pub KeepsTree : Text → Text → Type 0
 KeepsTree text answer = (list : List Tree) → Spells Three nesting_limit 0 text list
     → Spells Three nesting_limit 0 answer list

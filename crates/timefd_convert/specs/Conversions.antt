@@ -1,4 +1,4 @@
--- Between which languages texts are converted, and what a text is converted to.
+-- The languages that texts can be converted between, and what a text is converted to.
 use Rattle.std.specs.Prelude.{ℕ, ◌≡◌, ◌≤◌, ◌*◌, [], Option, Some, None, Result, Ok, Err, IfOk, IsOk, MatchResult, length, string_bytes, ⊤}
 use Rattle.std.specs.Result.{IfErr}
 use Rattle.std.specs.declared.string.String.{String}
@@ -14,7 +14,7 @@ use Rattle.timefd_fault.specs.Faults.{Fault}
 use Rattle.timefd_language.specs.declared.description_version.DescriptionVersion.TheVariants.{One, Two, Three}
 use Rattle.timefd_fault.specs.declared.parse_error.ParseError.{ParseError}
 use Rattle.timefd_language.specs.Grammar.{nesting_limit}
-use Rattle.timefd_fault.specs.Told.{IsFaultOrMemory}
+use Rattle.timefd_fault.specs.Reported.{IsFaultOrMemory}
 use Rattle.timefd_lift.specs.Answers.{HasItemsOf, IsRewritten, IsTextOrMemory}
 use Rattle.timefd_lift.specs.Modernized.{IsWrittenOf, KeepsItemsOf}
 use Rattle.timefd_parse.specs.declared.language.Language.{Language}
@@ -27,14 +27,14 @@ to_two (Version Two) = None
 to_two (Version Three) = None
 to_two Strftime = None
 
--- each language has one to version 3
+-- each language can be converted to version 3
 abbrev pub to_three : Language → Conversion
 to_three (Version One) = OneToThree
 to_three (Version Two) = TwoToThree
 to_three (Version Three) = ThreeToThree
 to_three Strftime = StrftimeToThree
 
--- the conversion from one language to another, where there is one
+-- the conversion from one language to another, if there is one
 abbrev pub conversion_between : Language → Language → Option Conversion
 conversion_between from (Version One) = None
 conversion_between from (Version Two) = to_two from
@@ -57,8 +57,9 @@ IsConversion TwoToThree text answer = IsWrittenOf text answer
 IsConversion ThreeToThree text answer = IsNormalOf text answer
 IsConversion StrftimeToThree text answer = IsPrintedOf text answer
 
--- The later version spells the answer with the items of the text: from version 1 and from strftime
--- once neighbouring literals are joined, and from strftime once compounds are taken apart.
+-- The later version spells the result with the items of the text. For texts of version 1 and of
+-- strftime, neighbouring literals are joined first; for texts of strftime, compounds are taken
+-- apart too.
 abbrev pub KeepsItems : Conversion → Text → Text → Type 0
 KeepsItems OneToTwo text answer = HasItemsOf text answer
 KeepsItems OneToThree text answer = HasItemsOver text answer
@@ -66,7 +67,7 @@ KeepsItems TwoToThree text answer = KeepsItemsOf text answer
 KeepsItems ThreeToThree text answer = KeepsTree text answer
 KeepsItems StrftimeToThree text answer = HasStrftimeItems text answer
 
--- How long an answer is at most, of a text with so many bytes, where a bound is known.
+-- The greatest length of the result for a text with this many bytes, if a bound is known.
 abbrev pub FitsIn : Conversion → ℕ → ℕ → Type 0
 FitsIn OneToTwo len answer = answer ≤ 2 * len
 FitsIn OneToThree len answer = ⊤
@@ -74,8 +75,8 @@ FitsIn TwoToThree len answer = ⊤
 FitsIn ThreeToThree len answer = ⊤
 FitsIn StrftimeToThree len answer = answer ≤ 53 * len
 
--- What a call answers that converts the text: the one text that it is converted to, which has the
--- same items, unless memory runs out; or its fault.
+-- What a call that converts the text returns: the one text that it is converted to, which has the
+-- same items, unless memory runs out; or the fault of the text.
 pub record Converts (conversion : Conversion) (text : Text) (r : Result (String Global) ParseError)
     : Type 0 where
   pub converted : IfOk r (λ answer. IsConversion conversion text (string_bytes answer))
@@ -84,11 +85,11 @@ pub record Converts (conversion : Conversion) (text : Text) (r : Result (String 
   pub described : (answer : Text) → IsConversion conversion text answer → IsTextOrMemory answer r
   pub refused : (f : Fault) → FaultIn (language_of conversion) nesting_limit text f
       → MatchResult r (λ _. ⊥) (IsFaultOrMemory f)
-  pub place : IfErr r (HasPlacedFault text)
+  pub position : IfErr r (HasPlacedFault text)
   pub within : IfOk r (λ answer. FitsIn conversion (length text) (length (string_bytes answer)))
   pub empty : text ≡ [] → IsOk r
 
--- The same where there is a conversion, and else the error that says that there is none.
+-- What a call returns if there is a conversion; or the error that says that there is none.
 abbrev pub ConvertsIf : Option Conversion → Text → Result (String Global) ConvertError → Type 0
 ConvertsIf None text (Ok answer) = ⊥
 ConvertsIf None text (Err Unsupported) = ⊤

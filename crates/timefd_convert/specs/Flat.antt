@@ -1,4 +1,4 @@
--- Trees one after another, with compounds taken apart.
+-- A sequence of trees, with compounds taken apart.
 use Rattle.std.specs.Prelude.{List, [], ◌∷◌, ◌++◌}
 use Rattle.timefd_component.specs.Tree.{Tree, component, literal, compound, optional, first, Trees, no_trees, more_trees}
 

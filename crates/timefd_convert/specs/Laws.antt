@@ -1,4 +1,4 @@
--- What holds of texts that are converted.
+-- Laws about converted texts.
 use Rattle.std.specs.Prelude.{ℕ, ◌≡◌, List}
 use Rattle.timefd_component.specs.Tree.{Text, Tree, joined, trees}
 use Rattle.timefd_convert.specs.Flat.{flat_all}
@@ -13,7 +13,7 @@ abbrev pub SpellsFlat : ℕ → Text → List Tree → Type 0
 SpellsFlat limit text list = (other : List Tree) × Spells Three limit 0 text other
     × (joined other ≡ joined (flat_all (trees list)))
 
--- What is printed of what strftime spells, version 3 spells with the same items.
+-- Version 3 reads the printed text of a strftime text with the same items.
 abbrev pub Flattening : Type 0
 Flattening = (limit : ℕ) (text : Text) (list : List Tree) → SpellsStrftime text list
     → SpellsFlat limit (printed_all (trees list)) list

@@ -6,7 +6,7 @@ use Rattle.timefd_format_item.specs.Meaning.{item_tree}
 use Rattle.timefd_language.specs.Strings.{is_of_strings}
 use Rattle.timefd_lift.specs.Plain.{IsCounted}
 
--- a literal of one byte at least, or a component whose count is one of 16 bits
+-- a literal of at least one byte, or a component whose count fits 16 bits
 abbrev pub IsLeaf : Tree → Type 0
 IsLeaf (component c) = IsCounted c
 IsLeaf (literal []) = ⊥

@@ -1,17 +1,17 @@
-//! Between which languages texts are converted.
+//! The languages that texts can be converted between.
 
 ghost use Rattle.std.specs.Prelude.{◌≡◌};
 ghost use Rattle.timefd_convert.specs.Conversions as spec;
 
 use timefd_parse::{DescriptionVersion, Language};
 
-/// A conversion from one language to another. Between others there is none: no text of a later
-/// version is brought back to an earlier one, and none to strftime.
+/// A conversion from one language to another. There are no others: no text is converted to an
+/// earlier version, and none to strftime.
 #[derive(Debug, Clone, Copy, PartialEq, Eq)]
 pub enum Conversion {
     /// From version 1 to version 2.
     OneToTwo,
-    /// From version 1 to version 3, by way of version 2.
+    /// From version 1 to version 3, through version 2.
     OneToThree,
     /// From version 2 to version 3.
     TwoToThree,
@@ -21,7 +21,7 @@ pub enum Conversion {
     StrftimeToThree,
 }
 
-/// The conversion from one language to another, where there is one.
+/// The conversion from one language to another. `None` if there isn't one.
 pub fn conversion_between(from: Language, to: Language) -> Option<Conversion>
     ensures { result ≡ spec.conversion_between from to }
 {

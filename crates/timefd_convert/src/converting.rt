@@ -2,13 +2,13 @@
 
 ghost use Rattle.std.specs.Prelude.{◌≡◌, [], IfOk, IsOk, MatchResult, length, string_bytes};
 ghost use Rattle.std.specs.Result.{IfErr};
-ghost use Rattle.timefd_fault.specs.BorrowedFaults.{HasShortFault, IsLent, IsLentOf, IsMemory};
+ghost use Rattle.timefd_fault.specs.BorrowedFaults.{HasShortFault, IsBorrowed, IsBorrowedOf, IsMemory};
 ghost use Rattle.timefd_fault.specs.Placed.{HasPlacedFault, IsPlaced};
 ghost use Rattle.timefd_component.specs.Tree.{Text};
 ghost use Rattle.timefd_convert.specs.Conversions.{ConvertsIf, FitsIn, IsConversion, KeepsItems, conversion_between, language_of};
 ghost use Rattle.timefd_fault.specs.Faults as spec;
 ghost use Rattle.timefd_language.specs.Grammar.{nesting_limit};
-ghost use Rattle.timefd_fault.specs.Told.{IsFaultOrMemory};
+ghost use Rattle.timefd_fault.specs.Reported.{IsFaultOrMemory};
 ghost use Rattle.timefd_lift.specs.Answers.{IsTextOrMemory};
 ghost use Rattle.timefd_parse.specs.Language.{FaultIn, IsAssignedIn};
 
@@ -23,17 +23,17 @@ use timefd_parse::{BorrowedParseError, Language, ParseError};
 /// Why a text was not converted.
 #[derive(Debug, Drop)]
 pub enum ConvertError {
-    /// There is no conversion from this language to this one, whatever the text is.
+    /// There is no conversion between these languages, whatever the text is.
     Unsupported,
-    /// The text is no description of the language that it is converted from, or memory ran out.
+    /// The text is not a description in the language that it is converted from, or memory ran out.
     Unconverted(ParseError),
 }
 
 /// Converts a text from one language to another: from version 1 to versions 2 and 3, from version 2
-/// and strftime to version 3, and from version 3 to its normal form.
+/// and from strftime to version 3, and from version 3 to its normal form.
 ///
-/// The error is `Unsupported` where there is no conversion between the two, and else what
-/// `convert_by` says. This call is this port's own.
+/// The error is `Unsupported` if there is no conversion between the two, and otherwise that of
+/// `convert_by`. This call is this port's own.
 pub fn convert(
     alloc: Global,
     from: Language,
@@ -51,13 +51,13 @@ pub fn convert(
     }
 }
 
-/// Converts a text by this conversion: by `v1_to_v2`, `v1_to_v3`, `v2_to_v3`, `normalize_v3` or
-/// `strftime_to_v3`.
+/// Converts a text by this conversion, as `v1_to_v2`, `v1_to_v3`, `v2_to_v3`, `normalize_v3` or
+/// `strftime_to_v3` does.
 ///
-/// The error is the fault of the text in the language that it is converted from, or `Memory` where
-/// memory ran out. A fault that quotes nothing of the text is answered even then.
+/// The error is the fault of the text in the language that it is converted from, or `Memory` if
+/// memory ran out. A fault that quotes nothing of the text is reported even then.
 pub fn convert_by(alloc: Global, conversion: Conversion, text: &str) -> Result<String, ParseError>
-    // What is answered is the text converted, which has the same items. What is refused is refused
+    // The result is the converted text, which has the same items. A text that is refused is refused
     // for the fault that the rules of its language assign.
     ensures converted { IfOk result (λ answer. IsConversion conversion text.now
         (string_bytes answer)) }
@@ -65,17 +65,17 @@ pub fn convert_by(alloc: Global, conversion: Conversion, text: &str) -> Result<S
         (string_bytes answer)) }
     ensures fault { IfErr result (IsAssignedIn (language_of conversion) nesting_limit text.now) }
 
-    // What is a description is converted, unless memory runs out. What has a fault is refused for it,
-    // unless the fault quotes the text and memory runs out for that.
+    // A description is converted unless memory runs out. A text with a fault is refused for it,
+    // unless the fault quotes the text and memory runs out for the quote.
     ensures described { (answer : Text) → IsConversion conversion text.now answer
         → IsTextOrMemory answer result }
     ensures refused { (f : spec.Fault) → FaultIn (language_of conversion) nesting_limit text.now f
         → MatchResult result (λ _. ⊥) (IsFaultOrMemory f) }
 
     // The fault's index lies in the text or at its end, between two characters.
-    ensures place { IfErr result (HasPlacedFault text.now) }
+    ensures position { IfErr result (HasPlacedFault text.now) }
 
-    // How long the answer is, at most.
+    // The greatest length of the result.
     ensures within { IfOk result (λ answer. FitsIn conversion (length text.now)
         (length (string_bytes answer))) }
 
@@ -90,36 +90,35 @@ pub fn convert_by(alloc: Global, conversion: Conversion, text: &str) -> Result<S
 
 /// Converts a text as `convert_by` does, with a fault that borrows what it quotes.
 ///
-/// The error is `Invalid` with the fault of the text, or `Memory` where memory ran out. A text that
-/// has a fault is refused for it even then.
+/// The error is `Invalid` with the fault of the text, or `Memory` if memory ran out. A text that has
+/// a fault is refused for it even then.
 #[tactic(auto, using(crate::proofs::ConvertLemmas::one_to_two, crate::proofs::ConvertLemmas::one_to_three, crate::proofs::ConvertLemmas::two_to_three, crate::proofs::ConvertLemmas::three_to_three, crate::proofs::ConvertLemmas::strftime_to_three))]
 pub fn convert_by_borrowed(
     alloc: Global,
     conversion: Conversion,
     text: &str,
 ) -> Result<String, BorrowedParseError<'_>>
-    // What is answered is the text converted, which has the same items. What is refused is refused
+    // The result is the converted text, which has the same items. A text that is refused is refused
     // for the fault that the rules of its language assign.
     ensures converted { IfOk result (λ answer. IsConversion conversion text.now
         (string_bytes answer)) }
     ensures same_items { IfOk result (λ answer. KeepsItems conversion text.now
         (string_bytes answer)) }
     ensures fault { IfErr result
-        (IsLentOf (FaultIn (language_of conversion) nesting_limit text.now)) }
+        (IsBorrowedOf (FaultIn (language_of conversion) nesting_limit text.now)) }
 
-    // What is a description is converted, unless memory runs out, and what has a fault is refused
-    // for it.
+    // A description is converted unless memory runs out, and a text with a fault is refused for it.
     ensures described { (answer : Text) → IsConversion conversion text.now answer
         → MatchResult result (λ other. string_bytes other ≡ answer) IsMemory }
     ensures refused { (f : spec.Fault) → FaultIn (language_of conversion) nesting_limit text.now f
-        → MatchResult result (λ _. ⊥) (IsLent f) }
+        → MatchResult result (λ _. ⊥) (IsBorrowed f) }
 
-    // The fault's index lies in the text or at its end, between two characters. Its words are short,
-    // so that its sentence can be written.
-    ensures place { IfErr result (IsLentOf (IsPlaced text.now)) }
+    // The fault's index lies in the text or at its end, between two characters. The words that it
+    // quotes are short, so that its sentence can be written.
+    ensures position { IfErr result (IsBorrowedOf (IsPlaced text.now)) }
     ensures words { IfErr result HasShortFault }
 
-    // How long the answer is, at most.
+    // The greatest length of the result.
     ensures within { IfOk result (λ answer. FitsIn conversion (length text.now)
         (length (string_bytes answer))) }
 

@@ -1,15 +1,15 @@
-//! Texts of version 1 as texts of version 3.
+//! Converts texts of version 1 to version 3.
 
 ghost use Rattle.std.specs.Prelude.{◌≡◌, [], IfOk, IsOk, MatchResult, string_bytes};
 ghost use Rattle.std.specs.Result.{IfErr};
-ghost use Rattle.timefd_fault.specs.BorrowedFaults.{HasShortFault, IsLent, IsLentOf, IsMemory};
+ghost use Rattle.timefd_fault.specs.BorrowedFaults.{HasShortFault, IsBorrowed, IsBorrowedOf, IsMemory};
 ghost use Rattle.timefd_fault.specs.Placed.{HasPlacedFault, IsPlaced};
 ghost use Rattle.timefd_convert.specs.Answers.{HasItemsOver, IsWrittenOver};
 ghost use Rattle.timefd_fault.specs.Faults as spec;
 ghost use Rattle.timefd_language.specs.Broken.{FaultOf};
 ghost use Rattle.timefd_language.specs.Grammar.{Pieces, nesting_limit};
 ghost use Rattle.timefd_language.specs.Rewritten.{rewritten};
-ghost use Rattle.timefd_fault.specs.Told.{IsFaultOrMemory, MemoryAlone};
+ghost use Rattle.timefd_fault.specs.Reported.{IsFaultOrMemory, MemoryAlone};
 ghost use Rattle.timefd_language.specs.declared.description_version.DescriptionVersion.TheVariants.{One};
 ghost use Rattle.timefd_lift.specs.Answers.{IsSpelledBy};
 ghost use Rattle.timefd_lift.specs.Modernized.{IsWrittenOf};
@@ -19,30 +19,31 @@ use std::alloc::Global;
 use timefd_lift::{v1_to_v2_borrowed, v2_to_v3_borrowed};
 use timefd_parse::{BorrowedParseError, ParseError};
 
-/// The text of version 3 that means what a text of version 1 means: what `v2_to_v3` writes of what
-/// `v1_to_v2` answers. Neighbouring literals are one literal in it.
+/// The text of version 3 that means the same as a text of version 1: the result of `v1_to_v2`,
+/// converted by `v2_to_v3`. Neighbouring literals become one literal.
 ///
-/// The error is the fault that version 1 finds in the text, or `Memory` where memory ran out. A fault
-/// that quotes nothing of the text is answered even then. This call is this port's own.
+/// The error is the fault that version 1 finds in the text, or `Memory` if memory ran out. A fault
+/// that quotes nothing of the text is reported even then. This call is this port's own.
 pub fn v1_to_v3(alloc: Global, s: &str) -> Result<String, ParseError>
-    // What is answered is the text rewritten and that written anew, which has the same items. What is
-    // refused is refused for the fault that the rules of version 1 assign.
+    // The text is rewritten to version 2, and that is written in version 3. The result has the same
+    // items. A text that is refused is refused for the fault that the rules of version 1 assign.
     ensures rewritten { IfOk result (λ answer. IsWrittenOver s.now (string_bytes answer)) }
     ensures same_items { IfOk result (λ answer. HasItemsOver s.now (string_bytes answer)) }
-    // Of the answer itself the answer is written.
+    // The result, read in version 2 and written in version 3, gives the result again.
     ensures again { IfOk result (λ answer.
         IsWrittenOf (string_bytes answer) (string_bytes answer)) }
     ensures fault { IfErr result (IsAssigned One nesting_limit s.now) }
 
-    // What version 1 spells is rewritten and written anew, unless memory runs out. What has a fault is
-    // refused for it, unless the fault quotes the text and memory runs out for that.
+    // A text that version 1 spells is rewritten and written in version 3 unless memory runs out. A
+    // text with a fault is refused for it, unless the fault quotes the text and memory runs out for
+    // the quote.
     ensures spelled { (ps : Pieces) → IsSpelledBy ps s.now
         → MatchResult result (λ answer. IsWrittenOf (rewritten ps) (string_bytes answer)) MemoryAlone }
     ensures refused { (f : spec.Fault) → FaultOf One nesting_limit s.now f
         → MatchResult result (λ _. ⊥) (IsFaultOrMemory f) }
 
     // The fault's index lies in the text or at its end, between two characters.
-    ensures place { IfErr result (HasPlacedFault s.now) }
+    ensures position { IfErr result (HasPlacedFault s.now) }
 
     // The empty text takes no memory.
     ensures empty { s.now ≡ [] → IsOk result }
@@ -53,31 +54,31 @@ pub fn v1_to_v3(alloc: Global, s: &str) -> Result<String, ParseError>
     }
 }
 
-/// Rewrites a text of version 1 as `v1_to_v3` does, with a fault that borrows what it quotes. This
+/// Converts a text of version 1 as `v1_to_v3` does, with a fault that borrows what it quotes. This
 /// call is this port's own.
 ///
-/// The error is `Invalid` with the fault of the text, or `Memory` where memory ran out. A text that
-/// has a fault is refused for it even then.
+/// The error is `Invalid` with the fault of the text, or `Memory` if memory ran out. A text that has a
+/// fault is refused for it even then.
 pub fn v1_to_v3_borrowed(alloc: Global, s: &str) -> Result<String, BorrowedParseError<'_>>
-    // What is answered is the text rewritten and that written anew, which has the same items. What is
-    // refused is refused for the fault that the rules of version 1 assign.
+    // The text is rewritten to version 2, and that is written in version 3. The result has the same
+    // items. A text that is refused is refused for the fault that the rules of version 1 assign.
     ensures rewritten { IfOk result (λ answer. IsWrittenOver s.now (string_bytes answer)) }
     ensures same_items { IfOk result (λ answer. HasItemsOver s.now (string_bytes answer)) }
-    // Of the answer itself the answer is written.
+    // The result, read in version 2 and written in version 3, gives the result again.
     ensures again { IfOk result (λ answer.
         IsWrittenOf (string_bytes answer) (string_bytes answer)) }
-    ensures fault { IfErr result (IsLentOf (FaultOf One nesting_limit s.now)) }
+    ensures fault { IfErr result (IsBorrowedOf (FaultOf One nesting_limit s.now)) }
 
-    // What version 1 spells is rewritten and written anew, unless memory runs out, and what has a fault
-    // is refused for it.
+    // A text that version 1 spells is rewritten and written in version 3 unless memory runs out, and a
+    // text with a fault is refused for it.
     ensures spelled { (ps : Pieces) → IsSpelledBy ps s.now
         → MatchResult result (λ answer. IsWrittenOf (rewritten ps) (string_bytes answer)) IsMemory }
     ensures refused { (f : spec.Fault) → FaultOf One nesting_limit s.now f
-        → MatchResult result (λ _. ⊥) (IsLent f) }
+        → MatchResult result (λ _. ⊥) (IsBorrowed f) }
 
-    // The fault's index lies in the text or at its end, between two characters. Its words are short,
-    // so that its sentence can be written.
-    ensures place { IfErr result (IsLentOf (IsPlaced s.now)) }
+    // The fault's index lies in the text or at its end, between two characters. The words that it
+    // quotes are short, so that its sentence can be written.
+    ensures position { IfErr result (IsBorrowedOf (IsPlaced s.now)) }
     ensures words { IfErr result HasShortFault }
 
     // The empty text takes no memory.
@@ -87,7 +88,7 @@ pub fn v1_to_v3_borrowed(alloc: Global, s: &str) -> Result<String, BorrowedParse
         Ok(between) => match v2_to_v3_borrowed(alloc, &between) {
             Ok(answer) => Ok(answer),
             Err(BorrowedParseError::Memory(error)) => Err(BorrowedParseError::Memory(error)),
-            // Version 2 accepts what is rewritten.
+            // Version 2 accepts every text that was rewritten.
             Err(BorrowedParseError::Invalid(_)) => unreachable!(),
         },
         Err(error) => Err(error),

@@ -12,7 +12,8 @@ use timefd_items::BorrowedFormatItem;
 use timefd_lift::push_component;
 use timefd_print::push_literal;
 
-/// Appends what is printed of an item: of each member in turn, if it is a compound.
+/// Appends the text of an item in version 3. A compound becomes its members, one after another. An
+/// `Err` says that memory ran out.
 pub fn push_item(
     alloc: Global,
     text: &mut String,
@@ -32,7 +33,7 @@ pub fn push_item(
     }
 }
 
-/// Appends what is printed of the members of a compound.
+/// Appends the text of the members of a compound.
 #[tactic(auto, using(crate::proofs::ItemLemmas::leaf_items))]
 fn push_members(
     alloc: Global,
@@ -50,7 +51,7 @@ fn push_members(
     Ok(())
 }
 
-/// Appends what is printed of a literal or a component.
+/// Appends the text of a literal or a component.
 fn push_leaf(
     alloc: Global,
     text: &mut String,

@@ -1,9 +1,10 @@
-//! What holds of texts that are converted: each law is the contract of a function with an empty body.
+//! Laws about converted texts. Each law is the contract of a function with an empty body.
 
 ghost use Rattle.timefd_convert.specs.Laws.{Flattening};
 
-/// What is printed of what strftime spells, version 3 spells with the same items, once compounds are
-/// taken apart and neighbouring literals are joined. So each letter of strftime has exact components.
+/// Version 3 reads the printed text of a strftime text with the same items, once compounds are taken
+/// apart and neighbouring literals are joined. So each letter of strftime has components that mean
+/// exactly the same.
 pub fn flattening()
     ensures { Flattening }
 {}

@@ -1,5 +1,4 @@
-//! Rewrites texts of any language as texts of a later version, and texts of version 3 in their normal
-//! form.
+//! Converts texts of any language to a later version, and texts of version 3 to their normal form.
 #![tactic(auto)]
 
 mod conversion;

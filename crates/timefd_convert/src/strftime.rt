@@ -1,9 +1,9 @@
-//! Texts of strftime as texts of version 3.
+//! Converts texts of strftime to version 3.
 
 ghost use Rattle.std.specs.Prelude.{◌≡◌, ◌≤◌, ◌*◌, [], List, IfOk, IsOk, MatchResult, length, string_bytes};
 ghost use Rattle.std.specs.Result.{IfErr};
 ghost use Rattle.std.specs.String.{string_capacity};
-ghost use Rattle.timefd_fault.specs.BorrowedFaults.{HasShortFault, IsLent, IsLentOf, IsMemory};
+ghost use Rattle.timefd_fault.specs.BorrowedFaults.{HasShortFault, IsBorrowed, IsBorrowedOf, IsMemory};
 ghost use Rattle.timefd_fault.specs.Placed.{HasPlacedFault, IsPlaced};
 ghost use Rattle.timefd_component.specs.Tree.{Tree, trees};
 ghost use Rattle.timefd_convert.specs.Answers.{HasStrftimeItems, IsPrintedOf};
@@ -11,7 +11,7 @@ ghost use Rattle.timefd_convert.specs.Leaves.{AreShallowItems};
 ghost use Rattle.timefd_fault.specs.Faults as spec;
 ghost use Rattle.timefd_format_item.specs.Meaning.{item_trees};
 ghost use Rattle.timefd_language.specs.Strftime.{SpellsStrftime, StrftimeFaultOf};
-ghost use Rattle.timefd_fault.specs.Told.{IsFaultOrMemory};
+ghost use Rattle.timefd_fault.specs.Reported.{IsFaultOrMemory};
 ghost use Rattle.timefd_lift.specs.Answers.{IsTextOrMemory};
 ghost use Rattle.timefd_print.specs.Printed.{printed_all};
 ghost use Rattle.timefd_strftime.specs.StrftimeAnswers.{IsStrftimeFault};
@@ -24,30 +24,31 @@ use timefd_parse::{
     BorrowedParseError, ParseError, StrftimeTables, count_strftime, parse_strftime_all_borrowed,
 };
 
-/// The text of version 3 that means what a text of strftime means: the components of each letter in
-/// their normal form, those of a composite letter one after another, and `[`, `]` and `\` behind a
-/// `\`. Neighbouring literals are one literal in it. Each letter has exact components.
+/// The text of version 3 that means the same as a text of strftime. Each letter becomes its exact
+/// components in their normal form, with those of a composite letter one after another. A `[`, `]` or
+/// `\` in a literal gets a `\` before it. Neighbouring literals become one literal.
 ///
-/// The error is the fault of the text by the rules of strftime, or `Memory` where memory ran out. A
-/// fault that quotes nothing of the text is answered even then. This call is this port's own.
+/// The error is the fault of the text by the rules of strftime, or `Memory` if memory ran out. A
+/// fault that quotes nothing of the text is reported even then. This call is this port's own.
 pub fn strftime_to_v3(alloc: Global, s: &str) -> Result<String, ParseError>
-    // What is answered is printed of what strftime spells, and has the same items. What is refused is
-    // refused for the fault that the rules of strftime assign.
+    // The result is printed from what strftime spells, and has the same items. A text that is refused
+    // is refused for the fault that the rules of strftime assign.
     ensures printed { IfOk result (λ answer. IsPrintedOf s.now (string_bytes answer)) }
     ensures same_items { IfOk result (λ answer. HasStrftimeItems s.now (string_bytes answer)) }
     ensures fault { IfErr result (IsStrftimeFault s.now) }
 
-    // What strftime spells is printed, unless memory runs out. What has a fault is refused for it,
-    // unless the fault quotes the text and memory runs out for that.
+    // What strftime spells is printed unless memory runs out. A text with a fault is refused for it,
+    // unless the fault quotes the text and memory runs out for the quote.
     ensures spelled { (list : List Tree) → SpellsStrftime s.now list
         → IsTextOrMemory (printed_all (trees list)) result }
     ensures refused { (f : spec.Fault) → StrftimeFaultOf s.now f
         → MatchResult result (λ _. ⊥) (IsFaultOrMemory f) }
 
     // The fault's index lies in the text or at its end, between two characters.
-    ensures place { IfErr result (HasPlacedFault s.now) }
+    ensures position { IfErr result (HasPlacedFault s.now) }
 
-    // It has at most 53 bytes for each byte of the text, as that of `%c` has.
+    // The result has at most 53 times as many bytes as the text. `%c` gives the longest result for
+    // its length.
     ensures within { IfOk result (λ answer. length (string_bytes answer) ≤ 53 * length s.now) }
 
     // The empty text takes no memory.
@@ -62,33 +63,35 @@ pub fn strftime_to_v3(alloc: Global, s: &str) -> Result<String, ParseError>
 /// Converts a text of strftime as `strftime_to_v3` does, with a fault that borrows what it quotes.
 /// This call is this port's own.
 ///
-/// The error is `Invalid` with the fault of the text, or `Memory` where memory ran out. A text that
-/// has a fault is refused for it even then.
+/// The error is `Invalid` with the fault of the text, or `Memory` if memory ran out. A text that has
+/// a fault is refused for it even then.
 pub fn strftime_to_v3_borrowed(alloc: Global, s: &str) -> Result<String, BorrowedParseError<'_>>
-    // What is answered is printed of what strftime spells, and has the same items. What is refused is
-    // refused for the fault that the rules of strftime assign.
+    // The result is printed from what strftime spells, and has the same items. A text that is refused
+    // is refused for the fault that the rules of strftime assign.
     ensures printed { IfOk result (λ answer. IsPrintedOf s.now (string_bytes answer)) }
     ensures same_items { IfOk result (λ answer. HasStrftimeItems s.now (string_bytes answer)) }
-    ensures fault { IfErr result (IsLentOf (StrftimeFaultOf s.now)) }
+    ensures fault { IfErr result (IsBorrowedOf (StrftimeFaultOf s.now)) }
 
-    // What strftime spells is printed, unless memory runs out, and what has a fault is refused for it.
+    // What strftime spells is printed unless memory runs out, and a text with a fault is refused for
+    // it.
     ensures spelled { (list : List Tree) → SpellsStrftime s.now list
         → MatchResult result (λ answer. string_bytes answer ≡ printed_all (trees list)) IsMemory }
     ensures refused { (f : spec.Fault) → StrftimeFaultOf s.now f
-        → MatchResult result (λ _. ⊥) (IsLent f) }
+        → MatchResult result (λ _. ⊥) (IsBorrowed f) }
 
-    // The fault's index lies in the text or at its end, between two characters. Its words are short,
-    // so that its sentence can be written.
-    ensures place { IfErr result (IsLentOf (IsPlaced s.now)) }
+    // The fault's index lies in the text or at its end, between two characters. The words that it
+    // quotes are short, so that its sentence can be written.
+    ensures position { IfErr result (IsBorrowedOf (IsPlaced s.now)) }
     ensures words { IfErr result HasShortFault }
 
-    // It has at most 53 bytes for each byte of the text, as that of `%c` has.
+    // The result has at most 53 times as many bytes as the text. `%c` gives the longest result for
+    // its length.
     ensures within { IfOk result (λ answer. length (string_bytes answer) ≤ 53 * length s.now) }
 
     // The empty text takes no memory.
     ensures empty { s.now ≡ [] → IsOk result }
 {
-    // The law by which version 3 spells the same items.
+    // By this law version 3 spells the same items.
     flattening();
     let tables = StrftimeTables::new();
     match parse_strftime_all_borrowed(alloc, &tables, s) {
@@ -100,12 +103,13 @@ pub fn strftime_to_v3_borrowed(alloc: Global, s: &str) -> Result<String, Borrowe
     }
 }
 
-/// Why a text was not read, found again as an error that doesn't borrow the tables.
+/// Why a text was not read. The fault is looked for again, so that the error doesn't borrow the
+/// tables.
 fn strftime_error(text: &str) -> BorrowedParseError<'_>
-    ensures fault { IsLentOf (StrftimeFaultOf text.now) result }
+    ensures fault { IsBorrowedOf (StrftimeFaultOf text.now) result }
     ensures spelled { (list : List Tree) → SpellsStrftime text.now list → IsMemory result }
-    ensures refused { (f : spec.Fault) → StrftimeFaultOf text.now f → IsLent f result }
-    ensures place { IsLentOf (IsPlaced text.now) result }
+    ensures refused { (f : spec.Fault) → StrftimeFaultOf text.now f → IsBorrowed f result }
+    ensures position { IsBorrowedOf (IsPlaced text.now) result }
     ensures words { HasShortFault result }
 {
     match count_strftime(text) {
@@ -114,7 +118,8 @@ fn strftime_error(text: &str) -> BorrowedParseError<'_>
     }
 }
 
-/// The empty text with room for at most as many bytes as this one has.
+/// An empty text with room for at most as many bytes as this text has. An `Err` says that memory ran
+/// out.
 fn first_room(alloc: Global, text: &str) -> Result<String, AllocError>
     ensures bytes { IfOk result (λ answer. string_bytes answer ≡ []) }
     ensures most { IfOk result (λ answer. string_capacity answer ≤ length text.now) }
@@ -123,7 +128,8 @@ fn first_room(alloc: Global, text: &str) -> Result<String, AllocError>
     String::with_capacity(alloc, text.len())
 }
 
-/// What is printed of the items in turn, with room at first for as many bytes as the text has.
+/// The text of the items, one after another. At first it has room for as many bytes as `text` has. An
+/// `Err` says that memory ran out.
 fn printed(
     alloc: Global,
     text: &str,

@@ -37,7 +37,7 @@ composite_packed HourAndMinute = refl
 composite_packed TimeOf24 = refl
 composite_packed Offset = refl
 
--- each item of a list is a leaf, and no bytes
+-- each item of a list is a leaf, and a literal is a string
 
 pub leaf_at : (items : List BorrowedFormatItem) (i : ℕ) (d : BorrowedFormatItem) → i < length items
     → IsTrue (list_all is_leaf (item_trees items)) → IsTrue (is_leaf (item_tree (get_or items i d)))
@@ -59,7 +59,7 @@ counted : (items : List BorrowedFormatItem) (ts : List Tree) → item_trees item
     → length items ≡ length (modern_list ts)
 counted items ts is = sym (length-map items item_tree) ∙ ap length is ∙ sym (length-map ts modern_tree)
 
--- a list that was added is there
+-- the list that was added is no longer than all that was built
 pub list_there : (c : Composite) (items : List BorrowedFormatItem) (old between : List Tree) (count : ℕ)
     → item_trees items ≡ composite_list c → between ≡ old ++ modern_list (item_trees items)
     → count ≡ length items → count ≤ length between
@@ -73,7 +73,7 @@ list_there c items old between count is added counts =
       length-map items item_tree,
     )
 
--- a list that was added, made one
+-- packing the list that was added gives its compound
 pub list_packed : {E : Type 0} {T : Type 0} (r : Result T E) (c : Composite) (items : List BorrowedFormatItem)
     (old between new : List Tree) (count : ℕ) → item_trees items ≡ composite_list c
     → between ≡ old ++ modern_list (item_trees items) → count ≡ length items

@@ -1,4 +1,4 @@
--- What is answered of what was read is answered of what the text spells.
+-- An answer for what was read is an answer for what the text spells.
 use Rattle.std.proofs.Common.{ℕ, ◌≡◌, ◌∙◌, ◌++◌, [], ◌∷◌, List, Result, Ok, Err, map, refl, sym, ap, subst}
 use Rattle.std.proofs.lemmas.List.{append-nil}
 use Rattle.std.specs.declared.alloc.Global.{Global}
@@ -37,18 +37,18 @@ module _ (m : Moment) (list : List Tree) (r : Result (Vec ℕ Global) FormatText
   of_items items is shown = subst (λ l. IsShownAs (written_all m (trees l)) r) is shown
 
   pub items_shown : (v : DescriptionVersion) (vec : Vec BorrowedFormatItem Global)
-      (lent : List BorrowedFormatItem) → lent ≡ vec.items → IsOutput v list (Items vec)
-      → IsShownAs (written_all m (trees (item_trees lent))) r
+      (borrowed : List BorrowedFormatItem) → borrowed ≡ vec.items → IsOutput v list (Items vec)
+      → IsShownAs (written_all m (trees (item_trees borrowed))) r
       → IsShownAs (written_all m (trees list)) r
-  items_shown One vec lent e is shown = of_items lent (ap (λ xs. map item_tree xs) e ∙ is) shown
-  items_shown Two vec lent e is shown = of_items lent (ap (λ xs. map item_tree xs) e ∙ is) shown
-  items_shown Three vec lent e is shown = absurd is
+  items_shown One vec borrowed e is shown = of_items borrowed (ap (λ xs. map item_tree xs) e ∙ is) shown
+  items_shown Two vec borrowed e is shown = of_items borrowed (ap (λ xs. map item_tree xs) e ∙ is) shown
+  items_shown Three vec borrowed e is shown = absurd is
 
-  pub strftime_shown : (items lent : List BorrowedFormatItem) → lent ≡ items
-      → item_trees items ≡ list → IsShownAs (written_all m (trees (item_trees lent))) r
+  pub strftime_shown : (items borrowed : List BorrowedFormatItem) → borrowed ≡ items
+      → item_trees items ≡ list → IsShownAs (written_all m (trees (item_trees borrowed))) r
       → IsShownAs (written_all m (trees list)) r
-  strftime_shown items lent e is shown =
-      of_items lent (ap (λ xs. map item_tree xs) e ∙ is) shown
+  strftime_shown items borrowed e is shown =
+      of_items borrowed (ap (λ xs. map item_tree xs) e ∙ is) shown
 
   pub description_shown : (v : DescriptionVersion) (d : FormatDescriptionV3)
       → IsOutput v list (Description d) → IsShownAs (written m (description_tree d)) r
@@ -58,7 +58,7 @@ module _ (m : Moment) (list : List Tree) (r : Result (Vec ℕ Global) FormatText
   description_shown Three d is shown =
       subst (λ x. IsShownAs x r) (packed m list) (subst (λ t. IsShownAs (written m t) r) is shown)
 
--- where memory ran out, whatever was to be written
+-- if memory ran out, whatever was to be written
 pub nothing_shown : (w : Result Text Unshown) (e : FormatTextError) → IsMemory e
     → IsShownAs w (Err e)
 nothing_shown (Ok text) (fails.Fault f) wrong = absurd wrong

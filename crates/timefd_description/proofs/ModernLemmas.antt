@@ -26,7 +26,7 @@ list_modern [] is = refl
 list_modern (t ∷ ts) is =
     ap (λ u. u ∷ modern_list ts) (modern_same t is.0) ∙ ap (λ us. t ∷ us) (list_modern ts is.1)
 
--- what a piece of versions 1 and 2 is
+-- the tree of a piece of versions 1 and 2
 
 pub leaf_tree : (strict builds : Bool) (old new : List Tree) (piece : Piece) (tree : Tree)
     → IsLeaf piece → IsPiece strict builds old new piece tree → IsLeafTree piece tree

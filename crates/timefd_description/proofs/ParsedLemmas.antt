@@ -1,9 +1,9 @@
--- What is answered of a text.
+-- The answers for a text.
 use Rattle.std.proofs.Common.{◌≡◌, ◌<◌, Ok, Err, List, [], length, refl, ap, subst, arith}
 use Rattle.timefd_fault.specs.declared.borrowed_parse_error.BorrowedParseError.{BorrowedParseError}
 use Rattle.timefd_fault.specs.declared.borrowed_parse_error.BorrowedParseError.TheVariants.{Memory}
 use Rattle.std.specs.declared.alloc.AllocError.{AllocError}
-use Rattle.timefd_fault.specs.BorrowedFaults.{IsLent, IsLentOf, IsMemory}
+use Rattle.timefd_fault.specs.BorrowedFaults.{IsBorrowed, IsBorrowedOf, IsMemory}
 use Rattle.timefd_component.specs.Tree.{Text, Tree}
 use Rattle.timefd_fault.specs.Faults.{Fault}
 use Rattle.timefd_items.specs.declared.format_description_v3.FormatDescriptionV3.{FormatDescriptionV3}
@@ -34,9 +34,9 @@ accepted Strftime text list d spells is = record {
 }
 
 pub not_read : (language : Language) (text : Text) (e : BorrowedParseError)
-    → IsLentOf (FaultIn language nesting_limit text) e
+    → IsBorrowedOf (FaultIn language nesting_limit text) e
     → ((list : List Tree) → SpellsIn language nesting_limit text list → IsMemory e)
-    → ((f : Fault) → FaultIn language nesting_limit text f → IsLent f e) → 0 < length text
+    → ((f : Fault) → FaultIn language nesting_limit text f → IsBorrowed f e) → 0 < length text
     → IsParsed language text (Err e)
 not_read language text e fault spelled refused some = record {
   found = tt;
@@ -46,7 +46,7 @@ not_read language text e fault spelled refused some = record {
   empty = λ none. absurd (omega (arith, some, ap length none));
 }
 
--- A text that is spelled has no fault, and memory ran out for it.
+-- The answer that memory ran out is right for a text without a fault.
 pub no_memory : (language : Language) (text : Text) (list : List Tree) (e : AllocError)
     → SpellsIn language nesting_limit text list → (text ≡ [] → ⊥)
     → IsParsed language text (Err (Memory e))

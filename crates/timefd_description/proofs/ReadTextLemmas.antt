@@ -1,4 +1,4 @@
--- What is answered of what was read is answered of what the text spells.
+-- An answer for what was read is an answer for what the text spells.
 use Rattle.std.proofs.Common.{◌≡◌, ◌∙◌, [], ◌∷◌, List, Result, Ok, Err, map, refl, sym, ap, subst}
 use Rattle.std.specs.declared.alloc.Global.{Global}
 use Rattle.std.specs.declared.vec.Vec.{Vec}
@@ -7,7 +7,7 @@ use Rattle.std.specs.Result.{IfErr}
 use Rattle.timefd_component.specs.Tree.{Text, Tree, compound, trees, pack}
 use Rattle.timefd_fault.specs.declared.borrowed_parse_error.BorrowedParseError.{BorrowedParseError}
 use Rattle.timefd_fault.specs.declared.borrowed_parse_error.BorrowedParseError.TheVariants as parses
-use Rattle.timefd_fault.specs.BorrowedFaults as lent
+use Rattle.timefd_fault.specs.BorrowedFaults as borrowed
 use Rattle.timefd_fault.specs.Faults.{Fault}
 use Rattle.timefd_format_item.specs.declared.borrowed_format_item.BorrowedFormatItem.{BorrowedFormatItem}
 use Rattle.timefd_format_item.specs.Meaning.{item_tree, item_trees}
@@ -22,7 +22,7 @@ use Rattle.timefd_read_dates.specs.declared.fields.Fields.{Fields}
 use Rattle.timefd_read_dates.specs.Reads.{fields_of, followed, read, start, whole}
 use Rattle.timefd_description.specs.declared.read_error.ReadTextError.{ReadTextError}
 use Rattle.timefd_description.specs.declared.read_error.ReadTextError.TheVariants as fails
-use Rattle.timefd_description.specs.ReadAnswers.{AreFieldsAs, HasFaultOf, IsFaulty, IsMemory, fields_in, of_parse_error, told}
+use Rattle.timefd_description.specs.ReadAnswers.{AreFieldsAs, HasFaultOf, IsFaulty, IsMemory, fields_in, of_parse_error, read_answer}
 
 -- the one tree of a list reads what the list reads
 
@@ -35,47 +35,47 @@ packed [] text = refl
 packed (t ∷ []) text = ap (λ r. whole (length text) r) (sym (alone (read t (start text))))
 packed (t ∷ u ∷ ts) text = refl
 
-as_told : (w : Result Fields ReadError) (r : Result Fields ReadTextError) → r ≡ told w
+as_answered : (w : Result Fields ReadError) (r : Result Fields ReadTextError) → r ≡ read_answer w
     → AreFieldsAs w r
-as_told (Ok f) r e = subst (λ x. AreFieldsAs (Ok f) x) (sym e) refl
-as_told (Err u) r e = subst (λ x. AreFieldsAs (Err u) x) (sym e) refl
+as_answered (Ok f) r e = subst (λ x. AreFieldsAs (Ok f) x) (sym e) refl
+as_answered (Err u) r e = subst (λ x. AreFieldsAs (Err u) x) (sym e) refl
 
 module _ (text : Text) (list : List Tree) (r : Result Fields ReadTextError) where
   of_items : (items : List BorrowedFormatItem) → item_trees items ≡ list
-      → r ≡ told (fields_of (compound (trees (item_trees items))) text)
+      → r ≡ read_answer (fields_of (compound (trees (item_trees items))) text)
       → AreFieldsAs (fields_in list text) r
   of_items items is e =
-      as_told (fields_in list text) r (e ∙ ap (λ l. told (fields_in l text)) is)
+      as_answered (fields_in list text) r (e ∙ ap (λ l. read_answer (fields_in l text)) is)
 
   pub items_read : (v : DescriptionVersion) (vec : Vec BorrowedFormatItem Global)
-      (lent : List BorrowedFormatItem) → lent ≡ vec.items → IsOutput v list (Items vec)
-      → r ≡ told (fields_of (compound (trees (item_trees lent))) text)
+      (borrowed : List BorrowedFormatItem) → borrowed ≡ vec.items → IsOutput v list (Items vec)
+      → r ≡ read_answer (fields_of (compound (trees (item_trees borrowed))) text)
       → AreFieldsAs (fields_in list text) r
-  items_read One vec lent e is same = of_items lent (ap (λ xs. map item_tree xs) e ∙ is) same
-  items_read Two vec lent e is same = of_items lent (ap (λ xs. map item_tree xs) e ∙ is) same
-  items_read Three vec lent e is same = absurd is
+  items_read One vec borrowed e is same = of_items borrowed (ap (λ xs. map item_tree xs) e ∙ is) same
+  items_read Two vec borrowed e is same = of_items borrowed (ap (λ xs. map item_tree xs) e ∙ is) same
+  items_read Three vec borrowed e is same = absurd is
 
-  pub strftime_read : (items lent : List BorrowedFormatItem) → lent ≡ items
-      → item_trees items ≡ list → r ≡ told (fields_of (compound (trees (item_trees lent))) text)
+  pub strftime_read : (items borrowed : List BorrowedFormatItem) → borrowed ≡ items
+      → item_trees items ≡ list → r ≡ read_answer (fields_of (compound (trees (item_trees borrowed))) text)
       → AreFieldsAs (fields_in list text) r
-  strftime_read items lent e is same =
-      of_items lent (ap (λ xs. map item_tree xs) e ∙ is) same
+  strftime_read items borrowed e is same =
+      of_items borrowed (ap (λ xs. map item_tree xs) e ∙ is) same
 
   pub description_read : (v : DescriptionVersion) (d : FormatDescriptionV3)
-      → IsOutput v list (Description d) → r ≡ told (fields_of (description_tree d) text)
+      → IsOutput v list (Description d) → r ≡ read_answer (fields_of (description_tree d) text)
       → AreFieldsAs (fields_in list text) r
   description_read One d is same = absurd is
   description_read Two d is same = absurd is
-  description_read Three d is same = as_told (fields_in list text) r
-      (same ∙ (ap (λ t. told (fields_of t text)) is ∙ ap (λ w. told w) (packed list text)))
+  description_read Three d is same = as_answered (fields_in list text) r
+      (same ∙ (ap (λ t. read_answer (fields_of t text)) is ∙ ap (λ w. read_answer w) (packed list text)))
 
--- what reads, or doesn't, has no fault
+-- an answer about reading names no fault of the description
 pub no_fault : (P : Fault → Type 0) (w : Result Fields ReadError) (r : Result Fields ReadTextError)
-    → r ≡ told w → IfErr r (HasFaultOf P)
+    → r ≡ read_answer w → IfErr r (HasFaultOf P)
 no_fault P (Ok f) r e = subst (λ x. IfErr x (HasFaultOf P)) (sym e) tt
 no_fault P (Err u) r e = subst (λ x. IfErr x (HasFaultOf P)) (sym e) tt
 
--- where memory ran out, whatever was to be read
+-- if memory ran out, whatever was to be read
 pub nothing_read : (w : Result Fields ReadError) (e : ReadTextError) → IsMemory e
     → AreFieldsAs w (Err e)
 nothing_read (Ok f) (fails.Fault g) wrong = absurd wrong
@@ -87,20 +87,20 @@ nothing_read (Err w) (fails.Unread u) wrong = absurd wrong
 nothing_read (Err w) (fails.Value v) wrong = absurd wrong
 nothing_read (Err w) (fails.Memory e) right = tt
 
--- what is answered where the text of the description was not read
+-- the answer if the text of the description wasn't read
 
-pub memory_told : (w : Result Fields ReadError) (e : BorrowedParseError) (t : ReadTextError)
-    → t ≡ of_parse_error e → lent.IsMemory e → AreFieldsAs w (Err t)
-memory_told w (parses.Invalid f) t same wrong = absurd wrong
-memory_told w (parses.Memory e) t same right =
+pub memory_reported : (w : Result Fields ReadError) (e : BorrowedParseError) (t : ReadTextError)
+    → t ≡ of_parse_error e → borrowed.IsMemory e → AreFieldsAs w (Err t)
+memory_reported w (parses.Invalid f) t same wrong = absurd wrong
+memory_reported w (parses.Memory e) t same right =
     nothing_read w t (subst (λ x. IsMemory x) (sym same) tt)
 
-pub fault_told : (f : Fault) (e : BorrowedParseError) (t : ReadTextError)
-    → t ≡ of_parse_error e → lent.IsLent f e → IsFaulty f t
-fault_told f (parses.Invalid g) t same is = subst (λ x. IsFaulty f x) (sym same) is
-fault_told f (parses.Memory e) t same wrong = absurd wrong
+pub fault_reported : (f : Fault) (e : BorrowedParseError) (t : ReadTextError)
+    → t ≡ of_parse_error e → borrowed.IsBorrowed f e → IsFaulty f t
+fault_reported f (parses.Invalid g) t same is = subst (λ x. IsFaulty f x) (sym same) is
+fault_reported f (parses.Memory e) t same wrong = absurd wrong
 
 pub fault_kept : (P : Fault → Type 0) (e : BorrowedParseError) (t : ReadTextError)
-    → t ≡ of_parse_error e → lent.IsLentOf P e → HasFaultOf P t
+    → t ≡ of_parse_error e → borrowed.IsBorrowedOf P e → HasFaultOf P t
 fault_kept P (parses.Invalid g) t same is = subst (λ x. HasFaultOf P x) (sym same) is
 fault_kept P (parses.Memory e) t same is = subst (λ x. HasFaultOf P x) (sym same) tt

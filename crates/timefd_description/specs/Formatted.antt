@@ -1,8 +1,8 @@
--- What is answered of a text that is to write a moment.
+-- The answers for a text that is to write a moment.
 use Rattle.std.specs.Prelude.{ℕ, ◌≡◌, Result, Ok, Err, ⊤}
 use Rattle.std.specs.declared.alloc.Global.{Global}
 use Rattle.std.specs.declared.vec.Vec.{Vec}
-use Rattle.timefd_fault.specs.BorrowedFaults.{lent_fault}
+use Rattle.timefd_fault.specs.BorrowedFaults.{to_borrowed_fault}
 use Rattle.timefd_component.specs.Tree.{Text}
 use Rattle.timefd_fault.specs.Faults.{Fault}
 use Rattle.timefd_format.specs.declared.text.TextError.{TextError}
@@ -15,7 +15,8 @@ abbrev pub of_text_error : TextError → FormatTextError
 of_text_error (texts.Unshown u) = fails.Unshown u
 of_text_error (texts.Memory e) = fails.Memory e
 
--- The text that is to be written, or the first component that shows nothing, or that memory ran out.
+-- The answer is the text that is to be written, or the first component that shows nothing, or that
+-- memory ran out.
 abbrev pub IsShownAs : Result Text Unshown → Result (Vec ℕ Global) FormatTextError → Type 0
 IsShownAs (Ok text) (Ok answer) = answer.items ≡ text
 IsShownAs (Ok text) (Err (fails.Fault f)) = ⊥
@@ -28,7 +29,7 @@ IsShownAs (Err v) (Err (fails.Memory e)) = ⊤
 
 -- The error is this fault.
 abbrev pub IsFaulty : Fault → FormatTextError → Type 0
-IsFaulty f (fails.Fault g) = lent_fault g ≡ f
+IsFaulty f (fails.Fault g) = to_borrowed_fault g ≡ f
 IsFaulty f (fails.Unshown u) = ⊥
 IsFaulty f (fails.Memory e) = ⊥
 
@@ -38,7 +39,7 @@ IsMemory (fails.Fault g) = ⊥
 IsMemory (fails.Unshown u) = ⊥
 IsMemory (fails.Memory e) = ⊤
 
--- What is answered is this fault.
+-- The answer is this fault.
 abbrev pub IsRefusedFor : Fault → Result (Vec ℕ Global) FormatTextError → Type 0
 IsRefusedFor f (Ok answer) = ⊥
 IsRefusedFor f (Err e) = IsFaulty f e

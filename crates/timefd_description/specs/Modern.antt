@@ -19,7 +19,7 @@ abbrev mutual
 abbrev pub modern_list : List Tree → List Tree
 modern_list = map modern_tree
 
--- whether it has no members
+-- whether the tree has no members
 abbrev pub is_leaf : Tree → Bool
 is_leaf (component c) = true
 is_leaf (literal bytes) = true

@@ -1,8 +1,8 @@
--- What is answered of a text that is read as nodes.
+-- The answers for a text that is read as nodes.
 use Rattle.std.specs.Prelude.{◌≡◌, ℕ, [], List, IfOk, IsOk, MatchResult, Result}
 use Rattle.std.specs.Result.{IfErr}
 use Rattle.timefd_fault.specs.declared.borrowed_parse_error.BorrowedParseError.{BorrowedParseError}
-use Rattle.timefd_fault.specs.BorrowedFaults.{IsLent, IsLentOf, IsMemory}
+use Rattle.timefd_fault.specs.BorrowedFaults.{IsBorrowed, IsBorrowedOf, IsMemory}
 use Rattle.timefd_component.specs.Tree.{Text, Tree, pack}
 use Rattle.timefd_fault.specs.Faults.{Fault}
 use Rattle.timefd_items.specs.Description.{description_tree}
@@ -15,15 +15,16 @@ use Rattle.timefd_parse.specs.declared.language.Language.{Language}
 abbrev pub AreNodes : List Tree → FormatDescriptionV3 → Type 0
 AreNodes list d = description_tree d ≡ pack list
 
--- What is accepted is spelled so, and what is refused is refused for the fault that the rules assign.
--- What is spelled is accepted, unless memory runs out, and what has a fault is refused for it.
+-- An accepted text spells what was read, and a refused text is refused for the fault that the rules
+-- assign. A text that spells items is accepted, unless memory runs out, and a text with a fault is
+-- refused for it.
 pub record IsParsed (language : Language) (text : Text)
     (r : Result FormatDescriptionV3 BorrowedParseError) : Type 0 where
   pub found : IfOk r (λ d. (list : List Tree) × SpellsIn language nesting_limit text list
       × AreNodes list d)
-  pub fault : IfErr r (IsLentOf (FaultIn language nesting_limit text))
+  pub fault : IfErr r (IsBorrowedOf (FaultIn language nesting_limit text))
   pub spelled : (list : List Tree) → SpellsIn language nesting_limit text list
       → MatchResult r (AreNodes list) IsMemory
   pub refused : (f : Fault) → FaultIn language nesting_limit text f
-      → MatchResult r (λ _. ⊥) (IsLent f)
+      → MatchResult r (λ _. ⊥) (IsBorrowed f)
   pub empty : text ≡ [] → IsOk r

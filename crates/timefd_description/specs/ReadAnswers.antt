@@ -1,8 +1,8 @@
--- What is answered of a text that is to be read by the text of a description.
+-- The answers for a text that is to be read by the text of a description.
 use Rattle.std.specs.Prelude.{◌≡◌, List, Result, Ok, Err, ⊤}
 use Rattle.timefd_fault.specs.declared.borrowed_parse_error.BorrowedParseError.{BorrowedParseError}
 use Rattle.timefd_fault.specs.declared.borrowed_parse_error.BorrowedParseError.TheVariants as parses
-use Rattle.timefd_fault.specs.BorrowedFaults.{lent_fault}
+use Rattle.timefd_fault.specs.BorrowedFaults.{to_borrowed_fault}
 use Rattle.timefd_component.specs.Tree.{Text, Tree, compound, trees}
 use Rattle.timefd_fault.specs.Faults.{Fault}
 use Rattle.timefd_moment.specs.declared.moment.Moment.{Moment}
@@ -17,16 +17,16 @@ use Rattle.timefd_description.specs.declared.read_error.ReadTextError.TheVariant
 abbrev pub fields_in : List Tree → Text → Result Fields ReadError
 fields_in list text = fields_of (compound (trees list)) text
 
--- the same, as it is answered
-abbrev pub told : Result Fields ReadError → Result Fields ReadTextError
-told (Ok f) = Ok f
-told (Err u) = Err (fails.Unread u)
+-- the fields or the fault, as the caller gets them
+abbrev pub read_answer : Result Fields ReadError → Result Fields ReadTextError
+read_answer (Ok f) = Ok f
+read_answer (Err u) = Err (fails.Unread u)
 
 abbrev pub of_parse_error : BorrowedParseError → ReadTextError
 of_parse_error (parses.Invalid f) = fails.Fault f
 of_parse_error (parses.Memory e) = fails.Memory e
 
--- These fields, or the first part that does not read, or that memory ran out.
+-- The answer is these fields, or the first part that doesn't read, or that memory ran out.
 abbrev pub AreFieldsAs : Result Fields ReadError → Result Fields ReadTextError → Type 0
 AreFieldsAs (Ok f) (Ok g) = g ≡ f
 AreFieldsAs (Ok f) (Err (fails.Fault b)) = ⊥
@@ -39,8 +39,8 @@ AreFieldsAs (Err w) (Err (fails.Unread u)) = u ≡ w
 AreFieldsAs (Err w) (Err (fails.Value v)) = ⊥
 AreFieldsAs (Err w) (Err (fails.Memory e)) = ⊤
 
--- The moment that has these fields, or why none has; or the first part that does not read; or that
--- memory ran out.
+-- The answer is the moment that has these fields, or why none has, or the first part that doesn't
+-- read, or that memory ran out.
 abbrev pub IsReadAs : Result Fields ReadError → Result Moment ReadTextError → Type 0
 IsReadAs (Ok f) (Ok m) = IsMomentOf f (Ok m)
 IsReadAs (Ok f) (Err (fails.Fault b)) = ⊥
@@ -55,7 +55,7 @@ IsReadAs (Err w) (Err (fails.Memory e)) = ⊤
 
 -- The error is this fault.
 abbrev pub IsFaulty : Fault → ReadTextError → Type 0
-IsFaulty f (fails.Fault g) = lent_fault g ≡ f
+IsFaulty f (fails.Fault g) = to_borrowed_fault g ≡ f
 IsFaulty f (fails.Unread u) = ⊥
 IsFaulty f (fails.Value v) = ⊥
 IsFaulty f (fails.Memory e) = ⊥
@@ -67,14 +67,14 @@ IsMemory (fails.Unread u) = ⊥
 IsMemory (fails.Value v) = ⊥
 IsMemory (fails.Memory e) = ⊤
 
--- Where the error is a fault, this holds of it.
+-- If the error is a fault, this holds for it.
 abbrev pub HasFaultOf : (Fault → Type 0) → ReadTextError → Type 0
-HasFaultOf P (fails.Fault g) = P (lent_fault g)
+HasFaultOf P (fails.Fault g) = P (to_borrowed_fault g)
 HasFaultOf P (fails.Unread u) = ⊤
 HasFaultOf P (fails.Value v) = ⊤
 HasFaultOf P (fails.Memory e) = ⊤
 
--- What is answered is this fault.
+-- The answer is this fault.
 abbrev pub IsRefusedFor : {A : Type 0} → Fault → Result A ReadTextError → Type 0
 IsRefusedFor f (Ok a) = ⊥
 IsRefusedFor f (Err e) = IsFaulty f e

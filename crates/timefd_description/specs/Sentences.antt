@@ -1,4 +1,4 @@
--- The sentence of a part of a text that does not read.
+-- The sentence about a part of a text that doesn't read.
 use Rattle.std.specs.Prelude.{◌++◌, codes}
 use Rattle.std.specs.Fmt.{decimal}
 use Rattle.timefd_component.specs.Tree.{Text}
@@ -7,7 +7,7 @@ use Rattle.timefd_read_dates.specs.declared.fault.ReadError.{ReadError}
 use Rattle.timefd_read_dates.specs.declared.fault.Reason.{Reason}
 use Rattle.timefd_read_dates.specs.declared.fault.Reason.TheVariants as for
 
--- Why it does not read, without a place.
+-- Why it doesn't read, without the position.
 abbrev pub reason_sentence : Reason → Text
 reason_sentence (for.Unread c) =
     codes "the component `" ++ (name c ++ codes "` was expected")
@@ -16,6 +16,6 @@ reason_sentence (for.Contradiction c) =
 reason_sentence for.Literal = codes "another text was expected"
 reason_sentence for.Trailing = codes "nothing may follow"
 
--- The same with its place.
+-- Why it doesn't read, and the byte index where it begins.
 abbrev pub unread_sentence : ReadError → Text
 unread_sentence u = reason_sentence u.reason ++ (codes " at byte " ++ decimal u.index)

@@ -1,4 +1,4 @@
-//! The lists that composite letters of strftime stand for, as nodes.
+//! The lists of items that composite letters of strftime mean, as nodes.
 
 ghost use Rattle.std.specs.Prelude.{◌≡◌, ◌∷◌, ◌++◌, [], IsTrue, OnOk};
 ghost use Rattle.std.specs.List.{list_all};

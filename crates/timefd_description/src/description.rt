@@ -13,8 +13,8 @@ use timefd_node_list::View;
 use timefd_parse::{BorrowedParseError, Language};
 use timefd_read_dates::{Fields, ReadError, read_fields};
 
-/// A format description, opened. It borrows its text, and is the same whatever language that is in: a
-/// formatter and a reader see one tree, and no items and tables.
+/// A format description, opened. It borrows its text. Whatever the language of the text, formatting and
+/// reading see one tree, and no items or tables.
 #[derive(Drop)]
 pub struct Description<'a> {
     nodes: FormatDescriptionV3<'a>,
@@ -23,7 +23,7 @@ pub struct Description<'a> {
 impl<'a> Description<'a> {
     ghost use Rattle.std.specs.Prelude.{◌≡◌, [], IfOk, IsOk, List, MatchResult};
     ghost use Rattle.std.specs.Result.{IfErr};
-    ghost use Rattle.timefd_fault.specs.BorrowedFaults.{IsLent, IsLentOf, IsMemory};
+    ghost use Rattle.timefd_fault.specs.BorrowedFaults.{IsBorrowed, IsBorrowedOf, IsMemory};
     ghost use Rattle.timefd_component.specs.Tree.{Tree};
     ghost use Rattle.timefd_description.specs.Descriptions.{IsOf};
     ghost use Rattle.timefd_fault.specs.Faults as spec;
@@ -36,24 +36,25 @@ impl<'a> Description<'a> {
 
     /// Opens a text of a language.
     ///
-    /// The error is `Invalid` with the fault of the text, or `Memory` where memory ran out. A text that
-    /// has a fault is refused for it even then.
+    /// The error is `Invalid` with the fault of the text, or `Memory` if memory ran out. A text with a
+    /// fault is refused for that fault even then.
     pub fn parse(
         alloc: Global,
         language: Language,
         text: &'a str,
     ) -> Result<Description<'a>, BorrowedParseError<'a>>
-        // What is accepted is spelled so, and what is refused is refused for the fault that the rules
-        // assign.
+        // An accepted text spells what was read, and a refused text is refused for the fault that the
+        // rules assign.
         ensures found { IfOk result (λ d. (list : List Tree)
             × SpellsIn language nesting_limit text.now list × IsOf list d) }
-        ensures fault { IfErr result (IsLentOf (FaultIn language nesting_limit text.now)) }
+        ensures fault { IfErr result (IsBorrowedOf (FaultIn language nesting_limit text.now)) }
 
-        // What is spelled is accepted, unless memory runs out, and what has a fault is refused for it.
+        // A text that spells items is accepted, unless memory runs out, and a text with a fault is
+        // refused for it.
         ensures spelled { (list : List Tree) → SpellsIn language nesting_limit text.now list
             → MatchResult result (IsOf list) IsMemory }
         ensures refused { (f : spec.Fault) → FaultIn language nesting_limit text.now f
-            → MatchResult result (λ _. ⊥) (IsLent f) }
+            → MatchResult result (λ _. ⊥) (IsBorrowed f) }
 
         // The empty text takes no memory.
         ensures empty { text.now ≡ [] → IsOk result }
@@ -70,38 +71,38 @@ impl<'a> Description<'a> {
         }
     }
 
-    /// The tree that it is, to look at in place.
+    /// A view of its tree, without a copy.
     pub fn view(&self) -> View<'_, 'a>
         ensures { view_tree result ≡ tree self.now }
     {
         self.nodes.view()
     }
 
-    /// The most bytes that it writes of any moment.
+    /// The most bytes that it writes for any moment.
     pub fn max_bytes_needed(&self) -> usize
         ensures { result ≡ reserve (tree self.now) }
     {
         self.nodes.max_bytes_needed()
     }
 
-    /// What it writes of a moment. The error is the first component that shows nothing of it, or that
-    /// memory ran out.
+    /// The text that it writes for a moment. The error names the first component that shows nothing of
+    /// the moment, or says that memory ran out.
     pub fn format(&self, alloc: Global, moment: Moment) -> Result<String, TextError>
         ensures { IsAnswer (written moment (tree self.now)) result }
     {
         format(alloc, moment, self.view())
     }
 
-    /// The fields that a whole text shows by it. The error is the first part that does not read, and the
-    /// byte index where it begins. It takes no memory, and stack as deep as the description is nested.
+    /// Reads a whole text, and returns the fields that it shows. The error is the first part that
+    /// doesn't read, with the byte index where it begins. Takes no memory, but stack in proportion to
+    /// the nesting of the description.
     pub fn read(&self, text: &str) -> Result<Fields, ReadError>
         ensures { result ≡ fields_of (tree self.now) text.now }
     {
         read_fields(self.view(), text)
     }
 
-    /// A copy that borrows nothing, so it may outlive the text. An `Err` comes where there is no memory
-    /// left for it.
+    /// A copy that borrows nothing, so it may outlive the text. An `Err` says that memory ran out.
     pub fn to_owned(&self, alloc: Global) -> Result<Description<'static>, AllocError>
         ensures { IfOk result (λ copy. tree copy ≡ tree self.now) }
     {

@@ -1,7 +1,7 @@
 //! Why a text writes nothing.
 
 ghost use Rattle.std.specs.Prelude.{◌≡◌};
-ghost use Rattle.timefd_fault.specs.BorrowedFaults as lent;
+ghost use Rattle.timefd_fault.specs.BorrowedFaults as borrowed;
 ghost use Rattle.timefd_fault.specs.Faults as spec;
 ghost use Rattle.timefd_description.specs.Formatted.{IsFaulty, IsMemory, of_text_error};
 
@@ -12,15 +12,15 @@ use timefd_parse::{BorrowedFault, BorrowedParseError};
 /// Why a text writes nothing of a moment.
 #[derive(Drop)]
 pub enum FormatTextError<'a> {
-    /// The text is no description, for this fault.
+    /// The text isn't a description, because of this fault.
     Fault(BorrowedFault<'a>),
-    /// A component shows nothing of the moment. It is the first such one.
+    /// The first component that shows nothing of the moment.
     Unshown(Unshown),
     /// Memory ran out. The text has no fault then.
     Memory(AllocError),
 }
 
-/// The same error, of a text that is a description.
+/// Converts the error of a text that is a description.
 pub(crate) fn of_text_error<'a>(error: TextError) -> FormatTextError<'a>
     ensures { result ≡ of_text_error error }
 {
@@ -30,10 +30,10 @@ pub(crate) fn of_text_error<'a>(error: TextError) -> FormatTextError<'a>
     }
 }
 
-/// The same error, of a text that was not read.
+/// Converts the error of a text that wasn't read.
 pub(crate) fn of_parse_error(error: BorrowedParseError<'_>) -> FormatTextError<'_>
-    ensures fault { (f : spec.Fault) → lent.IsLent f error.entry → IsFaulty f result }
-    ensures memory { lent.IsMemory error.entry → IsMemory result }
+    ensures fault { (f : spec.Fault) → borrowed.IsBorrowed f error.entry → IsFaulty f result }
+    ensures memory { borrowed.IsMemory error.entry → IsMemory result }
 {
     match error {
         BorrowedParseError::Invalid(fault) => FormatTextError::Fault(fault),

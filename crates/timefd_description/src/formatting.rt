@@ -1,4 +1,4 @@
-//! The text of a description, and what it writes.
+//! Writes a moment by the text of a description.
 
 ghost use Rattle.std.specs.Prelude.{List};
 ghost use Rattle.timefd_component.specs.Tree.{Tree, trees};
@@ -20,7 +20,7 @@ use timefd_parse::{
     StrftimeTables, count_strftime, parse_all_borrowed, parse_strftime_all_borrowed,
 };
 
-/// What a text of a language writes of the moment, in bytes.
+/// The bytes that a text of a language writes for the moment.
 ///
 /// A text with a fault is refused for it, whatever the moment is and however little memory there is.
 pub fn format_text<'a>(
@@ -82,7 +82,7 @@ fn format_strftime<'a>(
     }
 }
 
-// Why a text of strftime was not read, found again as an error that doesn't borrow the tables.
+// Why a text of strftime wasn't read, found again as an error that doesn't borrow the tables.
 fn strftime_error(text: &str) -> FormatTextError<'_>
     ensures spelled { (list : List Tree) → SpellsIn Language.Strftime nesting_limit text.now list
         → IsMemory result }

@@ -1,4 +1,4 @@
-//! Format descriptions of any language, opened once: what moments are written and texts are read by.
+//! Format descriptions of any language, opened once, to write moments and to read texts.
 #![tactic(auto)]
 
 // The description, and how a text of each language becomes one.

@@ -1,4 +1,4 @@
-//! Literals, components and lists, put behind one another as nodes.
+//! Literals, components and lists, added one after another as nodes.
 
 ghost use Rattle.std.specs.Prelude.{◌≡◌, ◌∷◌, ◌++◌, ◌≤◌, [], IfOk, IsOk, OnOk, length};
 ghost use Rattle.timefd_component.specs.Tree as spec;
@@ -11,8 +11,8 @@ ghost use Rattle.timefd_node_list.specs.Nodes.{before, ending};
 use std::alloc::AllocError;
 use timefd_items::{DescriptionBuilder, FormatDescriptionV3};
 
-/// All that was built, as one description. An `Err` comes where there is no memory left, or where a
-/// `usize` doesn't count the bytes that it may write.
+/// All that was built, as one description. An `Err` says that memory ran out, or that the bytes
+/// that it may write don't fit a `usize`.
 pub fn finished(builder: DescriptionBuilder<'_>) -> Result<FormatDescriptionV3<'_>, AllocError>
     ensures ok { IfOk result (λ d. description_tree d ≡ pack (built builder.entry)) }
     ensures empty { built builder.entry ≡ [] → IsOk result }
@@ -24,7 +24,7 @@ pub fn finished(builder: DescriptionBuilder<'_>) -> Result<FormatDescriptionV3<'
     }
 }
 
-/// Makes the last trees, so many, one. An `Err` comes as that of `finished` does.
+/// Packs the last `count` trees into one. It fails where `finished` fails.
 pub fn pack_last(builder: &mut DescriptionBuilder<'_>, count: usize) -> Result<(), AllocError>
     requires { count ≤ length (built builder.old) }
     ensures { OnOk result (built builder.new ≡ before count (built builder.old)

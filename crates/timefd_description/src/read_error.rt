@@ -11,17 +11,17 @@ use timefd_read_moment::ValueError;
 /// Why a text shows nothing by the text of a description.
 #[derive(Drop)]
 pub enum ReadTextError<'a> {
-    /// The text of the description is none, for this fault.
+    /// The text of the description isn't a description, because of this fault.
     Fault(BorrowedFault<'a>),
-    /// This part of the text does not read, and it begins at this byte index. It is the first one.
+    /// The first part of the text that doesn't read, and the byte index where it begins.
     Unread(ReadError),
-    /// The whole text was read, and what was read is no moment.
+    /// The whole text was read, but what was read isn't a moment.
     Value(ValueError),
     /// Memory ran out. The text of the description has no fault then.
     Memory(AllocError),
 }
 
-/// The same error, of a text that was not read as a description.
+/// Converts the error of a text that wasn't read as a description.
 pub(crate) fn of_parse_error(error: BorrowedParseError<'_>) -> ReadTextError<'_>
     ensures { result ≡ spec.of_parse_error error.entry }
 {

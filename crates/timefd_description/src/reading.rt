@@ -1,4 +1,4 @@
-//! The text of a description, and what another text shows by it.
+//! Reads a text by the text of a description.
 
 ghost use Rattle.std.specs.Prelude.{◌≡◌, List};
 ghost use Rattle.std.specs.Result.{IfErr};
@@ -9,7 +9,7 @@ ghost use Rattle.timefd_items.specs.Description.{description_tree};
 ghost use Rattle.timefd_language.specs.Grammar.{nesting_limit};
 ghost use Rattle.timefd_parse.specs.Language.{FaultIn, SpellsIn};
 ghost use Rattle.timefd_read_dates.specs.Reads.{fields_of};
-ghost use Rattle.timefd_description.specs.ReadAnswers.{AreFieldsAs, HasFaultOf, IsFaulty, IsMemory, IsReadAs, IsRefusedFor, fields_in, told};
+ghost use Rattle.timefd_description.specs.ReadAnswers.{AreFieldsAs, HasFaultOf, IsFaulty, IsMemory, IsReadAs, IsRefusedFor, fields_in, read_answer};
 
 use crate::read_error::{ReadTextError, of_parse_error};
 use std::alloc::{AllocError, Global};
@@ -22,7 +22,8 @@ use timefd_parse::{
 use timefd_read_dates::{Fields, ReadError, read_fields, read_item_fields};
 use timefd_read_moment::moment;
 
-/// The moment that a whole text shows by the text of a description, in any language.
+/// Reads a whole text by the text of a description, in any language, and returns the moment that the
+/// text shows.
 ///
 /// A description with a fault is refused for it, whatever the text is and however little memory
 /// there is.
@@ -32,17 +33,17 @@ pub fn read_text<'a>(
     description: &'a str,
     text: &str,
 ) -> Result<Moment, ReadTextError<'a>>
-    // By a description the text is read as its items read it, and what was read determines the
-    // moment; or the first part that does not read is named, or why what was read is no moment. Else
-    // memory ran out.
+    // The text is read as the items of the description read it, and what was read determines the
+    // moment. The error names the first part that doesn't read, or says why what was read isn't a
+    // moment, or that memory ran out.
     ensures spelled { (list : List Tree) → SpellsIn language nesting_limit description.now list
         → IsReadAs (fields_in list text.now) result }
 
-    // Any other text in its place is refused for the fault that the rules assign.
+    // Any other text instead of a description is refused for the fault that the rules assign.
     ensures refused { (f : spec.Fault) → FaultIn language nesting_limit description.now f
         → IsRefusedFor f result }
 
-    // A fault that is answered is the one that the rules assign.
+    // A fault that is returned is the one that the rules assign.
     ensures fault { IfErr result (HasFaultOf (FaultIn language nesting_limit description.now)) }
 {
     match read_text_fields(alloc, language, description, text) {
@@ -54,8 +55,8 @@ pub fn read_text<'a>(
     }
 }
 
-/// The fields that a whole text shows by the text of a description, in any language. The error is no
-/// `Value`.
+/// Reads a whole text by the text of a description, in any language, and returns the fields that the
+/// text shows. The error is never `Value`.
 ///
 /// A description with a fault is refused for it, whatever the text is and however little memory
 /// there is.
@@ -65,16 +66,16 @@ pub fn read_text_fields<'a>(
     description: &'a str,
     text: &str,
 ) -> Result<Fields, ReadTextError<'a>>
-    // By a description the text is read as its items read it, or the first part that does not read is
-    // named, unless memory runs out.
+    // The text is read as the items of the description read it. The error names the first part that
+    // doesn't read, or says that memory ran out.
     ensures spelled { (list : List Tree) → SpellsIn language nesting_limit description.now list
         → AreFieldsAs (fields_in list text.now) result }
 
-    // Any other text in its place is refused for the fault that the rules assign.
+    // Any other text instead of a description is refused for the fault that the rules assign.
     ensures refused { (f : spec.Fault) → FaultIn language nesting_limit description.now f
         → IsRefusedFor f result }
 
-    // A fault that is answered is the one that the rules assign.
+    // A fault that is returned is the one that the rules assign.
     ensures fault { IfErr result (HasFaultOf (FaultIn language nesting_limit description.now)) }
 {
     match language {
@@ -123,7 +124,7 @@ fn by_strftime<'a>(
     }
 }
 
-// Why a text of strftime was not read, found again as an error that doesn't borrow the tables.
+// Why a text of strftime wasn't read, found again as an error that doesn't borrow the tables.
 fn strftime_error(description: &str) -> ReadTextError<'_>
     ensures spelled { (list : List Tree)
         → SpellsIn Language.Strftime nesting_limit description.now list → IsMemory result }
@@ -141,7 +142,7 @@ fn read_by_items<'e>(
     items: &[BorrowedFormatItem<'_>],
     text: &str,
 ) -> Result<Fields, ReadTextError<'e>>
-    ensures { result ≡ told (fields_of (compound (trees (item_trees items.now))) text.now) }
+    ensures { result ≡ read_answer (fields_of (compound (trees (item_trees items.now))) text.now) }
 {
     answer(read_item_fields(items, text))
 }
@@ -150,13 +151,13 @@ fn read_by_description<'e>(
     description: &FormatDescriptionV3<'_>,
     text: &str,
 ) -> Result<Fields, ReadTextError<'e>>
-    ensures { result ≡ told (fields_of (description_tree description.now) text.now) }
+    ensures { result ≡ read_answer (fields_of (description_tree description.now) text.now) }
 {
     answer(read_fields(description.view(), text))
 }
 
 fn answer<'e>(read: Result<Fields, ReadError>) -> Result<Fields, ReadTextError<'e>>
-    ensures { result ≡ told read }
+    ensures { result ≡ read_answer read }
 {
     match read {
         Ok(fields) => Ok(fields),

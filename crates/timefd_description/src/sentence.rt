@@ -1,4 +1,4 @@
-//! What is told of a part of a text that does not read.
+//! The sentences about a part of a text that doesn't read.
 
 ghost use Rattle.std.specs.Prelude.{◌≡◌, IfOk, string_bytes};
 ghost use Rattle.timefd_description.specs.Sentences as spec;
@@ -7,8 +7,8 @@ use std::alloc::{AllocError, Global};
 use timefd_format::component_name;
 use timefd_read_dates::{ReadError, Reason};
 
-/// Why a part of a text doesn't read, and the byte where it begins: `another text was expected at byte
-/// 4`. An `Err` says that memory ran out.
+/// Why a part of a text doesn't read, and the byte index where it begins: `another text was expected at
+/// byte 4`. An `Err` says that memory ran out.
 pub fn unread_sentence(alloc: Global, error: ReadError) -> Result<String, AllocError>
     ensures { IfOk result (λ text. string_bytes text ≡ spec.unread_sentence error) }
 {
@@ -17,8 +17,8 @@ pub fn unread_sentence(alloc: Global, error: ReadError) -> Result<String, AllocE
     format!(in alloc; "{reason} at byte {index}")
 }
 
-/// Why it doesn't read, without the place, which a caller may say in words of its own: `another text was
-/// expected`. An `Err` says that memory ran out.
+/// Why it doesn't read, without the position, which a caller may give in its own words: `another text
+/// was expected`. An `Err` says that memory ran out.
 pub fn reason_sentence(alloc: Global, reason: Reason) -> Result<String, AllocError>
     ensures { IfOk result (λ text. string_bytes text ≡ spec.reason_sentence reason) }
 {

@@ -79,7 +79,7 @@ fn pieces<'a>(
         (MemoryOr (IsFaultIn version nesting_limit 0 text.now)) }
     ensures some { IfErr result (λ _. 0 < length text.now) }
 {
-    // What these versions nest is a fault, and so nothing is built of it.
+    // A nested description is a fault in these versions, so nothing is built here.
     let mut nested = DescriptionBuilder::new(alloc);
     let mut builder = DescriptionBuilder::new(alloc);
     let mut rest = text;

@@ -1,4 +1,4 @@
--- Two words side by side: the table's cells are the least edits that lead from one to the other.
+-- Two words side by side: the table's cells are the least edits from one to the other.
 use Rattle.std.proofs.Common.{◌≡◌, ◌∙◌, ℕ, zero, suc, ◌+◌, ◌-◌, ◌<◌, ◌≤◌, ◌⊎◌, inl, inr, Bool, true, false, List, [], ◌∷◌, ◌++◌, length, length-append, get_or, min, arith, refl, sym, ap, subst, true≢false}
 use Rattle.std.specs.Prelude.{nat_eq, ◌||◌, ◌==◌, if◌then◌else◌}
 use Rattle.std.proofs.lemmas.Int.{clamps}
@@ -8,8 +8,8 @@ use Rattle.strsim.specs.Edits.{cost, last_place}
 use Rattle.strsim.proofs.EditLemmas.{cost_small}
 use Rattle.timefd_diagnosis.proofs.TableLemmas.{IsTable, best, last_row, last_column, last_within, if_below, if_swap, either_test, zero_test, one_of, IsOneEdit}
 
--- The first is made into the second by at most so many edits, from the front on. What stands between
--- two letters that are swapped is taken away, and what comes between them is put in.
+-- At most this many edits turn the first into the second, from the front on. What is between two
+-- swapped letters is taken away, and what comes between them is put in.
 pub data Align : List ℕ → List ℕ → ℕ → Type 0 where
   ends : (m : ℕ) → Align [] [] m
   puts : (p q : List ℕ) (c n m : ℕ) → Align p q n → n < m → Align p (c ∷ q) m
@@ -45,7 +45,7 @@ tail_is x y xs ys e = ap tail_of e
 pub not_empty : (x : ℕ) (xs : List ℕ) → [] ≡ x ∷ xs → ⊥
 not_empty x xs e = cc
 
--- where the part of a list begins that stands in front of what follows
+-- where the part of a list begins that precedes what follows
 found : (s : List ℕ) (d : ℕ) (p xs : List ℕ) (i : ℕ) → s ++ d ∷ p ≡ back xs i
     → (k : ℕ) × (k + 1 + length s ≡ i) × (d ≡ get_or xs k 0) × (p ≡ back xs k)
 found [] d p xs zero e = absurd (not_empty d p (sym e))
@@ -60,7 +60,7 @@ found (x ∷ s) d p xs (suc i) e =
     let r = found s d p xs i (tail_is x (get_or xs i 0) (s ++ d ∷ p) (back xs i) e) in
     (r.0, omega (arith, r.1), r.2, r.3)
 
--- what stands between two places
+-- what is between two positions
 abbrev Between : List ℕ → ℕ → ℕ → Type 0
 Between xs n k =
     (s : List ℕ) × (back xs n ≡ s ++ get_or xs k 0 ∷ back xs k) × (length s + k + 1 ≡ n)
@@ -79,7 +79,7 @@ between : (xs : List ℕ) (n k : ℕ) → k < n → Between xs n k
 between xs zero k within = absurd (omega arith)
 between xs (suc n) k within = between_more xs n k (between xs n k) (under_or_at k n within)
 
--- the last place whose element passes
+-- the last position whose element passes
 last_if : (b : Bool) (k n r : ℕ) → (k < n → k < r) → (k ≡ n → b ≡ true)
     → (k < n) ⊎ (k ≡ n) → k < (if b then suc n else r)
 last_if true k n r before here (inl less) = omega arith
@@ -87,13 +87,13 @@ last_if true k n r before here (inr e) = omega arith
 last_if false k n r before here (inl less) = before less
 last_if false k n r before here (inr e) = absurd (true≢false (sym (here e)))
 
-last_behind : (test : ℕ → Bool) (xs : List ℕ) (d n k : ℕ) → n ≤ length xs → k < n
+last_after : (test : ℕ → Bool) (xs : List ℕ) (d n k : ℕ) → n ≤ length xs → k < n
     → test (get_or xs k 0) ≡ true → k < last_place test xs d n
 unfolding last_place
-last_behind test xs d zero k within under passes = absurd (omega arith)
-last_behind test xs d (suc n) k within under passes =
+last_after test xs d zero k within under passes = absurd (omega arith)
+last_after test xs d (suc n) k within under passes =
     last_if (test (get_or xs n d)) k n (last_place test xs d n)
-    (λ less. last_behind test xs d n k (omega arith) less passes)
+    (λ less. last_after test xs d n k (omega arith) less passes)
     (λ e. ap test (get_or_default xs n d 0 (omega arith) ∙ ap (λ m. get_or xs m 0) (sym e)) ∙ passes)
     (under_or_at k n under)
 
@@ -138,14 +138,14 @@ best_swap a b c s k l some_k some_l =
     if_swap ((k == 0) || (l == 0)) (min a (min b c)) s
     (either_test (k == 0) (l == 0) (zero_test k some_k) (zero_test l some_l))
 
--- One letter stands for another, or is kept.
+-- One letter replaces another, or is kept.
 kept_or_turned : (x y : ℕ) (p q : List ℕ) (n m : ℕ) (b : Bool) → nat_eq x y ≡ b
     → m ≡ n + (if b then 0 else 1) → Align p q n → Align (x ∷ p) (y ∷ q) m
 kept_or_turned x y p q n m true same e way =
     subst (λ c. Align (x ∷ p) (c ∷ q) m) (true_same x y same) (keeps p q x n m way (omega (arith, e)))
 kept_or_turned x y p q n m false same e way = turns p q x y n m way (omega (arith, e))
 
--- The cells of a table are at most as far apart as their places.
+-- The cells of a table differ by no more than their positions.
 module _ (xs ys : List ℕ) (f : ℕ → ℕ → ℕ) (table : IsTable xs ys f) where
   by_put : (i j : ℕ) → i ≤ length xs → j < length ys → f i (suc j) ≤ f i j + 1
   by_put zero j in_xs in_ys = omega (arith, table.first (suc j) (omega arith), table.first j (omega arith))
@@ -209,9 +209,9 @@ module _ (xs ys : List ℕ) (f : ℕ → ℕ → ℕ) (table : IsTable xs ys f) 
       let m = last_row xs ys i j in
       let n = last_column xs ys i j in
       let step = table.step i j m n in_xs in_ys refl refl in
-      let row : k < m = last_behind (λ u. nat_eq u (get_or ys j 0)) xs (get_or ys j 0) i k (omega arith)
+      let row : k < m = last_after (λ u. nat_eq u (get_or ys j 0)) xs (get_or ys j 0) i k (omega arith)
       in_i (same_true (get_or xs k 0) (get_or ys j 0) same_k) in
-      let column : l < n = last_behind (λ v. nat_eq (get_or xs i 0) v) ys (get_or xs i 0) j l
+      let column : l < n = last_after (λ v. nat_eq (get_or xs i 0) v) ys (get_or xs i 0) j l
       (omega arith) in_j (same_true (get_or xs i 0) (get_or ys l 0) (sym same_l)) in
       let m_in = last_within (λ u. nat_eq u (get_or ys j 0)) xs (get_or ys j 0) i in
       let n_in = last_within (λ v. nat_eq (get_or xs i 0) v) ys (get_or xs i 0) j in
@@ -311,7 +311,7 @@ module _ (xs ys : List ℕ) (f : ℕ → ℕ → ℕ) (table : IsTable xs ys f) 
       subst (λ b. Align (x ∷ b) (y ∷ back ys j) m) p
       (subst (λ b. Align (x ∷ s.0 ++ y ∷ back xs (k - 1)) (y ∷ b) m) q ends)
 
-  -- the four ways to a cell, by those to the cells in front of it
+  -- the four ways to a cell, by those to the cells before it
   by_one : (i j : ℕ) → i < length xs → j < length ys → Align (back xs i) (back ys j) (f i j)
       → Align (back xs i) (back ys (suc j)) (f i (suc j)) → Align (back xs (suc i)) (back ys j) (f (suc i) j)
       → ((k l : ℕ) → k < i → l < j → Align (back xs k) (back ys l) (f k l))

@@ -9,24 +9,24 @@ use Rattle.timefd_diagnosis.proofs.TableLemmas.{is_table, cell_first, left_of}
 use Rattle.timefd_diagnosis.proofs.AlignLemmas.{Align, ends, puts, takes, keeps, turns, swaps, back, at_least, attained}
 use Rattle.timefd_diagnosis.proofs.EditLemmas.{way_of}
 
--- at most so many edits
+-- at most this many edits
 abbrev MadeIn : ℕ → List ℕ → List ℕ → Type 0
 MadeIn m a b = (n : ℕ) × (n ≤ m) × IsMadeBy n a b
 
-edit_behind : (c : ℕ) (a b : List ℕ) → IsEdit a b → IsEdit (c ∷ a) (c ∷ b)
-edit_behind c a b e =
+edit_after : (c : ℕ) (a b : List ℕ) → IsEdit a b → IsEdit (c ∷ a) (c ∷ b)
+edit_after c a b e =
     (c ∷ e.0, e.1, e.2, e.3, e.4, ap (λ l. c ∷ l) e.5, ap (λ l. c ∷ l) e.6)
 
-pub made_behind : (n c : ℕ) (a b : List ℕ) → IsMadeBy n a b → IsMadeBy n (c ∷ a) (c ∷ b)
-made_behind zero c a b e = ap (λ l. c ∷ l) e
-made_behind (suc n) c a b (m, edit, rest) =
-    (c ∷ m, edit_behind c a m edit, made_behind n c m b rest)
+pub made_after : (n c : ℕ) (a b : List ℕ) → IsMadeBy n a b → IsMadeBy n (c ∷ a) (c ∷ b)
+made_after zero c a b e = ap (λ l. c ∷ l) e
+made_after (suc n) c a b (m, edit, rest) =
+    (c ∷ m, edit_after c a m edit, made_after n c m b rest)
 
-all_behind : (l a b : List ℕ) (m : ℕ) → MadeIn m a b → MadeIn m (l ++ a) (l ++ b)
-all_behind [] a b m made = made
-all_behind (c ∷ l) a b m made =
-    let r = all_behind l a b m made in
-    (r.0, r.1, made_behind r.0 c (l ++ a) (l ++ b) r.2)
+all_after : (l a b : List ℕ) (m : ℕ) → MadeIn m a b → MadeIn m (l ++ a) (l ++ b)
+all_after [] a b m made = made
+all_after (c ∷ l) a b m made =
+    let r = all_after l a b m made in
+    (r.0, r.1, made_after r.0 c (l ++ a) (l ++ b) r.2)
 
 first_edit : (a c b : List ℕ) (m k : ℕ) → IsEdit a c → MadeIn m c b → m < k → MadeIn k a b
 first_edit a c b m k edit made less = (suc made.0, omega (arith, made.1, less), (c, edit, made.2))
@@ -54,19 +54,19 @@ made_of : (p q : List ℕ) (m : ℕ) → Align p q m → MadeIn m p q
 made_of _ _ _ (ends m) = (0, omega arith, refl)
 made_of _ _ _ (puts p q c n m way less) =
     first_edit p (c ∷ p) (c ∷ q) n m ([], p, [], c ∷ [], put_in c, refl, refl)
-    (all_behind (c ∷ []) p q n (made_of p q n way)) less
+    (all_after (c ∷ []) p q n (made_of p q n way)) less
 made_of _ _ _ (takes p q c n m way less) =
     first_edit (c ∷ p) p q n m ([], p, c ∷ [], [], taken_away c, refl, refl) (made_of p q n way) less
 made_of _ _ _ (keeps p q c n m way le) =
-    let r = all_behind (c ∷ []) p q n (made_of p q n way) in
+    let r = all_after (c ∷ []) p q n (made_of p q n way) in
     (r.0, omega (arith, r.1, le), r.2)
 made_of _ _ _ (turns p q c d n m way less) =
     first_edit (c ∷ p) (d ∷ p) (d ∷ q) n m ([], p, c ∷ [], d ∷ [], replaced c d, refl, refl)
-    (all_behind (d ∷ []) p q n (made_of p q n way)) less
+    (all_after (d ∷ []) p q n (made_of p q n way)) less
 made_of _ _ _ (swaps p q s t c d n m way less) =
     let whole : MadeIn n ((d ∷ []) ++ (t ++ (c ∷ p))) (d ∷ t ++ c ∷ q) =
-    all_behind (d ∷ []) (t ++ c ∷ p) (t ++ c ∷ q) n
-    (all_behind t (c ∷ p) (c ∷ q) n (all_behind (c ∷ []) p q n (made_of p q n way))) in
+    all_after (d ∷ []) (t ++ c ∷ p) (t ++ c ∷ q) n
+    (all_after t (c ∷ p) (c ∷ q) n (all_after (c ∷ []) p q n (made_of p q n way))) in
     let there : MadeIn (n + length t) (d ∷ c ∷ p) (d ∷ t ++ c ∷ q) =
     with_between (d ∷ []) t (c ∷ p) (d ∷ t ++ c ∷ q) n (n + length t) whole (omega arith) in
     let here : MadeIn (suc (n + length t)) (c ∷ d ∷ p) (d ∷ t ++ c ∷ q) =
@@ -114,7 +114,7 @@ back_whole : (xs : List ℕ) → back xs (length xs) ≡ reverse xs
 back_whole xs =
     back_is xs (length xs) (omega arith) ∙ ap reverse (take_all (length xs) xs (omega arith))
 
--- No fewer edits lead from one word to the other than the table says.
+-- It takes no fewer edits from one word to the other than the table says.
 pub no_fewer : (a b : List ℕ) (m : ℕ) → IsMadeBy m a b → damerau nat_eq a b ≤ m
 no_fewer a b m made =
     let way = way_of m (reverse a) (reverse b) (made_reversed m a b made) in

@@ -8,10 +8,10 @@ use Rattle.timefd_diagnosis.proofs.TableLemmas.{is_table}
 use Rattle.timefd_diagnosis.proofs.AlignLemmas.{Align, ends, puts, takes, keeps, turns, swaps, more, back, head_is, tail_is, not_empty, at_least, attained}
 use Rattle.timefd_diagnosis.proofs.WayLemmas.{take_all, put_all, drop_between, keep_second, without_head, other_head, swapped_head}
 
--- What an edit does to a letter d and to what stands in front of it, s, and behind it, p.
+-- What an edit does to a letter d, to what precedes it, s, and to what follows it, p.
 data Touched (d : ℕ) (s p r : List ℕ) : Type 0 where
   in_front : (u : List ℕ) → length u ≤ length s + 1 → r ≡ u ++ d ∷ p → Touched d s p r
-  behind : (front b old new : List ℕ) → IsChange old new → p ≡ front ++ (new ++ b)
+  after : (front b old new : List ℕ) → IsChange old new → p ≡ front ++ (new ++ b)
       → r ≡ s ++ d ∷ (front ++ (old ++ b)) → Touched d s p r
   gone : r ≡ s ++ p → Touched d s p r
   other : (e : ℕ) → r ≡ s ++ e ∷ p → Touched d s p r
@@ -20,14 +20,14 @@ data Touched (d : ℕ) (s p r : List ℕ) : Type 0 where
 
 longer : (x d : ℕ) (s p r : List ℕ) → Touched d s p r → Touched d (x ∷ s) p (x ∷ r)
 longer x d s p r (in_front u le e) = in_front (x ∷ u) (omega (arith, le)) (ap (λ l. x ∷ l) e)
-longer x d s p r (behind f b old new change is_p e) =
-    behind f b old new change is_p (ap (λ l. x ∷ l) e)
+longer x d s p r (after f b old new change is_p e) =
+    after f b old new change is_p (ap (λ l. x ∷ l) e)
 longer x d s p r (gone e) = gone (ap (λ l. x ∷ l) e)
 longer x d s p r (other y e) = other y (ap (λ l. x ∷ l) e)
 longer x d s p r (earlier u y len e) = earlier (x ∷ u) y (omega (arith, len)) (ap (λ l. x ∷ l) e)
 longer x d s p r (later y b is_p e) = later y b is_p (ap (λ l. x ∷ l) e)
 
--- where the letter itself is the first
+-- if the letter itself is the first
 touched_now : (old new : List ℕ) → IsChange old new → (d : ℕ) (p b : List ℕ) → d ∷ p ≡ new ++ b
     → Touched d [] p (old ++ b)
 touched_now _ _ (put_in c) d p b e = gone (sym (tail_is d c p b e))
@@ -38,7 +38,7 @@ touched_now _ _ (swapped c x) d p b e =
     later c b (tail_is d x p (c ∷ b) e)
     (ap (λ y. c ∷ y ∷ b) (sym (head_is d x p (c ∷ b) e)))
 
--- where two letters have changed places, of which the first stands in front
+-- if two letters are swapped, the first of which precedes the letter
 touched_pair : (s : List ℕ) (c x d : ℕ) (p b : List ℕ) → s ++ d ∷ p ≡ c ∷ b
     → Touched d (x ∷ s) p (c ∷ x ∷ b)
 touched_pair [] c x d p b e =
@@ -64,7 +64,7 @@ touched : (old new : List ℕ) → IsChange old new → (s : List ℕ) (d : ℕ)
     → s ++ d ∷ p ≡ front ++ (new ++ b) → Touched d s p (front ++ (old ++ b))
 touched old new change [] d p [] b e = touched_now old new change d p b e
 touched old new change [] d p (f ∷ front) b e =
-    behind front b old new change (tail_is d f p (front ++ (new ++ b)) e)
+    after front b old new change (tail_is d f p (front ++ (new ++ b)) e)
     (ap (λ y. y ∷ front ++ (old ++ b)) (sym (head_is d f p (front ++ (new ++ b)) e)))
 touched old new change (x ∷ s) d p [] b e = touched_first old new change x s d p b e
 touched old new change (x ∷ s) d p (f ∷ front) b e =
@@ -73,7 +73,7 @@ touched old new change (x ∷ s) d p (f ∷ front) b e =
     (longer x d s p (front ++ (old ++ b))
     (touched old new change s d p front b (tail_is x f (s ++ d ∷ p) (front ++ (new ++ b)) e)))
 
--- The first letter behind a swap has come in front of its second one.
+-- The first letter after a swap has moved before its second one.
 crossing : (r b : List ℕ) (n : ℕ) → Align r b n
     → (c d e : ℕ) (s t u p : List ℕ) (m : ℕ) → r ≡ e ∷ p
     → n + length s + length t + length u + 1 < m
@@ -124,7 +124,7 @@ in_swap : (p q s t r : List ℕ) (c d k n : ℕ) → Align p q k → k + length 
 in_swap p q s t r c d k n way less rest (in_front u le e) =
     subst (λ l. Align (c ∷ l) (d ∷ t ++ c ∷ q) (suc n)) (sym e)
     (swaps p q u t c d k (suc n) way (omega (arith, less, le)))
-in_swap p q s t r c d k n way less rest (behind front b old new change is_p e) =
+in_swap p q s t r c d k n way less rest (after front b old new change is_p e) =
     subst (λ l. Align (c ∷ l) (d ∷ t ++ c ∷ q) (suc n)) (sym e)
     (swaps (front ++ (old ++ b)) q s t c d (suc k) (suc n) (rest front b old new change is_p)
     (omega (arith, less)))
@@ -181,7 +181,7 @@ same_way : (p : List ℕ) → Align p p 0
 same_way [] = ends 0
 same_way (c ∷ p) = keeps p p c 0 0 (same_way p) (omega arith)
 
--- As many edits make a way.
+-- As many edits are a way.
 pub way_of : (n : ℕ) (a b : List ℕ) → IsMadeBy n a b → Align a b n
 way_of zero a b e = subst (λ l. Align a l 0) e (same_way a)
 way_of (suc n) a b (c, edit, rest) =

@@ -1,4 +1,4 @@
--- Whether one edit makes a word of another, by their first characters.
+-- Whether one edit turns a word into another, by their first characters.
 use Rattle.std.proofs.Common.{Bool, true, false, true≢false, ◌≡◌, ◌≢◌, ◌∙◌, ℕ, zero, suc, ◌+◌, ◌<◌, ◌≤◌, ◌⊎◌, inl, inr, List, [], ◌∷◌, ◌++◌, length, min, arith, refl, sym, ap, subst}
 use Rattle.std.specs.Prelude.{IsUtf8, chars, nat_eq}
 use Rattle.std.specs.Cmp.Lexicographic.{pointwise, pointwise_decides}
@@ -8,10 +8,10 @@ use lib.Utf8.{encode, encodes}
 use Rattle.timefd_diagnosis.specs.Edits.{IsChange, put_in, taken_away, replaced, swapped, IsEdit, IsMadeBy, IsFew}
 use Rattle.timefd_diagnosis.specs.Few.{IsSwap}
 use Rattle.timefd_diagnosis.proofs.AlignLemmas.{head_is, tail_is}
-use Rattle.timefd_diagnosis.proofs.DistanceLemmas.{made_behind}
+use Rattle.timefd_diagnosis.proofs.DistanceLemmas.{made_after}
 use Rattle.timefd_diagnosis.proofs.NearestLemmas.{made_length}
 
--- where the edit is at the common character itself
+-- if the edit is at the common character itself
 near_here : (old new : List ℕ) → IsChange old new → (c : ℕ) (a b back : List ℕ) → c ∷ a ≡ old ++ back
     → c ∷ b ≡ new ++ back → (a ≡ b) ⊎ IsEdit a b
 near_here _ _ (put_in x) c a b back e f =
@@ -42,22 +42,22 @@ few_of_near : (a b : List ℕ) (n : ℕ) → IsFew a b n → (a ≡ b) ⊎ IsEdi
 few_of_near a b n is (inl e) = let none = is.least 0 e in omega (arith, none)
 few_of_near a b n is (inr edit) = is.least 1 (b, edit, refl)
 
-least_behind : (m c : ℕ) (a b : List ℕ) (n : ℕ) → IsFew a b n → IsMadeBy m (c ∷ a) (c ∷ b) → n ≤ m
-least_behind zero c a b n is e = is.least 0 (tail_is c c a b e)
-least_behind (suc zero) c a b n is (x, edit, e) =
+least_after : (m c : ℕ) (a b : List ℕ) (n : ℕ) → IsFew a b n → IsMadeBy m (c ∷ a) (c ∷ b) → n ≤ m
+least_after zero c a b n is e = is.least 0 (tail_is c c a b e)
+least_after (suc zero) c a b n is (x, edit, e) =
     few_of_near a b n is
     (near edit.0 edit.1 edit.2 edit.3 edit.4 c a b edit.5 (sym e ∙ edit.6))
-least_behind (suc (suc m)) c a b n is made = let few = is.few in omega (arith, few)
+least_after (suc (suc m)) c a b n is made = let few = is.few in omega (arith, few)
 
--- A character that stands in front of both words changes nothing.
-pub few_behind : (c : ℕ) (a b : List ℕ) (n : ℕ) → IsFew a b n → IsFew (c ∷ a) (c ∷ b) n
-few_behind c a b n is = record {
-  made = λ low. made_behind n c a b (is.made low);
-  least = λ m made. least_behind m c a b n is made;
+-- A character before both words changes nothing.
+pub few_after : (c : ℕ) (a b : List ℕ) (n : ℕ) → IsFew a b n → IsFew (c ∷ a) (c ∷ b) n
+few_after c a b n is = record {
+  made = λ low. made_after n c a b (is.made low);
+  least = λ m made. least_after m c a b n is made;
   few = is.few;
 }
 
--- One edit makes the second of the first, and they differ.
+-- One edit turns the first into the second, and they differ.
 pub one_few : (a b : List ℕ) → a ≢ b → IsEdit a b → IsFew a b 1
 one_few a b differs edit = record {
   made = λ low. (b, edit, refl);
@@ -78,7 +78,7 @@ unlike_here _ _ (taken_away x) c d a b back unlike turned put taken swap e f =
 unlike_here _ _ (replaced x y) c d a b back unlike turned put taken swap e f =
     turned (tail_is c x a back e ∙ sym (tail_is d y b back f))
 unlike_here _ _ (swapped x y) c d a b back unlike turned put taken swap e f =
-    swap (record { c = x; d = y; behind = back; from = e; to = f })
+    swap (record { c = x; d = y; after = back; from = e; to = f })
 
 unlike_apart : (front back old new : List ℕ) → IsChange old new → (c d : ℕ) (a b : List ℕ) → c ≢ d → a ≢ b
     → c ∷ a ≢ b → a ≢ d ∷ b → (IsSwap (c ∷ a) (d ∷ b) → ⊥) → c ∷ a ≡ front ++ (old ++ back)
@@ -88,7 +88,8 @@ unlike_apart [] back old new change c d a b unlike turned put taken swap e f =
 unlike_apart (x ∷ front) back old new change c d a b unlike turned put taken swap e f =
     unlike (head_is c x a (front ++ (old ++ back)) e ∙ sym (head_is d x b (front ++ (new ++ back)) f))
 
--- No one edit makes a word of another that begins with another character, if none of the four does.
+-- No single edit turns a word into another that begins with a different character, if none of the
+-- four does.
 pub two_few : (c d : ℕ) (a b : List ℕ) → c ≢ d → a ≢ b → c ∷ a ≢ b → a ≢ d ∷ b
     → (IsSwap (c ∷ a) (d ∷ b) → ⊥) → IsFew (c ∷ a) (d ∷ b) 2
 two_few c d a b unlike turned put taken swap = record {
@@ -146,10 +147,10 @@ same_text a b is_a is_b e =
     (pointwise_decides Decides-eqb a b).1
     (sym (encodes-chars a is_a) ∙ (ap encodes e ∙ encodes-chars b is_b))
 
-pub one_off : (text from rest behind : List ℕ) (c : ℕ) → IsUtf8 text → from ≡ text
-    → from ≡ encode c ++ rest → behind ≡ rest → chars text ≡ c ∷ chars behind
-one_off text from rest behind c is same step e =
-    chars_past_char text behind c is (sym same ∙ (step ∙ ap (λ l. encode c ++ l) (sym e)))
+pub one_off : (text from rest after : List ℕ) (c : ℕ) → IsUtf8 text → from ≡ text
+    → from ≡ encode c ++ rest → after ≡ rest → chars text ≡ c ∷ chars after
+one_off text from rest after c is same step e =
+    chars_past_char text after c is (sym same ∙ (step ∙ ap (λ l. encode c ++ l) (sym e)))
 
 pub none_off : (text from : List ℕ) → from ≡ text → length from ≡ 0 → chars text ≡ []
 none_off [] from same none = chars-nil
@@ -177,7 +178,7 @@ pub one_swap : (w o a b : List ℕ) (c d : ℕ) → w ≡ c ∷ a → o ≡ d �
     → IsSwap (c ∷ a) (d ∷ b) → IsFew w o 1
 one_swap w o a b c d is_w is_o unlike s =
     one_few w o (apart w o a b c d is_w is_o unlike)
-    ([], s.behind, s.c ∷ s.d ∷ [], s.d ∷ s.c ∷ [], swapped s.c s.d, is_w ∙ s.from, is_o ∙ s.to)
+    ([], s.after, s.c ∷ s.d ∷ [], s.d ∷ s.c ∷ [], swapped s.c s.d, is_w ∙ s.from, is_o ∙ s.to)
 
 pub two_apart : (w o a b : List ℕ) (c d : ℕ) → w ≡ c ∷ a → o ≡ d ∷ b → c ≢ d → a ≢ b → w ≢ b → a ≢ o
     → (IsSwap (c ∷ a) (d ∷ b) → ⊥) → IsFew w o 2
@@ -190,7 +191,7 @@ pub few_front : (w o a b : List ℕ) (c d n : ℕ) → w ≡ c ∷ a → o ≡ d
     → IsFew w o n
 few_front w o a b c d n is_w is_o e few =
     subst (λ l. IsFew l o n) (sym is_w)
-    (subst (λ l. IsFew (c ∷ a) l n) (ap (λ x. x ∷ b) e ∙ sym is_o) (few_behind c a b n few))
+    (subst (λ l. IsFew (c ∷ a) l n) (ap (λ x. x ∷ b) e ∙ sym is_o) (few_after c a b n few))
 
 pub few_from_none : (w o : List ℕ) (n : ℕ) → w ≡ [] → n ≡ min 2 (length o) → IsFew w o n
 few_from_none w o n none is = subst (λ l. IsFew l o n) (sym none) (few_put o n is)

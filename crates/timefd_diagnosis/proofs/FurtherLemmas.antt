@@ -21,7 +21,7 @@ use Rattle.timefd_parse.specs.declared.language.Language.{Language}
 use Rattle.timefd_parse.specs.Language.{SpellsIn, FaultIn}
 use Rattle.timefd_diagnosis.specs.declared.diagnostic.Diagnostic.{Diagnostic}
 use Rattle.timefd_diagnosis.specs.Diagnoses.{IsDiagnosed, IsDiagnosis}
-use Rattle.timefd_diagnosis.specs.Further.{AreFurther, before_last, behind_closing, closed, opened, without}
+use Rattle.timefd_diagnosis.specs.Further.{AreFurther, before_last, after_closing, closed, opened, without}
 
 -- The last byte of a kind.
 
@@ -36,8 +36,8 @@ found_below : (byte : ℕ) (text : Text) (n k : ℕ) → k < n → get_or text k
 found_below byte text zero k below at last = absurd (omega (arith, below))
 found_below byte text (suc n) k below at last = elim (cases_lt k n) [
   | inl before ↦ rw (other_byte (get_or text n 0) byte (last n before (omega arith)))
-      (found_below byte text n k before at (λ i behind within. last i behind (omega (arith, within))))
-  | inr behind ↦ here n k (omega (arith, below, behind)) at
+      (found_below byte text n k before at (λ i after within. last i after (omega (arith, within))))
+  | inr after ↦ here n k (omega (arith, below, after)) at
 ]
   where
     here : (n k : ℕ) → k ≡ n → get_or text k 0 ≡ byte → rfind_below byte text (suc n) ≡ Some k
@@ -66,14 +66,14 @@ none_of byte front ascii none =
     ap (λ r. option_map (λ i. take i front) r)
     (none_below byte front (length front) (rfind_char byte front None none ascii))
 
--- What stands at an index, and in front of it.
+-- What is at an index, and before it.
 
-pub opened_at : (byte : ℕ) (front rest behind : Text) → rest ≡ byte ∷ behind
-    → opened byte front rest ≡ Some (front, behind)
-opened_at byte front rest behind is =
-    subst (λ r. opened byte front r ≡ Some (front, behind)) (sym is) (rw (same_byte byte) refl)
+pub opened_at : (byte : ℕ) (front rest after : Text) → rest ≡ byte ∷ after
+    → opened byte front rest ≡ Some (front, after)
+opened_at byte front rest after is =
+    subst (λ r. opened byte front r ≡ Some (front, after)) (sym is) (rw (same_byte byte) refl)
 
-pub opened_before : (byte : ℕ) (front rest : Text) → ((behind : Text) → rest ≢ byte ∷ behind)
+pub opened_before : (byte : ℕ) (front rest : Text) → ((after : Text) → rest ≢ byte ∷ after)
     → opened byte front rest ≡ option_map (λ before. (before, rest)) (before_last byte front)
 opened_before byte front [] other = refl
 opened_before byte front (b ∷ rest) other =
@@ -89,36 +89,36 @@ run_open : (b : ℕ) → is_run_byte Three b ≡ true
 run_open b e = (grind (arith, nat_tests), grind (arith, nat_tests), grind (arith, nat_tests))
 
 passed_over : (inside rest : Text) → ZeroOrMore (is_run_byte Three) inside
-    → behind_closing (inside ++ rest) ≡ behind_closing rest
+    → after_closing (inside ++ rest) ≡ after_closing rest
 passed_over [] rest passes = refl
 passed_over (b ∷ inside) rest passes =
     let both = and_parts (is_run_byte Three b) (list_all (is_run_byte Three) inside) passes in
     let parts = run_open b both.0 in
     rw (parts.0, parts.1, parts.2) (passed_over inside rest both.1)
 
-pub closing : (text inside rest behind : Text) → IsCut (is_run_byte Three) text inside rest
-    → rest ≡ right ∷ behind → behind_closing text ≡ Some behind
-closing text inside rest behind parts is =
-    ap behind_closing parts.whole ∙ passed_over inside rest parts.passes ∙ ap behind_closing is
+pub closing : (text inside rest after : Text) → IsCut (is_run_byte Three) text inside rest
+    → rest ≡ right ∷ after → after_closing text ≡ Some after
+closing text inside rest after parts is =
+    ap after_closing parts.whole ∙ passed_over inside rest parts.passes ∙ ap after_closing is
 
 none_closing : (rest : Text) → StopsBefore (is_run_byte Three) rest
-    → ((behind : Text) → rest ≢ right ∷ behind) → behind_closing rest ≡ None
+    → ((after : Text) → rest ≢ right ∷ after) → after_closing rest ≡ None
 none_closing [] stops other = refl
 none_closing (b ∷ rest) stops other = elim (special_cases b (run_special b stops)) [
-  | inl is ↦ subst (λ x. behind_closing (x ∷ rest) ≡ None) (sym is) refl
+  | inl is ↦ subst (λ x. after_closing (x ∷ rest) ≡ None) (sym is) refl
   | inr (inl is) ↦ absurd (other rest (ap (λ x. x ∷ rest) is))
-  | inr (inr is) ↦ subst (λ x. behind_closing (x ∷ rest) ≡ None) (sym is) refl
+  | inr (inr is) ↦ subst (λ x. after_closing (x ∷ rest) ≡ None) (sym is) refl
 ]
 
 pub not_closing : (text inside rest : Text) → IsCut (is_run_byte Three) text inside rest
-    → ((behind : Text) → rest ≢ right ∷ behind) → behind_closing text ≡ None
+    → ((after : Text) → rest ≢ right ∷ after) → after_closing text ≡ None
 not_closing text inside rest parts other =
-    ap behind_closing parts.whole ∙ passed_over inside rest parts.passes
+    ap after_closing parts.whole ∙ passed_over inside rest parts.passes
     ∙ none_closing rest parts.stops other
 
 -- Faults, one after another.
 
--- What is wrong with the rest stands behind what was found so far.
+-- What is wrong with the rest comes after what was found so far.
 pub record IsFoundTo (most count : ℕ) (language : Language) (start rest : Option Text)
     (found : List Diagnostic) : Type 0 where
   pub others : (n : ℕ) → n + count ≡ most → (ds : List Diagnostic) → AreFurther n language rest ds
@@ -197,7 +197,7 @@ enough most count language start rest found is so_far =
     sum : (most count : ℕ) → count ≡ most → 0 + count ≡ most
     sum most count is = omega (arith, is)
 
--- The same, as the code finds them.
+-- The faults, as the code finds them.
 
 pub nothing_opens : (byte : ℕ) (front rest : Text) → byte < 128 → FindsCharPrefix byte rest None
     → RFindsChar byte front None → opened byte front rest ≡ None
@@ -216,17 +216,17 @@ opens_before byte front rest before k ascii other found is =
 pub not_closed : (before text inside rest : Text) → IsCut (is_run_byte Three) text inside rest
     → FindsCharPrefix right rest None → closed (before, text) ≡ None
 not_closed before text inside rest parts other =
-    ap (λ r. option_map (λ behind. (before, behind)) r)
+    ap (λ r. option_map (λ after. (before, after)) r)
     (not_closing text inside rest parts (strip_prefix_char right rest None other (omega arith)))
 
-pub is_closed : (before text inside rest : Text) (behind : Bor (List ℕ))
+pub is_closed : (before text inside rest : Text) (after : Bor (List ℕ))
     → IsCut (is_run_byte Three) text inside rest
-    → (n : ℕ) × FindsCharPrefix right rest (Some n) × (behind.now ≡ drop n rest) × (length behind.now + n ≡ length rest)
-    → closed (before, text) ≡ Some (before, behind.now)
-is_closed before text inside rest behind parts found =
-    ap (λ r. option_map (λ behind. (before, behind)) r)
-    (closing text inside rest behind.now parts
-    (strip_prefix_char right rest (Some behind) found (omega arith)))
+    → (n : ℕ) × FindsCharPrefix right rest (Some n) × (after.now ≡ drop n rest) × (length after.now + n ≡ length rest)
+    → closed (before, text) ≡ Some (before, after.now)
+is_closed before text inside rest after parts found =
+    ap (λ r. option_map (λ after. (before, after)) r)
+    (closing text inside rest after.now parts
+    (strip_prefix_char right rest (Some after) found (omega arith)))
 
 pub accepted_rest : (most count : ℕ) (language : Language) (start rest : Option Text)
     (found : List Diagnostic) (left text : Text) → count < most → rest ≡ Some left → text ≡ left

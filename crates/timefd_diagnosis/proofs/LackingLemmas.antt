@@ -1,4 +1,4 @@
--- A word that lacks so many characters of another is as many edits away.
+-- A word that lacks this many characters of another is at least as many edits away.
 use Rattle.std.proofs.Common.{ℕ, zero, suc, ◌≡◌, ◌≤◌, ◌+◌, List, [], ◌∷◌, ◌++◌, append_assoc, refl, sym, ap, subst, ◌∙◌, arith}
 use Rattle.std.specs.Prelude.{Bool, true, false, chars, nat_eq, ◌||◌, if◌then◌else◌}
 use Rattle.std.specs.List.{list_any}

@@ -1,5 +1,5 @@
 pub mod NearestLemmas
-pub mod PlaceLemmas
+pub mod SlotLemmas
 pub mod WordLemmas
 pub mod TableLemmas
 pub mod AlignLemmas
@@ -8,6 +8,6 @@ pub mod EditLemmas
 pub mod DistanceLemmas
 pub mod LackingLemmas
 pub mod FewLemmas
-pub mod ModifierPlaceLemmas
+pub mod ModifierSlotLemmas
 pub mod FurtherLemmas
 pub mod LetterLemmas

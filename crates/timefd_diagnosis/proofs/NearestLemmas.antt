@@ -44,8 +44,8 @@ made_length (suc n) a b (c, edit, rest) =
     let others = made_length n c b rest in
     (omega (arith, first.0, others.0), omega (arith, first.1, others.1))
 
--- What is said of a distance at words without characters and at equal ones, and else, makes it the
--- least.
+-- A distance is the least if it is as stated for words without characters, for equal words, and for
+-- all others.
 one_distance : (a b : Text) (d : ℕ) → (a ≡ b → d ≡ 0) → (chars a ≡ [] → d ≡ length (chars b))
     → (chars b ≡ [] → d ≡ length (chars a))
     → (a ≢ b → chars a ≢ [] → chars b ≢ [] → d ≡ damerau nat_eq (chars a) (chars b))

@@ -1,4 +1,4 @@
--- The table of Lowrance and Wagner, by its cells.
+-- The table of Lowrance and Wagner, cell by cell.
 use Rattle.std.proofs.Common.{◌≡◌, ◌∙◌, ℕ, zero, suc, ◌+◌, ◌-◌, ◌<◌, ◌≤◌, ◌⊎◌, inl, inr, Bool, true, false, List, [], ◌∷◌, ◌++◌, length, length-append, get_or, min, arith, refl, sym, ap, subst}
 use Rattle.std.specs.Prelude.{nat_eq, ◌||◌, ◌==◌, if◌then◌else◌}
 use Rattle.std.specs.List.{range_with_len}
@@ -33,7 +33,7 @@ last_within test xs d (suc n) = last_of (test (get_or xs n d)) n _ (last_within 
     last_of true n k le = omega arith
     last_of false n k le = omega arith
 
--- A cell reads the rows in front of it alone.
+-- A cell reads only the rows before it.
 edit_same : (t u : List (List ℕ)) (left change i j k l : ℕ)
     → ((r : ℕ) → r ≤ i → get_or t r [] ≡ get_or u r []) → k ≤ i
     → best_edit t left change i j k l ≡ best_edit u left change i j k l
@@ -54,7 +54,7 @@ module _ (xs ys : List ℕ) where
       (omega arith)
       ∙ get_front row (c ∷ []) p 0 (omega arith)
 
-  -- the cell behind another one of its row
+  -- the cell after another one of its row
   abbrev next_cell : List (List ℕ) → ℕ → ℕ → ℕ → ℕ → ℕ → ℕ
   next_cell table left x i y j =
       best_edit table left (cost nat_eq x y) i j (last_place (λ u. nat_eq u y) xs y i)
@@ -94,7 +94,7 @@ module _ (xs ys : List ℕ) where
       (omega (arith, length-append table (row ∷ []))) (omega arith)
       ∙ get_front table (row ∷ []) p [] (omega arith)
 
-  -- Each row is made of those in front of it.
+  -- Each row is made from those before it.
   abbrev IsRow : List (List ℕ) → ℕ → ℕ → Type 0
   IsRow whole x q =
       (t : List (List ℕ)) × ((r : ℕ) → r ≤ q → get_or t r [] ≡ get_or whole r [])
@@ -163,7 +163,7 @@ if_below false p s = omega (arith, clamps)
 pub if_swap : (b : Bool) (p s : ℕ) → b ≡ false → (if b then p else min p s) ≤ s
 if_swap b p s off = rw off (omega (arith, clamps))
 
--- One of the four edits makes a cell.
+-- A cell comes from one of the four edits.
 abbrev pub IsOneEdit : (a b c s k l n : ℕ) → Type 0
 IsOneEdit a b c s k l n =
     (n ≡ a) ⊎ ((n ≡ b) ⊎ ((n ≡ c) ⊎ ((0 < k) × (0 < l) × (n ≡ s))))
@@ -192,11 +192,11 @@ one_of false false a b c s k l is_k is_l = elim (two_least (min a (min b c)) s) 
   | inr e ↦ inr (inr (inr (positive_of k is_k, positive_of l is_l, e)))
 ]
 
--- the least of three edits, and of a swap where there is one
+-- the least of three edits, and of a swap if there is one
 abbrev pub best : (a b c s k l : ℕ) → ℕ
 best a b c s k l = if (k == 0) || (l == 0) then min a (min b c) else min (min a (min b c)) s
 
--- where the letter at a place of the second list stands last in front of a place of the first
+-- where the letter at a position of the second list comes last before a position of the first
 abbrev pub last_row : List ℕ → List ℕ → ℕ → ℕ → ℕ
 last_row xs ys i j = last_place (λ u. nat_eq u (get_or ys j 0)) xs (get_or ys j 0) i
 

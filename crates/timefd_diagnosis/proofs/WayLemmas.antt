@@ -1,4 +1,4 @@
--- One more edit in front of a way takes one more edit.
+-- One more edit before a way takes one more edit.
 use Rattle.std.proofs.Common.{◌≡◌, ◌∙◌, ℕ, zero, suc, ◌+◌, ◌<◌, ◌≤◌, List, [], ◌∷◌, ◌++◌, length, length-append, append_assoc, arith, refl, sym, ap, subst}
 use Rattle.timefd_diagnosis.specs.Edits.{IsChange, put_in, taken_away, replaced, swapped}
 use Rattle.timefd_diagnosis.proofs.AlignLemmas.{Align, ends, puts, takes, keeps, turns, swaps, more, head_is, tail_is, not_empty}
@@ -15,7 +15,7 @@ put_all (x ∷ t) p q n m way le =
     puts p (t ++ q) x (n + length t) m (put_all t p q n (n + length t) way (omega arith))
     (omega (arith, le))
 
--- two letters in turn, with what stands between them taken away, and something put between them
+-- two letters in order, with what is between them taken away, and something else put between them
 pub drop_between : (s t p q : List ℕ) (d n m : ℕ) → Align p q n → n + length s + length t ≤ m
     → Align (s ++ d ∷ p) (d ∷ t ++ q) m
 drop_between s t p q d n m way le =
@@ -23,7 +23,7 @@ drop_between s t p q d n m way le =
     (keeps p (t ++ q) d (n + length t) (n + length t) (put_all t p q n (n + length t) way (omega arith)) (omega arith))
     (omega (arith, le))
 
--- The same head on the way, and then a way without it.
+-- A way that keeps its head, and then a way without the head.
 pub keep_second : (c d : ℕ) (s t p q : List ℕ) (n m : ℕ) → Align p q n → n + length s + length t + 1 ≤ m
     → Align (c ∷ s ++ p) (d ∷ t ++ c ∷ q) m
 keep_second c d s t p q n m way le =
@@ -65,7 +65,7 @@ other_head _ _ _ (swaps r q s t x y k n way less) c d p e =
     (drop_between s t r (x ∷ q) y (suc k) n (puts r q x k (suc k) way (omega arith))
     (omega (arith, less))) (omega arith))
 
--- a letter more behind the head
+-- one more letter after the head
 longer_head : (r b : List ℕ) (n : ℕ) → Align r b n → (c d : ℕ) (p : List ℕ) → r ≡ c ∷ p
     → Align (c ∷ d ∷ p) b (suc n)
 longer_head _ _ _ (ends n) c d p e = absurd (not_empty c p e)
@@ -89,7 +89,7 @@ longer_head _ _ _ (swaps r q s t x y k n way less) c d p e =
     (subst (λ l. Align (c ∷ d ∷ l) (y ∷ t ++ c ∷ q) (suc n)) (tail_is x c (s ++ y ∷ r) p e)
     (swaps r q (d ∷ s) t c y k (suc n) way (omega (arith, less))))
 
--- A second letter comes first, in front of what is put there.
+-- A second letter comes first, before what is put there.
 second_first : (r b : List ℕ) (n : ℕ) → Align r b n → (c d : ℕ) (p t : List ℕ) (m : ℕ) → r ≡ c ∷ p
     → n + length t < m → Align (c ∷ d ∷ p) (d ∷ t ++ b) m
 second_first _ _ _ (ends n) c d p t m e le = absurd (not_empty c p e)
@@ -120,7 +120,7 @@ second_first _ _ _ (swaps r q u v x y k n way less) c d p t m e le =
     (subst (λ l. Align l (y ∷ v ++ x ∷ q) (suc k + length u + length v))
     (tail_is x c (u ++ y ∷ r) p e) rest) (omega arith)) (omega (arith, less, le))
 
--- Two letters at the head have changed places.
+-- Two letters at the head are swapped.
 pub swapped_head : (r b : List ℕ) (n : ℕ) → Align r b n → (c d : ℕ) (p : List ℕ) → r ≡ d ∷ c ∷ p
     → Align (c ∷ d ∷ p) b (suc n)
 swapped_head _ _ _ (ends n) c d p e = absurd (not_empty d (c ∷ p) e)

@@ -22,20 +22,20 @@ nameless One = codes "name a component, or write `[[` for a literal bracket"
 nameless Two = codes "name a component, or write `\\[` for a literal bracket"
 nameless Three = codes "name a component, or write `\\[` for a literal bracket"
 
--- Against a fault of a version. Two of strftime's don't come there, and where another word has to be
--- written words are named instead.
+-- Advice against a fault of a version. Two faults are only strftime's, and if another word has to be
+-- written, words are named instead.
 abbrev pub advice : DescriptionVersion → Code → Text
 advice v UnclosedBracket = unclosed v
 advice v UnknownName = codes "write another word"
 advice v InvalidModifier = codes "a modifier is a key, a colon and a value, with no white space"
 advice v MissingName = nameless v
 advice v MissingModifier = codes "say how many bytes are ignored, from 1 to 65535, as in `[ignore count:2]`"
-advice v InvalidEscape = codes "a backslash stands before `[`, `]` or a backslash alone: write two for a literal one"
+advice v InvalidEscape = codes "a backslash goes before `[`, `]` or another backslash only: write two for a literal one"
 advice v UnescapedBracket = codes "write `\\]` for a literal bracket"
 advice v MissingSpace = codes "put a space before this bracket"
 advice v MissingDescription = codes "put what is optional into brackets, as in `[optional [:[second]]]`"
 advice v MissingAlternative = codes "put each alternative into brackets, as in `[first [[day]] [[ordinal]]]`"
-advice v NestedTooDeep = codes "at most 127 descriptions stand around one another"
+advice v NestedTooDeep = codes "descriptions nest at most 127 deep"
 advice v SeveralDescriptions = codes "put all that is optional into one description"
 advice v OptionalItem = codes "only version 3 takes optional items: see `--language 3`"
 advice v FirstItem = codes "only version 3 takes alternatives: see `--language 3`"
@@ -49,7 +49,7 @@ advice v RefusedModifier = codes "write another word"
 abbrev pub letters : Text
 letters = codes "aAbBcCdDeFgGhHIjklmMnpPrRsStTuUVwWxXyYz"
 
--- Each letter of the table is one of these, but for the percent sign, and each of these is read.
+-- Each letter of the table except the percent sign is one of these, and each of these is read.
 abbrev pub LettersAreRead : Type 0
 LettersAreRead =
     (list_all (λ b. (b == percent) || is_one_of b letters) (flat_map (λ l. l.letters) table.letters) ≡ true)
@@ -59,7 +59,7 @@ abbrev pub strftime_advice : Code → Text
 strftime_advice InvalidEscape =
     codes "a letter has to follow, or write `%%` for a literal percent sign"
 strftime_advice UnsupportedFlag =
-    codes "leave out the `O`: the letter behind it is read without it"
+    codes "leave out the `O`: the letter after it is read without it"
 strftime_advice UnsupportedLetter =
     codes "names of time zones aren't known: `%z` writes the offset from UTC"
 strftime_advice _ =

@@ -1,4 +1,4 @@
--- What a diagnostic says of a text.
+-- What a diagnostic says about a text.
 use Rattle.std.specs.Prelude.{◌≡◌}
 use Rattle.timefd_component.specs.Tree.{Text}
 use Rattle.timefd_fault.specs.Faults.{Fault, fault_of, index}
@@ -9,18 +9,18 @@ use Rattle.timefd_diagnosis.specs.declared.diagnostic.Diagnostic.{Diagnostic}
 use Rattle.timefd_diagnosis.specs.Helps.{IsHelpFor}
 use Rattle.timefd_diagnosis.specs.Spans.{end_of}
 
--- It is of this fault.
+-- The diagnostic is that of this fault.
 abbrev pub IsOfFault : Fault → Diagnostic → Type 0
 IsOfFault f d = fault_of d.fault ≡ f
 
 -- Its span begins at the fault's index and ends with the word or the character there, and its help
--- is for that.
+-- is for that fault.
 pub record IsDiagnosis (language : Language) (text : Text) (d : Diagnostic) : Type 0 where
   pub start : d.span.start ≡ index d.fault
   pub end : d.span.end ≡ end_of language text (fault_of d.fault)
   pub help : IsHelpFor language text (fault_of d.fault) d.help
 
--- It is of the one fault of a text.
+-- The diagnostic is that of the one fault of a text.
 pub record IsDiagnosed (language : Language) (text : Text) (d : Diagnostic) : Type 0 where
   pub fault : FaultIn language nesting_limit text (fault_of d.fault)
   pub diagnosis : IsDiagnosis language text d

@@ -28,8 +28,8 @@ byte_of Backslash = backslash
 byte_of Closing = right
 byte_of Percent = percent
 
--- A bracket is left out that is at fault by itself, an escape by its backslash, and a bracket that had
--- to be escaped. Behind any other fault of a version what follows would be guesswork.
+-- What is left out: a bracket that is at fault by itself, an escape by its backslash, and a bracket that
+-- needed an escape. After any other fault of a version, what follows would be guesswork.
 abbrev pub version_mark : Code → Option Mark
 version_mark UnclosedBracket = None
 version_mark UnknownName = Some Bracket
@@ -51,33 +51,33 @@ version_mark NestedInComponent = None
 version_mark DuplicateModifier = Some Bracket
 version_mark RefusedModifier = Some Bracket
 
--- Of strftime it is the `%` with its flag: a letter alone stands for itself.
+-- In strftime it is the `%` with its flag: a letter alone is a literal.
 abbrev pub mark_of : Language → Code → Option Mark
 mark_of (Version v) code = version_mark code
 mark_of Strftime code = Some Percent
 
--- what stands before the last byte of this kind
+-- what precedes the last byte of this kind
 abbrev pub before_last : ℕ → Text → Option Text
 before_last byte front = option_map (λ k. take k front) (rfind_below byte front (length front))
 
--- What stands before the byte at an index, where it is of this kind, or else before the last such byte
--- in front of it, and what stands behind that byte, or else from the index on.
+-- What precedes the byte at an index, if it is of this kind, or else the last such byte before it; and
+-- what follows the byte at the index, or else the text from the index on.
 abbrev pub opened : ℕ → Text → Text → Option (Text × Text)
 opened byte front [] = option_map (λ before. (before, [])) (before_last byte front)
 opened byte front (b ∷ rest) =
     if b == byte then Some (front, rest)
     else option_map (λ before. (before, b ∷ rest)) (before_last byte front)
 
--- what stands behind the next `]`, if no other bracket and no backslash stands before that
-abbrev pub behind_closing : Text → Option Text
-behind_closing [] = None
-behind_closing (b ∷ text) =
+-- what follows the next `]`, if no other bracket and no backslash precedes it
+abbrev pub after_closing : Text → Option Text
+after_closing [] = None
+after_closing (b ∷ text) =
     if b == right then Some text
     else if is_special b then None
-    else behind_closing text
+    else after_closing text
 
 abbrev pub closed : Text × Text → Option (Text × Text)
-closed sides = option_map (λ rest. (sides.0, rest)) (behind_closing sides.1)
+closed sides = option_map (λ rest. (sides.0, rest)) (after_closing sides.1)
 
 -- A bracket is left out up to its end.
 abbrev pub finished : Mark → Option (Text × Text) → Option (Text × Text)
@@ -86,33 +86,33 @@ finished Backslash sides = sides
 finished Closing sides = sides
 finished Percent sides = sides
 
--- what stands on both sides of what is left out for a fault at an index
+-- the text on both sides of what is left out for a fault at an index
 abbrev pub sides_at : Mark → Text → ℕ → Option (Text × Text)
 sides_at mark text index =
     finished mark (opened (byte_of mark) (take index text) (drop index text))
 
--- As many spaces stand in its place.
+-- It is replaced by as many spaces.
 abbrev pub with_spaces : Text → Text × Text → Text
 with_spaces text sides =
     sides.0 ++ (repeat (length text - length sides.0 - length sides.1) (codes " ") ++ sides.1)
 
--- Of a text no more than 20 faults are told.
+-- At most 20 faults of a text are reported.
 abbrev pub most_further : ℕ
 most_further = 19
 
--- the text with spaces in the place of what is at fault: none where nothing can be left out
+-- the text with spaces instead of what is at fault: none if nothing can be left out
 abbrev pub without : Language → Text → Fault → Option Text
 without language text f =
     option_map (with_spaces text)
     (option_and_then (λ mark. sides_at mark text f.index) (mark_of language (code_of f.kind)))
 
--- what stands around a stretch, as texts
+-- what is around a stretch, as texts
 abbrev pub sides_of : Option Sides → Option (Text × Text)
-sides_of found = option_map (λ s. (s.before.now, s.behind.now)) found
+sides_of found = option_map (λ s. (s.before.now, s.after.now)) found
 
--- The text has a fault, then has another one without what was at fault, and so on, up to a number of
--- faults, until it is accepted or nothing can be left out. Each diagnostic is of what is looked at, where
--- all other bytes have stayed in their places.
+-- The text has a fault, and without what was at fault it has another one, and so on, up to a number of
+-- faults, until it is accepted or nothing can be left out. Each diagnostic is about the text that is
+-- looked at, in which all other bytes keep their positions.
 abbrev pub AreFurther : ℕ → Language → Option Text → List Diagnostic → Type 0
 AreFurther zero language rest found = found ≡ []
 AreFurther (suc n) language None found = found ≡ []
@@ -121,7 +121,7 @@ AreFurther (suc n) language (Some text) [] =
 AreFurther (suc n) language (Some text) (d ∷ found) =
     IsDiagnosed language text d × AreFurther n language (without language text (fault_of d.fault)) found
 
--- all that is told of a refused text: what is wrong with it, and what further
+-- all that is reported about a refused text: its first fault, and further ones
 pub record AreDiagnosed (language : Language) (text : Text) (d : Diagnostic) (found : List Diagnostic)
     : Type 0 where
   pub first : IsDiagnosed language text d

@@ -10,43 +10,44 @@ use Rattle.timefd_parse.specs.declared.language.Language.TheVariants.{Version, S
 use Rattle.timefd_fault.specs.declared.code.Code.TheVariants.{InvalidModifier}
 use Rattle.timefd_diagnosis.specs.declared.help.Help.{Help}
 use Rattle.timefd_diagnosis.specs.declared.help.Help.TheVariants.{Words, LeaveOut, Advice}
-use Rattle.timefd_diagnosis.specs.declared.place.Place.{Place}
-use Rattle.timefd_diagnosis.specs.declared.place.Place.TheVariants as places
+use Rattle.timefd_diagnosis.specs.declared.slot.Slot.{Slot}
+use Rattle.timefd_diagnosis.specs.declared.slot.Slot.TheVariants as slots
 use Rattle.timefd_diagnosis.specs.Advice.{advice, strftime_advice}
 use Rattle.timefd_fault.specs.Codes.{code_of}
 use Rattle.timefd_diagnosis.specs.Nearest.{IsNearest}
-use Rattle.timefd_diagnosis.specs.Places.{IsPlaceIn, words_at}
+use Rattle.timefd_diagnosis.specs.Slots.{IsSlotIn, words_at}
 use Rattle.timefd_diagnosis.specs.Words.{texts}
 
--- It names the words that are allowed at the place, and the nearest to this one, whatever its case.
-abbrev pub IsWordsHelp : Bool → Place → Text → Help → Type 0
-IsWordsHelp strict place word (Words at allowed nearest) =
-    (at ≡ place) × (texts allowed.now ≡ words_at strict place)
-    × IsNearest (words_at strict place) (map to_ascii_lowercase word)
+-- The help names the words that are allowed there, and the one nearest to this word, whatever its
+-- case.
+abbrev pub IsWordsHelp : Bool → Slot → Text → Help → Type 0
+IsWordsHelp strict slot word (Words at allowed nearest) =
+    (at ≡ slot) × (texts allowed.now ≡ words_at strict slot)
+    × IsNearest (words_at strict slot) (map to_ascii_lowercase word)
     (option_map (λ w. w.now) nearest)
-IsWordsHelp strict place word (LeaveOut key) = ⊥
-IsWordsHelp strict place word (Advice advice) = ⊥
+IsWordsHelp strict slot word (LeaveOut key) = ⊥
+IsWordsHelp strict slot word (Advice advice) = ⊥
 
--- What a modifier's word that stands at this index was to be.
-abbrev pub IsModifierPlace : Bool → Text → ℕ → Text → Place → Type 0
-IsModifierPlace strict text index word place = IsPlaceIn strict (take index text) word place
+-- What a modifier's word at this index should have been.
+abbrev pub IsModifierSlot : Bool → Text → ℕ → Text → Slot → Type 0
+IsModifierSlot strict text index word slot = IsSlotIn strict (take index text) word slot
 
-abbrev pub HasNoModifierPlace : Bool → Text → ℕ → Text → Type 0
-HasNoModifierPlace strict text index word =
-    (place : Place) → ¬ IsModifierPlace strict text index word place
+abbrev pub HasNoModifierSlot : Bool → Text → ℕ → Text → Type 0
+HasNoModifierSlot strict text index word =
+    (slot : Slot) → ¬ IsModifierSlot strict text index word slot
 
--- Words are named at a name, a key or a value that is at fault, and are those that are allowed
--- there; only where it can't be told what a modifier's word was to be there is an advice, as against
--- all other faults.
+-- For a name, a key or a value at fault, the help names the words that are allowed there. Only if it
+-- isn't known what a modifier's word should have been, the help is an advice, as for all other
+-- faults.
 abbrev pub IsVersionHelp : DescriptionVersion → Text → ℕ → Kind → Help → Type 0
 IsVersionHelp v text index (invalid_name name) help =
-    IsWordsHelp (is_version_three v) places.Name name help
+    IsWordsHelp (is_version_three v) slots.Name name help
 IsVersionHelp v text index (invalid_modifier word) (Words at allowed nearest) =
-    IsModifierPlace (is_version_three v) text index word at
+    IsModifierSlot (is_version_three v) text index word at
     × IsWordsHelp (is_version_three v) at word (Words at allowed nearest)
 IsVersionHelp v text index (invalid_modifier word) (LeaveOut key) = ⊥
 IsVersionHelp v text index (invalid_modifier word) (Advice words) =
-    HasNoModifierPlace (is_version_three v) text index word
+    HasNoModifierSlot (is_version_three v) text index word
     × (words.now ≡ advice v InvalidModifier)
 IsVersionHelp v text index (invalid_combination key context) (LeaveOut other) = other.now ≡ key
 IsVersionHelp v text index (invalid_combination key context) (Words at allowed nearest) = ⊥

@@ -1,4 +1,4 @@
--- What is known of faults at modifiers.
+-- What is known about faults of modifiers.
 use Rattle.std.specs.Prelude.{ℕ, ◌≡◌, ◌+◌, ◌++◌, length, Err}
 use Rattle.timefd_component.specs.Tree.{Text}
 use Rattle.timefd_fault.specs.Faults.{fault, invalid_modifier}
@@ -6,13 +6,14 @@ use Rattle.timefd_language.specs.declared.description_version.DescriptionVersion
 use Rattle.timefd_language.specs.Bytes.{is_version_three}
 use Rattle.timefd_language.specs.Grammar.{Nested, bracket_verdict}
 use Rattle.timefd_language.specs.Head.{Head, IsHead, head_text}
-use Rattle.timefd_diagnosis.specs.declared.place.Place.{Place}
-use Rattle.timefd_diagnosis.specs.Helps.{IsModifierPlace}
+use Rattle.timefd_diagnosis.specs.declared.slot.Slot.{Slot}
+use Rattle.timefd_diagnosis.specs.Helps.{IsModifierSlot}
 
--- Where a closed bracket is refused for a word of a modifier, it can be told what that was to be.
-abbrev pub HasModifierPlace : Type 0
-HasModifierPlace =
+-- If a closed bracket is refused for a word of a modifier, it is known what the word should have
+-- been.
+abbrev pub HasModifierSlot : Type 0
+HasModifierSlot =
     (v : DescriptionVersion) (h : Head) (ns : Nested) (white before rest word : Text) (index : ℕ)
     → IsHead h → bracket_verdict v h ns white ≡ Err (fault (invalid_modifier word) index)
-    → (place : Place) × IsModifierPlace (is_version_three v) (before ++ head_text h ++ rest)
-    (length before + index) word place
+    → (slot : Slot) × IsModifierSlot (is_version_three v) (before ++ head_text h ++ rest)
+    (length before + index) word slot

@@ -3,7 +3,7 @@ pub mod Words
 pub mod Edits
 pub mod Nearest
 pub mod Few
-pub mod Places
+pub mod Slots
 pub mod Advice
 pub mod Helps
 pub mod Diagnoses

@@ -11,7 +11,7 @@ use Rattle.timefd_diagnosis.specs.declared.span.Extent.{Extent}
 use Rattle.timefd_diagnosis.specs.declared.span.Span.{Span}
 use Rattle.timefd_diagnosis.specs.declared.span.Extent.TheVariants.{Character, Word, Key, Bytes}
 
--- a key, a value or a word, or where nothing stands on one side of a colon the colon
+-- a key, a value or a word; or a colon, if one side of it is empty
 abbrev pub modifier_extent : Text → Extent
 modifier_extent [] = Character
 modifier_extent (b ∷ word) = Bytes (length (b ∷ word))
@@ -37,17 +37,17 @@ abbrev pub first_len : List ℕ → ℕ
 first_len [] = 0
 first_len (c ∷ characters) = len_utf8 c
 
--- how many bytes at the front of what stands there
+-- how many bytes at the front of what is there
 abbrev pub measured : Extent → Text → ℕ
 measured Character rest = first_len (chars rest)
 measured Word rest = prefix_len is_word_byte rest
 measured Key rest = prefix_len is_key_byte rest
 measured (Bytes len) rest = min len (length rest)
 
--- the index behind the bytes that are at fault
+-- the index after the bytes at fault
 abbrev pub end_of : Language → Text → Fault → ℕ
 end_of language text f = f.index + measured (extent_of language f.kind) (drop f.index text)
 
--- the bytes are some of the text
+-- the bytes are inside the text
 abbrev pub IsWithin : Text → Span → Type 0
 IsWithin text span = (span.start ≤ span.end) × (span.end ≤ length text)

@@ -1,4 +1,4 @@
--- The words that are allowed in a bracket, of the tables of the language.
+-- The words that are allowed in a bracket, from the tables of the language.
 use Rattle.std.specs.Prelude.{Bool, true, false, codes, List, [], ◌∷◌, map}
 use denote.Ref.{Bor}
 use Rattle.timefd_component.specs.Tree.{Text}
@@ -12,7 +12,8 @@ use Rattle.timefd_language.specs.Values as language
 abbrev pub texts : List (Bor Text) → List Text
 texts ws = map (λ w. w.now) ws
 
--- Versions 1 and 2 know the names `optional` and `first` too, but refuse such a bracket.
+-- Versions 1 and 2 know the names `optional` and `first` too, but refuse a bracket with such a
+-- name.
 abbrev pub names : Bool → List Text
 names true = codes "optional" ∷ codes "first" ∷ map (λ r. r.name) rows
 names false = map (λ r. r.name) rows

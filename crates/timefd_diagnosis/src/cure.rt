@@ -18,14 +18,14 @@ pub fn advice(version: DescriptionVersion, code: Code) -> &'static str
         Code::MissingModifier =>
             "say how many bytes are ignored, from 1 to 65535, as in `[ignore count:2]`",
         Code::InvalidEscape =>
-            "a backslash stands before `[`, `]` or a backslash alone: write two for a literal one",
+            "a backslash goes before `[`, `]` or another backslash only: write two for a literal one",
         Code::UnescapedBracket => "write `\\]` for a literal bracket",
         Code::MissingSpace => "put a space before this bracket",
         Code::MissingDescription =>
             "put what is optional into brackets, as in `[optional [:[second]]]`",
         Code::MissingAlternative =>
             "put each alternative into brackets, as in `[first [[day]] [[ordinal]]]`",
-        Code::NestedTooDeep => "at most 127 descriptions stand around one another",
+        Code::NestedTooDeep => "descriptions nest at most 127 deep",
         Code::SeveralDescriptions => "put all that is optional into one description",
         Code::OptionalItem => "only version 3 takes optional items: see `--language 3`",
         Code::FirstItem => "only version 3 takes alternatives: see `--language 3`",
@@ -65,7 +65,7 @@ pub fn strftime_advice(code: Code) -> &'static str
 {
     match code {
         Code::InvalidEscape => "a letter has to follow, or write `%%` for a literal percent sign",
-        Code::UnsupportedFlag => "leave out the `O`: the letter behind it is read without it",
+        Code::UnsupportedFlag => "leave out the `O`: the letter after it is read without it",
         Code::UnsupportedLetter => {
             "names of time zones aren't known: `%z` writes the offset from UTC"
         }

@@ -2,7 +2,7 @@
 
 ghost use Rattle.std.specs.Prelude.{◌≡◌, List, None, IfOk, IfSome};
 ghost use Rattle.timefd_component.specs.Tree.{Tree};
-ghost use Rattle.timefd_fault.specs.BorrowedFaults.{lent_fault};
+ghost use Rattle.timefd_fault.specs.BorrowedFaults.{to_borrowed_fault};
 ghost use Rattle.timefd_fault.specs.Placed.{IsPlaced};
 ghost use Rattle.timefd_fault.specs.Faults.{fault_of};
 ghost use Rattle.timefd_language.specs.Grammar.{nesting_limit};
@@ -19,8 +19,8 @@ use timefd_parse::{
     BorrowedFault, BorrowedParseError, Language, NESTING_LIMIT, ParseError, amount_all_borrowed,
 };
 
-/// What is wrong with a text of a language: `None` where it is accepted. An `Err` says that memory
-/// ran out, and nothing of the text.
+/// What is wrong with a text of a language: `None` if it is accepted. An `Err` says that memory ran
+/// out, and nothing about the text.
 pub fn diagnose(
     alloc: Global,
     language: Language,
@@ -31,9 +31,9 @@ pub fn diagnose(
     ensures refused { IfOk result (λ found. IfSome found (λ d.
         FaultIn language nesting_limit text.now (fault_of d.fault))) }
     // The fault's index lies in the text or at its end, between two characters.
-    ensures place { IfOk result (λ found. IfSome found (λ d. IsPlaced text.now (fault_of d.fault))) }
+    ensures slot { IfOk result (λ found. IfSome found (λ d. IsPlaced text.now (fault_of d.fault))) }
     ensures diagnosis { IfOk result (λ found. IfSome found (IsDiagnosis language text.now)) }
-    // The bytes that are at fault are some of the text.
+    // The bytes at fault are inside the text.
     ensures span { IfOk result (λ found. IfSome found (λ d. IsWithin text.now d.span)) }
 {
     match amount_all_borrowed(alloc, language, NESTING_LIMIT, text) {
@@ -45,15 +45,15 @@ pub fn diagnose(
     }
 }
 
-// What is said of a fault.
+// The diagnostic of a fault.
 fn described(
     alloc: Global,
     language: Language,
     text: &str,
     fault: BorrowedFault<'_>,
 ) -> Result<Diagnostic, AllocError>
-    requires { IsPlaced text.now (lent_fault fault) }
-    ensures fault { IfOk result (IsOfFault (lent_fault fault.entry)) }
+    requires { IsPlaced text.now (to_borrowed_fault fault) }
+    ensures fault { IfOk result (IsOfFault (to_borrowed_fault fault.entry)) }
     ensures diagnosis { IfOk result (IsDiagnosis language text.now) }
     ensures span { IfOk result (λ d. IsWithin text.now d.span) }
 {

@@ -1,4 +1,4 @@
-//! Why a text is refused, and the stable name of that.
+//! Why a text is refused, and the stable name of the reason.
 
 ghost use Rattle.std.specs.Prelude.{◌≡◌};
 ghost use Rattle.timefd_fault.specs.Faults.{fault_of};
@@ -16,7 +16,7 @@ pub struct Diagnostic {
     pub fault: InvalidFormatDescription,
     /// The code of the rule that is broken.
     pub code: Code,
-    /// The bytes that are at fault.
+    /// The bytes at fault.
     pub span: Span,
     /// What helps against it.
     pub help: Help,

@@ -1,17 +1,17 @@
-//! Whether one edit makes a word of another one.
+//! Whether one edit turns a word into another.
 
 ghost use Rattle.std.specs.Prelude.{◌≡◌, ◌≢◌, true, chars, length, min};
 ghost use Rattle.timefd_diagnosis.specs.Edits.{IsFew};
 ghost use Rattle.timefd_diagnosis.specs.Few.{IsParted, IsSwap, characters};
 
-// The first character of a text, and what stands behind it.
+// The first character of a text, and what follows it.
 #[derive(Clone, Copy)]
 struct Parted<'t> {
     first: char,
-    behind: &'t str,
+    after: &'t str,
 }
 
-/// How many edits make the second word of the first: none or one, or two where it takes more.
+/// How many edits turn the first word into the second: 0, 1, or 2 if it takes more than one.
 pub fn few_edits(word: &str, other: &str) -> usize
     ensures { IsFew (chars word.now) (chars other.now) result }
 {
@@ -22,25 +22,25 @@ pub fn few_edits(word: &str, other: &str) -> usize
         return at_most_two(word);
     };
     if left.first == right.first {
-        return few_edits(left.behind, right.behind);
+        return few_edits(left.after, right.after);
     }
     unlike_edits(word, left, other, right)
 }
 
-// The same of words that begin with different characters.
+// The result of `few_edits` for words that begin with different characters.
 fn unlike_edits(word: &str, left: Parted<'_>, other: &str, right: Parted<'_>) -> usize
     requires word { chars word.now ≡ characters left }
     requires other { chars other.now ≡ characters right }
     requires unlike { left.first ≢ right.first }
     ensures { IsFew (chars word.now) (chars other.now) result }
 {
-    if is_same(left.behind, right.behind) {
+    if is_same(left.after, right.after) {
         return 1;
     }
-    if is_same(word, right.behind) {
+    if is_same(word, right.after) {
         return 1;
     }
-    if is_same(left.behind, other) {
+    if is_same(left.after, other) {
         return 1;
     }
     if is_swap(left, right) {
@@ -49,15 +49,15 @@ fn unlike_edits(word: &str, left: Parted<'_>, other: &str, right: Parted<'_>) ->
     2
 }
 
-// Whether the first two characters have changed places, and all else is the same.
+// Whether the first two characters are swapped, and all else is the same.
 fn is_swap(left: Parted<'_>, right: Parted<'_>) -> bool
     ensures yes { result ≡ true → IsSwap (characters left.entry) (characters right.entry) }
     ensures no { IsSwap (characters left.entry) (characters right.entry) → result ≡ true }
 {
-    let Some(second) = first_of(left.behind) else {
+    let Some(second) = first_of(left.after) else {
         return false;
     };
-    let Some(other_second) = first_of(right.behind) else {
+    let Some(other_second) = first_of(right.after) else {
         return false;
     };
     if left.first != other_second.first {
@@ -66,7 +66,7 @@ fn is_swap(left: Parted<'_>, right: Parted<'_>) -> bool
     if second.first != right.first {
         return false;
     }
-    is_same(second.behind, other_second.behind)
+    is_same(second.after, other_second.after)
 }
 
 // Whether two texts have the same characters.
@@ -84,13 +84,13 @@ fn at_most_two(text: &str) -> usize
     let Some(first) = first_of(text) else {
         return 0;
     };
-    match first_of(first.behind) {
+    match first_of(first.after) {
         Some(_second) => 2,
         None => 1,
     }
 }
 
-// The first character and what stands behind it, if there is one.
+// The first character and what follows it, if there is one.
 fn first_of(text: &str) -> Option<Parted<'_>>
     ensures { IsParted (chars text.now) result }
 {
@@ -98,7 +98,7 @@ fn first_of(text: &str) -> Option<Parted<'_>>
     match left.next() {
         Some(first) => Some(Parted {
             first,
-            behind: left.as_str(),
+            after: left.as_str(),
         }),
         None => None,
     }

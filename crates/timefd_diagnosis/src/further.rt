@@ -14,10 +14,10 @@ use timefd_fault::Code;
 use timefd_language::text::{Class, cut};
 use timefd_parse::Language;
 
-/// How many faults of a text are told at most, besides its first one.
+/// How many faults of a text are reported at most, besides its first one.
 pub const MOST_FURTHER: usize = 19;
 
-/// What a stretch begins with that is left out for a fault.
+/// What the stretch begins with that is left out for a fault.
 #[derive(Clone, Copy)]
 pub enum Mark {
     /// A bracket, which is left out up to its end.
@@ -30,16 +30,16 @@ pub enum Mark {
     Percent,
 }
 
-/// What stands on both sides of what is left out.
+/// The text on both sides of what is left out.
 #[derive(Clone, Copy)]
 pub struct Sides<'a> {
     pub before: &'a str,
-    pub behind: &'a str,
+    pub after: &'a str,
 }
 
-/// What is wrong with a text besides this first fault of it: what was at fault is left out, and the text is
-/// looked at again, up to so many times. Each diagnostic has its bytes in the text as it is. An `Err`
-/// says that memory ran out.
+/// What is wrong with a text besides this first fault: what was at fault is left out, and the text is
+/// looked at again, at most `most` times. The span of each diagnostic counts bytes of the whole text. An
+/// `Err` says that memory ran out.
 #[tactic(auto, using(crate::proofs::FurtherLemmas::at_first, crate::proofs::FurtherLemmas::one_more, crate::proofs::FurtherLemmas::nothing_left, crate::proofs::FurtherLemmas::accepted, crate::proofs::FurtherLemmas::enough))]
 pub fn further_faults(
     alloc: Global,
@@ -67,7 +67,7 @@ pub fn further_faults(
     Ok(found)
 }
 
-// The text with spaces in the place of what is at fault, if that can be left out.
+// The text with spaces instead of what is at fault, if that can be left out.
 fn without(
     alloc: Global,
     language: Language,
@@ -89,18 +89,18 @@ fn without(
 
 fn with_spaces(alloc: Global, text: &str, sides: Sides<'_>) -> Result<String, AllocError>
     ensures { IfOk result (λ left. string_bytes left ≡ spec.with_spaces text.now
-        (sides.entry.before.now, sides.entry.behind.now)) }
+        (sides.entry.before.now, sides.entry.after.now)) }
 {
-    let Sides { before, behind } = sides;
+    let Sides { before, after } = sides;
     let len = text
         .len()
         .saturating_sub(before.len())
-        .saturating_sub(behind.len());
+        .saturating_sub(after.len());
     let spaces = " ".repeat(alloc, len)?;
     let mut left = String::with_capacity(alloc, text.len())?;
     left.push_str(before)?;
     left.push_str(&spaces)?;
-    left.push_str(behind)?;
+    left.push_str(after)?;
     Ok(left)
 }
 
@@ -152,7 +152,7 @@ fn char_of(mark: Mark) -> char
     }
 }
 
-// What stands on both sides of what is left out for a fault at an index.
+// The text on both sides of what is left out for a fault at an index.
 fn sides_at(mark: Mark, text: &str, index: usize) -> Option<Sides<'_>>
     requires { IsCharBoundary text.now index }
     ensures { sides_of result ≡ spec.sides_at mark text.now index }
@@ -165,33 +165,34 @@ fn sides_at(mark: Mark, text: &str, index: usize) -> Option<Sides<'_>>
     }
 }
 
-// The same where only its beginning is known: a character at the index, or the last one in front of it.
+// The text on both sides of what is left out, by its beginning alone: the character at the index, or
+// all from the last such character before the index up to the index.
 fn opened<'a>(mark: char, front: &'a str, rest: &'a str) -> Option<Sides<'a>>
     requires { mark < 128 }
     ensures { sides_of result ≡ spec.opened mark front.now rest.now }
 {
-    if let Some(behind) = rest.strip_prefix(mark) {
+    if let Some(after) = rest.strip_prefix(mark) {
         return Some(Sides {
             before: front,
-            behind,
+            after,
         });
     }
     let at = front.rfind(mark)?;
     let (before, _) = front.split_at(at);
     Some(Sides {
         before,
-        behind: rest,
+        after: rest,
     })
 }
 
-// The same where it goes on up to the next closing bracket.
+// The text on both sides, if what is left out continues up to the next closing bracket.
 fn closed<'a>(opened: Sides<'a>) -> Option<Sides<'a>>
-    ensures { sides_of result ≡ spec.closed (opened.entry.before.now, opened.entry.behind.now) }
+    ensures { sides_of result ≡ spec.closed (opened.entry.before.now, opened.entry.after.now) }
 {
-    let (_, rest) = cut(opened.behind, Class::Run);
-    let behind = rest.strip_prefix(']')?;
+    let (_, rest) = cut(opened.after, Class::Run);
+    let after = rest.strip_prefix(']')?;
     Some(Sides {
         before: opened.before,
-        behind,
+        after,
     })
 }

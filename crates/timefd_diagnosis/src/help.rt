@@ -1,15 +1,15 @@
-//! What to write in place of what is at fault.
+//! What to write instead of what is at fault.
 
 ghost use Rattle.std.specs.Prelude.{◌≡◌, IfOk, MatchOption, option_map};
 ghost use Rattle.timefd_language.specs.Bytes.{is_version_three};
 ghost use Rattle.std.specs.Str.{IsCharBoundary};
-ghost use Rattle.timefd_fault.specs.BorrowedFaults.{lent_fault};
+ghost use Rattle.timefd_fault.specs.BorrowedFaults.{to_borrowed_fault};
 ghost use Rattle.timefd_fault.specs.Placed.{IsPlaced};
-ghost use Rattle.timefd_diagnosis.specs.Helps.{HasNoModifierPlace, IsHelpFor, IsModifierPlace, IsWordsHelp, nearest_in};
+ghost use Rattle.timefd_diagnosis.specs.Helps.{HasNoModifierSlot, IsHelpFor, IsModifierSlot, IsWordsHelp, nearest_in};
 
 use crate::cure::{advice, strftime_advice};
 use crate::nearest::nearest;
-use crate::place::{Place, place_behind};
+use crate::slot::{Slot, slot_after};
 use std::alloc::{AllocError, Global};
 use timefd_fault::Code;
 use timefd_parse::{BorrowedFault, DescriptionVersion, Language, Rule};
@@ -19,21 +19,21 @@ use timefd_parse::{BorrowedFault, DescriptionVersion, Language, Rule};
 pub enum Help {
     /// Words that are allowed there.
     Words {
-        /// What the word at fault was to be.
-        place: Place,
+        /// What the word at fault should have been.
+        slot: Slot,
         /// All that are allowed.
         allowed: &'static [&'static str],
-        /// The nearest of them, where one is near.
+        /// The nearest of them, if one is near.
         nearest: Option<&'static str>,
     },
-    /// This key has to go, or another that refuses it.
+    /// This key has to go, or the other one that refuses it.
     LeaveOut(&'static str),
     /// What to do, in words.
     Advice(&'static str),
 }
 
 impl Help {
-    /// The nearest of the words that are allowed, where one is near.
+    /// The nearest of the words that are allowed, if one is near.
     pub fn nearest(self) -> Option<&'static str>
         ensures { option_map (λ w. w.now) result ≡ nearest_in self }
     {
@@ -51,8 +51,8 @@ pub fn help_against(
     text: &str,
     fault: BorrowedFault<'_>,
 ) -> Result<Help, AllocError>
-    requires { IsPlaced text.now (lent_fault fault) }
-    ensures help { IfOk result (IsHelpFor language text.now (lent_fault fault.entry)) }
+    requires { IsPlaced text.now (to_borrowed_fault fault) }
+    ensures help { IfOk result (IsHelpFor language text.now (to_borrowed_fault fault.entry)) }
 {
     match language {
         Language::Version(version) => version_help(alloc, version, text, fault),
@@ -66,14 +66,14 @@ fn version_help(
     text: &str,
     fault: BorrowedFault<'_>,
 ) -> Result<Help, AllocError>
-    requires { IsPlaced text.now (lent_fault fault) }
-    ensures { IfOk result (IsHelpFor (Language.Version version) text.now (lent_fault fault.entry)) }
+    requires { IsPlaced text.now (to_borrowed_fault fault) }
+    ensures { IfOk result (IsHelpFor (Language.Version version) text.now (to_borrowed_fault fault.entry)) }
 {
     match fault.rule {
-        Rule::UnknownName(name) => words_help(alloc, version, Place::Name, name),
+        Rule::UnknownName(name) => words_help(alloc, version, Slot::Name, name),
         Rule::InvalidModifier(value) => {
-            match modifier_place(version, text, fault.index, value) {
-                Some(place) => words_help(alloc, version, place, value),
+            match modifier_slot(version, text, fault.index, value) {
+                Some(slot) => words_help(alloc, version, slot, value),
                 None => Ok(Help::Advice(advice(version, Code::InvalidModifier))),
             }
         }
@@ -100,32 +100,27 @@ fn version_help(
 fn words_help(
     alloc: Global,
     version: DescriptionVersion,
-    place: Place,
+    slot: Slot,
     word: &str,
 ) -> Result<Help, AllocError>
-    ensures { IfOk result (IsWordsHelp (is_version_three version) place word.now) }
+    ensures { IfOk result (IsWordsHelp (is_version_three version) slot word.now) }
 {
     let lowered = word.to_ascii_lowercase(alloc)?;
-    let allowed = place.words(version);
+    let allowed = slot.words(version);
     Ok(Help::Words {
-        place,
+        slot,
         allowed,
         nearest: nearest(alloc, allowed, &lowered)?,
     })
 }
 
-// What a modifier's word that stands at this index was to be.
-fn modifier_place(
-    version: DescriptionVersion,
-    text: &str,
-    index: usize,
-    word: &str,
-) -> Option<Place>
+// What a modifier's word at this index should have been.
+fn modifier_slot(version: DescriptionVersion, text: &str, index: usize, word: &str) -> Option<Slot>
     requires { IsCharBoundary text.now index }
-    ensures { MatchOption result (HasNoModifierPlace (is_version_three version) text.now index
+    ensures { MatchOption result (HasNoModifierSlot (is_version_three version) text.now index
         word.now)
-        (IsModifierPlace (is_version_three version) text.now index word.now) }
+        (IsModifierSlot (is_version_three version) text.now index word.now) }
 {
     let (front, _) = text.split_at(index);
-    place_behind(version, front, word)
+    slot_after(version, front, word)
 }

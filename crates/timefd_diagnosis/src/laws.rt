@@ -1,12 +1,12 @@
-//! What holds of diagnoses: each law is the contract of a function with an empty body.
+//! What holds for diagnoses: each law is the contract of a function with an empty body.
 
 ghost use Rattle.timefd_diagnosis.specs.Advice.{LettersAreRead};
-ghost use Rattle.timefd_diagnosis.specs.Laws.{HasModifierPlace};
+ghost use Rattle.timefd_diagnosis.specs.Laws.{HasModifierSlot};
 
-/// Where a closed bracket is refused for a key or a value, it can be told what that word was to be,
-/// so the words that are allowed there are named.
-pub fn has_modifier_place()
-    ensures { HasModifierPlace }
+/// If a closed bracket is refused for a key or a value, it is known what that word should have
+/// been, so the help names the words that are allowed there.
+pub fn has_modifier_slot()
+    ensures { HasModifierSlot }
 {}
 
 /// The letters that the help names are those that strftime reads.

@@ -1,5 +1,5 @@
-//! What is wrong with a text that is no format description: its fault, the bytes that are at fault,
-//! a stable name, and what helps.
+//! What is wrong with a text that isn't a format description: its fault, the bytes at fault, a
+//! stable name, and what helps.
 #![tactic(auto)]
 
 mod cure;
@@ -10,7 +10,7 @@ mod further;
 mod help;
 pub mod laws;
 pub mod nearest;
-pub mod place;
+pub mod slot;
 mod span;
 pub mod words;
 

@@ -11,26 +11,26 @@ use crate::few::few_edits;
 use std::alloc::{AllocError, Global};
 use strsim::damerau_levenshtein;
 
-// The nearest word so far, and how many edits away it is; one more than a near word may be where
-// there is none.
+// The nearest word so far, and how many edits away it is; one more than the edits of a near word if
+// there is none yet.
 #[derive(Clone, Copy)]
 struct Best {
     edits: usize,
     found: Option<&'static str>,
 }
 
-// How many edits away a word of so many characters is near: a third of them, and one at least, but
-// none where it has one alone.
+// How many edits away a word still counts as near, by its number of characters: a third of them,
+// but at least one; none for a word of fewer than two characters.
 fn reach_of(count: usize) -> usize
     ensures { result ≡ spec.reach_of count }
 {
     if count < 2 { 0 } else { (count / 3).max(1) }
 }
 
-/// The one of the words that the fewest edits make of this word (a character put in, taken away or
-/// replaced, or two neighbours swapped), the first of several such; `None` where it takes more of
-/// them than a third of its characters for each, and more than one, or where it has one character
-/// alone. An `Err` says that memory ran out.
+/// The nearest of the words: the one that takes the fewest edits from this word, and the first of
+/// several such. An edit puts in, takes away or replaces a character, or swaps two neighbours.
+/// `None` if each takes more edits than a third of this word's characters, and more than one, or if
+/// this word has fewer than two characters. An `Err` says that memory ran out.
 pub fn nearest(
     alloc: Global,
     words: &'static [&'static str],
@@ -43,7 +43,7 @@ pub fn nearest(
     Ok(best.found)
 }
 
-// The best of all words, each taken after those before it.
+// The best of all words, looked at in order.
 fn best_of_all(
     alloc: Global,
     words: &'static [&'static str],
@@ -94,7 +94,7 @@ fn next_best(
     }
 }
 
-// The same where the best is two edits away at most, which takes no memory.
+// The result of `next_best` if the best is at most two edits away, which takes no memory.
 fn next_few(word: &str, best: Best, candidate: &'static str) -> Best
     requires { best.edits ≤ 2 }
     ensures { IsNext word.now best candidate.entry result }
@@ -110,14 +110,15 @@ fn next_few(word: &str, best: Best, candidate: &'static str) -> Best
     }
 }
 
-// The least number of edits that make the second word of the first.
+// The least number of edits that turn the first word into the second.
 fn distance(alloc: Global, word: &str, other: &str) -> Result<usize, AllocError>
     ensures { IfOk result (IsDistance (chars word.now) (chars other.now)) }
 {
     damerau_levenshtein(alloc, word, other)
 }
 
-// A number of characters of a word that another one lacks. No fewer edits make that of it.
+// A number of characters of a word that another one lacks. It takes at least as many edits to turn
+// the one into the other.
 fn lacking(word: &str, other: &str) -> usize
     ensures { result ≤ spec.lacking (chars other.now) (chars word.now) }
 {
@@ -128,7 +129,7 @@ fn lacking(word: &str, other: &str) -> usize
     count
 }
 
-// 1 where a text lacks the character.
+// 1 if the text lacks the character, else 0.
 fn lack_of(text: &str, character: char) -> usize
     ensures { result ≡ spec.lack_of (chars text.now) character }
 {

@@ -1,8 +1,8 @@
-//! The bytes of a text that are at fault.
+//! The bytes of a text at fault.
 
 ghost use Rattle.std.specs.Prelude.{◌≡◌, ◌≤◌, chars, length};
 ghost use Rattle.std.specs.List.{prefix_len};
-ghost use Rattle.timefd_fault.specs.BorrowedFaults.{lent_fault};
+ghost use Rattle.timefd_fault.specs.BorrowedFaults.{to_borrowed_fault};
 ghost use Rattle.timefd_fault.specs.Placed.{IsPlaced};
 ghost use Rattle.timefd_language.specs.Cut.{class_test};
 ghost use Rattle.timefd_fault.specs.RuleKinds.{rule_kind};
@@ -11,7 +11,7 @@ ghost use Rattle.timefd_diagnosis.specs.Spans as spec;
 use timefd_language::text::{Class, cut};
 use timefd_parse::{BorrowedFault, Language, Rule};
 
-/// Bytes of a text, by their indices: those from `start` on, up to `end`.
+/// Bytes of a text, by their indices: from `start` on, up to but without `end`.
 #[derive(Debug, Clone, Copy, PartialEq, Eq)]
 pub struct Span {
     pub start: usize,
@@ -27,16 +27,16 @@ pub enum Extent {
     Word,
     /// The key: a word, up to its colon.
     Key,
-    /// So many bytes.
+    /// This many bytes.
     Bytes(usize),
 }
 
 /// The bytes at fault: from the fault's index on, up to the end of the name, key or value there, or
 /// else of the one character there.
 pub fn span_of(language: Language, text: &str, fault: BorrowedFault<'_>) -> Span
-    requires { IsPlaced text.now (lent_fault fault) }
+    requires { IsPlaced text.now (to_borrowed_fault fault) }
     ensures start { result.start ≡ fault.entry.index }
-    ensures end { result.end ≡ spec.end_of language text.now (lent_fault fault.entry) }
+    ensures end { result.end ≡ spec.end_of language text.now (to_borrowed_fault fault.entry) }
     ensures within { spec.IsWithin text.now result }
 {
     let start = fault.index;
@@ -80,7 +80,7 @@ fn version_extent(rule: Rule<'_>) -> Extent
     }
 }
 
-// What is wrong with a modifier is its key or its value, or its colon where one of them lacks.
+// A modifier's fault is its key or its value, or its colon if one of them is missing.
 fn modifier_extent(value: &str) -> Extent
     ensures { result ≡ spec.modifier_extent value.now }
 {
@@ -91,7 +91,7 @@ fn modifier_extent(value: &str) -> Extent
     }
 }
 
-// How many bytes at the front an extent takes.
+// How many bytes at the front of `rest` an extent takes.
 fn measured(extent: Extent, rest: &str) -> usize
     ensures len { result ≡ spec.measured extent rest.now }
     ensures within { result ≤ length rest.now }
@@ -115,7 +115,7 @@ fn first_len(rest: &str) -> usize
     }
 }
 
-// How many bytes at the front are of a class.
+// How many bytes at the front of `rest` are of a class.
 fn len_of(rest: &str, class: Class) -> usize
     ensures len { result ≡ prefix_len (class_test class) rest.now }
     ensures within { result ≤ length rest.now }

@@ -72,7 +72,7 @@ fn component_keys(name: ComponentName) -> &'static [&'static str]
     }
 }
 
-/// The words that a key may be set to: none of `count`, which takes a number.
+/// The words that a key may be set to: none for `count`, which takes a number.
 pub fn values(key: Key) -> &'static [&'static str]
     ensures { texts result.now ≡ spec.values key }
 {

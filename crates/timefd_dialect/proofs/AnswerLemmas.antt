@@ -1,4 +1,4 @@
--- What an answer says of all that the format may mean.
+-- What an answer implies for everything that the format may mean.
 use Rattle.std.proofs.Common.{ℕ, ◌≡◌, List, Result, Ok, Err, ◌∙◌, ap, string_bytes}
 use Rattle.std.specs.Prelude.{IfOk, MatchResult}
 use Rattle.std.specs.Result.{IfErr}
@@ -19,18 +19,18 @@ pub meant_converted : (dialect : Dialect) (format : Text) (r : Answer)
     → IfOk r (IsConverted dialect format) → IfErr r (IsRefusedFor dialect format)
     → (ps : List Piece) → Means dialect format ps
     → MatchResult r (λ answer. string_bytes answer.text ≡ text_of ps) IsMemory
-meant_converted dialect format (Ok answer) is told ps means =
+meant_converted dialect format (Ok answer) is reported ps means =
     is.2 ∙ ap text_of (one_meaning_law dialect format is.0 ps is.1 means)
-meant_converted dialect format (Err (Refused refusal)) is told ps means =
-    not_both_law dialect format ps refusal.reason refusal.index means told
-meant_converted dialect format (Err (Memory e)) is told ps means = tt
+meant_converted dialect format (Err (Refused refusal)) is reported ps means =
+    not_both_law dialect format ps refusal.reason refusal.index means reported
+meant_converted dialect format (Err (Memory e)) is reported ps means = tt
 
-pub refused_told : (dialect : Dialect) (format : Text) (r : Answer)
+pub refused_reported : (dialect : Dialect) (format : Text) (r : Answer)
     → IfOk r (IsConverted dialect format) → IfErr r (IsRefusedFor dialect format)
     → (reason : Reason) (index : ℕ) → RefusedAt dialect format reason index
     → MatchResult r (λ _. ⊥) (IsRefusal reason index)
-refused_told dialect format (Ok answer) is told reason index refused =
+refused_reported dialect format (Ok answer) is reported reason index refused =
     not_both_law dialect format is.0 reason index is.1 refused
-refused_told dialect format (Err (Refused refusal)) is told reason index refused =
-    one_refusal_law dialect format refusal.reason reason refusal.index index told refused
-refused_told dialect format (Err (Memory e)) is told reason index refused = tt
+refused_reported dialect format (Err (Refused refusal)) is reported reason index refused =
+    one_refusal_law dialect format refusal.reason reason refusal.index index reported refused
+refused_reported dialect format (Err (Memory e)) is reported reason index refused = tt

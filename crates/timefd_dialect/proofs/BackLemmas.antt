@@ -24,7 +24,7 @@ pub first_after : (text front : Text) (rest : Bor (List ℕ)) → IsFirst text f
 first_after text front rest f =
     record { taken = front; whole = first_whole text front rest.now f; left = f.left }
 
--- an escape and the character that it stands for
+-- an escape and the character that it means
 pub escaped_after : (b : ℕ) (text after front : Text) (rest : Bor (List ℕ)) → text ≡ b ∷ after
     → IsFirst after front rest.now → IsAfter text rest
 escaped_after b text after front rest e f = record {
@@ -36,7 +36,7 @@ escaped_after b text after front rest e f = record {
   };
 }
 
--- what follows a text that stands at the front
+-- what follows a text at the front
 pub written_after : (own text : Text) (rest : Bor (List ℕ))
     → (nat_lt 0 (length own) && starts_with eqb text own) ≡ true → text ≡ own ++ rest.now
     → IsUtf8 rest.now → IsAfter text rest

@@ -1,11 +1,11 @@
--- A byte that finds no rows.
+-- A byte that selects no rows.
 use Rattle.std.proofs.Common.{ℕ, ◌≡◌, ◌==◌, cond, Bool, true, false, [], ◌∷◌, List, refl, inl, inr}
 use Rattle.std.specs.Prelude.{◌&&◌, not}
 use Rattle.std.proofs.lemmas.Bool.{and_parts}
 use Rattle.timefd_dialect.specs.Groups.{Group, rows_at}
 use Rattle.timefd_dialect.specs.Rows.{Entry}
 
--- a byte that finds no group
+-- the byte selects no group
 abbrev pub is_apart : ℕ → List Group → Bool
 is_apart b [] = true
 is_apart b (g ∷ gs) = not (b == g.key) && is_apart b gs

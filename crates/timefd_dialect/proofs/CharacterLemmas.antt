@@ -54,7 +54,7 @@ char_boundary b rest =
       λ below high. not_continuing _ (prefix_len_stops continues rest 0 (omega (arith, below))) high,
     )
 
--- the first character is one
+-- the first character is a character
 pub first_is : (b : ℕ) (rest : Text) → IsCharacter (take (char_len (b ∷ rest)) (b ∷ rest))
 first_is b rest =
     let more : 1 + prefix_len continues rest ≡ suc (prefix_len continues rest) = omega arith in
@@ -85,7 +85,7 @@ first_of [] front rest n utf8 some is front_is rest_is = absurd (omega (arith, s
 first_of (b ∷ bytes) front rest n utf8 some is front_is rest_is =
     rw (front_is, rest_is, is) (first_parts b bytes utf8)
 
--- Where a character stands between apostrophes.
+-- A character between apostrophes.
 
 quoted_bytes : (bytes rest : Text) → ZeroOrMore continues bytes
     → quotation (bytes ++ rest) ≡ with_front bytes (quotation rest)
@@ -119,7 +119,7 @@ quoted_step [] front rest f some e = absurd (omega (arith, some))
 quoted_step (b ∷ bytes) front rest f some e =
     rw (f.front_is, f.rest_is) (quoted_first b bytes e)
 
--- What was quoted so far, and what is quoted of the rest.
+-- What was quoted so far, and what is quoted in the rest.
 
 pub with_front-append : (a b : Text) (found : Option (Text × Text))
     → with_front (a ++ b) found ≡ with_front a (with_front b found)

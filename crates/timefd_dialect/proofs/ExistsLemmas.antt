@@ -16,7 +16,7 @@ use Rattle.timefd_dialect.specs.Tables.{rows_of}
 use Rattle.timefd_dialect.proofs.RowLemmas.{IsFit, has_bytes, all_have_bytes, longest_fits}
 use Rattle.timefd_language.specs.Bytes.{left}
 
--- a piece stands in front of less than so many bytes, or something is refused
+-- the front is a piece that fewer than `n` bytes follow, or is refused
 abbrev IsStep : ℕ → Front → Type 0
 IsStep n ended = ⊥
 IsStep n (piece p rest) = length rest < n
@@ -55,7 +55,7 @@ mutual
       (Some ([], b ∷ rest))
       (with_byte-rest (length rest) b (quotation rest) (quotation_rest rest)) (omega arith)
 
--- What stands at the front.
+-- What is at the front.
 
 dropped : (n : ℕ) (text : Text) → 0 < n → 0 < length text → length (drop n text) < length text
 dropped n text some there = omega (arith, length-drop n text, some, there)

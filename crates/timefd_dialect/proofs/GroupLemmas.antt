@@ -1,4 +1,4 @@
--- The longest row at a place is the first of those that a byte finds.
+-- The longest row at a position is the first of those that a byte selects.
 use Rattle.std.proofs.Common.{ℕ, ◌≡◌, ◌<◌, ◌==◌, cond, nat_lt, Bool, true, false, List, [], ◌∷◌, ◌++◌, length, drop, Option, Some, None, refl, sym, ap, ◌∙◌, subst, inl, inr, arith}
 use Rattle.std.specs.Prelude.{◌&&◌, nat_le, not, ⊤}
 use Rattle.std.proofs.lemmas.Bool.{cases_Bool, and_parts}
@@ -24,7 +24,7 @@ use Rattle.timefd_dialect.specs.Moment.{moment_groups}
 use Rattle.timefd_dialect.proofs.ByteLemmas.{is_apart}
 use Rattle.timefd_dialect.proofs.RowLemmas.{all_pass, row_stands}
 
--- Where no row is longer than one in front of it, the first that stands is the longest.
+-- If no row is longer than one in front of it, then the first that is there is the longest.
 
 abbrev no_longer : ℕ → List Entry → Bool
 no_longer n [] = true
@@ -62,7 +62,7 @@ first_is_longest (row ∷ rows) text e =
       | inr not ↦ rw not (first_is_longest rows text p.1)
     ]
 
--- A row stands only where the text has its byte.
+-- A row is only where the text has the row's byte.
 
 first_kept : (k : ℕ) (text rest : Text) → first_byte text ≡ Some k → first_byte (text ++ rest) ≡ Some k
 first_kept k [] rest e = cc
@@ -85,7 +85,7 @@ stands_key leading k row text is e =
     subst (λ t. key_of leading t ≡ Some k) (sym (row_stands row text is))
     (key_kept leading k row.text (drop (length row.text) text) e)
 
--- Where the text has another byte, no row of a group stands.
+-- Where the text has another byte, no row of a group is there.
 
 abbrev pub is_key : ℕ → Option ℕ → Bool
 is_key k None = false
@@ -117,7 +117,7 @@ longest_more : (best : Option Entry) (a b : List Entry) (text : Text)
 longest_more best [] b text = refl
 longest_more best (row ∷ a) b text = longest_more (better best row text) a b text
 
--- each row has the byte that finds it, and no byte finds two groups
+-- each row has the byte that selects it, and no byte selects two groups
 abbrev pub are_keyed : Leading → List Group → Bool
 are_keyed leading [] = true
 are_keyed leading (g ∷ gs) =
@@ -198,7 +198,7 @@ by_key leading None best gs text e is =
     missed leading best gs text e (subst (λ o. Misses o gs) (sym is) (none_misses gs))
 by_key leading (Some b) best gs text e is = at_byte leading b best gs text e is
 
--- The rows of a group and those that stand where it has none.
+-- The rows of a group, and those that count where it has none.
 
 abbrev all_descend : List Entry → List Group → Bool
 all_descend others [] = descends others
@@ -227,7 +227,7 @@ found_descends : (key : Option ℕ) (others : List Entry) (gs : List Group)
 found_descends None others gs e = none_descends others gs e
 found_descends (Some b) others gs e = at_descends b others gs e
 
--- the first of some rows, or else of others
+-- the first of some rows, or else the first of others
 abbrev or_other : Option Entry → Option Entry → Option Entry
 or_other None other = other
 or_other (Some row) other = Some row
@@ -240,10 +240,11 @@ first_of_both (row ∷ a) b text = elim (cases_Bool (stands row text)) [
   | inr not ↦ rw not (first_of_both a b text)
 ]
 
--- Each table is as the search wants it.
+-- Each table has the form that the search needs.
 
 pub all_keyed : (dialect : Dialect) → are_keyed (leading_of dialect) (groups_of dialect) ≡ true
-unfolding python_groups c_groups c_marked gnu_groups gnu_marked chrono_groups jiff_groups jiff_marked ruby_groups ruby_marked java_groups go_groups moment_groups
+unfolding python_groups c_groups c_marked gnu_groups gnu_marked chrono_groups jiff_groups jiff_marked
+    ruby_groups ruby_marked java_groups go_groups moment_groups
 all_keyed Python = refl
 all_keyed C = refl
 all_keyed Gnu = refl
@@ -256,7 +257,8 @@ all_keyed Moment = refl
 
 tables_descend : (dialect : Dialect)
     → all_descend (unknown_rows (leading_of dialect)) (groups_of dialect) ≡ true
-unfolding python_groups c_groups c_marked gnu_groups gnu_marked chrono_groups jiff_groups jiff_marked ruby_groups ruby_marked java_groups go_groups moment_groups
+unfolding python_groups c_groups c_marked gnu_groups gnu_marked chrono_groups jiff_groups jiff_marked
+    ruby_groups ruby_marked java_groups go_groups moment_groups
 tables_descend Python = refl
 tables_descend C = refl
 tables_descend Gnu = refl

@@ -1,4 +1,4 @@
--- What version 3 spells with the text of each piece, and with that of all.
+-- What version 3 spells with the text of each piece, and with the text of all pieces.
 use Rattle.std.proofs.Common.{ℕ, ◌≡◌, ◌==◌, cond, Bool, true, false, List, [], ◌∷◌, ◌++◌, length, take, drop, Option, Some, None, Result, Ok, Err, refl, sym, ap, ◌∙◌, subst, arith}
 use Rattle.std.proofs.lemmas.Bool.Decides.{nat_tests}
 use Rattle.std.specs.Prelude.{IfSome, MatchResult, ⊤}
@@ -25,7 +25,7 @@ use Rattle.timefd_language.proofs.Join.{joining_law}
 use Rattle.timefd_language.proofs.LawLemmas.{answer_is}
 use Rattle.timefd_language.proofs.Reader.{answer_of}
 
--- version 3 spells some items with the text
+-- in version 3 the text spells some items
 abbrev IsSpelled : Text → Type 0
 IsSpelled text = (list : List Tree) × Spells Three nesting_limit 0 text list
 
@@ -69,7 +69,7 @@ literal_spelled (b ∷ bytes) =
     let both = joining_law Three nesting_limit _ _ one.0 more.0 one.1 more.1 in
     subst IsSpelled (one_byte b bytes) (both.0, both.1)
 
--- What stands at the front.
+-- What is at the front.
 
 abbrev IsGood : Front → Type 0
 IsGood ended = ⊤

@@ -1,4 +1,4 @@
--- A format has one answer at most.
+-- A format has at most one answer.
 use Rattle.std.proofs.Common.{ℕ, ◌≡◌, ◌+◌, List, [], ◌∷◌, length, refl, sym, ap, ◌∙◌, subst, arith}
 use Rattle.timefd_component.specs.Tree.{Text}
 use Rattle.timefd_dialect.specs.declared.dialect.Dialect.{Dialect}
@@ -7,7 +7,7 @@ use Rattle.timefd_dialect.specs.Laws.{OneAnswer}
 use Rattle.timefd_dialect.proofs.ExistsLemmas.{answer_law}
 use Rattle.timefd_dialect.specs.Reading.{Piece, ended, piece, refused_for, front_of, Leads, Means, RefusedAt}
 
--- no piece stands at the front
+-- the front is no piece
 abbrev IsStopped : Dialect → Text → Type 0
 IsStopped dialect text = (p : Piece) (rest : Text) → ¬ (front_of dialect text ≡ piece p rest)
 

@@ -1,4 +1,4 @@
--- A run of bytes that stand for themselves.
+-- A run of literal bytes.
 use Rattle.std.proofs.Common.{ℕ, zero, suc, ◌≡◌, ◌+◌, ◌<◌, ◌≤◌, ◌==◌, cond, Bool, true, false, List, [], ◌∷◌, ◌++◌, length, length-append, length-drop, take, drop, take-append-drop, Option, Some, None, refl, sym, ap, ◌∙◌, subst, inl, inr, arith, IsUtf8}
 use Rattle.std.specs.Prelude.{◌&&◌, not, ⊤}
 use Rattle.std.specs.List.{prefix_len}
@@ -35,7 +35,7 @@ use Rattle.timefd_dialect.specs.Go.{go_groups}
 use Rattle.timefd_dialect.specs.Moment.{moment_groups}
 use Rattle.timefd_dialect.proofs.RowLemmas.{all_pass, row_stands}
 
--- No row begins with such a byte.
+-- No row begins with a literal byte.
 
 abbrev begins_plain : (ℕ → Bool) → Text → Bool
 begins_plain test [] = true
@@ -45,7 +45,8 @@ abbrev is_marked : Dialect → Entry → Bool
 is_marked dialect row = not (begins_plain (is_plain dialect) row.text)
 
 all_marked : (dialect : Dialect) → all_pass (is_marked dialect) (rows_of dialect) ≡ true
-unfolding python_groups c_groups c_marked gnu_groups gnu_marked chrono_groups jiff_groups jiff_marked ruby_groups ruby_marked java_groups go_groups moment_groups
+unfolding python_groups c_groups c_marked gnu_groups gnu_marked chrono_groups jiff_groups jiff_marked
+    ruby_groups ruby_marked java_groups go_groups moment_groups
 all_marked Python = refl
 all_marked C = refl
 all_marked Gnu = refl
@@ -56,13 +57,13 @@ all_marked Java = refl
 all_marked Go = refl
 all_marked Moment = refl
 
-not_begun : (dialect : Dialect) (b : ℕ) (own behind rest : Text) → b ∷ rest ≡ own ++ behind
+not_begun : (dialect : Dialect) (b : ℕ) (own after rest : Text) → b ∷ rest ≡ own ++ after
     → not (begins_plain (is_plain dialect) own) ≡ true → ¬ (is_plain dialect b ≡ true)
-not_begun dialect b [] behind rest e marked plain = cc
-not_begun dialect b (c ∷ own) behind rest e marked plain =
+not_begun dialect b [] after rest e marked plain = cc
+not_begun dialect b (c ∷ own) after rest e marked plain =
     differ (is_plain dialect c) (subst (λ x. is_plain dialect x ≡ true) (first e) plain) marked
   where
-    first : b ∷ rest ≡ c ∷ own ++ behind → b ≡ c
+    first : b ∷ rest ≡ c ∷ own ++ after → b ≡ c
     first e = cc
 
     differ : (t : Bool) → t ≡ true → ¬ (not t ≡ true)
@@ -86,7 +87,7 @@ no_row : (dialect : Dialect) (b : ℕ) (rest : Text) → is_plain dialect b ≡ 
 no_row dialect b rest plain =
     none_from dialect b rest (rows_of dialect) (all_marked dialect) plain
 
--- No quote begins with such a byte.
+-- No quotation begins with a literal byte.
 
 plain_is_not_special : (dialect : Dialect) (b : ℕ) → is_plain dialect b ≡ true
     → is_special b ≡ false
@@ -114,7 +115,7 @@ no_quote Java b rest other e = rw (no_apostrophe b e) refl
 no_quote Go b rest other e = refl
 no_quote Moment b rest other e = rw (no_bracket b (plain_is_not_special Moment b e)) refl
 
--- so it begins a character that stands for itself
+-- so it begins a literal character
 plain_front : (dialect : Dialect) (b : ℕ) (rest : Text) → is_plain dialect b ≡ true
     → front_of dialect (b ∷ rest)
     ≡ piece (literal (take (char_len (b ∷ rest)) (b ∷ rest))) (drop (char_len (b ∷ rest)) (b ∷ rest))
@@ -122,7 +123,7 @@ plain_front dialect b rest e =
     no_quote dialect b rest _ e
     ∙ ap (λ o. front_row o (b ∷ rest)) (no_row dialect b rest e)
 
--- Where a run ends, a character ends.
+-- A run ends where a character ends.
 
 high_is_plain : (dialect : Dialect) (b : ℕ) → 128 ≤ b → b < 192 → is_plain dialect b ≡ true
 high_is_plain Python b low high = grind (arith, nat_tests)
@@ -188,7 +189,7 @@ prefix_of_front test (b ∷ front) rest stops = by (test b) (prefix_of_front tes
     by true e = ap (λ n. 1 + n) e
     by false e = refl
 
--- A run is pieces that write its bytes.
+-- A run is pieces that write the bytes of the run.
 
 record Run (dialect : Dialect) (run rest : Text) : Type 0 where
   pieces : List Piece

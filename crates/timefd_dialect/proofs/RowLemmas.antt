@@ -1,4 +1,4 @@
--- What holds of the rows of each table, and so of the longest that stands at a place.
+-- What holds for the rows of each table, and so for the longest one at a position.
 use Rattle.std.proofs.Common.{ℕ, ◌≡◌, ◌<◌, cond, nat_lt, Bool, true, false, List, [], ◌∷◌, ◌++◌, length, drop, Option, Some, None, refl, sym, ap, ◌∙◌, subst, inl, inr, arith}
 use Rattle.std.specs.Borrow.{Bor}
 use Rattle.std.specs.Prelude.{◌&&◌, IfSome}
@@ -21,19 +21,19 @@ use Rattle.timefd_dialect.specs.Java.{java_groups}
 use Rattle.timefd_dialect.specs.Go.{go_groups}
 use Rattle.timefd_dialect.specs.Moment.{moment_groups}
 
--- the text begins with what a row has that stands there
+-- the text begins with the text of a row that is there
 pub row_stands : (row : Entry) (text : Text) → stands row text ≡ true
     → text ≡ row.text ++ drop (length row.text) text
 row_stands row text e =
     (starts_is Decides-eqb text row.text _ refl).0 (and_parts _ _ e).0
 
--- The longest is one of the rows, and stands there.
+-- The longest row is one of the rows, and is there.
 
 abbrev pub all_pass : (Entry → Bool) → List Entry → Bool
 all_pass test [] = true
 all_pass test (row ∷ rows) = test row && all_pass test rows
 
--- it passes, and stands there
+-- the row passes the test, and is there
 abbrev pub IsFit : (Entry → Bool) → Text → Entry → Type 0
 IsFit test text row = (test row ≡ true) × (stands row text ≡ true)
 
@@ -73,7 +73,8 @@ abbrev pub has_bytes : Entry → Bool
 has_bytes row = nat_lt 0 (length row.text)
 
 pub all_have_bytes : (dialect : Dialect) → all_pass has_bytes (rows_of dialect) ≡ true
-unfolding python_groups c_groups c_marked gnu_groups gnu_marked chrono_groups jiff_groups jiff_marked ruby_groups ruby_marked java_groups go_groups moment_groups
+unfolding python_groups c_groups c_marked gnu_groups gnu_marked chrono_groups jiff_groups jiff_marked
+    ruby_groups ruby_marked java_groups go_groups moment_groups
 all_have_bytes Python = refl
 all_have_bytes C = refl
 all_have_bytes Gnu = refl
@@ -84,7 +85,7 @@ all_have_bytes Java = refl
 all_have_bytes Go = refl
 all_have_bytes Moment = refl
 
--- the row that was found has bytes, and stands there
+-- the row that was found has bytes, and is there
 found_row : (dialect : Dialect) (row : Row) (text : Text)
     → Some (entry_of row) ≡ longest (rows_of dialect) text
     → (0 < length row.text.now) × (stands (entry_of row) text ≡ true)

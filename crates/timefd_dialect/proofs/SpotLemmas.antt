@@ -1,4 +1,4 @@
--- Where directives stand, as far as a format was read.
+-- Where the directives are, as far as a format was read.
 use Rattle.std.proofs.Common.{ℕ, ◌≡◌, ◌-◌, ◌<◌, ◌≤◌, ◌==◌, true, List, [], ◌∷◌, ◌++◌, append-nil, append_assoc, length, refl, sym, ap, ◌∙◌, subst, arith}
 use Rattle.std.proofs.lemmas.Bool.Decides.{nat_tests}
 use Rattle.timefd_component.specs.Tree.{Text}
@@ -76,7 +76,7 @@ all_spots dialect format (b ∷ rest) spots read e = absurd (omega (arith, none 
     none : (n : ℕ) → (n == 0) ≡ true → n ≡ 0
     none n e = grind (arith, nat_tests)
 
--- A format is split in one way, and so has one list of traps.
+-- A format is split in only one way, so it has one list of traps.
 
 nothing_left : (text : Text) → text ≡ [] → ¬ (0 < length text)
 nothing_left text e some = omega (arith, ap length e, some)

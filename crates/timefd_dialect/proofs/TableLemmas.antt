@@ -1,4 +1,4 @@
--- Each text of version 3 in a table is one.
+-- The texts of version 3 in the tables are texts of version 3.
 use Rattle.std.proofs.Common.{◌≡◌, Bool, true, false, List, Result, Ok, Err, refl}
 use Rattle.timefd_component.specs.Tree.{Tree}
 use Rattle.timefd_fault.specs.Faults.{Fault}
@@ -32,7 +32,8 @@ abbrev pub reads : Entry → Bool
 reads row = meaning_reads row.meaning
 
 pub all_read : (dialect : Dialect) → all_pass reads (rows_of dialect) ≡ true
-unfolding python_groups c_groups c_marked gnu_groups gnu_marked chrono_groups jiff_groups jiff_marked ruby_groups ruby_marked java_groups go_groups moment_groups answer_of
+unfolding python_groups c_groups c_marked gnu_groups gnu_marked chrono_groups jiff_groups jiff_marked
+    ruby_groups ruby_marked java_groups go_groups moment_groups answer_of
 all_read Python = refl
 all_read C = refl
 all_read Gnu = refl

@@ -1,4 +1,4 @@
--- What texts of a format are read by, so far and as a whole; and that there is one answer at most.
+-- What reads the texts of a format, so far and as a whole; and that there is at most one answer.
 use Rattle.std.proofs.Common.{ℕ, ◌≡◌, ◌≤◌, ◌+◌, List, [], ◌∷◌, ◌++◌, append-nil, append_assoc, length, Result, Ok, Err, refl, sym, ap, ◌∙◌, subst, arith, string_bytes}
 use Rattle.std.specs.Prelude.{IfOk, MatchResult}
 use Rattle.std.specs.Result.{IfErr}
@@ -16,7 +16,7 @@ use Rattle.timefd_dialect.specs.Reading.{Piece, ended, piece, refused_for, text_
 use Rattle.timefd_dialect.specs.Steps.{Takes}
 use Rattle.timefd_dialect.specs.ToRead.{front_to_read, LeadsToRead, ReadsBy, UnreadAt, IsToRead, IsUnreadFor}
 
--- pieces to read by lead from the format to the rest, with their text and their limits
+-- for reading, pieces lead from the format to the rest, with their text and their limits
 pub record HasToRead (dialect : Dialect) (format rest text : Text) (limits : Limits) : Type 0 where
   pub pieces : List Piece
   pub leads : LeadsToRead dialect format pieces rest
@@ -67,9 +67,9 @@ to_read_more dialect format rest text next limits step so_far one = record {
   left = omega (arith, so_far.left, one.left.shorter);
 }
 
--- There is one answer at most.
+-- There is at most one answer.
 
--- no piece stands at the front
+-- the front is no piece
 abbrev IsStopped : Dialect → Text → Type 0
 IsStopped dialect text = (p : Piece) (rest : Text) → ¬ (front_to_read dialect text ≡ piece p rest)
 
@@ -127,7 +127,7 @@ not_both dialect text ps r i a b =
     no_end : ¬ (ended ≡ refused_for r)
     no_end e = cc
 
--- What is answered is all that may be.
+-- The answer is everything that there may be.
 
 abbrev Answer : Type 0
 Answer = Result Converted DialectError
@@ -136,18 +136,18 @@ pub reading_converted : (dialect : Dialect) (format : Text) (r : Answer)
     → IfOk r (IsToRead dialect format) → IfErr r (IsUnreadFor dialect format)
     → (ps : List Piece) → ReadsBy dialect format ps
     → MatchResult r (λ answer. string_bytes answer.text ≡ text_of ps) IsMemory
-reading_converted dialect format (Ok answer) is told ps reads =
+reading_converted dialect format (Ok answer) is reported ps reads =
     is.2 ∙ ap text_of (one_reading dialect format is.0 ps is.1 reads)
-reading_converted dialect format (Err (Refused refusal)) is told ps reads =
-    not_both dialect format ps refusal.reason refusal.index reads told
-reading_converted dialect format (Err (Memory e)) is told ps reads = tt
+reading_converted dialect format (Err (Refused refusal)) is reported ps reads =
+    not_both dialect format ps refusal.reason refusal.index reads reported
+reading_converted dialect format (Err (Memory e)) is reported ps reads = tt
 
-pub unread_told : (dialect : Dialect) (format : Text) (r : Answer)
+pub unread_reported : (dialect : Dialect) (format : Text) (r : Answer)
     → IfOk r (IsToRead dialect format) → IfErr r (IsUnreadFor dialect format)
     → (reason : Reason) (index : ℕ) → UnreadAt dialect format reason index
     → MatchResult r (λ _. ⊥) (IsRefusal reason index)
-unread_told dialect format (Ok answer) is told reason index refused =
+unread_reported dialect format (Ok answer) is reported reason index refused =
     not_both dialect format is.0 reason index is.1 refused
-unread_told dialect format (Err (Refused refusal)) is told reason index refused =
-    one_refusal dialect format refusal.reason reason refusal.index index told refused
-unread_told dialect format (Err (Memory e)) is told reason index refused = tt
+unread_reported dialect format (Err (Refused refusal)) is reported reason index refused =
+    one_refusal dialect format refusal.reason reason refusal.index index reported refused
+unread_reported dialect format (Err (Memory e)) is reported reason index refused = tt

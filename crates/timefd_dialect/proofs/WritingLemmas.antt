@@ -1,4 +1,4 @@
--- The row whose text of version 3 stands at the front of a description.
+-- The row whose text of version 3 a description begins with.
 use Rattle.std.proofs.Common.{ℕ, ◌≡◌, ◌==◌, cond, Bool, true, false, List, [], ◌∷◌, ◌++◌, Option, Some, None, refl, sym, ap, ◌∙◌, subst, inl, inr, arith}
 use Rattle.std.specs.Borrow.{Bor}
 use Rattle.std.specs.Prelude.{◌&&◌, not, IfSome, MatchOption, ⊤}
@@ -20,7 +20,7 @@ use Rattle.timefd_dialect.proofs.GroupLemmas.{are_keyed, parts, all_keyed}
 abbrev Writes : Text → Entry → Type 0
 Writes text row = writes row text ≡ true
 
--- What is found stands there.
+-- What is found is at the front.
 
 of_writes : (text : Text) (best : Option Entry) (row : Entry) → IfSome best (Writes text)
     → Writes text row → Writes text (best_of best row)
@@ -51,7 +51,7 @@ at_writes text best (b ∷ bytes) gs so_far =
     at_writes text (best_from best (rows_at b gs) text) bytes gs
     (from_writes text best (rows_at b gs) so_far)
 
--- Where nothing is found, no row's text stands there.
+-- If nothing is found, no row's text is at the front.
 
 none_from : (text : Text) (best : Option Entry) (rows : List Entry)
     → best_from best rows text ≡ None → (best ≡ None) × (none_writes rows text ≡ true)
@@ -81,7 +81,7 @@ none_at text best (b ∷ bytes) gs e =
     let one = none_from text best (rows_at b gs) more.0 in
     (one.0, (one.1, more.1))
 
--- the rows of other groups stay where one is left out
+-- the rows of other groups stay when one group is left out
 without_first : (text : Text) (g : Group) (gs hs : List Group) → is_apart g.key hs ≡ true
     → NoneAt text (keys_of hs) (g ∷ gs) → NoneAt text (keys_of hs) gs
 without_first text g gs [] e all = tt

@@ -1,4 +1,4 @@
--- How an answer stands to a format.
+-- What the answer to a format has to be.
 use Rattle.std.specs.Prelude.{ℕ, ◌≡◌, List, ⊤, string_bytes}
 use Rattle.timefd_component.specs.Tree.{Text}
 use Rattle.timefd_dialect.specs.declared.dialect.Dialect.{Dialect}
@@ -9,13 +9,13 @@ use Rattle.timefd_dialect.specs.declared.reason.Reason.{Reason}
 use Rattle.timefd_dialect.specs.Limits.{all_limits, limits_from}
 use Rattle.timefd_dialect.specs.Reading.{Piece, Means, RefusedAt, text_of}
 
--- the text is that of the pieces that the format means, and the limits are theirs
+-- the format means pieces with this text and these limits
 abbrev pub IsConverted : Dialect → Text → Converted → Type 0
 IsConverted dialect format answer =
     (ps : List Piece) × Means dialect format ps × (string_bytes answer.text ≡ text_of ps)
     × (answer.limits ≡ limits_from all_limits ps)
 
--- what stands at the index is refused for the reason, or memory ran out
+-- the format is refused for the reason at the index, or memory ran out
 abbrev pub IsRefusedFor : Dialect → Text → DialectError → Type 0
 IsRefusedFor dialect format (Refused refusal) =
     RefusedAt dialect format refusal.reason refusal.index
@@ -25,7 +25,7 @@ abbrev pub IsMemory : DialectError → Type 0
 IsMemory (Refused refusal) = ⊥
 IsMemory (Memory e) = ⊤
 
--- the refusal for the reason at the index, or out of memory
+-- a refusal for the reason at the index, or out of memory
 abbrev pub IsRefusal : Reason → ℕ → DialectError → Type 0
 IsRefusal reason index (Refused refusal) =
     (refusal.reason ≡ reason) × (refusal.index ≡ index)

@@ -12,18 +12,18 @@ use Rattle.timefd_dialect.specs.Reading.{Piece, Means, text_of}
 use Rattle.timefd_dialect.specs.Rows.{Entry, Meaning, written, refused}
 use Rattle.timefd_dialect.specs.Tables.{rows_of}
 
--- the format means pieces whose text is the description, and the limits are theirs
+-- the format means pieces with this description as their text and with these limits
 abbrev pub IsFormatOf : Dialect → Text → Converted → Type 0
 IsFormatOf dialect description answer =
     (ps : List Piece) × Means dialect (string_bytes answer.text) ps × (description ≡ text_of ps)
     × (answer.limits ≡ limits_from all_limits ps)
 
--- the text of a row; none where it is refused
+-- the text of version 3 of a row, or nothing if the row is refused
 abbrev pub own_text : Meaning → Text
 own_text (written own range) = own
 own_text (refused reason) = []
 
--- the text of the row stands at the front of a description
+-- the description begins with the row's text
 abbrev pub writes : Entry → Text → Bool
 writes row text =
     nat_lt 0 (length (own_text row.meaning)) && starts_with eqb text (own_text row.meaning)
@@ -32,7 +32,7 @@ abbrev pub none_writes : List Entry → Text → Bool
 none_writes [] text = true
 none_writes (row ∷ rows) text = not (writes row text) && none_writes rows text
 
--- Which row is taken: the one with the longest text, and of those the first.
+-- Which row is chosen: the one with the longest text, and the first one if several are as long.
 
 abbrev pub is_better : Entry → Entry → Bool
 is_better row best = nat_lt (length (own_text best.meaning)) (length (own_text row.meaning))
@@ -48,12 +48,12 @@ abbrev pub best_from : Option Entry → List Entry → Text → Option Entry
 best_from best [] text = best
 best_from best (row ∷ rows) text = best_from (best_with best row text) rows text
 
--- of the rows that these bytes find
+-- the best of this row and the rows that these bytes select
 abbrev pub best_at : Option Entry → List ℕ → List Group → Text → Option Entry
 best_at best [] gs text = best
 best_at best (b ∷ bytes) gs text = best_at (best_from best (rows_at b gs) text) bytes gs text
 
--- the dialect has no directive for what stands at the front of a description
+-- the dialect has no directive for the front of the description
 abbrev pub Lacks : Dialect → Text → Type 0
 Lacks dialect text = none_writes (rows_of dialect) text ≡ true
 

@@ -1,10 +1,10 @@
--- How a step over a description stands to it.
+-- What a step over a description leaves of it.
 use Rattle.std.specs.Prelude.{ℕ, ◌≡◌, List, ◌++◌}
 use Rattle.std.specs.Borrow.{Bor}
 use Rattle.timefd_component.specs.Tree.{Text}
 use Rattle.timefd_dialect.specs.QuoteSteps.{IsLess}
 
--- the text goes on with the rest, after a front with bytes
+-- the text is a front with bytes, and then the rest
 pub record IsAfter (text : Text) (rest : Bor (List ℕ)) : Type 0 where
   pub taken : Text
   pub whole : text ≡ taken ++ rest.now

@@ -1,11 +1,11 @@
--- The rows of C, by the byte that finds them, the longest first.
+-- The rows of C, by the byte that selects them, the longest first.
 use Rattle.std.specs.Prelude.{codes, List, [], ◌∷◌}
 use Rattle.timefd_dialect.specs.declared.reason.Reason.TheVariants.{Capitals, Flag, Unsupported, VariableWidth, Width, ZoneName}
 use Rattle.timefd_dialect.specs.declared.row.Range.TheVariants.{YearsFrom1, YearsFrom1000}
 use Rattle.timefd_dialect.specs.Groups.{Group, under}
 use Rattle.timefd_dialect.specs.Rows.{◌means◌, ◌refused_for◌, within}
 
--- those with a flag, a digit or another mark
+-- the groups of a flag, a digit or another mark
 unfoldable pub c_marked : List Group
 c_marked =
     under 37 (codes "%%" means codes "%" ∷ [])

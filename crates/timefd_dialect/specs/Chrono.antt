@@ -1,4 +1,4 @@
--- The rows of chrono, by the byte that finds them, the longest first.
+-- The rows of chrono, by the byte that selects them, the longest first.
 use Rattle.std.specs.Prelude.{codes, List, [], ◌∷◌}
 use Rattle.timefd_dialect.specs.declared.reason.Reason.TheVariants.{Flag, ReadingOnly, VariableFraction, VariableWidth, ZoneName}
 use Rattle.timefd_dialect.specs.declared.row.Range.TheVariants.{WholeMinutes, YearsFrom1}

@@ -22,7 +22,7 @@ name_of Java = codes "java"
 name_of Go = codes "go"
 name_of Moment = codes "moment"
 
--- the dialect of this name
+-- the dialect with this name
 abbrev pub named : Text → Option Dialect
 named name =
     if bytes_eq name (codes "python") then Some Python
@@ -47,7 +47,7 @@ quoting_of Java = Apostrophes
 quoting_of Go = Unquoted
 quoting_of Moment = Brackets
 
--- What finds a row.
+-- What selects a row.
 
 abbrev pub leading_of : Dialect → Leading
 leading_of Python = Percent
@@ -73,7 +73,7 @@ abbrev pub key_of : Leading → Text → Option ℕ
 key_of Percent text = second_byte text
 key_of Bare text = first_byte text
 
--- what a `%` is that begins no other row
+-- the row of a `%` that begins no other row
 abbrev pub unknown_rows : Leading → List Entry
 unknown_rows Percent = codes "%" refused_for UnknownDirective ∷ []
 unknown_rows Bare = []

@@ -1,4 +1,4 @@
--- The rows of Go, by the byte that finds them, the longest first.
+-- The rows of Go, by the byte that selects them, the longest first.
 use Rattle.std.specs.Prelude.{codes, List, [], ◌∷◌}
 use Rattle.timefd_dialect.specs.declared.reason.Reason.TheVariants.{FractionWidth, VariableFraction, ZForUtc, ZoneName}
 use Rattle.timefd_dialect.specs.declared.row.NotBefore.TheVariants.{Digit, Lower}

@@ -1,9 +1,9 @@
--- Rows by the byte that finds them.
+-- Rows, grouped by the byte that selects them.
 use Rattle.std.specs.Prelude.{ℕ, ◌==◌, if◌then◌else◌, List, [], ◌∷◌, ◌++◌, Option, Some, None}
 use Rattle.timefd_component.specs.Tree.{Text}
 use Rattle.timefd_dialect.specs.Rows.{Entry, stands}
 
--- Rows that one byte finds, the longest first.
+-- Rows that one byte selects, the longest first.
 pub record Group : Type 0 where
   pub key : ℕ
   pub rows : List Entry
@@ -19,17 +19,17 @@ abbrev pub keys_of : List Group → List ℕ
 keys_of [] = []
 keys_of (g ∷ gs) = g.key ∷ keys_of gs
 
--- those that a byte finds
+-- the rows that a byte selects
 abbrev pub rows_at : ℕ → List Group → List Entry
 rows_at b [] = []
 rows_at b (g ∷ gs) = if b == g.key then g.rows else rows_at b gs
 
--- those that a byte finds, if there is one
+-- the rows that a byte selects, if there is a byte
 abbrev pub rows_found : Option ℕ → List Group → List Entry
 rows_found None gs = []
 rows_found (Some b) gs = rows_at b gs
 
--- the first that stands at the front of the text
+-- the first of the rows that is at the front of the text
 abbrev pub first_standing : List Entry → Text → Option Entry
 first_standing [] text = None
 first_standing (row ∷ rows) text = if stands row text then Some row else first_standing rows text

@@ -1,4 +1,4 @@
--- The rows of Java, by the byte that finds them, the longest first.
+-- The rows of Java, by the byte that selects them, the longest first.
 use Rattle.std.specs.Prelude.{codes, List, [], ◌∷◌}
 use Rattle.timefd_dialect.specs.declared.reason.Reason.TheVariants.{DayPeriod, Era, GmtOffset, HourFrom0Or24, JulianDay, LocalWeek, NarrowName, OptionalPart, PadLetter, Quarter, Reserved, TooManyLetters, UnitOfDay, UnknownLetter, VariableOffset, VariableWidth, WeekOfMonth, ZForUtc, ZoneName}
 use Rattle.timefd_dialect.specs.declared.row.Range.TheVariants.{WholeMinutes, YearsFrom1, YearsFrom100}

@@ -7,13 +7,13 @@ use Rattle.timefd_dialect.specs.declared.trapping.Found.{Found}
 use Rattle.timefd_dialect.specs.Reading.{Piece, Means, RefusedAt}
 use Rattle.timefd_dialect.specs.Traps.{AreTraps}
 
--- A format means a list of pieces, or is refused.
+-- A format either means a list of pieces, or is refused.
 abbrev pub HasAnswer : Dialect → Text → Type 0
 HasAnswer dialect text =
     ((ps : List Piece) × Means dialect text ps)
     ⊎ ((reason : Reason) × (index : ℕ) × RefusedAt dialect text reason index)
 
--- A format means one list of pieces, or is refused for one reason at one index, and not both.
+-- A format means one list of pieces, or is refused for one reason at one index, but not both.
 pub record OneAnswer (dialect : Dialect) (text : Text) : Type 0 where
   pub answer : HasAnswer dialect text
   pub one_meaning : (ps qs : List Piece) → Means dialect text ps → Means dialect text qs → ps ≡ qs
@@ -22,7 +22,7 @@ pub record OneAnswer (dialect : Dialect) (text : Text) : Type 0 where
   pub not_both : (ps : List Piece) (r : Reason) (i : ℕ) → Means dialect text ps
       → ¬ (RefusedAt dialect text r i)
 
--- A format has one list of traps at most.
+-- A format has at most one list of traps.
 abbrev pub OneListOfTraps : Dialect → Text → Type 0
 OneListOfTraps dialect text =
     (xs ys : List Found) → AreTraps dialect text xs → AreTraps dialect text ys → xs ≡ ys

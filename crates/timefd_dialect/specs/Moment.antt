@@ -1,4 +1,4 @@
--- The rows of moment, by the byte that finds them, the longest first.
+-- The rows of moment, by the byte that selects them, the longest first.
 use Rattle.std.specs.Prelude.{codes, List, [], ◌∷◌}
 use Rattle.timefd_dialect.specs.declared.reason.Reason.TheVariants.{Backslash, Era, HourFrom0Or24, LocalWeek, Locale, OrdinalSuffix, Quarter, Reserved, TwoLetterName, ZoneName}
 use Rattle.timefd_dialect.specs.declared.row.Range.TheVariants.{From1970, YearsFrom1}

@@ -1,4 +1,4 @@
--- Bytes that stand for themselves wherever they stand.
+-- Bytes that are literal wherever they occur.
 use Rattle.std.specs.Prelude.{ℕ, ◌==◌, ◌&&◌, ◌||◌, nat_le, not, Bool}
 use Rattle.timefd_dialect.specs.declared.dialect.Dialect.{Dialect}
 use Rattle.timefd_dialect.specs.declared.dialect.Dialect.TheVariants.{Python, C, Gnu, Chrono, Jiff, Ruby, Java, Go, Moment}
@@ -7,7 +7,7 @@ use Rattle.timefd_language.specs.Bytes.{is_special}
 abbrev pub is_letter : ℕ → Bool
 is_letter b = (nat_le 65 b && nat_le b 90) || (nat_le 97 b && nat_le b 122)
 
--- an apostrophe, or a reserved byte
+-- an apostrophe, or a byte that Java reserves
 abbrev pub is_java_mark : ℕ → Bool
 is_java_mark b = (((b == 35) || (b == 39)) || (b == 123)) || (b == 125)
 
@@ -20,7 +20,7 @@ abbrev pub is_go_letter : ℕ → Bool
 is_go_letter b =
     ((((b == 74) || (b == 77)) || (b == 80)) || (b == 90)) || ((b == 95) || (b == 112))
 
--- an end of a line: two of them begin with 226
+-- a byte that a line's end begins with; two of these ends begin with 226
 abbrev pub is_line_end : ℕ → Bool
 is_line_end b = ((b == 10) || (b == 13)) || (b == 226)
 

@@ -1,4 +1,4 @@
--- The rows of Python, by the byte that finds them, the longest first.
+-- The rows of Python, by the byte that selects them, the longest first.
 use Rattle.std.specs.Prelude.{codes, List, [], ◌∷◌}
 use Rattle.timefd_dialect.specs.declared.reason.Reason.TheVariants.{Capitals, LocalTime, Platform, ZoneName}
 use Rattle.timefd_dialect.specs.declared.row.Range.TheVariants.{WholeMinutes, YearsFrom1000}

@@ -1,4 +1,4 @@
--- How the steps over what is quoted stand to it.
+-- What a step over quoted text does.
 use Rattle.std.specs.Prelude.{ℕ, ◌≡◌, ◌<◌, ◌+◌, List, [], ◌∷◌, ◌++◌, take, drop, length, Option, Some, None}
 use Rattle.std.specs.Borrow.{Bor}
 use Rattle.std.specs.Str.{IsUtf8}
@@ -7,12 +7,12 @@ use Rattle.timefd_dialect.specs.declared.quote.QuoteStep.{QuoteStep}
 use Rattle.timefd_dialect.specs.declared.quote.QuoteStep.TheVariants.{End, Closing, Character}
 use Rattle.timefd_dialect.specs.Quotes.{escaped, char_len, IsCharacter, with_byte, quotation, closing}
 
--- with these bytes in front of what is quoted
+-- what was quoted, with these bytes in front of it
 abbrev pub with_front : Text → Option (Text × Text) → Option (Text × Text)
 with_front [] found = found
 with_front (b ∷ bytes) found = with_byte b (with_front bytes found)
 
--- less of the text is left
+-- the rest is shorter than the text
 pub record IsLess (text rest : Text) : Type 0 where
   pub shorter : length rest < length text
   pub utf8 : IsUtf8 rest
@@ -32,7 +32,7 @@ IsQuoteStep text (Character character after) =
     (quotation text ≡ with_front character.now (quotation after.now))
     × IsCharacter character.now × IsLess text after.now
 
--- what is quoted is appended to a text, and the rest follows it; or nothing closes it
+-- what is quoted is appended to a text and the rest follows it, or nothing closes the quotation
 abbrev pub AppendsQuotation : Text → Text → Text → Option (Bor (List ℕ)) → Type 0
 AppendsQuotation after old new None = quotation after ≡ None
 AppendsQuotation after old new (Some rest) =

@@ -6,12 +6,12 @@ use Rattle.timefd_language.specs.Bytes.{left, right, backslash, is_special, Zero
 
 -- Literals in version 3.
 
--- a `[`, a `]` and a backslash get a backslash in front
+-- the literal, with a backslash in front of each `[`, `]` and backslash
 abbrev pub escaped : Text → Text
 escaped [] = []
 escaped (b ∷ bytes) = if is_special b then backslash ∷ b ∷ escaped bytes else b ∷ escaped bytes
 
--- a byte that continues a character
+-- the byte continues a character
 abbrev pub continues : ℕ → Bool
 continues b = nat_le 128 b && nat_lt b 192
 
@@ -24,7 +24,7 @@ abbrev pub IsCharacter : Text → Type 0
 IsCharacter [] = ⊥
 IsCharacter (b ∷ bytes) = ZeroOrMore continues bytes
 
--- Between apostrophes, where two of them stand for one.
+-- Between apostrophes, where two of them mean one.
 
 abbrev pub apostrophe : ℕ
 apostrophe = 39
@@ -34,7 +34,7 @@ with_byte b None = None
 with_byte b (Some x) = Some (b ∷ x.0, x.1)
 
 abbrev mutual
-  -- what stands between an apostrophe and the one that closes it, and the rest
+  -- what is between an opening apostrophe and the one that closes it, and the rest
   pub quotation : Text → Option (Text × Text)
   quotation [] = None
   quotation (b ∷ rest) =
@@ -45,14 +45,14 @@ abbrev mutual
   after_apostrophe (b ∷ rest) =
       if b == apostrophe then with_byte b (quotation rest) else Some ([], b ∷ rest)
 
--- two apostrophes with nothing between them are one
+-- two apostrophes with nothing between them mean one
 abbrev pub or_apostrophe : Text → Text
 or_apostrophe [] = apostrophe ∷ []
 or_apostrophe (b ∷ bytes) = b ∷ bytes
 
 -- Between brackets: up to the last `]` before the next `[`.
 
--- the index of that `]`, where so many bytes and the last one of them are known
+-- the index of that `]`, after `index` bytes of which `last` is the last such `]`
 abbrev pub closing_from : ℕ → Option ℕ → Text → Option ℕ
 closing_from index last [] = last
 closing_from index last (b ∷ rest) =

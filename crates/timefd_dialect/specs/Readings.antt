@@ -1,4 +1,4 @@
--- What the texts of each dialect's rows are read by.
+-- What reads the texts that each dialect's rows write.
 use Rattle.std.specs.Prelude.{codes, List, [], ◌∷◌}
 use Rattle.timefd_dialect.specs.declared.dialect.Dialect.{Dialect}
 use Rattle.timefd_dialect.specs.declared.dialect.Dialect.TheVariants.{Python, C, Gnu, Chrono, Jiff, Ruby, Java, Go, Moment}

@@ -1,4 +1,4 @@
--- What a directive says of a moment, as far as traps ask for it.
+-- What a directive says of a moment, as far as traps depend on it.
 use Rattle.std.specs.Prelude.{ℕ, ◌==◌, ◌-◌, ◌||◌, Bool, true, false, nat_lt, codes, if◌then◌else◌, length}
 use Rattle.std.specs.List.{slice_index}
 use Rattle.std.specs.Str.{bytes_eq}
@@ -33,11 +33,11 @@ strftime_role b =
     else if b == 119 then WeekdayFromZero
     else Other
 
--- a year of so many letters
+-- a year of this many letters
 abbrev pub year_role : ℕ → Role
 year_role count = if count == 2 then YearOfTwoDigits else Year
 
--- so many of a letter of Java
+-- this many of a letter of Java
 abbrev pub java_role : ℕ → ℕ → Role
 java_role b count =
     if (b == 121) || (b == 117) then year_role count
@@ -52,7 +52,7 @@ java_role b count =
     else if b == 115 then Second
     else Other
 
--- a token of moment of so many bytes
+-- a token of moment with this many bytes
 abbrev pub moment_role : ℕ → ℕ → Role
 moment_role b count =
     if b == 89 then year_role count

@@ -1,4 +1,4 @@
--- Rows of a dialect's table, and which of them stands at a place.
+-- Rows of a dialect's table, and which of them counts at a position.
 use Rattle.std.specs.Prelude.{ℕ, Bool, true, false, not, ◌&&◌, nat_le, nat_lt, eqb, if◌then◌else◌, List, [], ◌∷◌, drop, length, Option, Some, None}
 use Rattle.std.specs.Borrow.{Bor}
 use Rattle.std.specs.List.{starts_with}
@@ -17,13 +17,13 @@ pub data Meaning : Type 0 where
   written : Text → Range → Meaning
   refused : Reason → Meaning
 
--- what stands in a format, what may not follow it, and what it means
+-- a text in a format, what may not follow it, and what it means
 pub record Entry : Type 0 where
   pub text : Text
   pub not_before : NotBefore
   pub meaning : Meaning
 
--- Words of the tables.
+-- The words that the tables are written with.
 
 infix 80 ◌means◌
 abbrev pub ◌means◌ : Text → Text → Entry
@@ -35,17 +35,17 @@ abbrev pub ◌refused_for◌ : Text → Reason → Entry
 text refused_for reason =
     record { text = text; not_before = Nothing; meaning = refused reason }
 
--- it means the same of the moments of a range
+-- the row means the same for the moments of a range
 abbrev pub within : Range → Text → Text → Entry
 within range text other =
     record { text = text; not_before = Nothing; meaning = written other range }
 
--- it counts where this doesn't follow
+-- the row counts unless this follows
 abbrev pub before : NotBefore → Text → Meaning → Entry
 before not_before text meaning =
     record { text = text; not_before = not_before; meaning = meaning }
 
--- The rows of the code.
+-- The rows as the code has them.
 
 abbrev pub meaning_of : Verdict → Meaning
 meaning_of (Written text range) = written text.now range
@@ -63,20 +63,20 @@ abbrev pub found_entry : Option (Bor Row) → Option Entry
 found_entry None = None
 found_entry (Some row) = Some (entry_of row.now)
 
--- The longest that stands at a place.
+-- The longest row at a position.
 
--- the first byte lies between two
+-- the first byte is between two bounds, both included
 abbrev pub begins_between : ℕ → ℕ → Text → Bool
 begins_between low high [] = false
 begins_between low high (b ∷ rest) = nat_le low b && nat_le b high
 
--- the rest leaves what stands in front of it as it is
+-- a row counts when the rest follows it
 abbrev pub may_follow : NotBefore → Text → Bool
 may_follow Nothing rest = true
 may_follow Lower rest = not (begins_between 97 122 rest)
 may_follow Digit rest = not (begins_between 48 57 rest)
 
--- the row stands at the front of the text
+-- the row is at the front of the text
 abbrev pub stands : Entry → Text → Bool
 stands row text = starts_with eqb text row.text
     && may_follow row.not_before (drop (length row.text) text)
@@ -88,11 +88,11 @@ longer (Some best) row = if nat_lt (length best.text) (length row.text) then row
 abbrev pub better : Option Entry → Entry → Text → Option Entry
 better best row text = if stands row text then Some (longer best row) else best
 
--- the longest that stands there, of the best so far and these
+-- the longest row at the front of the text, of the best so far and these
 abbrev pub longest_from : Option Entry → List Entry → Text → Option Entry
 longest_from best [] text = best
 longest_from best (row ∷ rows) text = longest_from (better best row text) rows text
 
--- the longest row that stands at the front of the text
+-- the longest row at the front of the text
 abbrev pub longest : List Entry → Text → Option Entry
 longest rows text = longest_from None rows text

@@ -1,11 +1,11 @@
--- The rows of Ruby, by the byte that finds them, the longest first.
+-- The rows of Ruby, by the byte that selects them, the longest first.
 use Rattle.std.specs.Prelude.{codes, List, [], ◌∷◌}
 use Rattle.timefd_dialect.specs.declared.reason.Reason.TheVariants.{Capitals, DatetimeOnly, Flag, VariableOffset, Width, ZoneName}
 use Rattle.timefd_dialect.specs.declared.row.Range.TheVariants.{From1970, YearsFrom1}
 use Rattle.timefd_dialect.specs.Groups.{Group, under}
 use Rattle.timefd_dialect.specs.Rows.{◌means◌, ◌refused_for◌, within}
 
--- those with a flag, a digit or another mark
+-- the groups of a flag, a digit or another mark
 unfoldable pub ruby_marked : List Group
 ruby_marked =
     under 37 (codes "%%" means codes "%" ∷ [])

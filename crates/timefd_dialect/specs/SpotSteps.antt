@@ -1,4 +1,4 @@
--- How a step over the parts of a format stands to them.
+-- What a step over the parts of a format does.
 use Rattle.std.specs.Prelude.{◌≡◌}
 use Rattle.timefd_component.specs.Tree.{Text}
 use Rattle.timefd_dialect.specs.declared.spot.Part.{Part}

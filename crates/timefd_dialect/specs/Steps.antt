@@ -1,4 +1,4 @@
--- How a step over a format stands to what is at its front.
+-- What a step over a format does.
 use Rattle.std.specs.Prelude.{◌≡◌, List, ◌++◌, Result, MatchResult, ⊤}
 use Rattle.timefd_component.specs.Tree.{Text}
 use Rattle.timefd_dialect.specs.declared.dialect.Dialect.{Dialect}
@@ -10,7 +10,7 @@ use Rattle.timefd_dialect.specs.Limits.{narrowed, limits_from}
 use Rattle.timefd_dialect.specs.QuoteSteps.{IsLess}
 use Rattle.timefd_dialect.specs.Reading.{Piece, Front, piece, refused_for, front_of, Leads, text_of}
 
--- a piece and the rest stand at the front, and the text of the piece is appended
+-- the front is a piece, the rest follows it, and the text of the piece is appended
 pub record Takes (front : Front) (text old new : Text) (step : Step) : Type 0 where
   pub taken : Piece
   pub is : front ≡ piece taken step.rest.now
@@ -25,7 +25,7 @@ IsStop front (Memory e) = ⊤
 abbrev pub GivesStep : Front → Text → Text → Text → Result Step Stop → Type 0
 GivesStep front text old new r = MatchResult r (Takes front text old new) (IsStop front)
 
--- pieces and the rest stand at the front, and the texts of the pieces are appended
+-- the text is pieces and then the rest, and the texts of the pieces are appended
 pub record TakesAll (dialect : Dialect) (text old new : Text) (step : Step) : Type 0 where
   pub taken : List Piece
   pub leads : Leads dialect text taken step.rest.now

@@ -15,7 +15,7 @@ use Rattle.timefd_dialect.specs.Java.{java_groups}
 use Rattle.timefd_dialect.specs.Go.{go_groups}
 use Rattle.timefd_dialect.specs.Moment.{moment_groups}
 
--- those that a byte finds
+-- the rows that a byte selects, in groups
 abbrev pub groups_of : Dialect → List Group
 groups_of Python = python_groups
 groups_of C = c_groups

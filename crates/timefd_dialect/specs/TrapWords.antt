@@ -1,4 +1,4 @@
--- What is told of each trap.
+-- What is reported about each trap.
 use Rattle.std.specs.Prelude.{codes}
 use Rattle.timefd_component.specs.Tree.{Text}
 use Rattle.timefd_dialect.specs.declared.trap.Trap.{Trap}
@@ -20,11 +20,11 @@ sentence WeekYearBesideMonth = codes "the year of weeks is another one around Ne
 sentence DayOfYearBesideMonth = codes "it counts the days of the year, and not of the month"
 sentence HourWithoutPeriod = codes "the hour runs from 1 to 12, and nothing writes AM or PM"
 sentence MinuteBesideDay = codes "it is the minute, and not the month"
-sentence SecondBeforeMinute = codes "the second stands before the minute"
+sentence SecondBeforeMinute = codes "the second comes before the minute"
 sentence TwoLetterWeekday = codes "it is a weekday of two letters, and not the day"
 sentence WeekdayFromZero = codes "it counts weekdays from 0, which is Sunday"
 sentence Panic = codes "chrono panics where it writes by this format"
-sentence YearWithoutCentury = codes "nothing tells the century of the year"
+sentence YearWithoutCentury = codes "nothing gives the century of the year"
 
 abbrev pub cure : Trap → Text
 cure WeekYearBesideMonth = codes "Write the year of the calendar."

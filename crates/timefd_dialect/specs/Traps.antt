@@ -1,4 +1,4 @@
--- What in a format often means something else than its writer believes.
+-- What in a format often means something other than its writer believes.
 use Rattle.std.specs.Prelude.{ℕ, ◌≡◌, ◌<◌, ◌+◌, ◌-◌, ◌==◌, Bool, true, false, not, if◌then◌else◌, List, [], ◌∷◌, ◌++◌, drop, length, Option, Some, None}
 use Rattle.timefd_component.specs.Tree.{Text}
 use Rattle.timefd_dialect.specs.declared.dialect.Dialect.{Dialect}
@@ -18,7 +18,7 @@ use Rattle.timefd_dialect.specs.Rows.{Entry, longest}
 use Rattle.timefd_dialect.specs.Tables.{rows_of}
 use Rattle.timefd_language.specs.Bytes.{left}
 
--- The parts of a format, refused ones too.
+-- The parts of a format, including refused ones.
 
 -- What a part says, if it is a directive, and what follows it.
 pub record Said : Type 0 where
@@ -28,13 +28,13 @@ pub record Said : Type 0 where
 abbrev pub literal_before : Text → Said
 literal_before rest = record { role = None; rest = rest }
 
--- the longest row, or a character that stands for itself
+-- the longest row, or a literal character
 abbrev pub said_row : Dialect → Option Entry → Text → Said
 said_row dialect None text = literal_before (drop (char_len text) text)
 said_row dialect (Some row) text =
     record { role = Some (role_of dialect row); rest = drop (length row.text) text }
 
--- what stands between apostrophes, or all where none closes it
+-- what is between apostrophes, or everything if no apostrophe closes it
 abbrev pub said_quotation : Option (Text × Text) → Said
 said_quotation None = literal_before []
 said_quotation (Some x) = literal_before x.1
@@ -57,20 +57,20 @@ said_at dialect (b ∷ rest) =
     said_quote (quoting_of dialect) b rest
     (said_row dialect (longest (rows_of dialect) (b ∷ rest)) (b ∷ rest))
 
--- the text is these parts and the rest
+-- the text is these parts, and then the rest
 abbrev pub Splits : Dialect → Text → List Said → Text → Type 0
 Splits dialect text [] rest = text ≡ rest
 Splits dialect text (p ∷ ps) rest =
     (0 < length text) × (said_at dialect text ≡ p) × Splits dialect p.rest ps rest
 
--- Where directives stand.
+-- Where the directives are.
 
--- a part between two indices, if it is a directive
+-- the part between two indices, if it is a directive
 abbrev pub spot_between : Option Role → ℕ → ℕ → List Spot
 spot_between None start end = []
 spot_between (Some role) start end = record { role = role; start = start; end = end } ∷ []
 
--- the directives of a format of so many bytes, where the text is left
+-- the directives among parts of the text, at the end of a format of `len` bytes
 abbrev pub spots_of : ℕ → Text → List Said → List Spot
 spots_of len text [] = []
 spots_of len text (p ∷ ps) =
@@ -82,7 +82,7 @@ AreSpots dialect format spots =
     (parts : List Said) × Splits dialect format parts []
     × (spots ≡ spots_of (length format) format parts)
 
--- Which of them are traps.
+-- Which directives are traps.
 
 abbrev pub with_role : Role → Present → Present
 with_role Month p = record { month = true; period = p.period; year = p.year }
@@ -95,7 +95,7 @@ abbrev pub present_from : Present → List Spot → Present
 present_from p [] = p
 present_from p (s ∷ ss) = present_from (with_role s.role p) ss
 
--- what there is of a month, of AM or PM, and of a year with its century
+-- whether there is a month, something that writes AM or PM, and a year with its century
 abbrev pub present_in : List Spot → Present
 present_in spots = present_from (record { month = false; period = false; year = false }) spots
 
@@ -113,7 +113,7 @@ first_beside (s ∷ ss) = beside_of s.role
 abbrev pub where_it_is : Bool → Trap → Option Trap
 where_it_is is_there trap = if is_there then Some trap else None
 
--- a day stands beside it, and no hour before it
+-- the minute is beside a day, with no hour before it
 abbrev pub minute_trap : Beside → Beside → Option Trap
 minute_trap Beside.Day after = Some Trap.MinuteBesideDay
 minute_trap Beside.Hour after = None
@@ -122,12 +122,12 @@ minute_trap Beside.Minute _ = None
 minute_trap Beside.Other Beside.Day = Some Trap.MinuteBesideDay
 minute_trap Beside.Other _ = None
 
--- a minute follows
+-- a minute follows the second
 abbrev pub second_trap : Beside → Option Trap
 second_trap Beside.Minute = Some Trap.SecondBeforeMinute
 second_trap _ = None
 
--- the trap that a directive is, by those before and after it and by all
+-- the trap that a directive is, by its neighbours and by all directives of the format
 abbrev pub trap_of : Present → Beside → Role → Beside → Option Trap
 trap_of p before Other after = None
 trap_of p before Year after = None
@@ -149,7 +149,7 @@ abbrev pub found_at : Spot → Option Trap → List Found
 found_at s None = []
 found_at s (Some trap) = record { trap = trap; start = s.start; end = s.end } ∷ []
 
--- the traps of the directives that are left
+-- the traps of the remaining directives
 abbrev pub found_from : Present → Beside → List Spot → List Found
 found_from p before [] = []
 found_from p before (s ∷ ss) =

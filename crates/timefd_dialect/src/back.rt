@@ -16,7 +16,7 @@ use std::alloc::{AllocError, Global};
 pub enum FormatError {
     /// The language has no directive for the bracket that begins at this index, in bytes.
     Lacking(usize),
-    /// What it would write is read otherwise: directives or literals run into one another.
+    /// The dialect would read the format otherwise: directives or literals run into one another.
     Merged,
     /// Memory ran out.
     Memory(AllocError),
@@ -34,22 +34,22 @@ impl From<AllocError> for FormatError {
 }
 
 /// The format by which the dialect writes what a text of version 3 writes, in the normal form, and
-/// for which moments it writes the same.
+/// for which moments both write the same.
 ///
-/// The error is `Lacking` with the first bracket, from the left, that the dialect has no directive
-/// for, `Merged` where what stands side by side can't be told apart, or `Memory`.
+/// The error is `Lacking` with the index of the first bracket, from the left, that the dialect has
+/// no directive for; `Merged` where neighbours run together, so that the dialect would read them
+/// otherwise; or `Memory`.
 pub fn from_version_three(
     alloc: Global,
     dialect: Dialect,
     description: &str,
 ) -> Result<Converted, FormatError>
-    // What the format means has just this text, so it comes back from `to_version_three`, and has
-    // the same items.
+    // The format means just this text, so `to_version_three` gives it back, with the same items.
     ensures format { IfOk result (spec.IsFormatOf dialect description.now) }
     ensures same_items { IfOk result (λ answer. IsSpelledBy dialect (string_bytes answer.text)
         description.now) }
 
-    // No row's text stands where the bracket begins.
+    // No row has a text that begins where the bracket begins.
     ensures fault { IfErr result (spec.IsLackIn dialect description.now) }
 {
     let format = format_of(alloc, dialect, description)?;

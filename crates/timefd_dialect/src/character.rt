@@ -80,7 +80,7 @@ pub fn push_char(answer: &mut String, character: &str) -> Result<(), AllocError>
     answer.push_str(character)
 }
 
-/// What stands in front of a character in a literal of version 3.
+/// What version 3 wants in front of a character of a literal.
 #[tactic(auto, using(crate::proofs::CharacterLemmas::escaped_special, crate::proofs::CharacterLemmas::escaped_plain))]
 fn mark(character: &str) -> &'static str
     requires { spec.IsCharacter character.now }

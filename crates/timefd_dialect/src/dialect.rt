@@ -33,16 +33,16 @@ pub enum Dialect {
 /// What a dialect's directives begin with.
 #[derive(Clone, Copy)]
 pub enum Leading {
-    /// A `%`; the byte after it finds the rows.
+    /// A `%`; the byte after it selects the rows.
     Percent,
-    /// A byte of their own, which finds the rows.
+    /// Nothing in common: the first byte of a directive selects the rows.
     Bare,
 }
 
-/// How a dialect quotes what stands for itself.
+/// How a dialect quotes literals.
 #[derive(Clone, Copy)]
 pub enum Quoting {
-    /// It doesn't.
+    /// It doesn't quote.
     Unquoted,
     /// Between `'` and `'`, where `''` is one `'`.
     Apostrophes,
@@ -51,7 +51,7 @@ pub enum Quoting {
 }
 
 impl Dialect {
-    /// Its name, as `python`.
+    /// The name of the dialect, such as `python`.
     pub fn name(self) -> &'static str
         ensures { result.now ≡ spec.name_of self }
     {
@@ -68,7 +68,7 @@ impl Dialect {
         }
     }
 
-    /// The dialect of this name.
+    /// The dialect with this name.
     pub fn named(name: &str) -> Option<Self>
         ensures { result ≡ spec.named name.now }
     {
@@ -86,7 +86,7 @@ impl Dialect {
         }
     }
 
-    /// What its directives begin with.
+    /// What the directives of the dialect begin with.
     pub fn leading(self) -> Leading
         ensures { result ≡ spec.leading_of self }
     {
@@ -101,7 +101,7 @@ impl Dialect {
         }
     }
 
-    /// How it quotes.
+    /// How the dialect quotes literals.
     pub fn quoting(self) -> Quoting
         ensures { result ≡ spec.quoting_of self }
     {
@@ -119,11 +119,11 @@ impl Dialect {
     }
 }
 
-/// A `%` that begins no other row.
+/// The row of a `%` that begins no other row.
 const UNKNOWN: &[Row] = &[row!("%" refused UnknownDirective)];
 
 impl Leading {
-    /// The byte that finds the rows at the front of a text.
+    /// The byte that selects the rows for the front of a text.
     pub fn key(self, text: &[u8]) -> Option<u8>
         ensures { result ≡ spec.key_of self text.now }
     {
@@ -139,7 +139,7 @@ impl Leading {
         }
     }
 
-    /// The rows that stand where no row stands that a byte finds.
+    /// The rows that count where none that a byte selects does.
     pub fn unknown_rows(self) -> &'static [Row]
         ensures { entries result.now ≡ spec.unknown_rows self }
     {

@@ -3,19 +3,19 @@
 use crate::reason::Reason;
 use std::alloc::AllocError;
 
-/// What of a format has no text of version 3.
+/// The part of a format that has no text of version 3.
 #[derive(Clone, Copy)]
 pub struct Refusal {
-    /// Why it has none.
+    /// Why the part has none.
     pub reason: Reason,
-    /// Where it begins in the format: an index in bytes.
+    /// Where the part begins in the format: an index in bytes.
     pub index: usize,
 }
 
 /// Why a format is not converted.
 #[derive(Clone, Copy)]
 pub enum DialectError {
-    /// A part of it has no text of version 3.
+    /// A part of the format has no text of version 3.
     Refused(Refusal),
     /// Memory ran out.
     Memory(AllocError),

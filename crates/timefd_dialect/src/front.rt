@@ -1,4 +1,4 @@
-//! What stands at the front of a format.
+//! What a format begins with.
 
 ghost use Rattle.std.specs.Prelude.{◌≡◌, ◌<◌, ◌∷◌, ◌++◌, IfSome, MatchOption, drop, length, string_bytes, true};
 ghost use Rattle.std.specs.Str.{IsUtf8};
@@ -20,7 +20,7 @@ use crate::row::{Range, Row, Verdict};
 use std::alloc::AllocError;
 use timefd_language::text::tail;
 
-/// What follows a piece, and for which moments its text writes the same.
+/// What follows a piece, and for which moments the text of the piece writes the same.
 #[derive(Clone, Copy)]
 pub struct Step<'a> {
     pub rest: &'a str,
@@ -30,7 +30,7 @@ pub struct Step<'a> {
 /// Why there is no step.
 #[derive(Clone, Copy)]
 pub enum Stop {
-    /// What stands there has no text of version 3.
+    /// What the text begins with has no text of version 3.
     Refused(Reason),
     /// Memory ran out.
     Memory(AllocError),
@@ -47,8 +47,8 @@ impl From<AllocError> for Stop {
     }
 }
 
-/// Appends the texts of pieces that stand at the front: of a run of bytes that stand for themselves,
-/// or of one piece.
+/// Appends the texts of pieces at the front of a format: of a run of literal bytes, or of one
+/// piece.
 pub fn push_pieces<'a>(
     answer: &mut String,
     dialect: Dialect,
@@ -65,7 +65,7 @@ pub fn push_pieces<'a>(
     Ok(whole(rest))
 }
 
-/// Appends the text of the piece that stands at the front.
+/// Appends the text of the piece at the front of a format.
 pub fn push_front<'a>(
     answer: &mut String,
     dialect: Dialect,
@@ -86,7 +86,7 @@ pub fn push_front<'a>(
     }
 }
 
-/// Appends what stands between apostrophes, after the one that opens, and answers the rest.
+/// Appends what is quoted after an opening apostrophe, and returns the rest.
 fn push_apostrophes<'a>(answer: &mut String, after: &'a str) -> Result<Step<'a>, Stop>
     ensures { GivesStep (front_quotation (quotation after.now)) (apostrophe ∷ after.now)
         (string_bytes answer.old) (string_bytes answer.new) result }
@@ -101,7 +101,7 @@ fn push_apostrophes<'a>(answer: &mut String, after: &'a str) -> Result<Step<'a>,
     Ok(whole(rest))
 }
 
-/// Appends what stands between brackets, or else the longest row or a character.
+/// Appends what is quoted between brackets, or else the longest row or a character.
 fn push_brackets<'a>(answer: &mut String, dialect: Dialect, text: &'a str) -> Result<Step<'a>, Stop>
     requires there { 0 < length text.now }
     requires quoting { quoting_of dialect ≡ Quoting.Brackets }
@@ -120,7 +120,7 @@ fn push_brackets<'a>(answer: &mut String, dialect: Dialect, text: &'a str) -> Re
     }
 }
 
-/// Appends what the longest row at the front of the text means, or the character there.
+/// Appends what the longest row at the front of the text means, or else the first character.
 fn push_row<'a>(answer: &mut String, dialect: Dialect, text: &'a str) -> Result<Step<'a>, Stop>
     requires { 0 < length text.now }
     ensures { GivesStep (front_row (longest_row (rows_of dialect) text.now) text.now) text.now
@@ -158,7 +158,7 @@ fn push_verdict<'a>(answer: &mut String, row: &Row, text: &'a str) -> Result<Ste
     }
 }
 
-/// What follows a row that stands at the front.
+/// What follows a row at the front of the text.
 pub fn after_row<'a>(row: &Row, text: &'a str) -> &'a str
     requires { stands (entry_of row.now) text.now ≡ true }
     ensures rest { result.now ≡ drop (length row.now.text.now) text.now }
@@ -180,7 +180,7 @@ pub fn after_literal<'a>(text: &'a str, literal: &str) -> Option<&'a str>
     text.strip_prefix(literal)
 }
 
-/// What follows a literal, which writes the same of each moment.
+/// A step past a literal, which writes the same at every moment.
 fn whole(rest: &str) -> Step<'_>
     ensures { (result.rest.now ≡ rest.now) × (result.range ≡ Range.Years0To9999) }
 {

@@ -5,8 +5,8 @@ ghost use Rattle.timefd_dialect.specs.Limits as spec;
 
 use crate::row::Range;
 
-/// For which moments a text of version 3 writes the same as a format: those of the years up to 9999
-/// whose year and whose week's year are this one at least.
+/// For which moments a text of version 3 writes the same as a format: those up to the year 9999
+/// whose year, and the year of whose week, is at least `first_year`.
 #[derive(Debug, Clone, Copy, PartialEq, Eq)]
 pub struct Limits {
     /// The first year.
@@ -22,7 +22,7 @@ impl Limits {
         whole_minutes: false,
     };
 
-    /// Within a range too.
+    /// These limits, and a range's too.
     pub fn narrowed(self, range: Range) -> Self
         ensures { result ≡ spec.narrowed range self }
     {

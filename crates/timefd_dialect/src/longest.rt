@@ -1,4 +1,4 @@
-//! The longest row that stands at the front of a text.
+//! The longest row at the front of a text.
 
 ghost use Rattle.std.specs.Prelude.{◌≡◌, ◌<◌, IfSome, length, true};
 ghost use Rattle.timefd_dialect.specs.Dialects.{key_of, leading_of};
@@ -9,7 +9,7 @@ ghost use Rattle.timefd_dialect.specs.Tables.{groups_of, rows_of};
 use crate::dialect::Dialect;
 use crate::row::{NotBefore, Row};
 
-/// The longest row that stands at the front of the text.
+/// The longest row at the front of the text.
 pub fn longest(dialect: Dialect, text: &str) -> Option<&'static Row>
     ensures row { spec.found_entry result ≡ spec.longest (rows_of dialect) text.now }
     ensures bytes { IfSome result (λ row. 0 < length row.now.text.now) }
@@ -18,7 +18,7 @@ pub fn longest(dialect: Dialect, text: &str) -> Option<&'static Row>
     first_of_both(dialect, text)
 }
 
-/// The first row that stands at the front of the text: of those that a byte finds, or of the others.
+/// The first row at the front of the text: of those that a byte selects, or else of the others.
 fn first_of_both(dialect: Dialect, text: &str) -> Option<&'static Row>
     ensures { spec.found_entry result ≡ spec.longest (rows_of dialect) text.now }
 {
@@ -28,7 +28,7 @@ fn first_of_both(dialect: Dialect, text: &str) -> Option<&'static Row>
     }
 }
 
-/// The rows that can stand at the front of the text, the longest first.
+/// The rows that may be at the front of the text, the longest first.
 fn rows_at_front(dialect: Dialect, text: &str) -> &'static [Row]
     ensures { spec.entries result.now ≡ rows_found (key_of (leading_of dialect) text.now)
         (groups_of dialect) }
@@ -39,7 +39,7 @@ fn rows_at_front(dialect: Dialect, text: &str) -> &'static [Row]
     }
 }
 
-/// The first of the rows that stands at the front of the text.
+/// The first of the rows that is at the front of the text.
 fn first(rows: &'static [Row], text: &str) -> Option<&'static Row>
     ensures { spec.found_entry result ≡ first_standing (spec.entries rows.now) text.now }
 {
@@ -52,7 +52,7 @@ fn first(rows: &'static [Row], text: &str) -> Option<&'static Row>
     None
 }
 
-/// Whether the row stands at the front of the text.
+/// Whether the row is at the front of the text.
 fn stands(row: &Row, text: &str) -> bool
     ensures { result ≡ spec.stands (spec.entry_of row.now) text.now }
 {
@@ -61,7 +61,7 @@ fn stands(row: &Row, text: &str) -> bool
     bytes.starts_with(own) && may_follow(row.not_before, &bytes[own.len()..])
 }
 
-/// Whether what follows leaves the row as it is.
+/// Whether a row counts when this follows it.
 fn may_follow(not_before: NotBefore, rest: &[u8]) -> bool
     ensures { result ≡ spec.may_follow not_before rest.now }
 {
@@ -72,7 +72,7 @@ fn may_follow(not_before: NotBefore, rest: &[u8]) -> bool
     }
 }
 
-/// Whether the first byte lies between two.
+/// Whether the first byte is between two bounds, both included.
 fn begins_between(rest: &[u8], low: u8, high: u8) -> bool
     ensures { result ≡ spec.begins_between low high rest.now }
 {

@@ -1,4 +1,4 @@
-//! Bytes that stand for themselves wherever they stand.
+//! Bytes that are literal wherever they occur.
 
 ghost use Rattle.std.specs.Prelude.{◌≡◌, ◌≤◌, length};
 ghost use Rattle.std.specs.List.{prefix_len};
@@ -9,7 +9,7 @@ ghost use Rattle.timefd_language.specs.Cut.{IsCut};
 
 use crate::dialect::Dialect;
 
-/// The longest front of bytes that stand for themselves, and the rest.
+/// The longest run of literal bytes at the front, and the rest.
 pub fn cut_plain(dialect: Dialect, text: &str) -> (&str, &str)
     ensures parts { IsCut (spec.is_plain dialect) text.now result.0.now result.1.now }
     ensures utf8 { IsUtf8 result.1.now }
@@ -17,7 +17,7 @@ pub fn cut_plain(dialect: Dialect, text: &str) -> (&str, &str)
     text.split_at(plain_len(dialect, text.as_bytes()))
 }
 
-/// How many bytes at the front stand for themselves.
+/// How many bytes at the front are literal.
 fn plain_len(dialect: Dialect, bytes: &[u8]) -> usize
     ensures len { result ≡ prefix_len (spec.is_plain dialect) bytes.now }
     ensures within { result ≤ length bytes.now }
@@ -66,7 +66,7 @@ fn is_letter(byte: u8) -> bool
     b'A' <= byte && byte <= b'Z' || b'a' <= byte && byte <= b'z'
 }
 
-/// Whether it is an apostrophe or a reserved byte.
+/// Whether the byte is an apostrophe or one that Java reserves.
 fn is_java_mark(byte: u8) -> bool
     ensures { result ≡ spec.is_java_mark byte }
 {
@@ -85,7 +85,7 @@ fn is_go_letter(byte: u8) -> bool
     byte == b'J' || byte == b'M' || byte == b'P' || byte == b'Z' || (byte == b'_' || byte == b'p')
 }
 
-/// Whether a character that ends a line can begin with it.
+/// Whether a character that ends a line can begin with the byte.
 fn is_line_end(byte: u8) -> bool
     ensures { result ≡ spec.is_line_end byte }
 {

@@ -10,19 +10,19 @@ use crate::character::{first_char, push_char};
 use std::alloc::AllocError;
 use timefd_language::text::tail;
 
-/// What stands next after an apostrophe that opens.
+/// What comes next after an opening apostrophe.
 #[derive(Clone, Copy)]
 pub enum QuoteStep<'a> {
-    /// Nothing.
+    /// The end of the text.
     End,
-    /// The apostrophe that closes, and what follows it.
+    /// The closing apostrophe, and what follows it.
     Closing(&'a str),
-    /// A character that stands for itself, and what follows it.
+    /// A literal character, and what follows it.
     Character(&'a str, &'a str),
 }
 
-/// Appends what stands between an apostrophe and the one that closes it, and answers what follows
-/// that; `None` if none closes it.
+/// Appends what is quoted between an opening apostrophe and the one that closes it, and returns
+/// what follows; `None` if none closes it.
 pub fn push_quotation<'a>(
     answer: &mut String,
     after: &'a str,
@@ -43,7 +43,7 @@ pub fn push_quotation<'a>(
     }
 }
 
-/// What stands next after an apostrophe that opens.
+/// What comes next after an opening apostrophe.
 fn quote_step(text: &str) -> QuoteStep<'_>
     ensures { IsQuoteStep text.now result }
 {
@@ -68,7 +68,7 @@ pub fn begins_with(text: &str, byte: u8) -> bool
     text.as_bytes()[0] == byte
 }
 
-/// What stands between a `[` and the last `]` before the next `[`, and what follows that.
+/// What is between a `[` and the last `]` before the next `[`, and what follows that `]`.
 pub fn bracketed(after: &str) -> Option<(&str, &str)>
     ensures { IsBracketed after.now result }
 {

@@ -13,33 +13,33 @@ use crate::front::{Stop, push_pieces};
 use crate::limits::Limits;
 use std::alloc::Global;
 
-/// A format as a text of version 3, or such a text as a format.
+/// The result of a conversion, in either direction.
 #[derive(Drop)]
 pub struct Converted {
-    /// What it was converted to.
+    /// The text of version 3, or the format.
     pub text: String,
-    /// For which moments both write the same.
+    /// The moments for which both write the same.
     pub limits: Limits,
 }
 
 /// The text of version 3 that writes what the dialect writes by the format.
 ///
 /// The error is `Refused` with the first part of the format, from the left, that has no text of
-/// version 3, or `Memory` where memory ran out.
+/// version 3, or `Memory` if memory ran out.
 pub fn to_version_three(
     alloc: Global,
     dialect: Dialect,
     format: &str,
 ) -> Result<Converted, DialectError>
-    // What is answered is the text of the pieces that the format means. It spells their items in
-    // version 3. What is refused has no text of version 3.
+    // The result is the text of the pieces that the format means, and spells their items in version
+    // 3. What is refused has no text of version 3.
     ensures converted { IfOk result (IsConverted dialect format.now) }
     ensures same_items { IfOk result (λ answer. IsSpelledBy dialect format.now
         (string_bytes answer.text)) }
     ensures fault { IfErr result (IsRefusedFor dialect format.now) }
 
-    // What the format means is answered, unless memory runs out. Where a part of it has no text, it
-    // is refused for that part, unless memory runs out before.
+    // A format that means something is converted, unless memory runs out. A format with a part that
+    // has no text is refused for that part, unless memory runs out first.
     ensures means { (ps : List Piece) → Means dialect format.now ps
         → MatchResult result (λ answer. string_bytes answer.text ≡ text_of ps) IsMemory }
     ensures refused { (reason : Reason) (index : ℕ) → RefusedAt dialect format.now reason index
@@ -48,7 +48,7 @@ pub fn to_version_three(
     text_of_format(alloc, dialect, format)
 }
 
-/// Converts a format, with the clauses from which those of `to_version_three` follow.
+/// Converts a format; the clauses of `to_version_three` follow from those here.
 fn text_of_format(alloc: Global, dialect: Dialect, format: &str) -> Result<Converted, DialectError>
     ensures converted { IfOk result (IsConverted dialect format.now) }
     ensures same_items { IfOk result (λ answer. IsSpelledBy dialect format.now
@@ -74,7 +74,7 @@ fn text_of_format(alloc: Global, dialect: Dialect, format: &str) -> Result<Conve
     Ok(Converted { text, limits })
 }
 
-/// For how many bytes the text of a format has room at first. Most of up to 64 bytes need no more.
+/// How many bytes to reserve for the text of a format. Most formats of up to 64 bytes need no more.
 fn first_room(format: &str) -> usize {
     8 * format.len().min(64)
 }

@@ -1,4 +1,4 @@
-//! What the texts of each dialect's rows are read by. `tables/write` writes this file.
+//! What reads the texts that each dialect's rows write. `tables/write` writes this file.
 
 ghost use Rattle.std.specs.Prelude.{◌≡◌};
 ghost use Rattle.timefd_dialect.specs.Readings as spec;
@@ -9,7 +9,7 @@ use crate::reason::Reason;
 use crate::row::{NotBefore, Range, Row, Verdict, row};
 
 impl Dialect {
-    /// The texts of its rows that are read otherwise than by themselves.
+    /// For reading: each text of the dialect's rows that another text reads, with that text.
     pub fn readings(self) -> &'static [Row]
         ensures { entries result.now ≡ spec.readings_of self }
     {

@@ -16,7 +16,7 @@ pub enum Reason {
     DayPeriod,
     /// It writes an era, and version 3 has none.
     Era,
-    /// No such flag, and none with a width, may stand in front of this directive.
+    /// This directive takes no such flag, and none with a width.
     Flag,
     /// It writes a fraction of a second of more than nine digits.
     FractionWidth,
@@ -48,7 +48,7 @@ pub enum Reason {
     ReadingOnly,
     /// The character is reserved.
     Reserved,
-    /// No pattern has so many of this letter.
+    /// No pattern repeats this letter so often.
     TooManyLetters,
     /// It reads two digits of a year, which tell no century.
     TwoDigitYear,
@@ -60,7 +60,7 @@ pub enum Reason {
     UnitOfDay,
     /// The dialect has no such directive.
     UnknownDirective,
-    /// The letter has no meaning, and stands outside quotes.
+    /// The letter has no meaning and isn't quoted.
     UnknownLetter,
     /// Libraries differ in what it means, or have it not.
     Unsupported,
@@ -72,7 +72,7 @@ pub enum Reason {
     VariableWidth,
     /// It counts weeks or weekdays within the month.
     WeekOfMonth,
-    /// A width stands in front of the directive.
+    /// The directive has a width.
     Width,
     /// It writes `Z` for an offset of zero.
     ZForUtc,
@@ -81,7 +81,7 @@ pub enum Reason {
 }
 
 impl Reason {
-    /// Its name, as `zone-name`.
+    /// The name of the reason, such as `zone-name`.
     pub fn name(self) -> &'static str
         ensures { result.now ≡ spec.name self }
     {
@@ -135,8 +135,7 @@ impl Reason {
             Reason::DatetimeOnly => "Ruby's `DateTime` alone has it",
             Reason::DayPeriod => "it writes a period of the day, like `in the morning`",
             Reason::Era => "it writes an era, and version 3 has none",
-            Reason::Flag =>
-                "no such flag, and none with a width, may stand in front of this directive",
+            Reason::Flag => "this directive takes no such flag, and none with a width",
             Reason::FractionWidth => "it writes a fraction of a second of more than nine digits",
             Reason::GmtOffset => "it writes an offset as `GMT+1`",
             Reason::HourFrom0Or24 => "it counts hours from 0 to 11 or from 1 to 24",
@@ -153,25 +152,25 @@ impl Reason {
             Reason::Quarter => "it writes a quarter, and version 3 has none",
             Reason::ReadingOnly => "it can be read, and not be written",
             Reason::Reserved => "the character is reserved",
-            Reason::TooManyLetters => "no pattern has so many of this letter",
+            Reason::TooManyLetters => "no pattern repeats this letter so often",
             Reason::TwoDigitYear => "it reads two digits of a year, which tell no century",
             Reason::TwoLetterName => "it writes a weekday in two letters",
             Reason::UnclosedQuote => "no quote closes this one",
             Reason::UnitOfDay => "it counts milliseconds or nanoseconds from midnight on",
             Reason::UnknownDirective => "the dialect has no such directive",
-            Reason::UnknownLetter => "the letter has no meaning, and stands outside quotes",
+            Reason::UnknownLetter => "the letter has no meaning and isn't quoted",
             Reason::Unsupported => "libraries differ in what it means, or have it not",
             Reason::VariableFraction => "it writes as many digits of a fraction as it has, or none",
             Reason::VariableOffset => "it writes as much of an offset as there is",
             Reason::VariableWidth => "its width depends on the value",
             Reason::WeekOfMonth => "it counts weeks or weekdays within the month",
-            Reason::Width => "a width stands in front of the directive",
+            Reason::Width => "the directive has a width",
             Reason::ZForUtc => "it writes `Z` for an offset of zero",
             Reason::ZoneName => "it writes the name of a time zone",
         }
     }
 
-    /// What to do, in a sentence.
+    /// What to do about it, in a sentence.
     pub fn cure(self) -> &'static str
         ensures { result.now ≡ spec.cure self }
     {
@@ -197,15 +196,14 @@ impl Reason {
             Reason::Platform => "Write a directive that all platforms have.",
             Reason::Quarter => "Write the month, or count the quarter in a program.",
             Reason::ReadingOnly => "Write a directive for writing.",
-            Reason::Reserved => "Quote it, if it is to stand for itself, or leave it out.",
+            Reason::Reserved => "Quote it if it is meant as text, or leave it out.",
             Reason::TooManyLetters => "Write fewer of them.",
             Reason::TwoDigitYear => "Read by a format with all digits of the year.",
             Reason::TwoLetterName => "Write the short name, of three letters.",
-            Reason::UnclosedQuote => "Close it; a quote that stands for itself is written twice.",
+            Reason::UnclosedQuote => "Close it; write a literal quote twice.",
             Reason::UnitOfDay => "Write hour, minute, second and fraction.",
-            Reason::UnknownDirective =>
-                "Write one that it has; a `%` that stands for itself is written twice.",
-            Reason::UnknownLetter => "Quote it, if it is to stand for itself.",
+            Reason::UnknownDirective => "Write one that it has; write a literal `%` twice.",
+            Reason::UnknownLetter => "Quote it if it is meant as text.",
             Reason::Unsupported => "Write a directive that has one meaning.",
             Reason::VariableFraction => "Write a fixed number of digits.",
             Reason::VariableOffset => "Write the offset with its minutes.",

@@ -17,7 +17,7 @@ use crate::writing::{row_writing, written_of};
 use std::alloc::{AllocError, Global};
 use timefd_language::text::tail;
 
-/// The format that a text of version 3 asks for. What it means is for the caller to look at.
+/// The format that a text of version 3 asks for. The caller checks what the format means.
 pub fn format_of(alloc: Global, dialect: Dialect, description: &str) -> Result<String, FormatError>
     ensures fault { IfErr result (spec.IsLackIn dialect description.now) }
 {
@@ -37,7 +37,7 @@ pub fn format_of(alloc: Global, dialect: Dialect, description: &str) -> Result<S
     Ok(format)
 }
 
-/// What follows the text of a row that stands at the front of a description.
+/// What follows the text of a row at the front of a description.
 fn after_written<'a>(row: &Row, text: &'a str) -> &'a str
     requires { spec.writes (entry_of row.now) text.now ≡ true }
     ensures { IsAfter text.now result }
@@ -48,7 +48,7 @@ fn after_written<'a>(row: &Row, text: &'a str) -> &'a str
     }
 }
 
-/// Appends a literal up to the next bracket, quoted, and answers what follows.
+/// Appends the literal up to the next bracket, quoted, and returns what follows.
 fn push_literal_run<'a>(
     alloc: Global,
     format: &mut String,
@@ -64,7 +64,8 @@ fn push_literal_run<'a>(
     Ok(rest)
 }
 
-/// Appends what a literal up to the next bracket stands for, and answers what follows.
+/// Appends what the literal up to the next bracket means, without its escapes, and returns what
+/// follows.
 fn push_run<'a>(literal: &mut String, text: &'a str) -> Result<&'a str, AllocError>
     requires { 0 < length text.now }
     ensures { IfOk result (IsAfter text.now) }
@@ -76,7 +77,7 @@ fn push_run<'a>(literal: &mut String, text: &'a str) -> Result<&'a str, AllocErr
     Ok(rest)
 }
 
-/// Appends the character at the front, or the one that an escape stands for.
+/// Appends the character at the front, or the one that an escape means, and returns what follows.
 fn push_unescaped<'a>(literal: &mut String, text: &'a str) -> Result<&'a str, AllocError>
     requires { 0 < length text.now }
     ensures { IfOk result (IsAfter text.now) }
@@ -120,7 +121,7 @@ fn push_quoted(format: &mut String, dialect: Dialect, literal: &str) -> Result<(
     }
 }
 
-/// Appends a literal with each of these characters twice.
+/// Appends a literal, with each of its characters that is the mark written twice.
 fn push_doubled(format: &mut String, literal: &str, mark: &str) -> Result<(), AllocError> {
     let mut rest = literal;
     'characters: while let Some((character, after)) = first_char(rest) {

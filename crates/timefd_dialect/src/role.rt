@@ -1,4 +1,4 @@
-//! What a directive says of a moment, as far as traps ask for it.
+//! What a directive says of a moment, as far as traps depend on it.
 
 ghost use Rattle.std.specs.Prelude.{◌≡◌, ◌<◌, length};
 ghost use Rattle.timefd_dialect.specs.Roles as spec;
@@ -10,7 +10,7 @@ use crate::row::{Row, Verdict};
 /// What a directive says of a moment.
 #[derive(Clone, Copy)]
 pub enum Role {
-    /// Anything that no trap asks for.
+    /// Anything that no trap depends on.
     Other,
     Year,
     YearOfTwoDigits,
@@ -25,7 +25,7 @@ pub enum Role {
     Second,
     TwoLetterWeekday,
     WeekdayFromZero,
-    /// What chrono refuses by a panic.
+    /// What makes chrono panic.
     Panic,
 }
 
@@ -63,7 +63,7 @@ fn last_byte(text: &str) -> u8
     text.as_bytes()[text.len() - 1]
 }
 
-/// Whether chrono panics where it writes this.
+/// Whether chrono panics when it writes this.
 fn is_panic(verdict: Verdict) -> bool
     ensures { result ≡ spec.is_panic (meaning_of verdict) }
 {
@@ -94,7 +94,7 @@ fn strftime_role(letter: u8) -> Role
     }
 }
 
-/// What so many of a letter of Java say.
+/// What this many of a letter of Java say.
 fn java_role(letter: u8, count: usize) -> Role
     ensures { result ≡ spec.java_role letter count }
 {
@@ -113,7 +113,7 @@ fn java_role(letter: u8, count: usize) -> Role
     }
 }
 
-/// What a token of moment says that begins with the letter and has so many bytes.
+/// What a token of moment says that begins with the letter and has this many bytes.
 fn moment_role(letter: u8, count: usize) -> Role
     ensures { result ≡ spec.moment_role letter count }
 {

@@ -2,18 +2,18 @@
 
 use crate::reason::Reason;
 
-/// What stands in a format, and the text of version 3 that means the same.
+/// A text in a format, and the text of version 3 that means the same.
 #[derive(Clone, Copy)]
 pub struct Row {
-    /// What stands in the format.
+    /// The text in the format.
     pub text: &'static str,
-    /// What may not follow it there.
+    /// What may not follow the text there.
     pub not_before: NotBefore,
-    /// What it means.
+    /// What the text means.
     pub verdict: Verdict,
 }
 
-/// What may not follow a row's text, so that it counts.
+/// What may not follow a row's text for the row to count.
 #[derive(Clone, Copy)]
 pub enum NotBefore {
     /// Anything may follow.
@@ -27,13 +27,13 @@ pub enum NotBefore {
 /// What a row's text means.
 #[derive(Clone, Copy)]
 pub enum Verdict {
-    /// This text of version 3 writes the same, of moments within a range.
+    /// This text of version 3 writes the same, for the moments of a range.
     Written(&'static str, Range),
     /// No text of version 3 writes the same.
     Refused(Reason),
 }
 
-/// The moments of which a text of version 3 writes the same.
+/// The moments for which a text of version 3 writes the same.
 #[derive(Clone, Copy)]
 pub enum Range {
     /// Moments of the years 0 to 9999.

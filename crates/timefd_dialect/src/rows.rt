@@ -18,7 +18,7 @@ use crate::tables::python::{python_keys, python_rows};
 use crate::tables::ruby::{ruby_keys, ruby_rows};
 
 impl Dialect {
-    /// The rows that this byte finds, the longest first.
+    /// The rows that this byte selects, the longest first.
     pub fn rows_at(self, byte: u8) -> &'static [Row]
         ensures { entries result.now ≡ rows_at byte (groups_of self) }
     {
@@ -35,7 +35,7 @@ impl Dialect {
         }
     }
 
-    /// The bytes that find rows.
+    /// The bytes that select rows.
     pub fn keys(self) -> &'static [u8]
         ensures { result.now ≡ keys_of (groups_of self) }
     {

@@ -1,4 +1,4 @@
-//! Where directives stand in a format.
+//! Where the directives of a format are.
 
 ghost use Rattle.std.specs.Prelude.{◌≡◌, ◌<◌, ◌∷◌, ◌++◌, IfOk, None, OnOk, length};
 ghost use Rattle.timefd_dialect.specs.Dialects.{quoting_of};
@@ -17,12 +17,12 @@ use crate::role::{Role, role_of};
 use std::alloc::{AllocError, Global};
 use timefd_language::text::tail;
 
-/// Where a directive stands in a format, and what it says.
+/// Where a directive is in a format, and what it says.
 #[derive(Clone, Copy)]
 pub struct Spot {
-    /// What it says.
+    /// What the directive says.
     pub role: Role,
-    /// The index of its first byte.
+    /// The index of the directive's first byte in the format.
     pub start: usize,
     /// The index after its last byte.
     pub end: usize,
@@ -31,13 +31,13 @@ pub struct Spot {
 /// A part of a format, and what follows it.
 #[derive(Clone, Copy)]
 pub struct Part<'a> {
-    /// What it says, if it is a directive.
+    /// What the part says, if it is a directive.
     pub role: Option<Role>,
-    /// What follows.
+    /// What follows the part.
     pub rest: &'a str,
 }
 
-/// Where the directives of a format stand.
+/// Where the directives of a format are, from the left.
 pub fn spots(alloc: Global, dialect: Dialect, format: &str) -> Result<Vec<Spot>, AllocError>
     ensures { IfOk result (λ spots. spec.AreSpots dialect format.now spots.items) }
 {
@@ -54,7 +54,7 @@ pub fn spots(alloc: Global, dialect: Dialect, format: &str) -> Result<Vec<Spot>,
     Ok(spots)
 }
 
-/// Appends a part that is a directive.
+/// Appends a part if it is a directive.
 fn push_spot(
     spots: &mut Vec<Spot>,
     role: Option<Role>,
@@ -69,7 +69,7 @@ fn push_spot(
     Ok(())
 }
 
-/// The part at the front of a text. What is quoted there is written over the buffer.
+/// The part at the front of a text. The buffer is overwritten with what is quoted there.
 fn part_at<'a>(quoted: &mut String, dialect: Dialect, text: &'a str) -> Result<Part<'a>, AllocError>
     requires { 0 < length text.now }
     ensures { IfOk result (IsPart (spec.said_at dialect text.now) text.now) }
@@ -85,7 +85,7 @@ fn part_at<'a>(quoted: &mut String, dialect: Dialect, text: &'a str) -> Result<P
     }
 }
 
-/// What stands between apostrophes, after the one that opens.
+/// What is quoted after an opening apostrophe.
 fn quotation_part<'a>(quoted: &mut String, after: &'a str) -> Result<Part<'a>, AllocError>
     ensures { IfOk result (IsPart (spec.said_quotation (quotation after.now))
         (apostrophe ∷ after.now)) }
@@ -97,7 +97,7 @@ fn quotation_part<'a>(quoted: &mut String, after: &'a str) -> Result<Part<'a>, A
     }
 }
 
-/// What stands between brackets, or else the longest row or a character.
+/// What is quoted between brackets, or else the longest row or a character.
 fn bracket_part(dialect: Dialect, text: &str) -> Part<'_>
     requires there { 0 < length text.now }
     requires quoting { quoting_of dialect ≡ Quoting.Brackets }
@@ -112,7 +112,7 @@ fn bracket_part(dialect: Dialect, text: &str) -> Part<'_>
     }
 }
 
-/// The longest row at the front of a text, or the character there.
+/// The longest row at the front of a text, or else the first character.
 fn row_part(dialect: Dialect, text: &str) -> Part<'_>
     requires { 0 < length text.now }
     ensures { IsPart (spec.said_row dialect (longest_row (rows_of dialect) text.now) text.now)
@@ -130,7 +130,7 @@ fn row_part(dialect: Dialect, text: &str) -> Part<'_>
     }
 }
 
-/// A literal before the rest of a text.
+/// A literal that this rest follows.
 fn literal_before(rest: &str) -> Part<'_>
     ensures { (result.role ≡ None) × (result.rest.now ≡ rest.now) }
 {

@@ -22,19 +22,19 @@ use std::alloc::Global;
 /// dialect reads more: numbers of fewer digits, names in any case.
 ///
 /// The error is `Refused` with the first part of the format, from the left, that has no text of
-/// version 3 or that tells too little, as a year of two digits, or `Memory` where memory ran out.
+/// version 3 or that says too little, such as a year of two digits, or `Memory` if memory ran out.
 pub fn to_version_three_for_reading(
     alloc: Global,
     dialect: Dialect,
     format: &str,
 ) -> Result<Converted, DialectError>
-    // What is answered is the text of the pieces that texts of the format are read by. What is
-    // refused isn't read by.
+    // The result is the text of the pieces that read what the format writes. What is refused has
+    // none.
     ensures converted { IfOk result (IsToRead dialect format.now) }
     ensures fault { IfErr result (IsUnreadFor dialect format.now) }
 
-    // The pieces that texts are read by are answered, unless memory runs out. Where a part of the
-    // format isn't read by, it is refused for that part, unless memory runs out before.
+    // A format whose texts some pieces read is converted, unless memory runs out. A format with a
+    // part that can't be read is refused for that part, unless memory runs out first.
     ensures reads { (ps : List Piece) → ReadsBy dialect format.now ps
         → MatchResult result (λ answer. string_bytes answer.text ≡ text_of ps) IsMemory }
     ensures refused { (reason : Reason) (index : ℕ) → UnreadAt dialect format.now reason index
@@ -43,7 +43,7 @@ pub fn to_version_three_for_reading(
     text_to_read(alloc, dialect, format)
 }
 
-/// Converts a format, with the clauses from which those of `to_version_three_for_reading` follow.
+/// Converts a format; the clauses of `to_version_three_for_reading` follow from those here.
 fn text_to_read(alloc: Global, dialect: Dialect, format: &str) -> Result<Converted, DialectError>
     ensures converted { IfOk result (IsToRead dialect format.now) }
     ensures fault { IfErr result (IsUnreadFor dialect format.now) }
@@ -67,7 +67,7 @@ fn text_to_read(alloc: Global, dialect: Dialect, format: &str) -> Result<Convert
     Ok(Converted { text, limits })
 }
 
-/// Appends the text that the piece at the front is read by.
+/// Appends the text that reads what the piece at the front writes.
 fn push_front_to_read<'a>(
     alloc: Global,
     answer: &mut String,
@@ -98,7 +98,7 @@ fn push_front_to_read<'a>(
     }
 }
 
-/// The row of this text.
+/// The row with this text.
 fn row_named(rows: &'static [Row], text: &str) -> Option<Row>
     ensures { row_option result ≡ row_named (entries rows.now) text.now }
 {

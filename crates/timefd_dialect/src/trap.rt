@@ -1,33 +1,34 @@
-//! What in a format often means something else than its writer believes.
+//! What in a format often means something other than its writer believes.
 
 ghost use Rattle.std.specs.Prelude.{◌≡◌};
 ghost use Rattle.timefd_dialect.specs.TrapWords as spec;
 
-/// What in a format often means something else than its writer believes.
+/// What in a format often means something other than its writer believes.
 #[derive(Debug, Clone, Copy, PartialEq, Eq)]
 pub enum Trap {
     /// The year of weeks beside a month, as in Java's `YYYY-MM-dd`.
     WeekYearBesideMonth,
     /// The day of the year beside a month, as in Java's `MM/DD` and moment's `MMM DDDD`.
     DayOfYearBesideMonth,
-    /// An hour of twelve, and nothing that writes AM or PM, as in Java's `hh:mm`.
+    /// An hour of twelve without AM or PM, as in Java's `hh:mm`.
     HourWithoutPeriod,
-    /// A minute beside a day, and no hour before it, as in Java's `yyyy-mm-dd`.
+    /// A minute beside a day with no hour before it, as in Java's `yyyy-mm-dd`.
     MinuteBesideDay,
     /// A second right before a minute, as in Go's `05:04`.
     SecondBeforeMinute,
-    /// A weekday of two letters, as moment's `dd`.
+    /// A weekday of two letters, such as moment's `dd`.
     TwoLetterWeekday,
-    /// A weekday's number from 0, Sunday, as `%w`.
+    /// A weekday's number, where 0 is Sunday, such as `%w`.
     WeekdayFromZero,
-    /// What makes chrono panic where it writes, as `%-b`.
+    /// What makes chrono panic when it writes, such as `%-b`.
     Panic,
-    /// The last two digits of a year and no century. It matters where texts are read.
+    /// The last two digits of a year, and no century. It matters for reading.
     YearWithoutCentury,
 }
 
 impl Trap {
-    /// Its name, as `week-year-beside-month`, which stays the same whatever its sentence says.
+    /// The name of the trap, such as `week-year-beside-month`. It stays the same whatever the
+    /// sentence says.
     pub fn name(self) -> &'static str
         ensures { result.now ≡ spec.name self }
     {
@@ -44,7 +45,7 @@ impl Trap {
         }
     }
 
-    /// What is told of it, as a sentence without a capital and a full stop.
+    /// What is reported about the trap, as a sentence without a capital and a full stop.
     pub fn sentence(self) -> &'static str
         ensures { result.now ≡ spec.sentence self }
     {
@@ -53,15 +54,15 @@ impl Trap {
             Trap::DayOfYearBesideMonth => "it counts the days of the year, and not of the month",
             Trap::HourWithoutPeriod => "the hour runs from 1 to 12, and nothing writes AM or PM",
             Trap::MinuteBesideDay => "it is the minute, and not the month",
-            Trap::SecondBeforeMinute => "the second stands before the minute",
+            Trap::SecondBeforeMinute => "the second comes before the minute",
             Trap::TwoLetterWeekday => "it is a weekday of two letters, and not the day",
             Trap::WeekdayFromZero => "it counts weekdays from 0, which is Sunday",
             Trap::Panic => "chrono panics where it writes by this format",
-            Trap::YearWithoutCentury => "nothing tells the century of the year",
+            Trap::YearWithoutCentury => "nothing gives the century of the year",
         }
     }
 
-    /// What to do, in a sentence.
+    /// What to do about it, in a sentence.
     pub fn cure(self) -> &'static str
         ensures { result.now ≡ spec.cure self }
     {

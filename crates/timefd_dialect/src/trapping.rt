@@ -9,29 +9,29 @@ use crate::spot::{Spot, spots};
 use crate::trap::Trap;
 use std::alloc::{AllocError, Global};
 
-/// A trap, and the directive that it is.
+/// A trap, and where the directive is.
 #[derive(Clone, Copy)]
 pub struct Found {
-    /// What it is.
+    /// Which trap it is.
     pub trap: Trap,
     /// The index of the directive's first byte in the format.
     pub start: usize,
-    /// The index after its last byte.
+    /// The index after the directive's last byte.
     pub end: usize,
 }
 
-/// What of a whole format traps ask for.
+/// What a whole format has of what traps depend on.
 #[derive(Clone, Copy)]
 pub struct Present {
-    /// A month.
+    /// Whether there is a month.
     pub month: bool,
-    /// What writes AM or PM.
+    /// Whether something writes AM or PM.
     pub period: bool,
-    /// A year with its century.
+    /// Whether there is a year with its century.
     pub year: bool,
 }
 
-/// What a directive beside one says, as far as traps ask for it.
+/// What a neighbouring directive says, as far as traps depend on it.
 #[derive(Clone, Copy)]
 pub enum Beside {
     Day,
@@ -40,11 +40,11 @@ pub enum Beside {
     Other,
 }
 
-/// The traps of a format, from the left. A part that has no text of version 3 is looked at too.
+/// The traps of a format, from the left. Parts that have no text of version 3 are looked at too.
 ///
-/// The error is that memory ran out.
+/// An `Err` says that memory ran out.
 pub fn traps(alloc: Global, dialect: Dialect, format: &str) -> Result<Vec<Found>, AllocError>
-    // These are all, in order.
+    // These are all traps of the format, in order.
     ensures { IfOk result (λ found. spec.AreTraps dialect format.now found.items) }
 {
     let spots = spots(alloc, dialect, format)?;
@@ -82,7 +82,7 @@ fn push_found(found: &mut Vec<Found>, spot: Spot, trap: Option<Trap>) -> Result<
     Ok(())
 }
 
-/// What of all directives traps ask for.
+/// What these directives have of what traps depend on.
 fn present_in(spots: &[Spot]) -> Present
     ensures { result ≡ spec.present_in spots.now }
 {
@@ -100,7 +100,7 @@ fn present_in(spots: &[Spot]) -> Present
 }
 
 impl Present {
-    /// With what one more directive says.
+    /// What is there with one more directive.
     fn with(self, role: Role) -> Self
         ensures { result ≡ spec.with_role role self }
     {
@@ -135,7 +135,7 @@ impl Present {
     }
 }
 
-/// What the first of some directives says.
+/// What the first of these directives says.
 fn first_beside(spots: &[Spot]) -> Beside
     ensures { result ≡ spec.first_beside spots.now }
 {
@@ -166,7 +166,7 @@ fn beside_of(role: Role) -> Beside
     }
 }
 
-/// The trap that a directive is, by those before and after it and by all.
+/// The trap that a directive is, by its neighbours and by all directives of the format.
 fn trap_of(present: Present, before: Beside, role: Role, after: Beside) -> Option<Trap>
     ensures { result ≡ spec.trap_of present before role after }
 {
@@ -190,7 +190,7 @@ fn where_it_is(is_there: bool, trap: Trap) -> Option<Trap>
     if is_there { Some(trap) } else { None }
 }
 
-/// The trap that a minute is: a day stands beside it, and no hour before it.
+/// The trap that a minute is: beside a day, with no hour before it.
 fn minute_trap(before: Beside, after: Beside) -> Option<Trap>
     ensures { result ≡ spec.minute_trap before after }
 {
@@ -204,7 +204,7 @@ fn minute_trap(before: Beside, after: Beside) -> Option<Trap>
     }
 }
 
-/// The trap that a second is: a minute follows.
+/// The trap that a second is: right before a minute.
 fn second_trap(after: Beside) -> Option<Trap>
     ensures { result ≡ spec.second_trap after }
 {

@@ -1,4 +1,4 @@
-//! The row whose text of version 3 stands at the front of a description.
+//! The row whose text of version 3 a description begins with.
 
 ghost use Rattle.std.specs.Prelude.{◌≡◌, MatchOption, None, true};
 ghost use Rattle.timefd_dialect.specs.Back as spec;
@@ -8,7 +8,8 @@ ghost use Rattle.timefd_dialect.specs.Tables.{groups_of};
 use crate::dialect::Dialect;
 use crate::row::{Row, Verdict};
 
-/// The row whose text is the longest at the front of a description, and of those the first.
+/// The row with the longest text that the description begins with; the first one, if several are as
+/// long.
 pub fn row_writing(dialect: Dialect, text: &str) -> Option<&'static Row>
     ensures { MatchOption result (spec.Lacks dialect text.now)
         (λ row. spec.writes (entry_of row.now) text.now ≡ true) }
@@ -16,7 +17,7 @@ pub fn row_writing(dialect: Dialect, text: &str) -> Option<&'static Row>
     best_at(dialect, dialect.keys(), text)
 }
 
-/// The best of the rows that these bytes find.
+/// The best of the rows that these bytes select.
 fn best_at(dialect: Dialect, keys: &[u8], text: &str) -> Option<&'static Row>
     ensures { found_entry result ≡ spec.best_at None keys.now (groups_of dialect) text.now }
 {
@@ -27,7 +28,7 @@ fn best_at(dialect: Dialect, keys: &[u8], text: &str) -> Option<&'static Row>
     best
 }
 
-/// The best of one and these rows.
+/// The best of this row and these rows.
 fn best_from(best: Option<&'static Row>, rows: &'static [Row], text: &str) -> Option<&'static Row>
     ensures { found_entry result ≡ spec.best_from (found_entry best.entry) (entries rows.now) text.now }
 {
@@ -38,7 +39,8 @@ fn best_from(best: Option<&'static Row>, rows: &'static [Row], text: &str) -> Op
     best
 }
 
-/// The row, if its text stands at the front of the description and it is better than the best so far.
+/// The row, if the description begins with its text and it is better than the best so far;
+/// otherwise the best so far.
 fn best_with(best: Option<&'static Row>, row: &'static Row, text: &str) -> Option<&'static Row>
     ensures { found_entry result ≡ spec.best_with (found_entry best.entry) (entry_of row.now) text.now }
 {
@@ -62,7 +64,7 @@ fn is_better(row: &Row, best: &Row) -> bool
     written_of(best.verdict).len() < written_of(row.verdict).len()
 }
 
-/// The text of a row; none where it is refused.
+/// The text of version 3 of a row, or nothing if the row is refused.
 pub fn written_of(verdict: Verdict) -> &'static str
     ensures { result.now ≡ spec.own_text (meaning_of verdict) }
 {
@@ -72,7 +74,7 @@ pub fn written_of(verdict: Verdict) -> &'static str
     }
 }
 
-/// Whether the row's text stands at the front of a description.
+/// Whether the description begins with the row's text.
 fn writes(row: &Row, text: &str) -> bool
     ensures { result ≡ spec.writes (entry_of row.now) text.now }
 {

@@ -1,7 +1,8 @@
-//! Answers rows: each line of the standard input is the name of a dialect, a tab and a format, and
-//! the line of the standard output that stands beside it is its text of version 3, or why it has
-//! none; with `read ` before the name, the text that reads what the format writes. `stdin` and `stdout` of this crate are tests. Empty lines and comments, which begin with `#`,
-//! are copied.
+//! Converts rows: a line of the standard input is the name of a dialect, a tab and a format, and
+//! the same line of the standard output is its text of version 3, or why it has none. With `read `
+//! before the name it is the text that reads what the format writes; with `traps ` the format's
+//! traps, or `none`; with `back ` the format of a text of version 3. Empty lines and comments, which
+//! begin with `#`, are copied. `stdin` and `stdout` of this crate are tests.
 #![tactic(auto)]
 
 mod row;

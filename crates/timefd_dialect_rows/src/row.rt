@@ -2,53 +2,63 @@
 
 use std::alloc::{AllocError, Global};
 use timefd_dialect::{
-    Converted, Dialect, DialectError, Refusal, to_version_three, to_version_three_for_reading,
+    Converted, Dialect, DialectError, FormatError, Refusal, from_version_three, to_version_three,
+    to_version_three_for_reading, traps,
 };
 
-/// What stands beside a line.
+/// What a row asks of a format, or of a text of version 3.
+#[derive(Clone, Copy)]
+enum Asked {
+    /// The text of version 3 that writes what the format writes.
+    Writing,
+    /// The text of version 3 that reads what the format writes.
+    Reading,
+    /// The traps of the format.
+    Traps,
+    /// The format that writes what a text of version 3 writes.
+    Back,
+}
+
+/// The line of output for a line of input.
 pub fn answer(alloc: Global, line: &str) -> Result<String, AllocError> {
     if line.is_empty() || line.starts_with('#') {
         return String::from_str(alloc, line);
     }
-    let Some((name, format)) = line.split_once('\t') else {
+    let Some((front, text)) = line.split_once('\t') else {
         return String::from_str(alloc, "a row is the name of a dialect, a tab and a format");
     };
-    match name.strip_prefix("read ") {
-        Some(name) => answer_to_read(alloc, name, format),
-        None => answer_to_write(alloc, name, format),
+    let (asked, name) = asked_of(front);
+    let Some(dialect) = Dialect::named(name) else {
+        return format!(in alloc; "`{name}` is no dialect");
+    };
+    match asked {
+        Asked::Writing => answer_of(alloc, to_version_three(alloc, dialect, text)),
+        Asked::Reading => answer_of(alloc, to_version_three_for_reading(alloc, dialect, text)),
+        Asked::Traps => traps_line(alloc, dialect, text),
+        Asked::Back => format_line(alloc, from_version_three(alloc, dialect, text)),
     }
 }
 
-/// The text that writes the same.
-fn answer_to_write(alloc: Global, name: &str, format: &str) -> Result<String, AllocError> {
-    match Dialect::named(name) {
-        Some(dialect) => answer_of(alloc, to_version_three(alloc, dialect, format)),
-        None => no_dialect(alloc, name),
+/// What is asked, and the name of the dialect.
+fn asked_of(front: &str) -> (Asked, &str) {
+    match front.split_once(' ') {
+        Some(("read", name)) => (Asked::Reading, name),
+        Some(("traps", name)) => (Asked::Traps, name),
+        Some(("back", name)) => (Asked::Back, name),
+        _ => (Asked::Writing, front),
     }
-}
-
-/// The text that reads what the format writes.
-fn answer_to_read(alloc: Global, name: &str, format: &str) -> Result<String, AllocError> {
-    match Dialect::named(name) {
-        Some(dialect) => answer_of(alloc, to_version_three_for_reading(alloc, dialect, format)),
-        None => no_dialect(alloc, name),
-    }
-}
-
-fn no_dialect(alloc: Global, name: &str) -> Result<String, AllocError> {
-    format!(in alloc; "`{name}` is no dialect")
 }
 
 fn answer_of(alloc: Global, answer: Result<Converted, DialectError>) -> Result<String, AllocError> {
     match answer {
-        Ok(converted) => told(alloc, &converted),
+        Ok(converted) => converted_line(alloc, &converted),
         Err(DialectError::Refused(refusal)) => refused(alloc, refusal),
         Err(DialectError::Memory(error)) => Err(error),
     }
 }
 
-/// The text, and for which moments it writes the same, where it doesn't of each.
-fn told(alloc: Global, converted: &Converted) -> Result<String, AllocError> {
+/// The text, with the moments for which it writes the same unless it does so for all.
+fn converted_line(alloc: Global, converted: &Converted) -> Result<String, AllocError> {
     let text = converted.text.as_str();
     let year = converted.limits.first_year;
     match (year, converted.limits.whole_minutes) {
@@ -61,4 +71,34 @@ fn told(alloc: Global, converted: &Converted) -> Result<String, AllocError> {
 
 fn refused(alloc: Global, refusal: Refusal) -> Result<String, AllocError> {
     format!(in alloc; "{} at byte {}", refusal.reason.name(), refusal.index)
+}
+
+/// The format, or the bracket that the dialect has no directive for.
+fn format_line(
+    alloc: Global,
+    answer: Result<Converted, FormatError>,
+) -> Result<String, AllocError> {
+    match answer {
+        Ok(converted) => converted_line(alloc, &converted),
+        Err(FormatError::Lacking(index)) => format!(in alloc; "lacking at byte {index}"),
+        Err(FormatError::Merged) => String::from_str(alloc, "merged"),
+        Err(FormatError::Memory(error)) => Err(error),
+    }
+}
+
+/// The traps of a format, each with its bytes, or `none`.
+fn traps_line(alloc: Global, dialect: Dialect, format: &str) -> Result<String, AllocError> {
+    let found = traps(alloc, dialect, format)?;
+    let mut line = String::new(alloc);
+    'traps: for at in 0..found.len() {
+        let trap = found[at];
+        let front = if at == 0 { "" } else { ", " };
+        let name = trap.trap.name();
+        let one = format!(in alloc; "{front}{name} at bytes {} to {}", trap.start, trap.end)?;
+        line.push_str(&one)?;
+    }
+    if found.is_empty() {
+        line.push_str("none")?;
+    }
+    Ok(line)
 }

@@ -12,10 +12,10 @@ use Rattle.timefd_drawing.specs.Json.{object}
 use Rattle.timefd_drawing.specs.Positions.{line_number, column}
 
 pub drawn_json : (further : Bool) (origin : Origin) (text : Text) (d : Diagnostic)
-    {name message help : Text} {line place : ℕ} {word : Option Text}
+    {name message help : Text} {line position : ℕ} {word : Option Text}
     → name ≡ code d → line ≡ line_number origin.line text d.span.start
-    → place ≡ column text d.span.start → message ≡ error_sentence d.fault
+    → position ≡ column text d.span.start → message ≡ error_sentence d.fault
     → help ≡ help_text d.help → word ≡ nearest_in d.help
-    → object further name origin.file.now line place message d.span.start d.span.end help word
+    → object further name origin.file.now line position message d.span.start d.span.end help word
     ≡ json further origin text d
 drawn_json further origin text d c l k m h w = rw c (rw l (rw k (rw m (rw h (rw w refl)))))

@@ -1,4 +1,4 @@
--- What is escaped for GitHub ends at its last byte.
+-- A text that is escaped for GitHub ends at its last byte.
 use Rattle.std.proofs.Common.{ℕ, ◌≡◌, Bool, false, ◌==◌, List, [], ◌∷◌, ◌++◌, flat_map, refl, inl, inr}
 use Rattle.std.proofs.lemmas.Bool.{cases_Bool}
 use Rattle.std.specs.Str.{NonePass}

@@ -1,4 +1,4 @@
--- What JSON writes of a text holds no hidden character.
+-- What JSON writes for a text holds no hidden character.
 use Rattle.std.proofs.Common.{Bool, true≢false, ℕ, ◌≡◌, ◌<◌, ◌≤◌, ◌+◌, ◌-◌, ◌/◌, ◌%◌, true, false, nat_lt, not, ◌==◌, ◌||◌, List, [], ◌∷◌, ◌++◌, chars, codes, flat_map, refl, sym, ap, subst, ◌∙◌, inl, inr, arith, ltb-true, eqb-true, get_or, IsUtf8}
 use Rattle.std.proofs.lemmas.Bool.{and_parts, cases_Bool}
 use Rattle.std.proofs.lemmas.Bool.Decides.{nat_tests}
@@ -15,7 +15,7 @@ use Rattle.timefd_drawing.specs.Json.{NoneIsHiddenInJson, all_escaped, escaped, 
 use Rattle.timefd_drawing.specs.Shown.{is_hidden, is_printable}
 use Rattle.timefd_drawing.proofs.ShownLemmas.{all_ascii, bounds, first_scalar, joined, not_true, other_scalars, prints}
 
--- the bytes spell characters of which none is hidden
+-- The bytes spell characters, and none of them is hidden.
 record IsClear (bytes : Text) : Type 0 where
   all : List ℕ
   are : all_scalars all ≡ true
@@ -156,7 +156,7 @@ plain_escaped (b ∷ bytes) are =
     rw one.0 (rw (prints b ends.0 ends.1) (encode_ascii b (omega (arith, ends.1)))) in
     ap (λ t. t ++ flat_map escaped bytes) first ∙ ap (λ t. b ∷ t) (plain_escaped bytes parts.1)
 
--- What prints, and is no quote and no backslash, stands in quotes as it is.
+-- A printing text without quotes and backslashes is written in quotes as it is.
 pub plain_as_it_is : (text : Text) → list_all is_plain text ≡ true → all_escaped text ≡ text
 plain_as_it_is text are =
     ap (flat_map escaped) (chars-IsAscii text (all_ascii text (plain_prints text are))) ∙

@@ -1,4 +1,4 @@
--- What people see holds nothing that a terminal would obey but newlines and colours.
+-- What people see holds nothing that a terminal would obey, except for newlines and colours.
 use Rattle.std.proofs.Common.{true≢false, ℕ, suc, ◌≡◌, ◌<◌, ◌≤◌, Bool, true, false, nat_le, not, ◌&&◌, ◌||◌, ◌==◌, List, [], ◌∷◌, ◌++◌, chars, length, refl, sym, ap, subst, ◌∙◌, inl, inr, arith, eqb-true, IsUtf8}
 use Rattle.std.specs.Prelude.{String, if◌then◌else◌, string_bytes}
 use Rattle.std.proofs.lemmas.Bool.{and_parts, cases_Bool}
@@ -43,14 +43,14 @@ color_plain c is = elim (cases_Bool (c == 49)) [
   ]
 ]
 
--- What people see as it is stays.
-seen_itself : (colored : Bool) (c : ℕ) (after : List ℕ) → is_plain c ≡ true
-    → seen_of colored c after ≡ c
-seen_itself colored c after is = elim (cases_Bool ((c == 10) || is_paint colored c after)) [
+-- What people see as it is stays as it is.
+seen_itself : (colored : Bool) (c : ℕ) (after_span : List ℕ) → is_plain c ≡ true
+    → seen_of colored c after_span ≡ c
+seen_itself colored c after_span is = elim (cases_Bool ((c == 10) || is_paint colored c after_span)) [
   | inl kept ↦ rw kept refl
   | inr other ↦
       let ends = bounds c (other_true (c == 10) (is_printable c)
-      (first_false (c == 10) (is_paint colored c after) other) is) in
+      (first_false (c == 10) (is_paint colored c after_span) other) is) in
       rw other (itself c ends.0 ends.1)
 ]
 
@@ -85,9 +85,9 @@ shown_as_it_is colored text are =
     (ap (λ cs. encode_utf8_all (all_seen_of colored cs)) (chars-IsAscii text ascii) ∙
     encoded colored text are)
 
-seen_scalar : (colored : Bool) (c : ℕ) (after : List ℕ) → all_scalars (c ∷ []) ≡ true
-    → all_scalars (seen_of colored c after ∷ []) ≡ true
-seen_scalar colored c after is = elim (cases_Bool ((c == 10) || is_paint colored c after)) [
+seen_scalar : (colored : Bool) (c : ℕ) (after_span : List ℕ) → all_scalars (c ∷ []) ≡ true
+    → all_scalars (seen_of colored c after_span ∷ []) ≡ true
+seen_scalar colored c after_span is = elim (cases_Bool ((c == 10) || is_paint colored c after_span)) [
   | inl kept ↦ rw kept is
   | inr other ↦ rw other (shown_scalar c is)
 ]
@@ -104,21 +104,21 @@ same_length : (colored : Bool) (cs : List ℕ) → length (all_seen_of colored c
 same_length colored [] = refl
 same_length colored (c ∷ cs) = ap (λ n. suc n) (same_length colored cs)
 
--- A character that a colour is written with is seen as it is.
-stays : (colored : Bool) (n c : ℕ) (after : List ℕ) → is_plain n ≡ true → (c == n) ≡ true
-    → (seen_of colored c after == n) ≡ true
-stays colored n c after plain is =
+-- A character that is a part of a colour is seen as it is.
+stays : (colored : Bool) (n c : ℕ) (after_span : List ℕ) → is_plain n ≡ true → (c == n) ≡ true
+    → (seen_of colored c after_span == n) ≡ true
+stays colored n c after_span plain is =
     let same : c ≡ n = eqb-true c n is in
     subst (λ x. (x == n) ≡ true)
-    (sym (seen_itself colored c after (subst (λ x. is_plain x ≡ true) (sym same) plain))) is
+    (sym (seen_itself colored c after_span (subst (λ x. is_plain x ≡ true) (sym same) plain))) is
 
-color_stays : (colored : Bool) (c : ℕ) (after : List ℕ) → is_color c ≡ true
-    → is_color (seen_of colored c after) ≡ true
-color_stays colored c after is =
-    subst (λ x. is_color x ≡ true) (sym (seen_itself colored c after (color_plain c is))) is
+color_stays : (colored : Bool) (c : ℕ) (after_span : List ℕ) → is_color c ≡ true
+    → is_color (seen_of colored c after_span) ≡ true
+color_stays colored c after_span is =
+    subst (λ x. is_color x ≡ true) (sym (seen_itself colored c after_span (color_plain c is))) is
 
-plain_stays : (colored : Bool) (after : List ℕ) → begins_plain after ≡ true
-    → begins_plain (all_seen_of colored after) ≡ true
+plain_stays : (colored : Bool) (after_span : List ℕ) → begins_plain after_span ≡ true
+    → begins_plain (all_seen_of colored after_span) ≡ true
 plain_stays colored [] is = is
 plain_stays colored (a ∷ []) is = is
 plain_stays colored (a ∷ b ∷ []) is = is
@@ -131,8 +131,8 @@ plain_stays colored (a ∷ b ∷ c ∷ cs) is =
     (both_true (stays colored 91 a (b ∷ c ∷ cs) refl one.0)
     (both_true (stays colored 48 b (c ∷ cs) refl two.0) (stays colored 109 c cs refl two.1)))
 
-bold_stays : (colored : Bool) (after : List ℕ) → begins_bold after ≡ true
-    → begins_bold (all_seen_of colored after) ≡ true
+bold_stays : (colored : Bool) (after_span : List ℕ) → begins_bold after_span ≡ true
+    → begins_bold (all_seen_of colored after_span) ≡ true
 bold_stays colored [] is = is
 bold_stays colored (a ∷ []) is = is
 bold_stays colored (a ∷ b ∷ []) is = is
@@ -155,25 +155,25 @@ bold_stays colored (a ∷ b ∷ c ∷ d ∷ e ∷ f ∷ cs) is =
     (both_true (stays colored 51 d (e ∷ f ∷ cs) refl four.0)
     (both_true (color_stays colored e (f ∷ cs) five.0) (stays colored 109 f cs refl five.1))))))
 
-paint_stays : (colored : Bool) (c : ℕ) (after : List ℕ) → is_paint colored c after ≡ true
-    → is_paint colored c (all_seen_of colored after) ≡ true
-paint_stays colored c after is =
-    let some = and_parts colored ((c == 27) && begins_color after) is in
-    let escape = and_parts (c == 27) (begins_color after) some.1 in
-    both_true some.0 (both_true escape.0 (elim (cases_Bool (begins_plain after)) [
-      | inl plain ↦ or_first (begins_bold (all_seen_of colored after)) (plain_stays colored after plain)
-      | inr other ↦ or_other (begins_plain (all_seen_of colored after)) (bold_stays colored after
-          (other_true (begins_plain after) (begins_bold after) other escape.1))
+paint_stays : (colored : Bool) (c : ℕ) (after_span : List ℕ) → is_paint colored c after_span ≡ true
+    → is_paint colored c (all_seen_of colored after_span) ≡ true
+paint_stays colored c after_span is =
+    let some = and_parts colored ((c == 27) && begins_color after_span) is in
+    let escape = and_parts (c == 27) (begins_color after_span) some.1 in
+    both_true some.0 (both_true escape.0 (elim (cases_Bool (begins_plain after_span)) [
+      | inl plain ↦ or_first (begins_bold (all_seen_of colored after_span)) (plain_stays colored after_span plain)
+      | inr other ↦ or_other (begins_plain (all_seen_of colored after_span)) (bold_stays colored after_span
+          (other_true (begins_plain after_span) (begins_bold after_span) other escape.1))
     ]))
 
-one_seen : (colored : Bool) (c : ℕ) (after : List ℕ)
-    → (not (is_hidden (seen_of colored c after)) || ((seen_of colored c after == 10)
-    || is_paint colored (seen_of colored c after) (all_seen_of colored after))) ≡ true
-one_seen colored c after = elim (cases_Bool ((c == 10) || is_paint colored c after)) [
+one_seen : (colored : Bool) (c : ℕ) (after_span : List ℕ)
+    → (not (is_hidden (seen_of colored c after_span)) || ((seen_of colored c after_span == 10)
+    || is_paint colored (seen_of colored c after_span) (all_seen_of colored after_span))) ≡ true
+one_seen colored c after_span = elim (cases_Bool ((c == 10) || is_paint colored c after_span)) [
   | inl kept ↦ rw kept (or_other (not (is_hidden c)) (elim (cases_Bool (c == 10)) [
-    | inl newline ↦ or_first (is_paint colored c (all_seen_of colored after)) newline
-    | inr other ↦ or_other (c == 10) (paint_stays colored c after
-        (other_true (c == 10) (is_paint colored c after) other kept))
+    | inl newline ↦ or_first (is_paint colored c (all_seen_of colored after_span)) newline
+    | inr other ↦ or_other (c == 10) (paint_stays colored c after_span
+        (other_true (c == 10) (is_paint colored c after_span) other kept))
   ]))
   | inr other ↦ rw other (or_first _ (ap not (shown_is_clear c)))
 ]
@@ -182,14 +182,14 @@ all_are_seen : (colored : Bool) (cs : List ℕ) → AllSeen colored (all_seen_of
 all_are_seen colored [] = tt
 all_are_seen colored (c ∷ cs) = (one_seen colored c cs, all_are_seen colored cs)
 
--- Of a text that is UTF-8, all is seen.
+-- If a text is UTF-8, all of it is seen.
 pub all_seen : (colored : Bool) (text : Text) → IsUtf8 text
     → AllSeen colored (chars (encode_utf8_all (all_seen_of colored (chars text))))
 all_seen colored text utf8 =
     subst (AllSeen colored) (sym (chars-encodes (all_seen_of colored (chars text))
     (seen_scalars colored (chars text) (scalars-chars text utf8)))) (all_are_seen colored (chars text))
 
--- All is seen of bytes that are shown as they are, and of any others.
+-- All is seen of bytes that are shown as they are, and of any other bytes.
 pub plain_seen : (colored : Bool) (text : Text) → list_all is_plain text ≡ true
     → AllSeen colored (chars (for_people colored text))
 plain_seen colored text are =
@@ -203,13 +203,13 @@ lossy_seen colored bytes s is =
     all_seen colored (utf8_lossy bytes) (subst IsUtf8 is (IsUtf8-string_bytes s))
 
 -- One character more, and the last one.
-pub one_more : (colored : Bool) (c : ℕ) (after rest : List ℕ) (old new all : Text)
-    → rest ≡ c ∷ after → new ≡ old ++ encode_utf8 (seen_of colored c after)
+pub one_more : (colored : Bool) (c : ℕ) (after_span rest : List ℕ) (old new all : Text)
+    → rest ≡ c ∷ after_span → new ≡ old ++ encode_utf8 (seen_of colored c after_span)
     → old ++ encode_utf8_all (all_seen_of colored rest) ≡ all
-    → new ++ encode_utf8_all (all_seen_of colored after) ≡ all
-one_more colored c after rest old new all split pushed so_far =
-    ap (λ t. t ++ encode_utf8_all (all_seen_of colored after)) pushed ∙
-    (append_assoc old (encode_utf8 (seen_of colored c after)) (encode_utf8_all (all_seen_of colored after)) ∙
+    → new ++ encode_utf8_all (all_seen_of colored after_span) ≡ all
+one_more colored c after_span rest old new all split pushed so_far =
+    ap (λ t. t ++ encode_utf8_all (all_seen_of colored after_span)) pushed ∙
+    (append_assoc old (encode_utf8 (seen_of colored c after_span)) (encode_utf8_all (all_seen_of colored after_span)) ∙
     (ap (λ cs. old ++ encode_utf8_all (all_seen_of colored cs)) (sym split) ∙ so_far))
 
 pub at_last : (colored : Bool) (rest : List ℕ) (old all : Text) → rest ≡ []

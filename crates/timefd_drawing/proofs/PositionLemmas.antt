@@ -1,4 +1,4 @@
--- What stands behind the last newline.
+-- What follows the last newline.
 use Rattle.std.proofs.Common.{ℕ, suc, ◌≡◌, ◌≢◌, ◌<◌, ◌==◌, [], ◌∷◌, ◌++◌, length, take, drop, get_or, true, false, refl, sym, ap, subst, ◌∙◌, inl, inr, arith, eqb-true}
 use Rattle.std.proofs.lemmas.Bool.{cases_Bool}
 use Rattle.std.proofs.lemmas.List.{take-append-drop}
@@ -32,21 +32,21 @@ stands (b ∷ front) line = elim (cases_Bool (is_newline b)) [
   | inr other ↦ rw other (stands front line)
 ]
 
-behind : (front line : Text) → list_any is_newline line ≡ false
+after : (front line : Text) → list_any is_newline line ≡ false
     → last_line (front ++ 10 ∷ line) ≡ line
-behind [] line none = alone line none
-behind (b ∷ front) line none = rw (stands (b ∷ front) line) (behind front line none)
+after [] line none = alone line none
+after (b ∷ front) line none = rw (stands (b ∷ front) line) (after front line none)
 
-pub behind_last : (text front line : Text) → SplitsAroundMatch (RFindsChar 10) text front line
+pub after_last : (text front line : Text) → SplitsAroundMatch (RFindsChar 10) text front line
     → line ≡ last_line text
-behind_last text front line k =
+after_last text front line k =
     let back : line ≡ drop k.1 text = k.4 in
     let at : drop k.0 text ≡ 10 ∷ line = drop_at_char 10 text k.0 k.1 k.2.1 (omega arith)
     ∙ ap (λ t. 10 ∷ t) (sym back) in
     let whole : text ≡ take k.0 text ++ 10 ∷ line =
     sym (take-append-drop k.0 text) ∙ ap (λ t. take k.0 text ++ t) at in
     let none : NoCharPasses is_newline line = subst (NoCharPasses is_newline) (sym back) k.2.0 in
-    sym (ap last_line whole ∙ behind (take k.0 text) line (none_in line none))
+    sym (ap last_line whole ∙ after (take k.0 text) line (none_in line none))
 
 pub without_newline : (text : Text) → NoCharPasses is_newline text → text ≡ last_line text
 without_newline text none = sym (alone text (none_in text none))

@@ -12,12 +12,12 @@ use Rattle.timefd_drawing.specs.Positions.{line_number, char_column}
 use Rattle.timefd_drawing.specs.Sarif.{result, with_help}
 
 pub drawn_sarif : (further : Bool) (origin : Origin) (text : Text) (d : Diagnostic)
-    {name message sentence told help : Text} {line place end_line end_place : ℕ} {word : Option Text}
-    → name ≡ code d → line ≡ line_number origin.line text d.span.start → place ≡ char_column text d.span.start
-    → end_line ≡ line_number origin.line text d.span.end → end_place ≡ char_column text d.span.end
-    → message ≡ with_help sentence told → sentence ≡ error_sentence d.fault → told ≡ help_text d.help
+    {name message sentence reported help : Text} {line position end_line end_position : ℕ} {word : Option Text}
+    → name ≡ code d → line ≡ line_number origin.line text d.span.start → position ≡ char_column text d.span.start
+    → end_line ≡ line_number origin.line text d.span.end → end_position ≡ char_column text d.span.end
+    → message ≡ with_help sentence reported → sentence ≡ error_sentence d.fault → reported ≡ help_text d.help
     → help ≡ help_text d.help → word ≡ nearest_in d.help
-    → result further name origin.file.now line place end_line end_place message help word
+    → result further name origin.file.now line position end_line end_position message help word
     ≡ sarif further origin text d
 drawn_sarif further origin text d c l k m e w s t h r =
     rw c (rw l (rw k (rw m (rw e (rw w (rw s (rw t (rw h (rw r refl)))))))))

@@ -1,4 +1,4 @@
--- What is shown holds no hidden character.
+-- A safe text holds no hidden character.
 use Rattle.std.proofs.Common.{ℕ, ◌≡◌, ◌<◌, ◌≤◌, ◌+◌, ◌-◌, Bool, true, false, nat_le, nat_lt, not, ◌==◌, List, [], ◌∷◌, ◌++◌, map, chars, length, refl, sym, ap, subst, ◌∙◌, inl, inr, arith, ltb-true, get_or}
 use Rattle.std.proofs.lemmas.Bool.{and_parts, cases_Bool, le-ltb, leb-true}
 use Rattle.std.proofs.lemmas.Bool.Decides.{nat_tests}
@@ -12,8 +12,8 @@ use Rattle.std.specs.Str.{IsAscii, NonePass, all_scalars, encode_utf8_all}
 use Rattle.timefd_component.specs.Tree.{Text}
 use Rattle.timefd_drawing.specs.Shown.{NoneIsHidden, cut_end, cut_start, is_hidden, is_printable, safe, shown}
 
--- What holds of the pictures, of the replacement character, and of each character that isn't hidden
--- holds of what is shown.
+-- What holds for the pictures, for the replacement character and for each character that isn't hidden, holds
+-- for what is shown.
 by_cases : (P : ℕ → Type 0) (c : ℕ) → (c < 0x20 → P (0x2400 + c)) → P 0x2421 → P 0xFFFD
     → (is_hidden c ≡ false → P c) → P (shown c)
 by_cases P c picture delete replaced other = elim (cases_Bool (nat_lt c 0x20)) [
@@ -27,7 +27,7 @@ by_cases P c picture delete replaced other = elim (cases_Bool (nat_lt c 0x20)) [
   ])
 ]
 
--- The pictures aren't hidden, one by one.
+-- The pictures aren't hidden, checked one by one.
 pictures : list_all (λ c. not (is_hidden (0x2400 + c))) (range_with_len 0 0x20) ≡ true
 pictures = refl
 
@@ -50,7 +50,7 @@ shown_is_clear c =
 scalar_of : (c : ℕ) → c < 0xD800 → all_scalars (c ∷ []) ≡ true
 scalar_of c low = grind (arith, nat_tests)
 
--- what is shown of characters are characters
+-- What is shown for a character is a character.
 pub shown_scalar : (c : ℕ) → all_scalars (c ∷ []) ≡ true → all_scalars (shown c ∷ []) ≡ true
 shown_scalar c is =
     by_cases (λ d. all_scalars (d ∷ []) ≡ true) c (λ low. scalar_of (0x2400 + c) (omega arith)) refl
@@ -81,7 +81,7 @@ none_is_hidden text utf8 =
     subst (NonePass is_hidden) (sym (chars-encodes (map shown (chars text))
     (shown_scalars (chars text) (scalars-chars text utf8)))) (none_pass (chars text))
 
--- Characters of ASCII that print aren't hidden, one by one.
+-- Printing characters of ASCII aren't hidden, checked one by one.
 printing : list_all (λ c. not (is_hidden (0x20 + c))) (range_with_len 0 0x5F) ≡ true
 printing = refl
 
@@ -96,7 +96,7 @@ prints c low high =
     (AllPass-from_list_all (λ n. not (is_hidden (0x20 + n))) (range_with_len 0 0x5F) printing
     (c - 0x20) 0 (omega (arith, length-range_with_len 0 0x5F)))))
 
--- What prints is shown as it is.
+-- A printing character is shown as it is.
 pub itself : (c : ℕ) → 0x20 ≤ c → c < 0x7F → shown c ≡ c
 itself c low high =
     let other : (c == 0x7F) ≡ false = grind (arith, nat_tests) in
@@ -131,7 +131,7 @@ shown_as_it_is text are =
     ap (λ cs. encode_utf8_all (map shown cs)) (chars-IsAscii text (all_ascii text are)) ∙
     encoded text are
 
--- A short text that prints is neither cut nor changed.
+-- A short printing text is neither cut nor changed.
 
 uncut : (text : Text) (most : ℕ) → length text ≤ most → list_all is_printable text ≡ true
     → nat_lt most (length (chars text)) ≡ false

@@ -1,4 +1,4 @@
--- Annotations, as GitHub reads them in what a step of a workflow writes.
+-- Annotations, as GitHub reads them in the output of a workflow step.
 use Rattle.std.specs.Prelude.{ℕ, Bool, ◌||◌, ◌==◌, [], ◌∷◌, ◌++◌, codes, flat_map, if◌then◌else◌}
 use Rattle.std.specs.Str.{NonePass}
 use Rattle.timefd_component.specs.Tree.{Text}
@@ -8,13 +8,13 @@ use Rattle.timefd_drawing.specs.declared.json.Entry.{Entry}
 use Rattle.timefd_drawing.specs.Json.{number_field}
 use Rattle.timefd_drawing.specs.Shown.{safe}
 
--- what the line of a command begins with
+-- How the line of a command begins.
 abbrev pub opening : Command → Text
 opening Error = codes "::error"
 opening Warning = codes "::warning"
 opening Notice = codes "::notice"
 
--- In a message a percent sign, a carriage return and a newline are escaped; all else is as it is.
+-- In a message a percent sign, a carriage return and a newline are escaped. All other bytes are as they are.
 abbrev pub message_byte : ℕ → Text
 message_byte byte =
     if byte == 37 then codes "%25"
@@ -25,7 +25,7 @@ message_byte byte =
 abbrev pub escaped_message : Text → Text
 escaped_message text = flat_map message_byte text
 
--- In a property a colon and a comma are escaped, too.
+-- In a property a colon and a comma are escaped too.
 abbrev pub property_byte : ℕ → Text
 property_byte byte =
     if byte == 58 then codes "%3A"
@@ -53,7 +53,7 @@ abbrev pub column_fields : ℕ → ℕ → Text
 column_fields column end =
     number_field (codes ",col=") column ++ number_field (codes ",endColumn=") end
 
--- The same of a fault, with the place of what stands behind it.
+-- The annotation for a fault, with the position of what follows it.
 abbrev pub fault_annotation : Text → Text → ℕ → ℕ → ℕ → ℕ → Text → Text
 fault_annotation code file line column end_line end_column message =
     [] ++ opening Error ++ property (codes " file=") (safe file)
@@ -66,7 +66,7 @@ fault_annotation_of e end_line end_column =
 abbrev pub annotation_of : Command → Entry → Text
 annotation_of command e = annotation command e.code.now e.file.now e.line e.column e.message.now
 
--- at which bytes a message ends, and at which a property does
+-- The bytes that end a message, and those that end a property.
 abbrev pub ends_message : ℕ → Bool
 ends_message byte = (byte == 13) || (byte == 10)
 

@@ -10,26 +10,26 @@ use Rattle.timefd_drawing.specs.Shown.{is_hidden, is_printable}
 abbrev pub hex_digit : ℕ → ℕ
 hex_digit n = if nat_lt n 10 then 48 + n else 97 + (n - 10)
 
--- a number of 16 bits in four digits
+-- The escape of a UTF-16 code unit: `\u` and four hexadecimal digits.
 abbrev pub unit : ℕ → Text
 unit n =
     codes "\\u"
     ++ (hex_digit (n / 4096) ∷ hex_digit (n / 256 % 16) ∷ hex_digit (n / 16 % 16)
     ∷ hex_digit (n % 16) ∷ [])
 
--- the one or two numbers of a character in UTF-16
+-- The escapes of the one or two UTF-16 code units of a character.
 abbrev pub units : ℕ → Text
 units c = flat_map unit (encode_utf16 c)
 
--- Quotes and backslashes stand behind a backslash, and hidden characters by their numbers; all else
--- is as it is.
+-- A quote and a backslash are written after a backslash, and a hidden character as escapes of its UTF-16 code
+-- units. All others are written as they are.
 abbrev pub escaped : ℕ → Text
 escaped c =
     if (c == 34) || (c == 92) then 92 ∷ c ∷ []
     else if is_hidden c then units c
     else encode_utf8 c
 
--- a byte that stands in quotes as it is
+-- A byte that is written in quotes as it is.
 abbrev pub is_plain : ℕ → Bool
 is_plain b = if (b == 34) || (b == 92) then false else is_printable b
 
@@ -45,17 +45,17 @@ text_field front text = front ++ quoted text
 abbrev pub number_field : Text → ℕ → Text
 number_field front number = front ++ decimal number
 
--- the word to write in the place of the one at fault, where one is near
+-- The word to write instead of the one at fault, if one is near.
 abbrev pub replacement_field : Option Text → Text
 replacement_field None = []
 replacement_field (Some word) = text_field (codes ",\"replacement\":") word
 
--- said of a further fault alone
+-- The field that only a further fault has.
 abbrev pub further_field : Bool → Text
 further_field true = codes ",\"further\":true"
 further_field false = []
 
--- an object on a fault of a text, and one where no text was looked at
+-- An object for a fault of a text, and one for when no text was looked at.
 abbrev pub object : Bool → Text → Text → ℕ → ℕ → Text → ℕ → ℕ → Text → Option Text → Text
 object further code file line column message start end help replacement =
     [] ++ text_field (codes "{\"code\":") code ++ number_field (codes ",\"column\":") column
@@ -81,6 +81,6 @@ abbrev pub note_object_of : Entry → Text → Text
 note_object_of e severity =
     note_object e.code.now e.file.now e.line e.column e.message.now severity
 
--- No character of a text is hidden in quotes.
+-- No character of a text in quotes is hidden.
 abbrev pub NoneIsHiddenInJson : Type 0
 NoneIsHiddenInJson = (text : Text) → IsUtf8 text → NonePass is_hidden (chars (quoted text))

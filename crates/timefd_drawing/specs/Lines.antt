@@ -3,7 +3,7 @@ use Rattle.std.specs.Prelude.{ℕ, Bool, true, false, [], ◌∷◌, ◌++◌, c
 use Rattle.timefd_component.specs.Tree.{Text}
 use Rattle.timefd_drawing.specs.Shown.{safe}
 
--- what is put in front of what is red, of what is blue, and behind both
+-- The bytes that begin red, those that begin blue, and those that end both.
 abbrev pub red : Bool → Text
 red true = 27 ∷ codes "[1;31m"
 red false = []
@@ -22,34 +22,34 @@ error_line colored code sentence =
     red colored ++ (codes "error[" ++ (code ++ (codes "]" ++ (plain colored ++ (codes ": "
     ++ (sentence ++ codes "\n"))))))
 
--- what stands before the file
+-- What comes before the file.
 abbrev pub arrow : Bool → Text → Text
 arrow colored margin =
     margin ++ (blue colored ++ (codes "-->" ++ (plain colored ++ codes " ")))
 
 -- `--> FILE:LINE:COLUMN`
-abbrev pub place_line : Bool → Text → Text → ℕ → ℕ → Text
-place_line colored margin file line column =
+abbrev pub position_line : Bool → Text → Text → ℕ → ℕ → Text
+position_line colored margin file line column =
     margin ++ (blue colored ++ (codes "-->" ++ (plain colored ++ (codes " " ++ (safe file
     ++ (codes ":" ++ (decimal line ++ (codes ":" ++ (decimal column ++ codes "\n")))))))))
 
--- a bar
+-- A line with a bar.
 abbrev pub bar_line : Bool → Text → Text
 bar_line colored margin =
     margin ++ (codes " " ++ (blue colored ++ (codes "|" ++ (plain colored ++ codes "\n"))))
 
--- what stands before the text
+-- What comes before the text.
 abbrev pub numbered : Bool → ℕ → Text
 numbered colored line =
     blue colored ++ (decimal line ++ (codes " |" ++ (plain colored ++ codes " ")))
 
 -- `LINE | TEXT`
 abbrev pub text_line : Bool → ℕ → Text → Text → Text → Text
-text_line colored line before at behind =
+text_line colored line before at after =
     blue colored ++ (decimal line ++ (codes " |" ++ (plain colored ++ (codes " " ++ (before
-    ++ (at ++ (behind ++ codes "\n")))))))
+    ++ (at ++ (after ++ codes "\n")))))))
 
--- a bar, and carets behind an indent
+-- A line with a bar, and carets after an indent.
 abbrev pub caret_line : Bool → Text → Text → Text → Text
 caret_line colored margin indent carets =
     margin ++ (codes " " ++ (blue colored ++ (codes "|" ++ (plain colored ++ (codes " "
@@ -67,7 +67,7 @@ note_line colored margin =
     margin ++ (codes " " ++ (blue colored ++ (codes "=" ++ (plain colored
     ++ codes " note: found with the errors before it left out\n"))))
 
--- Behind the help with a further fault stands what it was found without.
+-- For a further fault the line after the help says what it was found without.
 abbrev pub help_lines : Bool → Bool → Text → Text → Text
 help_lines false colored margin help = help_line colored margin help
 help_lines true colored margin help = help_line colored margin help ++ note_line colored margin

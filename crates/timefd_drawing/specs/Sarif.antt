@@ -1,4 +1,4 @@
--- Results of SARIF.
+-- SARIF results.
 use Rattle.std.specs.Prelude.{ℕ, ◌+◌, ◌-◌, ◌/◌, ◌%◌, Bool, true, false, ◌||◌, ◌==◌, [], ◌∷◌, ◌++◌, Option, None, Some, codes, drop, flat_map, nat_eq, nat_lt, option_map, if◌then◌else◌}
 use Rattle.std.specs.List.{starts_with}
 use Rattle.timefd_component.specs.Tree.{Text}
@@ -10,7 +10,7 @@ use Rattle.timefd_drawing.specs.Shown.{is_between}
 abbrev pub with_help : Text → Text → Text
 with_help sentence help = sentence ++ (codes "\n" ++ help)
 
--- Letters, digits and these stand for themselves in a path.
+-- Letters, digits and these characters are written as they are in a path.
 abbrev pub is_plain : ℕ → Bool
 is_plain byte = is_between (65, 90) byte || is_between (97, 122) byte || is_between (48, 57) byte || (byte == 45)
     || (byte == 46) || (byte == 95) || (byte == 126) || (byte == 47)
@@ -18,15 +18,15 @@ is_plain byte = is_between (65, 90) byte || is_between (97, 122) byte || is_betw
 abbrev pub hex_digit : ℕ → ℕ
 hex_digit n = if nat_lt n 10 then 48 + n else 65 + (n - 10)
 
--- Any other byte is written by its number behind a percent sign.
+-- Any other byte is written as its hexadecimal number after a percent sign.
 abbrev pub uri_byte : ℕ → Text
 uri_byte byte = if is_plain byte then byte ∷ [] else 37 ∷ hex_digit (byte / 16) ∷ hex_digit (byte % 16) ∷ []
 
 abbrev pub encoded : Text → Text
 encoded path = flat_map uri_byte path
 
--- A path as a URI: an absolute one has the scheme of files, and any other is relative to the folder that the program
--- runs in.
+-- A path as a URI: an absolute one has the scheme `file`, and any other is relative to the folder that the
+-- program runs in.
 abbrev pub uri : Text → Text
 uri path =
     if starts_with nat_eq path (codes "/") then codes "file://" ++ encoded path
@@ -36,12 +36,12 @@ uri path =
 abbrev pub uri_field : Text → Text → Text
 uri_field front path = front ++ uri path
 
--- said of a further fault alone
+-- The field that only a further fault has.
 abbrev pub further_field : Bool → Text
 further_field true = codes ",\"properties\":{\"further\":true}"
 further_field false = []
 
--- A fix puts a word in the place of what is at fault: from a line and a column, up to what stands in another.
+-- A fix puts a word in place of the part at fault, which goes from one line and column up to before another.
 abbrev pub fix : Text → ℕ → ℕ → ℕ → ℕ → Text → Text → Text
 fix file line column end_line end_column help word =
     [] ++ text_field (codes ",\"fixes\":[{\"description\":{\"text\":") help
@@ -56,7 +56,7 @@ abbrev pub fixes : Text → ℕ → ℕ → ℕ → ℕ → Text → Option Text
 fixes file line column end_line end_column help None = []
 fixes file line column end_line end_column help (Some word) = fix file line column end_line end_column help word
 
--- what a result says up to the column in which it begins
+-- The start of a result, up to the column in which the part at fault begins.
 abbrev pub begun : Text → Text → ℕ → ℕ → Text → Text → Text
 begun code file line column message level =
     [] ++ text_field (codes ",{\"ruleId\":") code ++ text_field (codes ",\"level\":") level
@@ -66,7 +66,7 @@ begun code file line column message level =
     ++ number_field (codes "\"},\"region\":{\"startLine\":") line
     ++ number_field (codes ",\"startColumn\":") column
 
--- a result on a fault of a text, and one on a text as a whole or on a file
+-- A result for a fault of a text, and one for a whole text or a file.
 abbrev pub result : Bool → Text → Text → ℕ → ℕ → ℕ → ℕ → Text → Text → Option Text → Text
 result further code file line column end_line end_column message help replacement =
     begun code file line column message (codes "error") ++ number_field (codes ",\"endLine\":") end_line

@@ -1,4 +1,4 @@
--- The sentence of a fault as it is shown: no more of a word than that, and no hidden character.
+-- The sentence of a fault, as it is shown: it shows only so much of a word, and no hidden character.
 use Rattle.std.specs.Prelude.{Bool, true, false, ◌++◌, codes}
 use Rattle.timefd_component.specs.Tree.{Text}
 use Rattle.timefd_fault.specs.Faults.{Fault, Kind, fault, invalid_name, invalid_modifier}
@@ -16,7 +16,7 @@ brief f = fault (brief_kind f.kind) f.index
 abbrev pub shown_sentence : Fault → Text
 shown_sentence f = safe (sentence (brief f))
 
--- Behind that of a further fault stands what it was found without.
-abbrev pub told_sentence : Bool → Fault → Text
-told_sentence false f = shown_sentence f
-told_sentence true f = shown_sentence f ++ codes " (with the errors before it left out)"
+-- For a further fault the sentence ends with what it was found without.
+abbrev pub reported_sentence : Bool → Fault → Text
+reported_sentence false f = shown_sentence f
+reported_sentence true f = shown_sentence f ++ codes " (with the errors before it left out)"

@@ -1,4 +1,4 @@
-//! A diagnostic as a result of SARIF.
+//! A diagnostic as a SARIF result.
 
 ghost use Rattle.std.specs.Prelude.{◌≡◌, ◌≢◌, [], IfOk};
 ghost use Rattle.timefd_drawing.specs.Counted.{IsCounted};
@@ -12,7 +12,7 @@ use crate::sarif::{Fault, result, with_help};
 use std::alloc::{AllocError, Global};
 use timefd_diagnosis::{Diagnostic, code_of};
 
-/// The result on a diagnostic of a text. An `Err` says that memory ran out.
+/// The SARIF result for a diagnostic of a text. An `Err` says that memory ran out.
 pub fn sarif(
     alloc: Global,
     is_further: bool,
@@ -22,9 +22,9 @@ pub fn sarif(
     diagnostic: &Diagnostic,
 ) -> Result<Vec<u8>, AllocError>
     requires { IsCounted origin.line text.now from }
-    ensures exact { IfOk result (λ told. told.items
+    ensures exact { IfOk result (λ reported. reported.items
         ≡ spec.sarif is_further origin.entry text.now diagnostic.now) }
-    ensures some { IfOk result (λ told. told.items ≢ []) }
+    ensures some { IfOk result (λ reported. reported.items ≢ []) }
 {
     let start = char_position_from(origin.line, text, from, diagnostic.span.start);
     let end = char_position_from(origin.line, text, from, diagnostic.span.end);

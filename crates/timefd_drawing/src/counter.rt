@@ -1,4 +1,4 @@
-//! Lines of a text, counted on from an earlier place of it, so that they aren't counted from its start for each place.
+//! Counts the lines of a text on from an earlier position, instead of from its start each time.
 
 ghost use Rattle.std.specs.Prelude.{◌≡◌, ◌≤◌, length, take};
 ghost use Rattle.timefd_component.specs.Tree.{Text};
@@ -7,24 +7,24 @@ ghost use Rattle.timefd_drawing.specs.Positions as spec;
 
 use crate::position::cut_at;
 
-/// Up to where the lines of a text are counted.
+/// How far the lines of a text are counted.
 #[derive(Clone, Copy)]
 pub struct Counter {
-    /// The byte index.
+    /// The byte index up to which they are counted.
     pub at: usize,
-    /// The number of the line that it is in.
+    /// The number of the line at that index.
     pub line: u64,
 }
 
-/// In front of any text that begins in this line.
+/// The counter at the start of any text that begins in this line.
 pub fn none_counted(first: u64) -> Counter
     ensures { (text : Text) → IsCounted first text result }
 {
     Counter { at: 0, line: first }
 }
 
-/// Counts the lines of a text up to an index: on from what is counted, if that isn't behind it. Inside of a
-/// character all of the text is counted.
+/// Counts the lines of a text up to an index, on from `from` if that isn't after the index. Inside of a
+/// character the whole text is counted.
 pub fn counted(first: u64, text: &str, from: Counter, index: usize) -> Counter
     requires { IsCounted first text.now from }
     ensures counted { IsCounted first text.now result }
@@ -37,12 +37,12 @@ pub fn counted(first: u64, text: &str, from: Counter, index: usize) -> Counter
     }
 }
 
-/// The number of the line at an index.
+/// The number of the line at a byte index.
 #[tactic(auto, using(crate::proofs::CounterLemmas::counted_on))]
 pub fn line_at(first: u64, text: &str, from: Counter, at: usize) -> u64
     requires counted { IsCounted first text.now from }
     requires within { at ≤ length text.now }
-    ensures { result ≡ spec.line_behind first (take at text.now) }
+    ensures { result ≡ spec.line_after first (take at text.now) }
 {
     let bytes = text.as_bytes();
     if at < from.at {

@@ -1,4 +1,4 @@
-//! A diagnostic as it is written.
+//! Writes diagnostics in the form that is asked for.
 
 ghost use Rattle.std.specs.Prelude.{◌≡◌, ◌≢◌, ◌++◌, [], flat_map, IfOk, OnOk, string_bytes};
 ghost use Rattle.timefd_drawing.specs.Counted.{IsCounted};
@@ -10,34 +10,34 @@ use crate::github::{Command, annotation, fault_annotation};
 use crate::help_text::help_text;
 use crate::human::human;
 use crate::json::{Detail, Entry, note_object, object};
-use crate::lines::{push_error_line, push_place_line, short_line};
+use crate::lines::{push_error_line, push_position_line, short_line};
 use crate::position::{Origin, Position, position_from};
 use crate::sarif::{note_result, with_help};
-use crate::sentence::told_sentence;
+use crate::sentence::reported_sentence;
 use std::alloc::{AllocError, Global};
 use timefd_diagnosis::{Diagnostic, code_of};
 
 /// How a diagnostic is written.
 #[derive(Clone, Copy)]
 pub enum Format {
-    /// Drawn, as compilers do.
+    /// A drawing, like those of compilers.
     Human,
-    /// An object of JSON on a line.
+    /// A JSON object on a line.
     Json,
     /// `FILE:LINE:COLUMN: MESSAGE`, as editors read it.
     Short,
-    /// An annotation on a line, as GitHub reads it in what a step of a workflow writes.
+    /// An annotation on a line, as GitHub reads it in the output of a workflow step.
     Github,
-    /// A result of SARIF behind a comma, on a line.
+    /// A SARIF result after a comma, on a line.
     Sarif,
 }
 
 /// How diagnostics look.
 #[derive(Clone, Copy)]
 pub struct Style {
-    /// How each is written.
+    /// How each diagnostic is written.
     pub format: Format,
-    /// Whether what is drawn is coloured.
+    /// Whether drawings are coloured.
     pub is_colored: bool,
 }
 
@@ -57,7 +57,7 @@ pub fn drawn(
     drawn_as(alloc, false, style, origin, text, from, diagnostic)
 }
 
-// The same of one that was found with the errors before it left out, and is marked as such.
+// The diagnostic, marked as one that was found with the errors before it left out.
 fn drawn_further(
     alloc: Global,
     style: Style,
@@ -73,7 +73,7 @@ fn drawn_further(
     drawn_as(alloc, true, style, origin, text, from, diagnostic)
 }
 
-/// The first diagnostic of a text, and behind it each further one.
+/// The first diagnostic of a text, and after it each further one. An `Err` says that memory ran out.
 pub fn drawn_all(
     alloc: Global,
     style: Style,
@@ -89,7 +89,7 @@ pub fn drawn_all(
     drawn_all_from(alloc, style, origin, text, from, diagnostic, further)
 }
 
-/// The same, with lines counted on from what is counted of the text.
+/// Does what `drawn_all` does, with lines counted on from `from`. An `Err` says that memory ran out.
 pub fn drawn_all_from(
     alloc: Global,
     style: Style,
@@ -177,9 +177,9 @@ fn short(
     ensures { IfOk result (λ line. string_bytes line
         ≡ spec.short is_further origin.entry text.now diagnostic.now) }
 {
-    let place = position_from(alloc, origin.line, text, from, diagnostic.span.start)?;
-    let sentence = told_sentence(alloc, is_further, &diagnostic.fault)?;
-    short_line(alloc, origin.file, place, &sentence)
+    let position = position_from(alloc, origin.line, text, from, diagnostic.span.start)?;
+    let sentence = reported_sentence(alloc, is_further, &diagnostic.fault)?;
+    short_line(alloc, origin.file, position, &sentence)
 }
 
 fn github(
@@ -196,7 +196,7 @@ fn github(
 {
     let start = position_from(alloc, origin.line, text, from, diagnostic.span.start)?;
     let end = position_from(alloc, origin.line, text, from, diagnostic.span.end)?;
-    let sentence = told_sentence(alloc, is_further, &diagnostic.fault)?;
+    let sentence = reported_sentence(alloc, is_further, &diagnostic.fault)?;
     let help = help_text(alloc, diagnostic.help)?;
     let message = with_help(alloc, &sentence, &help)?;
     let entry = Entry {
@@ -247,8 +247,8 @@ fn json(
     object(alloc, entry, detail)
 }
 
-/// What is wrong with a file or a line that no description was looked for in. An `Err` says that
-/// memory ran out.
+/// What is wrong with a file or a line in which no description was looked for. An `Err` says that memory ran
+/// out.
 pub fn note(
     alloc: Global,
     style: Style,
@@ -260,24 +260,31 @@ pub fn note(
         ≡ spec.note style origin.entry code.now message.now) }
     ensures some { IfOk result (λ note. note.items ≢ []) }
 {
-    let place = Position {
+    let position = Position {
         line: origin.line,
         column: 1,
     };
     let entry = Entry {
         code,
         file: origin.file,
-        line: place.line,
-        column: place.column as u64,
+        line: position.line,
+        column: position.column as u64,
         message,
     };
     match style.format {
         Format::Human => {
-            let drawing = human_note(alloc, style.is_colored, origin.file, place, code, message)?;
+            let drawing = human_note(
+                alloc,
+                style.is_colored,
+                origin.file,
+                position,
+                code,
+                message,
+            )?;
             Ok(drawing.into_bytes())
         }
         Format::Short => {
-            let line = short_line(alloc, origin.file, place, message)?;
+            let line = short_line(alloc, origin.file, position, message)?;
             Ok(line.into_bytes())
         }
         Format::Json => note_object(alloc, entry, "error"),
@@ -290,16 +297,16 @@ fn human_note(
     alloc: Global,
     is_colored: bool,
     file: &str,
-    place: Position,
+    position: Position,
     code: &str,
     message: &str,
 ) -> Result<String, AllocError>
     ensures { IfOk result (λ drawing. string_bytes drawing
-        ≡ spec.human_note is_colored file.now place.line place.column code.now message.now) }
+        ≡ spec.human_note is_colored file.now position.line position.column code.now message.now) }
 {
     let mut out = String::new(alloc);
     push_error_line(&mut out, is_colored, code, message)?;
-    push_place_line(alloc, &mut out, is_colored, " ", file, place)?;
+    push_position_line(alloc, &mut out, is_colored, " ", file, position)?;
     out.push_str("\n")?;
     Ok(out)
 }

@@ -1,4 +1,4 @@
-//! Annotations, as GitHub reads them in what a step of a workflow writes.
+//! Annotations, as GitHub reads them in the output of a workflow step.
 
 ghost use Rattle.std.specs.Prelude.{◌≡◌, ◌≢◌, ◌++◌, [], IfOk, OnOk};
 ghost use Rattle.timefd_drawing.specs.Github as spec;
@@ -16,8 +16,8 @@ pub enum Command {
     Notice,
 }
 
-/// An annotation on a line, with the file's name as a terminal may show it:
-/// `::COMMAND file=FILE,line=LINE,col=COLUMN,title=CODE::MESSAGE`. An `Err` says that memory ran out.
+/// An annotation on a line: `::COMMAND file=FILE,line=LINE,col=COLUMN,title=CODE::MESSAGE`. The file's name
+/// is made safe for a terminal. An `Err` says that memory ran out.
 pub fn annotation(alloc: Global, command: Command, entry: Entry<'_>) -> Result<Vec<u8>, AllocError>
     ensures exact { IfOk result (λ line. line.items ≡ spec.annotation_of command entry.entry) }
     ensures some { IfOk result (λ line. line.items ≢ []) }
@@ -35,9 +35,9 @@ pub fn annotation(alloc: Global, command: Command, entry: Entry<'_>) -> Result<V
     Ok(out)
 }
 
-/// The annotation on a fault, with the place of what stands behind it:
-/// `::error file=FILE,line=LINE,endLine=LINE,col=COLUMN,endColumn=COLUMN,title=CODE::MESSAGE`. An `Err` says that
-/// memory ran out.
+/// The annotation for a fault, where `end` is the position of what follows the fault:
+/// `::error file=FILE,line=LINE,endLine=LINE,col=COLUMN,endColumn=COLUMN,title=CODE::MESSAGE`. An `Err` says
+/// that memory ran out.
 pub fn fault_annotation(
     alloc: Global,
     entry: Entry<'_>,
@@ -74,7 +74,7 @@ fn push_columns(alloc: Global, out: &mut Vec<u8>, column: u64, end: u64) -> Resu
     push_number(alloc, out, ",endColumn=", end)
 }
 
-// What the line of a command begins with.
+// How the line of a command begins.
 fn opening(command: Command) -> &'static str
     ensures { result.now ≡ spec.opening command }
 {
@@ -85,7 +85,7 @@ fn opening(command: Command) -> &'static str
     }
 }
 
-// Appends what stands before a property's value, and the value.
+// Appends what comes before a property's value, and the value.
 fn push_property(out: &mut Vec<u8>, front: &str, value: &str) -> Result<(), AllocError>
     ensures { OnOk result (out.new.items
         ≡ out.old.items ++ (front.now ++ spec.escaped_property value.now)) }
@@ -112,7 +112,7 @@ fn push_message(out: &mut Vec<u8>, message: &str) -> Result<(), AllocError>
     Ok(())
 }
 
-// Appends a byte of a property's value, or what stands for it: a colon and a comma end a property.
+// Appends a byte of a property's value. A colon or a comma would end the property, so it is escaped.
 fn push_property_byte(out: &mut Vec<u8>, byte: u8) -> Result<(), AllocError>
     ensures { OnOk result (out.new.items ≡ out.old.items ++ spec.property_byte byte) }
 {
@@ -123,8 +123,8 @@ fn push_property_byte(out: &mut Vec<u8>, byte: u8) -> Result<(), AllocError>
     }
 }
 
-// Appends a byte of a message, or what stands for it: a command ends with its line, and an escape
-// begins with a percent sign.
+// Appends a byte of a message. The end of a line would end the message and a percent sign begins an escape,
+// so they are escaped.
 fn push_message_byte(out: &mut Vec<u8>, byte: u8) -> Result<(), AllocError>
     ensures { OnOk result (out.new.items ≡ out.old.items ++ spec.message_byte byte) }
 {

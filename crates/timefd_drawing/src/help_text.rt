@@ -1,13 +1,13 @@
-//! What helps, in words.
+//! The help for a fault, in words.
 
 ghost use Rattle.std.specs.Prelude.{◌≡◌, ◌++◌, codes, flat_map, IfOk, OnOk, string_bytes};
 ghost use Rattle.timefd_drawing.specs.HelpText as spec;
 
 use std::alloc::{AllocError, Global};
 use timefd_diagnosis::Help;
-use timefd_diagnosis::place::Place;
+use timefd_diagnosis::slot::Slot;
 
-// Room for most of what helps.
+// Room for most help texts.
 const ROOM: usize = 48;
 
 /// The help in words. An `Err` says that memory ran out.
@@ -16,19 +16,19 @@ pub fn help_text(alloc: Global, help: Help) -> Result<String, AllocError>
 {
     match help {
         Help::Words {
-            place,
+            slot,
             nearest: Some(word),
             ..
         } => {
             let mut text = String::with_capacity(alloc, ROOM)?;
-            push_nearest(&mut text, subject(place), word)?;
+            push_nearest(&mut text, subject(slot), word)?;
             Ok(text)
         }
         Help::Words {
-            place,
+            slot,
             allowed,
             nearest: None,
-        } => allowed_text(alloc, place, allowed),
+        } => allowed_text(alloc, slot, allowed),
         Help::LeaveOut(key) => {
             format!(in alloc; "leave out `{key}`, or set `repr` to what takes it")
         }
@@ -47,35 +47,35 @@ fn push_nearest(out: &mut String, subject: &str, word: &str) -> Result<(), Alloc
     out.push_str("`")
 }
 
-fn allowed_text(alloc: Global, place: Place, allowed: &[&str]) -> Result<String, AllocError>
-    ensures { IfOk result (λ text. string_bytes text ≡ spec.allowed_text place allowed.now) }
+fn allowed_text(alloc: Global, slot: Slot, allowed: &[&str]) -> Result<String, AllocError>
+    ensures { IfOk result (λ text. string_bytes text ≡ spec.allowed_text slot allowed.now) }
 {
     if allowed.is_empty() {
-        return String::from_str(alloc, wordless(place));
+        return String::from_str(alloc, wordless(slot));
     }
-    let subject = subject(place);
+    let subject = subject(slot);
     let words = listed(alloc, allowed)?;
     format!(in alloc; "a {subject} here is one of {words}")
 }
 
-// What a word was to be.
-fn subject(place: Place) -> &'static str
-    ensures { result.now ≡ spec.subject place }
+// What a word was meant to be.
+fn subject(slot: Slot) -> &'static str
+    ensures { result.now ≡ spec.subject slot }
 {
-    match place {
-        Place::Name => "name",
-        Place::Key(_) => "key",
-        Place::Value(_) => "value",
+    match slot {
+        Slot::Name => "name",
+        Slot::Key(_) => "key",
+        Slot::Value(_) => "value",
     }
 }
 
-// What is said where no word is allowed.
-fn wordless(place: Place) -> &'static str
-    ensures { result.now ≡ spec.wordless place }
+// What the help says if no word is allowed.
+fn wordless(slot: Slot) -> &'static str
+    ensures { result.now ≡ spec.wordless slot }
 {
-    match place {
-        Place::Key(_) => "this bracket takes no modifier",
-        Place::Name | Place::Value(_) => "a number from 1 to 65535",
+    match slot {
+        Slot::Key(_) => "this bracket takes no modifier",
+        Slot::Name | Slot::Value(_) => "a number from 1 to 65535",
     }
 }
 

@@ -1,4 +1,4 @@
-//! A diagnostic as it is drawn.
+//! A diagnostic as a drawing.
 
 ghost use Rattle.std.specs.Prelude.{◌≡◌, ◌++◌, IfOk, OnOk, string_bytes};
 ghost use Rattle.timefd_drawing.specs.Counted.{IsCounted};
@@ -8,7 +8,7 @@ ghost use Rattle.timefd_drawing.specs.Lines as lines;
 use crate::counter::Counter;
 use crate::help_text::help_text;
 use crate::lines::{
-    push_bar_line, push_caret_line, push_error_line, push_help_lines, push_place_line,
+    push_bar_line, push_caret_line, push_error_line, push_help_lines, push_position_line,
     push_text_line,
 };
 use crate::position::{Line, Origin, line_of, position_from};
@@ -19,13 +19,13 @@ use std::alloc::{AllocError, Global};
 use timefd_diagnosis::{Diagnostic, code_of};
 use unicode_width::UnicodeWidthStr;
 
-// The most characters that are shown of what stands before a span, of the span, and behind it.
+// The most characters that are shown of the text before a span, of the span, and of the text after it.
 const MOST_SHOWN: usize = 40;
 
 // Room for the drawing of a short line.
 const ROOM: usize = 256;
 
-/// The drawing. An `Err` says that memory ran out.
+/// The drawing of a diagnostic. An `Err` says that memory ran out.
 pub fn human(
     alloc: Global,
     is_further: bool,
@@ -39,15 +39,15 @@ pub fn human(
     ensures { IfOk result (λ drawing. string_bytes drawing
         ≡ spec.human is_further is_colored origin.entry text.now diagnostic.now) }
 {
-    let place = position_from(alloc, origin.line, text, from, diagnostic.span.start)?;
-    let margin = margin(alloc, place.line)?;
+    let position = position_from(alloc, origin.line, text, from, diagnostic.span.start)?;
+    let margin = margin(alloc, position.line)?;
     let sentence = shown_sentence(alloc, &diagnostic.fault)?;
     let words = help_text(alloc, diagnostic.help)?;
     let line = line_of(text, diagnostic.span);
     let mut out = String::with_capacity(alloc, ROOM)?;
     push_error_line(&mut out, is_colored, code_of(diagnostic), &sentence)?;
-    push_place_line(alloc, &mut out, is_colored, &margin, origin.file, place)?;
-    push_source(alloc, &mut out, is_colored, place.line, &margin, line)?;
+    push_position_line(alloc, &mut out, is_colored, &margin, origin.file, position)?;
+    push_source(alloc, &mut out, is_colored, position.line, &margin, line)?;
     push_help_lines(&mut out, is_further, is_colored, &margin, &words)?;
     out.push_str("\n")?;
     Ok(out)
@@ -64,7 +64,7 @@ fn margin(alloc: Global, line: u64) -> Result<String, AllocError>
     }
 }
 
-// The line with the span, and carets under the span. Each part is cut where it is long.
+// The line with the span, and carets under the span. A long part is cut.
 fn push_source(
     alloc: Global,
     out: &mut String,
@@ -75,26 +75,26 @@ fn push_source(
 ) -> Result<(), AllocError>
     requires { margin.now ≡ spec.margin number }
     ensures { OnOk result (string_bytes out.new ≡ string_bytes out.old
-        ++ spec.source is_colored number line.entry.before.now line.entry.at.now line.entry.behind.now) }
+        ++ spec.source is_colored number line.entry.before.now line.entry.at.now line.entry.after.now) }
 {
     if is_shown_as_it_is(line.before, MOST_SHOWN)
         && is_shown_as_it_is(line.at, MOST_SHOWN)
-        && is_shown_as_it_is(line.behind, MOST_SHOWN)
+        && is_shown_as_it_is(line.after, MOST_SHOWN)
     {
         return push_source_of(alloc, out, is_colored, number, margin, line);
     }
     let before = shown_start(alloc, line.before, MOST_SHOWN)?;
     let at = shown_end(alloc, line.at, MOST_SHOWN)?;
-    let behind = shown_end(alloc, line.behind, MOST_SHOWN)?;
+    let after = shown_end(alloc, line.after, MOST_SHOWN)?;
     let shown = Line {
         before: &before,
         at: &at,
-        behind: &behind,
+        after: &after,
     };
     push_source_of(alloc, out, is_colored, number, margin, shown)
 }
 
-// The same by the three parts as they are shown.
+// The line with the span, from its three parts as they are shown, and the carets.
 fn push_source_of(
     alloc: Global,
     out: &mut String,
@@ -105,7 +105,7 @@ fn push_source_of(
 ) -> Result<(), AllocError>
     requires { margin.now ≡ spec.margin number }
     ensures { OnOk result (string_bytes out.new ≡ string_bytes out.old
-        ++ spec.source_of is_colored number line.entry.before.now line.entry.at.now line.entry.behind.now) }
+        ++ spec.source_of is_colored number line.entry.before.now line.entry.at.now line.entry.after.now) }
 {
     let (indent, under) = (line.before.width(), line.at.width().max(1));
     if let (Some(indent), Some(carets)) = (spaces(indent), carets(under)) {
@@ -116,7 +116,7 @@ fn push_source_of(
     push_lines(out, is_colored, number, margin, line, &indent, &carets)
 }
 
-// The three lines, by what stands below the text.
+// The three lines, from the indent and the carets below the text.
 fn push_lines(
     out: &mut String,
     is_colored: bool,
@@ -128,10 +128,10 @@ fn push_lines(
 ) -> Result<(), AllocError>
     ensures { OnOk result (string_bytes out.new ≡ string_bytes out.old
         ++ (lines.bar_line is_colored margin.now
-        ++ (lines.text_line is_colored number line.entry.before.now line.entry.at.now line.entry.behind.now
+        ++ (lines.text_line is_colored number line.entry.before.now line.entry.at.now line.entry.after.now
         ++ lines.caret_line is_colored margin.now indent.now carets.now))) }
 {
     push_bar_line(out, is_colored, margin)?;
-    push_text_line(out, is_colored, number, line.before, line.at, line.behind)?;
+    push_text_line(out, is_colored, number, line.before, line.at, line.after)?;
     push_caret_line(out, is_colored, margin, indent, carets)
 }

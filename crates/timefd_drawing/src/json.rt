@@ -1,4 +1,4 @@
-//! Objects of JSON.
+//! JSON objects.
 
 ghost use Rattle.std.specs.Prelude.{◌≡◌, ◌≢◌, [], ◌<◌, ◌++◌, decimal, flat_map, option_map, IfOk, OnOk};
 ghost use Rattle.std.specs.List.{list_all};
@@ -15,29 +15,29 @@ const ROOM: usize = 256;
 pub struct Entry<'a> {
     /// The stable name of the fault.
     pub code: &'a str,
-    /// Where it stands: the file, the line and the column, both from 1.
+    /// Where it is: the file, the line and the column, both counted from 1.
     pub file: &'a str,
     pub line: u64,
     pub column: u64,
-    /// Its sentence.
+    /// The sentence of the diagnostic.
     pub message: &'a str,
 }
 
-/// What an object also holds where a text is at fault.
+/// What an object also holds if a text is at fault.
 #[derive(Clone, Copy)]
 pub struct Detail<'a> {
-    /// The byte indices of what is at fault.
+    /// The byte range of the part at fault, from `start` to before `end`.
     pub start: u64,
     pub end: u64,
-    /// What helps.
+    /// The help in words.
     pub help: &'a str,
-    /// The word to write in the place of these bytes, where one is near.
+    /// The word to write instead of that part, if one is near.
     pub replacement: Option<&'a str>,
-    /// Whether the errors before it were left out when it was found.
+    /// Whether it was found with the errors before it left out.
     pub is_further: bool,
 }
 
-/// An object on a line, on a fault of a text.
+/// An object on a line, for a fault of a text. An `Err` says that memory ran out.
 pub fn object(alloc: Global, entry: Entry<'_>, detail: Detail<'_>) -> Result<Vec<u8>, AllocError>
     ensures { IfOk result (λ line. line.items ≡ spec.object_of entry.entry detail.entry) }
 {
@@ -77,7 +77,8 @@ fn push_replacement(out: &mut Vec<u8>, replacement: Option<&str>) -> Result<(), 
     }
 }
 
-/// An object on a line, where no text was looked at. The severity is `error` or `warning`.
+/// An object on a line, if no text was looked at. The severity is `error` or `warning`. An `Err` says that
+/// memory ran out.
 pub fn note_object(alloc: Global, entry: Entry<'_>, severity: &str) -> Result<Vec<u8>, AllocError>
     ensures exact { IfOk result (λ line. line.items
         ≡ spec.note_object_of entry.entry severity.now) }
@@ -94,7 +95,7 @@ pub fn note_object(alloc: Global, entry: Entry<'_>, severity: &str) -> Result<Ve
     Ok(out)
 }
 
-/// Appends a text in the quotes of JSON. An `Err` says that memory ran out.
+/// Appends a text in JSON quotes. An `Err` says that memory ran out.
 pub fn push_quoted(out: &mut Vec<u8>, text: &str) -> Result<(), AllocError>
     ensures { OnOk result (out.new.items ≡ out.old.items ++ spec.quoted text.now) }
 {
@@ -103,7 +104,7 @@ pub fn push_quoted(out: &mut Vec<u8>, text: &str) -> Result<(), AllocError>
     out.extend_from_slice(b"\"")
 }
 
-// Appends what stands between the quotes.
+// Appends what is between the quotes.
 #[tactic(auto, using(crate::proofs::JsonLemmas::plain_as_it_is))]
 fn push_in_quotes(out: &mut Vec<u8>, text: &str) -> Result<(), AllocError>
     ensures { OnOk result (out.new.items ≡ out.old.items ++ spec.all_escaped text.now) }
@@ -114,14 +115,14 @@ fn push_in_quotes(out: &mut Vec<u8>, text: &str) -> Result<(), AllocError>
     push_all_escaped(out, text)
 }
 
-// Whether each of the bytes stands in quotes as it is.
+// Whether all of the bytes are written in quotes as they are.
 fn are_plain(bytes: &[u8]) -> bool
     ensures { result ≡ list_all spec.is_plain bytes.now }
 {
     bytes.iter().all(|byte| is_plain(*byte))
 }
 
-// Whether it prints, and is no quote and no backslash.
+// Whether a byte prints, and isn't a quote or a backslash.
 fn is_plain(byte: u8) -> bool
     ensures { result ≡ spec.is_plain byte }
 {
@@ -140,8 +141,8 @@ fn push_all_escaped(out: &mut Vec<u8>, text: &str) -> Result<(), AllocError>
     Ok(())
 }
 
-// Appends a character of a text: quotes and backslashes behind a backslash, hidden characters by
-// their numbers.
+// Appends a character of a text: a quote or a backslash after a backslash, and a hidden character as escapes
+// of its UTF-16 code units.
 fn push_escaped(out: &mut Vec<u8>, c: char) -> Result<(), AllocError>
     ensures { OnOk result (out.new.items ≡ out.old.items ++ spec.escaped c) }
 {
@@ -155,7 +156,7 @@ fn push_escaped(out: &mut Vec<u8>, c: char) -> Result<(), AllocError>
     out.extend_from_slice(c.encode_utf8(&mut room).as_bytes())
 }
 
-// Appends the one or two numbers of a character.
+// Appends escapes of the one or two UTF-16 code units of a character.
 fn push_units(out: &mut Vec<u8>, c: char) -> Result<(), AllocError>
     ensures { OnOk result (out.new.items ≡ out.old.items ++ spec.units c) }
 {
@@ -172,7 +173,7 @@ fn push_all_units(out: &mut Vec<u8>, units: &[u16]) -> Result<(), AllocError>
     Ok(())
 }
 
-// Appends a number of 16 bits in four digits.
+// Appends an escape of a UTF-16 code unit: `\u` and four hexadecimal digits.
 fn push_unit(out: &mut Vec<u8>, unit: u16) -> Result<(), AllocError>
     ensures { OnOk result (out.new.items ≡ out.old.items ++ spec.unit unit) }
 {
@@ -194,7 +195,7 @@ fn hex_digit(n: u16) -> u8
     if n < 10 { b'0' + n } else { b'a' + (n - 10) }
 }
 
-/// Appends what stands before a field's value, and the value: a text. An `Err` says that memory ran out.
+/// Appends what comes before a field's value, and the value: a text. An `Err` says that memory ran out.
 pub fn push_text(out: &mut Vec<u8>, front: &str, text: &str) -> Result<(), AllocError>
     ensures { OnOk result (out.new.items ≡ out.old.items ++ (front.now ++ spec.quoted text.now)) }
 {
@@ -202,8 +203,7 @@ pub fn push_text(out: &mut Vec<u8>, front: &str, text: &str) -> Result<(), Alloc
     push_quoted(out, text)
 }
 
-/// Appends what stands before a field's value, and the value: a number. An `Err` says that memory ran
-/// out.
+/// Appends what comes before a field's value, and the value: a number. An `Err` says that memory ran out.
 pub fn push_number(
     alloc: Global,
     out: &mut Vec<u8>,

@@ -1,4 +1,4 @@
-//! What holds of the definitions.
+//! Laws that hold for the definitions.
 
 ghost use Rattle.timefd_drawing.specs.Github.{AnnotationStaysWhole};
 ghost use Rattle.timefd_drawing.specs.Json.{NoneIsHiddenInJson};
@@ -9,7 +9,7 @@ pub fn none_is_hidden()
     ensures { NoneIsHidden }
 {}
 
-/// Nor is one of a text in the quotes of JSON.
+/// No character of a text in JSON quotes is hidden.
 pub fn none_is_hidden_in_json()
     ensures { NoneIsHiddenInJson }
 {}

@@ -1,5 +1,5 @@
-//! Diagnostics as they are written: drawn, on one line, as an object of JSON, as an annotation of GitHub, or as a
-//! result of SARIF.
+//! Writes diagnostics: as a drawing, on one line, as a JSON object, as a GitHub annotation, or as a SARIF
+//! result.
 #![tactic(auto)]
 
 mod as_sarif;
@@ -21,4 +21,4 @@ pub mod shown;
 pub use counter::{Counter, counted, none_counted};
 pub use draw::{Format, Style, drawn, drawn_all, drawn_all_from, note};
 pub use position::{Origin, Position, char_position_from, position_from, position_of};
-pub use sentence::told_sentence;
+pub use sentence::reported_sentence;

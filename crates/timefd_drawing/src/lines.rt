@@ -7,31 +7,31 @@ use crate::position::Position;
 use crate::shown::{push_safe, safe};
 use std::alloc::{AllocError, Global};
 
-// Room for the numbers of a line and what stands between its parts.
+// Room for the numbers of a line, and for what is between its parts.
 const ROOM: usize = 32;
 
-// What is put in front of what is red.
+// Begins red.
 fn red(is_colored: bool) -> &'static str
     ensures { result.now ≡ spec.red is_colored }
 {
     if is_colored { "\u{1B}[1;31m" } else { "" }
 }
 
-// What is put in front of what is blue.
+// Begins blue.
 fn blue(is_colored: bool) -> &'static str
     ensures { result.now ≡ spec.blue is_colored }
 {
     if is_colored { "\u{1B}[1;36m" } else { "" }
 }
 
-// What is put behind both.
+// Ends a colour.
 fn plain(is_colored: bool) -> &'static str
     ensures { result.now ≡ spec.plain is_colored }
 {
     if is_colored { "\u{1B}[0m" } else { "" }
 }
 
-// Appends texts one behind another: `write!` takes several times as long.
+// Appends texts, one after another: `write!` takes several times as long.
 fn push_all(out: &mut String, parts: &[&str]) -> Result<(), AllocError>
     ensures { OnOk result (string_bytes out.new
         ≡ string_bytes out.old ++ flat_map (λ part. part.now) parts.now) }
@@ -42,7 +42,7 @@ fn push_all(out: &mut String, parts: &[&str]) -> Result<(), AllocError>
     Ok(())
 }
 
-/// The first line: the fault's name, and its sentence.
+/// The first line: the fault's name, and the sentence.
 pub fn push_error_line(
     out: &mut String,
     is_colored: bool,
@@ -59,25 +59,25 @@ pub fn push_error_line(
     write!(out, "{red}error[{code}]{plain}: {sentence}\n")
 }
 
-/// The line with the place.
-pub fn push_place_line(
+/// The line with the position.
+pub fn push_position_line(
     alloc: Global,
     out: &mut String,
     is_colored: bool,
     margin: &str,
     file: &str,
-    place: Position,
+    position: Position,
 ) -> Result<(), AllocError>
     ensures { OnOk result (string_bytes out.new ≡ string_bytes out.old
-        ++ spec.place_line is_colored margin.now file.now place.line place.column) }
+        ++ spec.position_line is_colored margin.now file.now position.line position.column) }
 {
     push_arrow(out, is_colored, margin)?;
     push_safe(alloc, out, file)?;
-    let Position { line, column } = place;
+    let Position { line, column } = position;
     write!(out, ":{line}:{column}\n")
 }
 
-// What stands before the file.
+// What comes before the file.
 fn push_arrow(out: &mut String, is_colored: bool, margin: &str) -> Result<(), AllocError>
     ensures { OnOk result (string_bytes out.new ≡ string_bytes out.old
         ++ spec.arrow is_colored margin.now) }
@@ -89,7 +89,7 @@ fn push_arrow(out: &mut String, is_colored: bool, margin: &str) -> Result<(), Al
     write!(out, "{margin}{blue}-->{plain} ")
 }
 
-/// A bar.
+/// A line with a bar.
 pub fn push_bar_line(out: &mut String, is_colored: bool, margin: &str) -> Result<(), AllocError>
     ensures { OnOk result (string_bytes out.new ≡ string_bytes out.old
         ++ spec.bar_line is_colored margin.now) }
@@ -101,23 +101,23 @@ pub fn push_bar_line(out: &mut String, is_colored: bool, margin: &str) -> Result
     write!(out, "{margin} {blue}|{plain}\n")
 }
 
-/// The line of the text, by its three parts.
+/// The line of the text, from its three parts.
 pub fn push_text_line(
     out: &mut String,
     is_colored: bool,
     number: u64,
     before: &str,
     at: &str,
-    behind: &str,
+    after: &str,
 ) -> Result<(), AllocError>
     ensures { OnOk result (string_bytes out.new ≡ string_bytes out.old
-        ++ spec.text_line is_colored number before.now at.now behind.now) }
+        ++ spec.text_line is_colored number before.now at.now after.now) }
 {
     push_number(out, is_colored, number)?;
-    push_all(out, &[before, at, behind, "\n"])
+    push_all(out, &[before, at, after, "\n"])
 }
 
-// What stands before the text.
+// What comes before the text.
 fn push_number(out: &mut String, is_colored: bool, number: u64) -> Result<(), AllocError>
     ensures { OnOk result (string_bytes out.new ≡ string_bytes out.old
         ++ spec.numbered is_colored number) }
@@ -129,7 +129,7 @@ fn push_number(out: &mut String, is_colored: bool, number: u64) -> Result<(), Al
     write!(out, "{blue}{number} |{plain} ")
 }
 
-/// A bar, and carets behind an indent.
+/// A line with a bar, and carets after an indent.
 pub fn push_caret_line(
     out: &mut String,
     is_colored: bool,
@@ -167,7 +167,7 @@ fn push_help_line(
     write!(out, "{margin} {blue}={plain} help: {help}\n")
 }
 
-/// The same, and behind it what a further fault was found without.
+/// The line with the help, and for a further fault one that says what it was found without.
 pub fn push_help_lines(
     out: &mut String,
     is_further: bool,
@@ -200,14 +200,14 @@ fn push_note_line(out: &mut String, is_colored: bool, margin: &str) -> Result<()
 pub fn short_line(
     alloc: Global,
     file: &str,
-    place: Position,
+    position: Position,
     sentence: &str,
 ) -> Result<String, AllocError>
     ensures { IfOk result (λ line. string_bytes line
-        ≡ spec.short_line file.now place.line place.column sentence.now) }
+        ≡ spec.short_line file.now position.line position.column sentence.now) }
 {
     let name = safe(alloc, file)?;
-    let Position { line, column } = place;
+    let Position { line, column } = position;
     let room = sentence
         .len()
         .saturating_add(name.len())

@@ -1,4 +1,4 @@
-//! The one way of texts to people, who read them at a terminal: it obeys none of them.
+//! The only way for texts to reach people, who read them at a terminal: the terminal obeys none of them.
 
 ghost use Rattle.std.specs.Prelude.{◌≡◌, ◌++◌, IfOk, None, OnOk, chars, string_bytes};
 ghost use Rattle.std.specs.Io.{WritesAtMost};
@@ -12,8 +12,8 @@ use crate::shown::shown_char;
 use std::alloc::{AllocError, Global};
 use std::io::{Result, Write};
 
-/// Writes a text to people. Of all but newlines that a terminal would obey or show nothing of, they see what
-/// stands for it; where it is coloured, the colours of messages are obeyed too. Bytes that are no UTF-8 are
+/// Writes a text to people. Characters that a terminal would obey or hide are replaced by visible ones,
+/// except for newlines and, if `is_colored` is true, the colours of messages. Bytes that aren't UTF-8 are
 /// shown as U+FFFD. An `Err` says that the writer failed or that memory ran out.
 #[tactic(auto, using(crate::proofs::PeopleLemmas::shown_as_it_is, crate::proofs::PeopleLemmas::plain_seen))]
 pub fn show<W: Write>(alloc: Global, is_colored: bool, text: &[u8], writer: &mut W) -> Result<()>
@@ -28,7 +28,7 @@ pub fn show<W: Write>(alloc: Global, is_colored: bool, text: &[u8], writer: &mut
     writer.write_all(shown.as_bytes())
 }
 
-// Whether a terminal shows each of the bytes as it is, or ends a line.
+// Whether each of the bytes is shown as it is by a terminal, or ends a line.
 fn are_plain(bytes: &[u8]) -> bool
     ensures { result ≡ list_all spec.is_plain bytes.now }
 {
@@ -69,50 +69,50 @@ fn push_seen(
         ≡ string_bytes shown.old ++ encode_utf8_all (spec.all_seen_of is_colored text.now)) }
 {
     let mut rest = text;
-    'chars: while let [c, after @ ..] = rest {
-        shown.push(seen_of(is_colored, *c, after))?;
-        rest = after;
+    'chars: while let [c, after_span @ ..] = rest {
+        shown.push(seen_of(is_colored, *c, after_span))?;
+        rest = after_span;
     }
     Ok(())
 }
 
-// What people see of a character in front of others.
-fn seen_of(is_colored: bool, c: char, after: &[char]) -> char
-    ensures { result ≡ spec.seen_of is_colored c after.now }
+// What people see of a character that others follow.
+fn seen_of(is_colored: bool, c: char, after_span: &[char]) -> char
+    ensures { result ≡ spec.seen_of is_colored c after_span.now }
 {
-    if c == '\n' || (is_colored && c == '\u{1B}' && begins_color(after)) {
+    if c == '\n' || (is_colored && c == '\u{1B}' && begins_color(after_span)) {
         c
     } else {
         shown_char(c)
     }
 }
 
-// Whether what stands behind an escape makes it a colour of messages.
-fn begins_color(after: &[char]) -> bool
-    ensures { result ≡ spec.begins_color after.now }
+// Whether what follows an escape makes it a colour of messages.
+fn begins_color(after_span: &[char]) -> bool
+    ensures { result ≡ spec.begins_color after_span.now }
 {
-    begins_plain(after) || begins_bold(after)
+    begins_plain(after_span) || begins_bold(after_span)
 }
 
-fn begins_plain(after: &[char]) -> bool
-    ensures { result ≡ spec.begins_plain after.now }
+fn begins_plain(after_span: &[char]) -> bool
+    ensures { result ≡ spec.begins_plain after_span.now }
 {
-    after.len() >= 3 && after[0] == '[' && after[1] == '0' && after[2] == 'm'
+    after_span.len() >= 3 && after_span[0] == '[' && after_span[1] == '0' && after_span[2] == 'm'
 }
 
-fn begins_bold(after: &[char]) -> bool
-    ensures { result ≡ spec.begins_bold after.now }
+fn begins_bold(after_span: &[char]) -> bool
+    ensures { result ≡ spec.begins_bold after_span.now }
 {
-    after.len() >= 6
-        && after[0] == '['
-        && after[1] == '1'
-        && after[2] == ';'
-        && after[3] == '3'
-        && is_color(after[4])
-        && after[5] == 'm'
+    after_span.len() >= 6
+        && after_span[0] == '['
+        && after_span[1] == '1'
+        && after_span[2] == ';'
+        && after_span[3] == '3'
+        && is_color(after_span[4])
+        && after_span[5] == 'm'
 }
 
-// The digits of red, yellow and blue.
+// Whether it is the digit of red, yellow or blue.
 fn is_color(c: char) -> bool
     ensures { result ≡ spec.is_color c }
 {
@@ -123,7 +123,7 @@ fn is_color(c: char) -> bool
 #[derive(Drop)]
 pub struct People<W> {
     pub alloc: Global,
-    /// Whether they see the colours of messages.
+    /// Whether people see the colours of messages.
     pub is_colored: bool,
     pub writer: W,
 }

@@ -1,4 +1,4 @@
-//! Where a byte of a text stands in a file, and how a line is cut at a span.
+//! Where a byte of a text is in its file, and how a line is cut at a span.
 
 ghost use Rattle.std.specs.Prelude.{◌≡◌, IfOk};
 ghost use Rattle.timefd_drawing.specs.Counted.{IsCounted};
@@ -9,46 +9,47 @@ use crate::shown::{char_count, columns};
 use std::alloc::{AllocError, Global};
 use timefd_diagnosis::Span;
 
-/// Where a text stands: the file's name, and the number of the line at which it begins, from 1.
+/// Where a text begins: the name of its file, and the number of the line, counted from 1.
 #[derive(Clone, Copy)]
 pub struct Origin<'a> {
     pub file: &'a str,
     pub line: u64,
 }
 
-/// A place in a file, as editors name it: the line and the column, both from 1.
+/// A position in a file, as editors name it: the line and the column, both counted from 1.
 #[derive(Clone, Copy)]
 pub struct Position {
     pub line: u64,
     pub column: usize,
 }
 
-/// A line that a span begins in, cut at the span.
+/// The line that a span begins in, cut at the span.
 #[derive(Clone, Copy)]
 pub struct Line<'a> {
-    /// What stands before the span.
+    /// What comes before the span.
     pub before: &'a str,
-    /// The span, as far as it is of this line.
+    /// The span, as far as it is in this line.
     pub at: &'a str,
-    /// What stands behind it.
-    pub behind: &'a str,
+    /// What follows the span in this line.
+    pub after: &'a str,
 }
 
-/// The place of the byte at an index, in a text that begins in this line. The column counts what
-/// stands in front of it as a terminal shows it. An `Err` says that memory ran out.
+/// The position of the byte at an index, in a text that begins in line `first`. The column counts what comes
+/// before it in the line, in columns of a terminal. An `Err` says that memory ran out.
 pub fn position_of(
     alloc: Global,
     first: u64,
     text: &str,
     index: usize,
 ) -> Result<Position, AllocError>
-    ensures line { IfOk result (λ place. place.line ≡ spec.line_number first text.now index) }
-    ensures column { IfOk result (λ place. place.column ≡ spec.column text.now index) }
+    ensures line { IfOk result (λ position. position.line ≡ spec.line_number first text.now index) }
+    ensures column { IfOk result (λ position. position.column ≡ spec.column text.now index) }
 {
     position_from(alloc, first, text, none_counted(first), index)
 }
 
-/// The same place, with its line counted on from what is counted.
+/// Finds the same position as `position_of`, with the line counted on from `from`. An `Err` says that memory
+/// ran out.
 #[tactic(auto, using(crate::proofs::CounterLemmas::in_front))]
 pub fn position_from(
     alloc: Global,
@@ -58,8 +59,8 @@ pub fn position_from(
     index: usize,
 ) -> Result<Position, AllocError>
     requires { IsCounted first text.now from }
-    ensures line { IfOk result (λ place. place.line ≡ spec.line_number first text.now index) }
-    ensures column { IfOk result (λ place. place.column ≡ spec.column text.now index) }
+    ensures line { IfOk result (λ position. position.line ≡ spec.line_number first text.now index) }
+    ensures column { IfOk result (λ position. position.column ≡ spec.column text.now index) }
 {
     let (front, _) = cut_at(text, index);
     Ok(Position {
@@ -68,7 +69,7 @@ pub fn position_from(
     })
 }
 
-/// The same place where the column counts the characters in front.
+/// The position of the byte at an index, where the column counts the characters before it in the line.
 #[tactic(auto, using(crate::proofs::CounterLemmas::in_front))]
 pub fn char_position_from(first: u64, text: &str, from: Counter, index: usize) -> Position
     requires { IsCounted first text.now from }
@@ -86,21 +87,22 @@ pub fn char_position_from(first: u64, text: &str, from: Counter, index: usize) -
 pub fn line_of(text: &str, span: Span) -> Line<'_>
     ensures before { result.before.now ≡ spec.before span.start text.now }
     ensures at { result.at.now ≡ spec.spanned span text.now }
-    ensures behind { result.behind.now ≡ spec.after span text.now }
+    ensures after { result.after.now ≡ spec.after_span span text.now }
 {
     let (front, rest) = cut_at(text, span.start);
-    let (at, behind) = cut_at(first_line(rest), span.end.saturating_sub(span.start));
+    let (at, after) = cut_at(first_line(rest), span.end.saturating_sub(span.start));
     Line {
         before: last_line(front),
         at,
-        behind,
+        after,
     }
 }
 
-/// What stands in front of a byte index, and what is behind; inside of a character a text isn't cut.
+/// The text before a byte index and the text after it. Inside of a character the text isn't cut: all of it
+/// comes before.
 pub fn cut_at(text: &str, index: usize) -> (&str, &str)
     ensures front { result.0.now ≡ spec.front index text.now }
-    ensures behind { result.1.now ≡ spec.behind index text.now }
+    ensures after { result.1.now ≡ spec.after index text.now }
 {
     match text.split_at_checked(index) {
         Some(parts) => parts,
@@ -108,7 +110,7 @@ pub fn cut_at(text: &str, index: usize) -> (&str, &str)
     }
 }
 
-// What stands behind the last newline.
+// What follows the last newline.
 fn last_line(text: &str) -> &str
     ensures { result.now ≡ spec.last_line text.now }
 {
@@ -118,7 +120,7 @@ fn last_line(text: &str) -> &str
     }
 }
 
-// What stands before the first newline.
+// What comes before the first newline.
 fn first_line(text: &str) -> &str
     ensures { result.now ≡ spec.first_line text.now }
 {

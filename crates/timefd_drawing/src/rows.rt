@@ -1,9 +1,9 @@
-//! Rows of one character, which take no memory.
+//! Rows of one character, without allocated memory.
 
 ghost use Rattle.std.specs.Prelude.{◌≡◌, codes, decimal, length, IfSome};
 ghost use Rattle.std.specs.List.{repeat};
 
-/// So many spaces, where a constant has as many.
+/// A row of `count` spaces, or `None` if the constant has fewer.
 #[tactic(auto, using(crate::proofs::RowLemmas::of_spaces))]
 pub fn spaces(count: usize) -> Option<&'static str>
     ensures { IfSome result (λ row. row.now ≡ repeat count (codes " ")) }
@@ -11,7 +11,7 @@ pub fn spaces(count: usize) -> Option<&'static str>
     SPACES.get(..count)
 }
 
-/// So many carets, likewise.
+/// A row of `count` carets, or `None` if the constant has fewer.
 #[tactic(auto, using(crate::proofs::RowLemmas::of_carets))]
 pub fn carets(count: usize) -> Option<&'static str>
     ensures { IfSome result (λ row. row.now ≡ repeat count (codes "^")) }
@@ -19,7 +19,7 @@ pub fn carets(count: usize) -> Option<&'static str>
     CARETS.get(..count)
 }
 
-/// How many digits a number has.
+/// How many decimal digits a number has.
 pub fn digit_count(number: u64) -> usize
     ensures { result ≡ length (decimal number) }
 {

@@ -1,4 +1,4 @@
-//! Results of SARIF 2.1.0, as code scanning and editors read them.
+//! SARIF 2.1.0 results, as code scanning and editors read them.
 
 ghost use Rattle.std.specs.Prelude.{◌≡◌, ◌≢◌, ◌<◌, ◌++◌, [], option_map, IfOk, OnOk, string_bytes};
 ghost use Rattle.timefd_drawing.specs.Sarif as spec;
@@ -6,30 +6,30 @@ ghost use Rattle.timefd_drawing.specs.Sarif as spec;
 use crate::json::{Entry, push_number, push_text};
 use std::alloc::{AllocError, Global};
 
-/// What a result also holds where a text is at fault.
+/// What a result also holds if a text is at fault.
 #[derive(Clone, Copy)]
 pub struct Fault<'a> {
-    /// The line and the column of what stands behind the part that is at fault.
+    /// The line and the column of what follows the part at fault.
     pub end_line: u64,
     pub end_column: u64,
-    /// What helps.
+    /// The help in words.
     pub help: &'a str,
-    /// The word to write in the place of that part, where one is near.
+    /// The word to write instead of that part, if one is near.
     pub replacement: Option<&'a str>,
-    /// Whether the errors before it were left out when it was found.
+    /// Whether it was found with the errors before it left out.
     pub is_further: bool,
 }
 
-/// A sentence, and what helps in a line behind it. An `Err` says that memory ran out.
+/// A sentence, and the help in a line after it. An `Err` says that memory ran out.
 pub fn with_help(alloc: Global, sentence: &str, help: &str) -> Result<String, AllocError>
     ensures { IfOk result (λ text. string_bytes text ≡ spec.with_help sentence.now help.now) }
 {
     format!(in alloc; "{sentence}\n{help}")
 }
 
-// What a result says up to the column in which it begins.
+// The start of a result, up to the column in which the part at fault begins.
 fn begun(alloc: Global, entry: Entry<'_>, level: &str) -> Result<Vec<u8>, AllocError>
-    ensures { IfOk result (λ told. told.items ≡ spec.begun_of entry.entry level.now) }
+    ensures { IfOk result (λ reported. reported.items ≡ spec.begun_of entry.entry level.now) }
 {
     let mut out = Vec::new(alloc);
     push_text(&mut out, ",{\"ruleId\":", entry.code)?;
@@ -47,10 +47,11 @@ fn begun(alloc: Global, entry: Entry<'_>, level: &str) -> Result<Vec<u8>, AllocE
     Ok(out)
 }
 
-/// A result behind a comma, on a fault of a text. Columns count characters. An `Err` says that memory ran out.
+/// A result after a comma, for a fault of a text. Columns count characters. An `Err` says that memory ran
+/// out.
 pub fn result(alloc: Global, entry: Entry<'_>, fault: Fault<'_>) -> Result<Vec<u8>, AllocError>
-    ensures exact { IfOk result (λ told. told.items ≡ spec.result_of entry.entry fault.entry) }
-    ensures some { IfOk result (λ told. told.items ≢ []) }
+    ensures exact { IfOk result (λ reported. reported.items ≡ spec.result_of entry.entry fault.entry) }
+    ensures some { IfOk result (λ reported. reported.items ≢ []) }
 {
     let fixes = fixes(alloc, entry, fault)?;
     let mut out = begun(alloc, entry, "error")?;
@@ -63,17 +64,18 @@ pub fn result(alloc: Global, entry: Entry<'_>, fault: Fault<'_>) -> Result<Vec<u
     Ok(out)
 }
 
-/// A result behind a comma, on a text as a whole, or on a file. The level is `error`, `warning` or `note`.
+/// A result after a comma, for a whole text or a file. The level is `error`, `warning` or `note`. An `Err`
+/// says that memory ran out.
 pub fn note_result(alloc: Global, entry: Entry<'_>, level: &str) -> Result<Vec<u8>, AllocError>
-    ensures exact { IfOk result (λ told. told.items ≡ spec.note_result_of entry.entry level.now) }
-    ensures some { IfOk result (λ told. told.items ≢ []) }
+    ensures exact { IfOk result (λ reported. reported.items ≡ spec.note_result_of entry.entry level.now) }
+    ensures some { IfOk result (λ reported. reported.items ≢ []) }
 {
     let mut out = begun(alloc, entry, level)?;
     out.extend_from_slice(b"}}}]}\n")?;
     Ok(out)
 }
 
-// The field with the fix, where a word is near.
+// The field with the fix, if a word is near.
 fn fixes(alloc: Global, entry: Entry<'_>, fault: Fault<'_>) -> Result<Vec<u8>, AllocError>
     ensures { IfOk result (λ field. field.items ≡ spec.fixes_of entry.entry fault.entry) }
 {
@@ -122,7 +124,7 @@ fn push_further(out: &mut Vec<u8>, is_further: bool) -> Result<(), AllocError>
     }
 }
 
-// Appends what stands before a path, and the path as a reference to a URI.
+// Appends what comes before a path, and the path as a reference to a URI.
 fn push_uri(out: &mut Vec<u8>, front: &str, path: &str) -> Result<(), AllocError>
     ensures { OnOk result (out.new.items ≡ out.old.items ++ (front.now ++ spec.uri path.now)) }
 {
@@ -152,7 +154,7 @@ fn push_encoded(out: &mut Vec<u8>, path: &[u8]) -> Result<(), AllocError>
     Ok(())
 }
 
-// Appends a byte of a path, or its number behind a percent sign.
+// Appends a byte of a path, or its hexadecimal number after a percent sign.
 fn push_uri_byte(out: &mut Vec<u8>, byte: u8) -> Result<(), AllocError>
     ensures { OnOk result (out.new.items ≡ out.old.items ++ spec.uri_byte byte) }
 {
@@ -162,7 +164,7 @@ fn push_uri_byte(out: &mut Vec<u8>, byte: u8) -> Result<(), AllocError>
     out.extend_from_slice(&[b'%', hex_digit(byte / 16), hex_digit(byte % 16)])
 }
 
-// Whether a byte stands for itself in a path.
+// Whether a byte is written as it is in a path.
 fn is_plain(byte: u8) -> bool
     ensures { result ≡ spec.is_plain byte }
 {

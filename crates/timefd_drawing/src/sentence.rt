@@ -1,4 +1,4 @@
-//! The sentence of a fault as it is shown.
+//! The sentence of a fault, as it is shown.
 
 ghost use Rattle.std.specs.Prelude.{◌≡◌, true, IfOk, string_bytes};
 ghost use Rattle.timefd_fault.specs.Faults.{fault_of};
@@ -15,7 +15,7 @@ const MOST_OF_A_WORD: usize = 80;
 // Room for most sentences.
 const ROOM: usize = 96;
 
-/// The sentence of the fault, with a long word cut, and no character that a terminal would obey. An
+/// The sentence of the fault, where a long word is cut and no character is one that a terminal would obey. An
 /// `Err` says that memory ran out.
 pub fn shown_sentence(alloc: Global, fault: &InvalidFormatDescription) -> Result<String, AllocError>
     ensures { IfOk result (λ sentence. string_bytes sentence
@@ -59,14 +59,15 @@ fn is_brief(fault: &InvalidFormatDescription) -> bool
     }
 }
 
-/// The same, and behind the sentence of a further fault what it was found without.
-pub fn told_sentence(
+/// The sentence of a fault, which for a further fault also says what it was found without. An `Err` says that
+/// memory ran out.
+pub fn reported_sentence(
     alloc: Global,
     is_further: bool,
     fault: &InvalidFormatDescription,
 ) -> Result<String, AllocError>
     ensures { IfOk result (λ sentence. string_bytes sentence
-        ≡ spec.told_sentence is_further (fault_of fault.now)) }
+        ≡ spec.reported_sentence is_further (fault_of fault.now)) }
 {
     let sentence = shown_sentence(alloc, fault)?;
     if is_further {
@@ -76,7 +77,7 @@ pub fn told_sentence(
     }
 }
 
-// The fault with no more of a word than a sentence shows.
+// The fault, with no more of a word than a sentence shows.
 fn brief(
     alloc: Global,
     fault: &InvalidFormatDescription,

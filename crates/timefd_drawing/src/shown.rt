@@ -1,4 +1,4 @@
-//! Texts as a terminal may show them.
+//! Texts, made safe for a terminal.
 
 ghost use Rattle.std.specs.Prelude.{◌≡◌, ◌<◌, ◌-◌, ◌^◌, ◌++◌, chars, drop, false, true, IfOk, length, OnOk, string_bytes, take};
 ghost use Rattle.std.specs.List.{list_all};
@@ -9,9 +9,8 @@ ghost use Rattle.unicode_width.specs.Width.{str_width};
 use std::alloc::{AllocError, Global};
 use unicode_width::UnicodeWidthStr;
 
-/// Whether a terminal would obey a character or show nothing of it: control characters, line and
-/// paragraph separators, those that turn the direction of text, and those that are ignored where they
-/// can't be shown.
+/// Whether a terminal would obey a character or hide it: a control character, a line or paragraph separator,
+/// one that changes the direction of text, or one that is ignored if it can't be shown.
 pub fn is_hidden(c: char) -> bool
     ensures { result ≡ spec.is_hidden c }
 {
@@ -39,8 +38,8 @@ pub fn is_hidden(c: char) -> bool
     )
 }
 
-/// What stands for a character: the picture of a control character of ASCII, the replacement
-/// character for any other that is hidden, and else the character itself.
+/// The character that is shown for a character: the picture of a control character of ASCII, the replacement
+/// character for any other hidden one, and else the character itself.
 pub fn shown_char(c: char) -> char
     ensures { result ≡ spec.shown c }
 {
@@ -59,8 +58,8 @@ fn are_printable(bytes: &[u8]) -> bool
     bytes.iter().all(|byte| matches!(*byte, b' '..=b'~'))
 }
 
-/// The text with what stands for each of its characters, so that a terminal obeys none and shows
-/// something of each. An `Err` says that memory ran out.
+/// The text with a visible character for each hidden one, so that a terminal obeys none of them. An `Err`
+/// says that memory ran out.
 #[tactic(auto, using(crate::proofs::ShownLemmas::shown_as_it_is))]
 pub fn safe(alloc: Global, text: &str) -> Result<String, AllocError>
     ensures { IfOk result (λ shown. string_bytes shown ≡ spec.safe text.now) }
@@ -71,7 +70,7 @@ pub fn safe(alloc: Global, text: &str) -> Result<String, AllocError>
     text.chars().map(shown_char).collect(alloc)
 }
 
-/// The same of a text that is owned, which is kept where nothing of it is hidden.
+/// Makes an owned text safe like `safe`, and returns it as it is if it has only printing ASCII.
 #[tactic(auto, using(crate::proofs::ShownLemmas::shown_as_it_is))]
 pub fn safe_string(alloc: Global, text: String) -> Result<String, AllocError>
     ensures { IfOk result (λ shown. string_bytes shown ≡ spec.safe (string_bytes text)) }
@@ -82,7 +81,7 @@ pub fn safe_string(alloc: Global, text: String) -> Result<String, AllocError>
     safe(alloc, &text)
 }
 
-/// Appends what stands for a text to a string.
+/// Appends a text to a string, made safe for a terminal. An `Err` says that memory ran out.
 #[tactic(auto, using(crate::proofs::ShownLemmas::shown_as_it_is))]
 pub fn push_safe(alloc: Global, out: &mut String, text: &str) -> Result<(), AllocError>
     ensures { OnOk result (string_bytes out.new ≡ string_bytes out.old ++ spec.safe text.now) }
@@ -94,7 +93,7 @@ pub fn push_safe(alloc: Global, out: &mut String, text: &str) -> Result<(), Allo
     out.push_str(&shown)
 }
 
-/// Whether a text is shown as it is: it has no more bytes than these, and a terminal shows each so.
+/// Whether a text is shown as it is: it has at most `most` bytes, and a terminal shows each of them as it is.
 #[tactic(auto, using(crate::proofs::ShownLemmas::plain_start, crate::proofs::ShownLemmas::plain_end))]
 pub fn is_shown_as_it_is(text: &str, most: usize) -> bool
     ensures start { result ≡ true → spec.safe (spec.cut_start most text.now) ≡ text.now }
@@ -103,7 +102,7 @@ pub fn is_shown_as_it_is(text: &str, most: usize) -> bool
     text.len() <= most && are_printable(text.as_bytes())
 }
 
-/// The columns that a text takes in a terminal once it is made safe.
+/// The columns that a text takes in a terminal once it is made safe. An `Err` says that memory ran out.
 #[tactic(auto, using(crate::proofs::ShownLemmas::shown_as_it_is))]
 pub fn columns(alloc: Global, text: &str) -> Result<usize, AllocError>
     ensures value { IfOk result (λ columns.
@@ -124,8 +123,8 @@ pub fn char_count(text: &str) -> usize
     text.chars().count()
 }
 
-/// The first characters of a text, and a mark where some are left out. An `Err` says that memory
-/// ran out.
+/// The first `most` characters of a text, with a mark after them if some are left out. An `Err` says that
+/// memory ran out.
 pub fn cut_end(alloc: Global, text: &str, most: usize) -> Result<String, AllocError>
     ensures { IfOk result (λ cut. string_bytes cut ≡ spec.cut_end most text.now) }
 {
@@ -136,8 +135,8 @@ pub fn cut_end(alloc: Global, text: &str, most: usize) -> Result<String, AllocEr
     format!(in alloc; "{front}..")
 }
 
-/// The last characters of a text, and a mark where some are left out. An `Err` says that memory ran
-/// out.
+/// The last `most` characters of a text, with a mark before them if some are left out. An `Err` says that
+/// memory ran out.
 pub fn cut_start(alloc: Global, text: &str, most: usize) -> Result<String, AllocError>
     ensures { IfOk result (λ cut. string_bytes cut ≡ spec.cut_start most text.now) }
 {
@@ -145,11 +144,11 @@ pub fn cut_start(alloc: Global, text: &str, most: usize) -> Result<String, Alloc
     if count <= most {
         return String::from_str(alloc, text);
     }
-    let rest = chars_behind(alloc, text, count - most)?;
+    let rest = chars_after(alloc, text, count - most)?;
     format!(in alloc; "..{rest}")
 }
 
-/// The first characters of a text as a terminal may show them, with the same mark.
+/// What `cut_end` returns, made safe for a terminal. An `Err` says that memory ran out.
 pub fn shown_end(alloc: Global, text: &str, most: usize) -> Result<String, AllocError>
     ensures { IfOk result (λ shown. string_bytes shown ≡ spec.safe (spec.cut_end most text.now)) }
 {
@@ -160,7 +159,7 @@ pub fn shown_end(alloc: Global, text: &str, most: usize) -> Result<String, Alloc
     safe(alloc, &cut)
 }
 
-/// The last characters of a text, likewise.
+/// What `cut_start` returns, made safe for a terminal. An `Err` says that memory ran out.
 pub fn shown_start(alloc: Global, text: &str, most: usize) -> Result<String, AllocError>
     ensures { IfOk result (λ shown. string_bytes shown ≡ spec.safe (spec.cut_start most text.now)) }
 {
@@ -178,7 +177,7 @@ fn first_chars(alloc: Global, text: &str, count: usize) -> Result<String, AllocE
     text.chars().take(count).collect(alloc)
 }
 
-fn chars_behind(alloc: Global, text: &str, count: usize) -> Result<String, AllocError>
+fn chars_after(alloc: Global, text: &str, count: usize) -> Result<String, AllocError>
     ensures { IfOk result (λ rest. string_bytes rest
         ≡ encode_utf8_all (drop count (chars text.now))) }
 {

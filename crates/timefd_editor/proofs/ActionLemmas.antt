@@ -1,4 +1,4 @@
--- What is offered of one description.
+-- What is offered for one description.
 use Rattle.std.proofs.Common.{ℕ, ◌≡◌, Bool, true, false, Option, None, Some, List, [], ◌∷◌, ◌++◌, inl, inr, refl, sym, subst, ap, ◌∙◌}
 use Rattle.std.proofs.lemmas.List.{append-nil}
 use Rattle.std.specs.Prelude.{IfOk, IsUtf8, Result, Ok, Err, string_bytes}
@@ -13,12 +13,12 @@ use Rattle.timefd_editor.specs.Each.{Adds, AreOf}
 use Rattle.timefd_editor.specs.Edits.{AreEdits}
 use Rattle.timefd_rewrite.specs.declared.fixes.Fixes.TheVariants as fixes
 use Rattle.timefd_language.specs.declared.description_version.DescriptionVersion.TheVariants as versions
-use Rattle.timefd_lint_sources.specs.declared.told.Finder.TheVariants.{Rust, Keys}
-use Rattle.timefd_lint_sources.specs.declared.told.Source.{Source}
+use Rattle.timefd_lint_sources.specs.declared.reported.Finder.TheVariants.{Rust, Keys}
+use Rattle.timefd_lint_sources.specs.declared.reported.Source.{Source}
 use Rattle.timefd_keys.specs.declared.format.Format.{Format}
 use Rattle.timefd_keys.specs.declared.key.Key.{Key}
 use denote.Ref.{Bor}
-use Rattle.timefd_rewrite_sources.specs.declared.answer.Anew.{Anew}
+use Rattle.timefd_rewrite_sources.specs.declared.answer.NewParts.{NewParts}
 use Rattle.timefd_rewrite_sources.specs.declared.answer.Answer.{Answer}
 use Rattle.timefd_rewrite_sources.specs.declared.answer.Answer.TheVariants.{Stays, Becomes}
 use Rattle.timefd_rewrite_sources.specs.declared.change.Change.{Change}
@@ -28,25 +28,25 @@ use Rattle.timefd_rewrite_sources.specs.Written.{IsAnswer, items_of}
 use Rattle.timefd_sources.specs.declared.description.Description.{Description}
 use Rattle.timefd_sources.specs.Found.{AllStandIn, AreDescriptionsOf}
 
-pub same_text : (change : Change) (text : Text) (d : Description) (anew : Anew) (before after : List Action)
-    → anew.body ≡ None → Adds (IsOneAction change text d anew.digit None) before after
-    → Adds (IsBecoming change text d anew true) before after
-same_text change text d anew before after is added =
-    subst (λ b. Adds (IsOneAction change text d anew.digit (items_of b)) before after) (sym is) added
+pub same_text : (change : Change) (text : Text) (d : Description) (rewritten : NewParts) (before after : List Action)
+    → rewritten.body ≡ None → Adds (IsOneAction change text d rewritten.digit None) before after
+    → Adds (IsBecoming change text d rewritten true) before after
+same_text change text d rewritten before after is added =
+    subst (λ b. Adds (IsOneAction change text d rewritten.digit (items_of b)) before after) (sym is) added
 
-pub other_text : (change : Change) (text : Text) (d : Description) (anew : Anew) (body : Vec ℕ Global)
-    (new : Text) (before after : List Action) → anew.body ≡ Some body → new ≡ body.items
-    → Adds (IsOneAction change text d anew.digit (Some new)) before after
-    → Adds (IsBecoming change text d anew true) before after
-other_text change text d anew body new before after is same added =
-    subst (λ b. Adds (IsOneAction change text d anew.digit (items_of b)) before after) (sym is)
-    (subst (λ t. Adds (IsOneAction change text d anew.digit (Some t)) before after) same added)
+pub other_text : (change : Change) (text : Text) (d : Description) (rewritten : NewParts) (body : Vec ℕ Global)
+    (new : Text) (before after : List Action) → rewritten.body ≡ Some body → new ≡ body.items
+    → Adds (IsOneAction change text d rewritten.digit (Some new)) before after
+    → Adds (IsBecoming change text d rewritten true) before after
+other_text change text d rewritten body new before after is same added =
+    subst (λ b. Adds (IsOneAction change text d rewritten.digit (items_of b)) before after) (sym is)
+    (subst (λ t. Adds (IsOneAction change text d rewritten.digit (Some t)) before after) same added)
 
-pub no_text : (change : Change) (text : Text) (d : Description) (anew : Anew) (body : Vec ℕ Global)
-    (before : List Action) → anew.body ≡ Some body → ¬ IsUtf8 body.items
-    → Adds (IsBecoming change text d anew false) before before
-no_text change text d anew body before is not =
-    none_added (IsBecoming change text d anew false) before
+pub no_text : (change : Change) (text : Text) (d : Description) (rewritten : NewParts) (body : Vec ℕ Global)
+    (before : List Action) → rewritten.body ≡ Some body → ¬ IsUtf8 body.items
+    → Adds (IsBecoming change text d rewritten false) before before
+no_text change text d rewritten body before is not =
+    none_added (IsBecoming change text d rewritten false) before
     ((λ utf8. not (subst (λ b. IsWritable (items_of b)) is utf8)), refl)
 
 pub stays : (change : Change) (text : Text) (d : Description) (outcome : Outcome) (before : List Action)
@@ -54,13 +54,13 @@ pub stays : (change : Change) (text : Text) (d : Description) (outcome : Outcome
 stays change text d outcome before is =
     none_added (IsOffer change text d false) before (record { answer = Stays outcome; is = is; offered = refl })
 
-pub becomes : {E : Type 0} (change : Change) (text : Text) (d : Description) (anew : Anew)
-    (before after : List Action) (done : Result Bool E) → IsAnswer change text d (Becomes anew)
-    → IfOk done (λ b. Adds (IsBecoming change text d anew b) before after)
+pub becomes : {E : Type 0} (change : Change) (text : Text) (d : Description) (rewritten : NewParts)
+    (before after : List Action) (done : Result Bool E) → IsAnswer change text d (Becomes rewritten)
+    → IfOk done (λ b. Adds (IsBecoming change text d rewritten b) before after)
     → IfOk done (λ b. Adds (IsOffer change text d b) before after)
-becomes change text d anew before after (Ok b) is (more, offered, added) =
-    (more, record { answer = Becomes anew; is = is; offered = offered }, added)
-becomes change text d anew before after (Err e) is added = tt
+becomes change text d rewritten before after (Ok b) is (more, offered, added) =
+    (more, record { answer = Becomes rewritten; is = is; offered = offered }, added)
+becomes change text d rewritten before after (Err e) is added = tt
 
 pub surely : (text : Text) (d : Description) (before after : List Action) (done : Bool) → done ≡ true
     → Adds (IsOffer (Mended fixes.Sure) text d done) before after → Adds (AreMends text d) before after
@@ -70,7 +70,7 @@ surely text d before after done is (more, offered, whole) =
 none_offered : (change : Change) (text : Text) (d : Description) (answer : Answer) (actions : List Action)
     → IsOfferOf change text d answer false actions → actions ≡ []
 none_offered change text d (Stays outcome) actions none = none
-none_offered change text d (Becomes anew) actions none = none.1
+none_offered change text d (Becomes rewritten) actions none = none.1
 
 pub by_guesses : (text : Text) (d : Description) (before middle after : List Action) (first second : Bool)
     → first ≡ false → Adds (IsOffer (Mended fixes.Sure) text d first) before middle

@@ -1,4 +1,4 @@
--- Edits that write a description anew.
+-- Edits that rewrite a description.
 use Rattle.std.proofs.Common.{ℕ, ◌≡◌, Option, None, Some, List, [], ◌∷◌, ◌++◌, refl, sym, subst}
 use Rattle.std.specs.Prelude.{OnOk, Result, Ok, Err, string_bytes}
 use Rattle.timefd_component.specs.Tree.{Text}
@@ -8,7 +8,7 @@ use Rattle.timefd_editor.specs.Each.{Adds}
 use Rattle.timefd_editor.specs.Edits.{AreBodyEdits, AreEdits, AreSaid, AreVersionEdits, IsArgumentEdit, IsDigitEdit, IsOneEdit}
 use Rattle.timefd_editor.specs.Positions.{range_of}
 use Rattle.timefd_sources.specs.declared.description.Description.{Description}
-use Rattle.timefd_sources.specs.declared.version.VersionPlace.TheVariants.{Digit, Unsaid, Call, Elsewhere}
+use Rattle.timefd_sources.specs.declared.version.VersionPosition.TheVariants.{Digit, Unsaid, Call, Elsewhere}
 
 pub same_version : (text : Text) (d : Description) (before : List Edit)
     → Adds (AreVersionEdits text d None) before before
@@ -60,7 +60,7 @@ pub pushed : (text : Text) (from to : ℕ) (e : Edit) (before after : List Edit)
 pushed text from to e before after ranged whole =
     (e ∷ [], (e, record { range = ranged; text = refl }, refl), whole)
 
--- The same at places and in a text that are equal.
+-- An edit, given by indices and a text that are equal to its own.
 pub edited : {R E : Type 0} (text : Text) (from from' to to' : ℕ) (new new' : Text) (before after : List Edit)
     (done : Result R E) → from ≡ from' → to ≡ to' → new ≡ new'
     → OnOk done (Adds (IsOneEdit text from to new) before after)

@@ -1,4 +1,4 @@
--- What is told of one description.
+-- What is reported about one description.
 use Rattle.std.proofs.Common.{ℕ, ◌≡◌, Bool, true, false, Option, Some, List, refl, subst}
 use Rattle.std.specs.Prelude.{IfSome, IsUtf8, OnOk, Result, Ok, Err}
 use Rattle.timefd_component.specs.Tree.{Text, Tree}
@@ -15,26 +15,26 @@ use Rattle.timefd_editor.specs.Finding.{AreWarnings, IsNote, IsOne}
 use Rattle.timefd_editor.specs.Findings.{AreFaults, AreOn, IsFault, fault_words}
 use Rattle.timefd_fault.specs.Faults.{fault_of}
 use Rattle.timefd_language.specs.Grammar.{nesting_limit}
-use Rattle.timefd_lint_sources.specs.declared.told.End.TheVariants.{PassedOver, Accepted, Refused, NotText}
-use Rattle.timefd_lint_sources.specs.Judged.{is_passed_over, language_in, text_of, told_further}
+use Rattle.timefd_lint_sources.specs.declared.reported.End.TheVariants.{PassedOver, Accepted, Refused, NotText}
+use Rattle.timefd_lint_sources.specs.Judged.{is_passed_over, language_in, text_of, reported_further}
 use Rattle.timefd_lint_warnings.specs.Found.{found_by}
 use Rattle.timefd_parse.specs.declared.language.Language.{Language}
 use Rattle.timefd_parse.specs.Language.{SpellsIn, FaultIn}
 use Rattle.timefd_sources.specs.declared.description.Description.{Description}
-use Rattle.timefd_sources.specs.Found.{place_of}
+use Rattle.timefd_sources.specs.Found.{index_in_source}
 use Rattle.timefd_warnings.specs.declared.levels.Levels.{Levels}
 
 pub passed_over : (levels : Option Levels) (text : Text) (d : Description) (before : List Finding)
     → is_passed_over d.dialect (text_of d) ≡ true → Adds (AreOn levels text d) before before
 passed_over levels text d before is =
-    none_added (AreOn levels text d) before (record { end = PassedOver; is = is; told = refl })
+    none_added (AreOn levels text d) before (record { end = PassedOver; is = is; reported = refl })
 
 pub no_text : {R E : Type 0} (levels : Option Levels) (text : Text) (d : Description)
     (before after : List Finding) (done : Result R E) → is_passed_over d.dialect (text_of d) ≡ false
     → ¬ IsUtf8 (text_of d) → OnOk done (Adds (IsNote text d) before after)
     → OnOk done (Adds (AreOn levels text d) before after)
 no_text levels text d before after (Ok x) judges not (found, note, added) =
-    (found, record { end = NotText; is = (judges, not); told = note }, added)
+    (found, record { end = NotText; is = (judges, not); reported = note }, added)
 no_text levels text d before after (Err e) judges not added = tt
 
 pub with_list : {R E : Type 0} (levels : Option Levels) (text : Text) (d : Description) (language : Language)
@@ -43,7 +43,7 @@ pub with_list : {R E : Type 0} (levels : Option Levels) (text : Text) (d : Descr
     → description ≡ text_of d → SpellsIn language nesting_limit description list
     → warned ≡ found_by levels language list → OnOk done (Adds (AreWarnings text d warned) before after)
     → OnOk done (Adds (AreOn levels text d) before after)
-with_list levels text d language description list warned before after (Ok x) named judges utf8 same spelled are (found, told, added) = (
+with_list levels text d language description list warned before after (Ok x) named judges utf8 same spelled are (found, reported, added) = (
   found,
   record {
     end = Accepted warned;
@@ -59,7 +59,7 @@ with_list levels text d language description list warned before after (Ok x) nam
         ),
       ),
     );
-    told = told;
+    reported = reported;
   },
   added,
 )
@@ -72,10 +72,11 @@ pub with_fault : {R E : Type 0} (levels : Option Levels) (text : Text) (d : Desc
     → found ≡ Some g → IfSome found (λ x. FaultIn language nesting_limit description (fault_of x.fault))
     → IfSome found (IsDiagnosis language description)
     → ((more : List Diagnostic) × AreFurther most_further (language_in d) (without (language_in d) description (fault_of g.fault)) more
-    × (further ≡ told_further d.items more))
+    × (further ≡ reported_further d.items more))
     → OnOk done (Adds (AreFaults text d g further) before after)
     → OnOk done (Adds (AreOn levels text d) before after)
-with_fault levels text d language description found g further before after (Ok x) named judges utf8 same is faulty diagnosed (further', others, those) (more, told, added) =
+with_fault levels text d language description found g further before after (Ok x) named judges utf8 same is
+    faulty diagnosed (further', others, those) (more, reported, added) =
     let fault : FaultIn (language_in d) nesting_limit (text_of d) (fault_of g.fault) =
     subst (λ l. FaultIn l nesting_limit (text_of d) (fault_of g.fault)) named
     (subst (λ t. FaultIn language nesting_limit t (fault_of g.fault)) same
@@ -93,15 +94,15 @@ with_fault levels text d language description found g further before after (Ok x
           subst (λ t. is_passed_over d.dialect t ≡ false) same judges,
           (subst IsUtf8 same utf8, (fault_of g.fault, fault)),
         );
-        told = (
+        reported = (
           g,
           further,
           record {
             found = further';
             are = record { first = record { fault = fault; diagnosis = diagnosis }; further = rest };
-            told = those;
+            reported = those;
           },
-          told,
+          reported,
         );
       },
       added,
@@ -118,14 +119,14 @@ faults text d g further before middle after (Ok x) first others =
     before middle after (λ one rest is are. (one, rest, is, are, refl)) first others
 faults text d g further before middle after (Err e) first others = tt
 
-pub at_places : {R E : Type 0} (text : Text) (d : Description) (further : Bool) (g : Diagnostic)
+pub at_positions : {R E : Type 0} (text : Text) (d : Description) (further : Bool) (g : Diagnostic)
     (from to : ℕ) (name words : Text) (before after : List Finding) (done : Result R E)
-    → from ≡ place_of d g.span.start → to ≡ place_of d g.span.end
+    → from ≡ index_in_source d g.span.start → to ≡ index_in_source d g.span.end
     → name ≡ name_of (code_of (fault_of g.fault).kind) → words ≡ fault_words further g
     → OnOk done (Adds (IsOne text from to Error name words) before after)
     → OnOk done (Adds (IsFault text d further g) before after)
-at_places text d further g from to name words before after done begins ends named worded added =
-    subst (λ i. OnOk done (Adds (IsOne text i (place_of d g.span.end) Error
+at_positions text d further g from to name words before after done begins ends named worded added =
+    subst (λ i. OnOk done (Adds (IsOne text i (index_in_source d g.span.end) Error
     (name_of (code_of (fault_of g.fault).kind)) (fault_words further g)) before after)) begins
     (subst (λ i. OnOk done (Adds (IsOne text from i Error
     (name_of (code_of (fault_of g.fault).kind)) (fault_words further g)) before after)) ends

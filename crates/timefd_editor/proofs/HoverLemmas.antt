@@ -10,11 +10,11 @@ use Rattle.timefd_explain.specs.declared.node.Node.{Node}
 use Rattle.timefd_explain.specs.Examples.{Examples, HasExample}
 use Rattle.timefd_fault.specs.Faults.{fault_of}
 use Rattle.timefd_language.specs.Grammar.{nesting_limit}
-use Rattle.timefd_lint_sources.specs.declared.told.End.{End}
-use Rattle.timefd_lint_sources.specs.declared.told.End.TheVariants.{PassedOver, Accepted, Refused, NotText, Unread}
-use Rattle.timefd_lint_sources.specs.declared.told.Source.{Source}
+use Rattle.timefd_lint_sources.specs.declared.reported.End.{End}
+use Rattle.timefd_lint_sources.specs.declared.reported.End.TheVariants.{PassedOver, Accepted, Refused, NotText, Unread}
+use Rattle.timefd_lint_sources.specs.declared.reported.Source.{Source}
 use Rattle.timefd_lint_sources.specs.Judged.{language_in, text_of}
-use Rattle.timefd_lint_sources.specs.Told.{AllFound, AreAllOf, IsFound}
+use Rattle.timefd_lint_sources.specs.Reported.{AllFound, AreAllOf, IsFound}
 use Rattle.timefd_lint_warnings.specs.Found.{found_by}
 use Rattle.timefd_parse.specs.declared.language.Language.{Language}
 use Rattle.timefd_parse.specs.Language.{FaultIn, SpellsIn}
@@ -41,7 +41,7 @@ inner_from inner (m ∷ ns) at n so_far each is =
     by true covered = (each.0, covered)
     by false covered = so_far
 
--- The first description at an index is one of them, and stands there.
+-- The first description that covers an index is one of the descriptions, and covers it.
 first_is : (s : Source) (ds : List Description) (index : ℕ) (d : Description) → AllFound s ds
     → first_at ds index ≡ Some d → IsFound s d × IsTrue (is_at d.piece index)
 first_is s [] index d all is = absurd (none_is_some is)
@@ -56,7 +56,7 @@ first_is s (e ∷ ds) index d all is =
         (All-head (IsFound s) e ds all, stands)
     by false stands same later = later same
 
--- What is shown is a part of a description that stands there.
+-- What is shown is a part of a description that covers the index.
 by_node : (s : Source) (d : Description) (index : ℕ) (h : Hover) (ns : List Node) (o : Option Node)
     → IsFound s d → IsTrue (is_at d.piece index) → Examples ns → innermost ns (byte_at d index) ≡ o
     → IsShownOf s.text.now d o (Some h) → IsHoverIn s index h
@@ -113,7 +113,7 @@ at_first s ds index o (Ok found) all stand in_order first shown = record {
 }
 at_first s ds index o (Err e) all stand in_order first shown = tt
 
--- Of a refused text nothing is shown.
+-- For a refused text nothing is shown.
 pub refused : (document : Text) (d : Description) (language : Language) (text : Text) (at : ℕ)
     (found : Option Diagnostic) (g : Diagnostic) → language ≡ language_in d → IsUtf8 text → found ≡ Some g
     → IfSome found (λ x. FaultIn language nesting_limit text (fault_of x.fault))
@@ -131,7 +131,7 @@ refused document d language text at found g named utf8 is faulty = (
   refl,
 )
 
--- What the innermost part of an accepted text is, is shown.
+-- For an accepted text its innermost part is shown.
 pub accepted : {E : Type 0} (document : Text) (d : Description) (language : Language) (text : Text) (at : ℕ)
     (list : List Tree) (done : Result (Option Hover) E) → language ≡ language_in d → IsUtf8 text
     → SpellsIn language nesting_limit text list → IfOk done (IsShownIn document d language text at)

@@ -1,5 +1,5 @@
 pub mod WalkLemmas
-pub mod PlaceLemmas
+pub mod PositionLemmas
 pub mod EachLemmas
 pub mod WarningLemmas
 pub mod FindingLemmas

@@ -14,7 +14,7 @@ none : (w : Walk) (n : ℕ) → walked w (take {A = ℕ} n []) ≡ w
 none w zero = refl
 none w (suc n) = refl
 
--- Behind the bytes up to an index, those up to a later one are walked through.
+-- A walk up to a later index is the walk up to an earlier one, and then through the bytes between them.
 pub walked_on : (text : Text) (w : Walk) (i j : ℕ) → i ≤ j
     → walked w (take j text) ≡ walked (walked w (take i text)) (take (j - i) (drop i text))
 walked_on text w zero j below = simp unary_clauses refl

@@ -1,4 +1,4 @@
--- What is told of a description as a whole.
+-- What is reported about a description as a whole.
 use Rattle.std.proofs.Common.{ℕ, ◌≡◌, List, [], ◌∷◌, ◌++◌, refl, subst}
 use Rattle.std.specs.Prelude.{OnOk, Result, string_bytes}
 use Rattle.timefd_component.specs.Tree.{Text}
@@ -32,7 +32,7 @@ pub pushed : (text : Text) (from to : ℕ) (f : Finding) (before after : List Fi
 pushed text from to f before after ranged whole =
     (f ∷ [], (f, record { range = ranged; severity = refl; code = refl; message = refl }, refl), whole)
 
--- The same in other words that are equal.
+-- A finding, given by words that are equal to its own.
 pub in_words : {R E : Type 0} (text : Text) (from to : ℕ) (weight : Severity) (name name' words words' : Text)
     (before after : List Finding) (done : Result R E) → name ≡ name' → words ≡ words'
     → OnOk done (Adds (IsOne text from to weight name words) before after)

@@ -8,10 +8,10 @@ use Rattle.timefd_editor.specs.Each.{AreOf}
 use Rattle.timefd_editor.specs.Edits.{AreEdits}
 use Rattle.timefd_rewrite.specs.declared.fixes.Fixes.TheVariants as fixes
 use Rattle.timefd_language.specs.declared.description_version.DescriptionVersion.TheVariants as versions
-use Rattle.timefd_lint_sources.specs.declared.told.Finder.{Finder}
-use Rattle.timefd_lint_sources.specs.declared.told.Finder.TheVariants.{Rust, Keys}
-use Rattle.timefd_lint_sources.specs.declared.told.Source.{Source}
-use Rattle.timefd_rewrite_sources.specs.declared.answer.Anew.{Anew}
+use Rattle.timefd_lint_sources.specs.declared.reported.Finder.{Finder}
+use Rattle.timefd_lint_sources.specs.declared.reported.Finder.TheVariants.{Rust, Keys}
+use Rattle.timefd_lint_sources.specs.declared.reported.Source.{Source}
+use Rattle.timefd_rewrite_sources.specs.declared.answer.NewParts.{NewParts}
 use Rattle.timefd_rewrite_sources.specs.declared.answer.Answer.{Answer}
 use Rattle.timefd_rewrite_sources.specs.declared.answer.Answer.TheVariants.{Stays, Becomes}
 use Rattle.timefd_rewrite_sources.specs.declared.change.Change.{Change}
@@ -33,7 +33,7 @@ title_of (Mended fixes.All) = codes "Mend the format description by a guess"
 title_of (Least version) = codes "Rewrite the format description in version 3"
 title_of Normal = codes "Rewrite the format description in version 3"
 
--- A change is offered under its title, by these edits.
+-- A change is offered under its title, with these edits.
 pub record IsAction (change : Change) (text : Text) (d : Description) (digit : Option ℕ) (body : Option Text)
     (a : Action) : Type 0 where
   pub title : string_bytes a.title ≡ title_of change
@@ -44,16 +44,16 @@ abbrev pub IsOneAction : Change → Text → Description → Option ℕ → Opti
 IsOneAction change text d digit body actions =
     (a : Action) × IsAction change text d digit body a × (actions ≡ a ∷ [])
 
--- An inside that an editor can write is a text.
+-- An editor can write a body if it is UTF-8.
 abbrev pub IsWritable : Option Text → Type 0
 IsWritable None = ⊤
 IsWritable (Some body) = IsUtf8 body
 
--- What a description becomes is offered where it can be written, and nothing where it stays.
-abbrev pub IsBecoming : Change → Text → Description → Anew → Bool → List Action → Type 0
-IsBecoming change text d anew true actions =
-    IsOneAction change text d anew.digit (items_of anew.body) actions
-IsBecoming change text d anew false actions = (¬ IsWritable (items_of anew.body)) × (actions ≡ [])
+-- What a description becomes is offered if it can be written. If the description stays, nothing is offered.
+abbrev pub IsBecoming : Change → Text → Description → NewParts → Bool → List Action → Type 0
+IsBecoming change text d rewritten true actions =
+    IsOneAction change text d rewritten.digit (items_of rewritten.body) actions
+IsBecoming change text d rewritten false actions = (¬ IsWritable (items_of rewritten.body)) × (actions ≡ [])
 
 abbrev pub IsStaying : Bool → List Action → Type 0
 IsStaying true actions = ⊥
@@ -61,7 +61,7 @@ IsStaying false actions = actions ≡ []
 
 abbrev pub IsOfferOf : Change → Text → Description → Answer → Bool → List Action → Type 0
 IsOfferOf change text d (Stays outcome) done actions = IsStaying done actions
-IsOfferOf change text d (Becomes anew) done actions = IsBecoming change text d anew done actions
+IsOfferOf change text d (Becomes rewritten) done actions = IsBecoming change text d rewritten done actions
 
 -- What the linter would make of the description by this change, and whether that is offered.
 pub record IsOffer (change : Change) (text : Text) (d : Description) (done : Bool) (actions : List Action)
@@ -70,13 +70,13 @@ pub record IsOffer (change : Change) (text : Text) (d : Description) (done : Boo
   pub is : IsAnswer change text d answer
   pub offered : IsOfferOf change text d answer done actions
 
--- A description is mended by what is sure, or else by guesses.
+-- A description is fixed by a sure fix, or else by guesses.
 abbrev pub AreMends : Text → Description → List Action → Type 0
 AreMends text d actions = IsOffer (Mended fixes.Sure) text d true actions
     ⊎ ((done : Bool) × IsOffer (Mended fixes.Sure) text d false []
     × IsOffer (Mended fixes.All) text d done actions)
 
--- and rewritten in version 3
+-- A description of an older version is rewritten in version 3.
 abbrev pub AreRewrites : Text → Description → List Action → Type 0
 AreRewrites text d actions = (done : Bool) × IsOffer (Least versions.Three) text d done actions
 
@@ -84,7 +84,7 @@ abbrev pub AreOffers : Text → Description → List Action → Type 0
 AreOffers text d actions = (mends : List Action) × (rewrites : List Action)
     × AreMends text d mends × AreRewrites text d rewrites × (actions ≡ mends ++ rewrites)
 
--- whether a literal has a place in common with these bytes, also where it only touches them
+-- whether a literal overlaps or touches these bytes
 abbrev pub overlaps : Piece → ℕ → ℕ → Bool
 overlaps p from to = nat_le p.start to && nat_le from p.end
 
@@ -95,7 +95,8 @@ AreOffersIf false text d actions = actions ≡ []
 abbrev pub AreActionsIn : Text → ℕ → ℕ → Description → List Action → Type 0
 AreActionsIn text from to d actions = AreOffersIf (overlaps d.piece from to) text d actions
 
--- All that can be done to the descriptions in a source of Rust that overlap these bytes, each in turn.
+-- All that can be done to the descriptions in a source of Rust that overlap or touch these bytes, one after
+-- another.
 pub record AreRustActions (from to : ℕ) (text : Text) (actions : List Action) : Type 0 where
   pub descriptions : List Description
   pub all : AreDescriptionsOf text descriptions

@@ -1,4 +1,4 @@
--- One thing that is wrong in a document, and what is told of a description as a whole.
+-- One thing that is wrong in a document, and what is reported about a description as a whole.
 use Rattle.std.specs.Prelude.{ℕ, ◌≡◌, List, [], ◌∷◌, codes, string_bytes}
 use Rattle.timefd_component.specs.Tree.{Text}
 use Rattle.timefd_editor.specs.declared.finding.Finding.{Finding}
@@ -14,7 +14,7 @@ use Rattle.timefd_warnings.specs.declared.warning.Warning as warnings
 use Rattle.timefd_warnings.specs.Codes.{all, name_of, sentence_of}
 use Rattle.timefd_warnings.specs.Levels.{level_of}
 
--- It stands at these bytes of the document, under this name, with this sentence.
+-- It is at these bytes of the document, with this name and this sentence.
 pub record IsFinding (text : Text) (from to : ℕ) (weight : Severity) (name sentence : Text) (f : Finding)
     : Type 0 where
   pub range : f.range ≡ range_of text from to
@@ -22,24 +22,24 @@ pub record IsFinding (text : Text) (from to : ℕ) (weight : Severity) (name sen
   pub code : f.code.now ≡ name
   pub message : string_bytes f.message ≡ sentence
 
--- that alone
+-- one finding, and no other
 abbrev pub IsOne : Text → ℕ → ℕ → Severity → Text → Text → List Finding → Type 0
 IsOne text from to severity code message found =
     (f : Finding) × IsFinding text from to severity code message f × (found ≡ f ∷ [])
 
--- What is told of a description as a whole stands at its literal.
+-- What is reported about a description as a whole is at its literal.
 abbrev pub IsAtLiteral : Text → Description → Severity → Text → Text → List Finding → Type 0
 IsAtLiteral text d severity code message found =
     IsOne text d.piece.start d.piece.end severity code message found
 
-abbrev pub IsTold : Text → Description → Severity → warnings.Warning → List Finding → Type 0
-IsTold text d severity w found = IsAtLiteral text d severity (name_of w) (sentence_of w) found
+abbrev pub IsReported : Text → Description → Severity → warnings.Warning → List Finding → Type 0
+IsReported text d severity w found = IsAtLiteral text d severity (name_of w) (sentence_of w) found
 
--- A warning of this level: nothing where it is allowed, and an error where it is denied.
+-- A warning at its level: nothing if it is allowed, an error if it is denied.
 abbrev pub IsWarnedAt : Text → Description → Level → warnings.Warning → List Finding → Type 0
 IsWarnedAt text d Allowed w found = found ≡ []
-IsWarnedAt text d Warned w found = IsTold text d Warning w found
-IsWarnedAt text d Denied w found = IsTold text d Error w found
+IsWarnedAt text d Warned w found = IsReported text d Warning w found
+IsWarnedAt text d Denied w found = IsReported text d Error w found
 
 abbrev pub IsWarned : Text → Description → Levels → warnings.Warning → List Finding → Type 0
 IsWarned text d warned w found = IsWarnedAt text d (level_of warned w) w found
@@ -48,7 +48,7 @@ IsWarned text d warned w found = IsWarnedAt text d (level_of warned w) w found
 abbrev pub AreWarnings : Text → Description → Levels → List Finding → Type 0
 AreWarnings text d warned found = AreOf (IsWarned text d warned) all found
 
--- that a description is no UTF-8
+-- the report that a description isn't UTF-8
 abbrev pub IsNote : Text → Description → List Finding → Type 0
 IsNote text d found =
-    IsAtLiteral text d Error (codes "not-text") (codes "the bytes are no UTF-8") found
+    IsAtLiteral text d Error (codes "not-text") (codes "the bytes aren't UTF-8") found

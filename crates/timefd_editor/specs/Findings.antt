@@ -5,37 +5,37 @@ use Rattle.timefd_diagnosis.specs.declared.diagnostic.Diagnostic.{Diagnostic}
 use Rattle.timefd_drawing.specs.HelpText.{help_text}
 use Rattle.timefd_drawing.specs.Sarif.{with_help}
 use Rattle.timefd_fault.specs.Codes.{code_of, name_of}
-use Rattle.timefd_drawing.specs.Sentence.{told_sentence}
+use Rattle.timefd_drawing.specs.Sentence.{reported_sentence}
 use Rattle.timefd_editor.specs.declared.finding.Finding.{Finding}
 use Rattle.timefd_editor.specs.declared.finding.Severity.TheVariants.{Error}
 use Rattle.timefd_editor.specs.Each.{AreOf}
 use Rattle.timefd_editor.specs.Finding.{AreWarnings, IsNote, IsOne}
 use Rattle.timefd_fault.specs.Faults.{fault_of}
-use Rattle.timefd_lint_sources.specs.declared.told.End.{End}
-use Rattle.timefd_lint_sources.specs.declared.told.End.TheVariants.{PassedOver, Accepted, Refused, NotText, Unread}
-use Rattle.timefd_lint_sources.specs.declared.told.Source.{Source}
+use Rattle.timefd_lint_sources.specs.declared.reported.End.{End}
+use Rattle.timefd_lint_sources.specs.declared.reported.End.TheVariants.{PassedOver, Accepted, Refused, NotText, Unread}
+use Rattle.timefd_lint_sources.specs.declared.reported.Source.{Source}
 use Rattle.timefd_lint_sources.specs.Judged.{AreDiagnosedOf, IsEndOf}
-use Rattle.timefd_lint_sources.specs.Told.{AreJudgedIn}
+use Rattle.timefd_lint_sources.specs.Reported.{AreJudgedIn}
 use Rattle.timefd_sources.specs.declared.description.Description.{Description}
-use Rattle.timefd_sources.specs.Found.{place_of}
+use Rattle.timefd_sources.specs.Found.{index_in_source}
 use Rattle.timefd_warnings.specs.declared.levels.Levels.{Levels}
 
--- what is said of a fault: the sentence that the linter tells, and what helps
+-- the words for a fault: the linter's sentence, and what helps
 abbrev pub fault_words : Bool → Diagnostic → Text
-fault_words further g = with_help (told_sentence further (fault_of g.fault)) (help_text g.help)
+fault_words further g = with_help (reported_sentence further (fault_of g.fault)) (help_text g.help)
 
--- A fault stands at its bytes, with these words.
+-- A fault is at its bytes, with these words.
 abbrev pub IsFault : Text → Description → Bool → Diagnostic → List Finding → Type 0
 IsFault text d further g found =
-    IsOne text (place_of d g.span.start) (place_of d g.span.end) Error
+    IsOne text (index_in_source d g.span.start) (index_in_source d g.span.end) Error
     (name_of (code_of (fault_of g.fault).kind)) (fault_words further g) found
 
--- the first fault, and behind it the further ones
+-- the first fault, followed by the further ones
 abbrev pub AreFaults : Text → Description → Diagnostic → List Diagnostic → List Finding → Type 0
 AreFaults text d g further found = (one : List Finding) × (rest : List Finding)
     × IsFault text d false g one × AreOf (IsFault text d true) further rest × (found ≡ one ++ rest)
 
--- What is wrong with a description, by what came of it.
+-- What is wrong with a description, by how its check ended.
 abbrev pub AreBy : Text → Description → End → List Finding → Type 0
 AreBy text d PassedOver found = found ≡ []
 AreBy text d (Accepted warned) found = AreWarnings text d warned found
@@ -47,10 +47,10 @@ AreBy text d Unread found = ⊥
 pub record AreOn (levels : Option Levels) (text : Text) (d : Description) (found : List Finding) : Type 0 where
   pub end : End
   pub is : IsEndOf levels d end
-  pub told : AreBy text d end found
+  pub reported : AreBy text d end found
 
--- All that is wrong with the descriptions in a source, each in turn.
+-- All that is wrong with the descriptions in a source, one after another.
 pub record AreFindingsOf (levels : Option Levels) (s : Source) (found : List Finding) : Type 0 where
   pub descriptions : List Description
   pub judged : AreJudgedIn s descriptions
-  pub told : AreOf (AreOn levels s.text.now) descriptions found
+  pub reported : AreOf (AreOn levels s.text.now) descriptions found

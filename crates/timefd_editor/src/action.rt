@@ -10,38 +10,38 @@ use crate::counter::range_from;
 use crate::finding::Spot;
 use crate::position::Range;
 use std::alloc::{AllocError, Global};
-use timefd_sources::{VersionPlace, body_end, inside};
+use timefd_sources::{VersionPosition, body_end, inside};
 
 /// What an action is for.
 #[derive(Clone, Copy)]
 pub enum ActionKind {
-    /// It mends what is at fault, by what is sure.
+    /// Fixes a fault in a way that is sure to be right.
     QuickFix,
-    /// It mends what is at fault, by a guess.
+    /// Fixes a fault by a guess.
     Guess,
-    /// It writes what is right in another way.
+    /// Writes a correct description in another way.
     Rewrite,
 }
 
-/// Another text in the place of a range; a range of no character is where the text is put in.
+/// Replaces a range by another text. An empty range only inserts the text.
 #[derive(Drop)]
 pub struct Edit {
     pub range: Range,
     pub text: String,
 }
 
-/// What an editor offers.
+/// An action that an editor offers.
 #[derive(Drop)]
 pub struct Action {
-    /// What it does, in words.
+    /// The title: what the action does, in words.
     pub title: String,
     pub kind: ActionKind,
-    /// All that it changes: the number of a description's version, what stands between its quotes, or
-    /// both. They don't overlap.
+    /// All changes: of the number for a description's version, of the text between its quotes, or of both.
+    /// They don't overlap.
     pub edits: Vec<Edit>,
 }
 
-/// Adds the edits that write another digit and another inside of a description's literal.
+/// Adds the edits that replace a description's version digit and the text in its literal.
 #[tactic(auto, using(crate::proofs::EditLemmas::both))]
 pub fn push_edits(
     alloc: Global,
@@ -73,14 +73,14 @@ fn push_version(
         return Ok(());
     };
     match spot.description.version {
-        VersionPlace::Digit(at) => push_digit(alloc, spot, at, digit, edits),
-        VersionPlace::Unsaid => push_argument(alloc, spot, digit, edits),
-        VersionPlace::Call => Ok(()),
-        VersionPlace::Elsewhere => Ok(()),
+        VersionPosition::Digit(at) => push_digit(alloc, spot, at, digit, edits),
+        VersionPosition::Unsaid => push_argument(alloc, spot, digit, edits),
+        VersionPosition::Call => Ok(()),
+        VersionPosition::Elsewhere => Ok(()),
     }
 }
 
-// Adds that another digit stands at a place.
+// Adds the edit that writes another digit at this index.
 fn push_digit(
     alloc: Global,
     spot: Spot<'_>,
@@ -96,7 +96,7 @@ fn push_digit(
     push_edit(edits, spot, at, at.saturating_add(1), text)
 }
 
-// Adds that an argument in front of a description's literal says its version.
+// Adds the edit that inserts an argument with the version before a description's literal.
 fn push_argument(
     alloc: Global,
     spot: Spot<'_>,
@@ -113,7 +113,7 @@ fn push_argument(
     push_edit(edits, spot, start, start, text)
 }
 
-// The digit of a version, as a text.
+// A version's digit, as a text.
 fn digit_text(digit: u8) -> &'static str
     ensures { result.now ≡ spec.digit_text digit }
 {
@@ -146,7 +146,7 @@ fn push_body(
     push_edit(edits, spot, start, end, text)
 }
 
-// How many bytes stand between the quotes of a description's literal.
+// How many bytes are between the quotes of a description's literal.
 fn inside_len(spot: Spot<'_>) -> usize
     ensures { result ≡ spec.inside_len spot.entry.text.now spot.entry.description.now }
 {

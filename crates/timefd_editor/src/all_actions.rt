@@ -14,13 +14,13 @@ use std::str;
 use timefd_lint_sources::{Finder, Source};
 use timefd_parse::DescriptionVersion;
 use timefd_rewrite::Fixes;
-use timefd_rewrite_sources::{Anew, Answer, Change, answer_to};
-use timefd_sources::version::first_place;
+use timefd_rewrite_sources::{Answer, Change, NewParts, answer_to};
+use timefd_sources::version::first_position;
 use timefd_sources::{Description, Piece, descriptions_of};
 
-/// What can be done to the descriptions that overlap or touch the bytes from `start` up to `end`: each
-/// that is at fault is mended, by what is sure or else by guesses, and each of an older version is
-/// rewritten in version 3. In files with keys nothing is offered. An `Err` says that memory ran out.
+/// What can be done to the descriptions that overlap or touch the bytes from `start` up to `end`. A
+/// description with a fault is fixed, by a sure fix or else by guesses. One of an older version is rewritten
+/// in version 3. In files with keys nothing is offered. An `Err` says that memory ran out.
 #[tactic(auto, using(crate::proofs::ActionLemmas::by_rust, crate::proofs::ActionLemmas::by_keys))]
 pub fn actions(
     alloc: Global,
@@ -41,7 +41,7 @@ pub fn actions(
     }
 }
 
-// Adds what can be done to those of these descriptions that overlap some bytes.
+// Adds what can be done to those of the descriptions that overlap or touch some bytes.
 #[tactic(auto, using(crate::proofs::EachLemmas::at_first, crate::proofs::EachLemmas::at_last))]
 fn push_all(
     alloc: Global,
@@ -61,7 +61,7 @@ fn push_all(
     Ok(())
 }
 
-// Adds what can be done to a description, if it overlaps some bytes. It answers up to where the document
+// Adds what can be done to a description, if it overlaps or touches some bytes. Returns how far the document
 // is counted then.
 #[tactic(auto, using(crate::proofs::ActionLemmas::apart, crate::proofs::ActionLemmas::within))]
 fn push_in(
@@ -80,7 +80,7 @@ fn push_in(
     if !overlaps(description.piece, bytes.0, bytes.1) {
         return Ok(counter);
     }
-    let first = first_place(description.version, description.piece.start);
+    let first = first_position(description.version, description.piece.start);
     let counter = counted(text, counter, first);
     let spot = Spot {
         text,
@@ -91,7 +91,7 @@ fn push_in(
     Ok(counter)
 }
 
-// Whether a literal has a place in common with some bytes, also where it only touches them.
+// Whether a literal overlaps or touches the bytes from `start` up to `end`.
 fn overlaps(piece: Piece, start: usize, end: usize) -> bool
     ensures { result ≡ spec.overlaps piece start end }
 {
@@ -111,7 +111,7 @@ fn push_offers(alloc: Global, spot: Spot<'_>, actions: &mut Vec<Action>) -> Resu
     Ok(())
 }
 
-// Adds how a description is mended: by guesses only where it isn't by what is sure.
+// Adds the fix of a description: by guesses only if there is no sure fix.
 #[tactic(auto, using(crate::proofs::ActionLemmas::surely, crate::proofs::ActionLemmas::by_guesses))]
 fn push_mends(alloc: Global, spot: Spot<'_>, actions: &mut Vec<Action>) -> Result<(), AllocError>
     requires { IsCounted spot.text.now spot.counter }
@@ -125,7 +125,7 @@ fn push_mends(alloc: Global, spot: Spot<'_>, actions: &mut Vec<Action>) -> Resul
     Ok(())
 }
 
-// Adds this change of a description, if it changes; whether it does.
+// Adds this change of a description, if it changes anything. Returns whether it does.
 #[tactic(auto, using(crate::proofs::ActionLemmas::stays, crate::proofs::ActionLemmas::becomes))]
 fn push_offer(
     alloc: Global,
@@ -139,30 +139,30 @@ fn push_offer(
 {
     match answer_to(alloc, change, spot.text, spot.description)? {
         Answer::Stays(_) => Ok(false),
-        Answer::Becomes(anew) => push_becoming(alloc, spot, change, &anew, actions),
+        Answer::Becomes(rewritten) => push_becoming(alloc, spot, change, &rewritten, actions),
     }
 }
 
-// Adds what a description becomes, if an editor can write that; whether it can.
+// Adds the new text of a description, if an editor can write it. Returns whether it can.
 #[tactic(auto, using(crate::proofs::ActionLemmas::same_text, crate::proofs::ActionLemmas::other_text, crate::proofs::ActionLemmas::no_text))]
 fn push_becoming(
     alloc: Global,
     spot: Spot<'_>,
     change: Change,
-    anew: &Anew,
+    rewritten: &NewParts,
     actions: &mut Vec<Action>,
 ) -> Result<bool, AllocError>
     requires { IsCounted spot.text.now spot.counter }
-    ensures { IfOk result (λ done. Adds (IsBecoming change spot.entry.text.now spot.entry.description.now anew.now done)
+    ensures { IfOk result (λ done. Adds (IsBecoming change spot.entry.text.now spot.entry.description.now rewritten.now done)
         actions.old.items actions.new.items) }
 {
-    let Some(body) = &anew.body else {
-        push_action(alloc, spot, change, anew.digit, None, actions)?;
+    let Some(body) = &rewritten.body else {
+        push_action(alloc, spot, change, rewritten.digit, None, actions)?;
         return Ok(true);
     };
     match str::from_utf8(body) {
         Ok(text) => {
-            push_action(alloc, spot, change, anew.digit, Some(text), actions)?;
+            push_action(alloc, spot, change, rewritten.digit, Some(text), actions)?;
             Ok(true)
         }
         Err(_) => Ok(false),

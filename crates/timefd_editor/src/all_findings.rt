@@ -19,8 +19,8 @@ use timefd_sources::Description;
 use timefd_warnings::Levels;
 
 /// All that is wrong in a source, in order: the first fault of each description that its language refuses,
-/// its further ones, a description that is no UTF-8, and the warnings that `levels` asks for. An `Err`
-/// says that memory ran out.
+/// its further faults, a description that isn't UTF-8, and the warnings that `levels` asks for. An `Err` says
+/// that memory ran out.
 pub fn findings(
     alloc: Global,
     source: Source<'_>,
@@ -81,7 +81,7 @@ fn push_on(
     }
 }
 
-// Adds what is wrong with a description that is this text.
+// Adds what is wrong with a description that has this text.
 fn push_judged(
     alloc: Global,
     spot: Spot<'_>,

@@ -1,5 +1,5 @@
-//! Places in a document that is counted on from an earlier place, so that it isn't counted from its start for
-//! each.
+//! Positions in a document. Counting goes on from an earlier position, as counting from the start for each
+//! would be slow.
 
 ghost use Rattle.std.specs.Prelude.{◌≡◌, ◌≤◌, length, take};
 ghost use Rattle.timefd_editor.specs.Positions.{IsCounted};
@@ -8,16 +8,16 @@ ghost use Rattle.timefd_editor.specs.Positions as spec;
 use crate::position::{Position, Range, char_start};
 use crate::walk::Walk;
 
-/// Up to where a document is counted.
+/// How far a document is counted.
 #[derive(Clone, Copy)]
 pub struct Counter {
-    /// The byte index.
+    /// The byte index up to which it is counted.
     pub at: usize,
-    /// The walk up to there.
+    /// The walk up to that index.
     pub walk: Walk,
 }
 
-/// In front of a document.
+/// A counter at the start of a document.
 pub fn none_counted(text: &str) -> Counter
     ensures { IsCounted text.now result }
 {
@@ -27,11 +27,11 @@ pub fn none_counted(text: &str) -> Counter
     }
 }
 
-/// Counts a document up to an index: on from what is counted, if that isn't behind it.
+/// Counts a document up to an index. Counting goes on from `from`, unless that is after the index.
 pub fn counted(text: &str, from: Counter, index: usize) -> Counter
     requires { IsCounted text.now from }
     ensures counted { IsCounted text.now result }
-    ensures place { result.walk.position ≡ spec.position_of text.now index }
+    ensures position { result.walk.position ≡ spec.position_of text.now index }
 {
     let bytes = text.as_bytes();
     let at = char_start(bytes, index).min(bytes.len());
@@ -54,7 +54,7 @@ fn walk_to(text: &str, from: Counter, at: usize) -> Walk
     from.walk.through(&bytes[from.at..at])
 }
 
-/// What stands between two indices of a document.
+/// The range between two byte indices of a document.
 pub fn range_from(text: &str, from: Counter, start: usize, end: usize) -> Range
     requires { IsCounted text.now from }
     ensures { result ≡ spec.range_of text.now start end }

@@ -9,11 +9,11 @@ use crate::finding::{Finding, Severity, Spot, push};
 use std::alloc::{AllocError, Global};
 use timefd_diagnosis::{Diagnostic, code_of};
 use timefd_drawing::help_text::help_text;
+use timefd_drawing::reported_sentence;
 use timefd_drawing::sarif::with_help;
-use timefd_drawing::told_sentence;
-use timefd_sources::place_of;
+use timefd_sources::index_in_source;
 
-/// Adds the first fault of a description, and its further ones.
+/// Adds the first fault of a description, and then its further ones. An `Err` says that memory ran out.
 pub fn push_faults(
     alloc: Global,
     spot: Spot<'_>,
@@ -59,17 +59,17 @@ fn push_fault(
         found.old.items found.new.items) }
 {
     let message = words_on(alloc, is_further, diagnostic)?;
-    let start = place_of(spot.description, diagnostic.span.start);
-    let end = place_of(spot.description, diagnostic.span.end);
+    let start = index_in_source(spot.description, diagnostic.span.start);
+    let end = index_in_source(spot.description, diagnostic.span.end);
     let code = code_of(diagnostic);
     push(found, spot, start, end, Severity::Error, code, message)
 }
 
-// What is said of a fault: a sentence, and what helps.
+// The words for a fault: a sentence, and what helps.
 fn words_on(alloc: Global, is_further: bool, diagnostic: &Diagnostic) -> Result<String, AllocError>
     ensures { IfOk result (λ words. string_bytes words ≡ fault_words is_further diagnostic.now) }
 {
-    let sentence = told_sentence(alloc, is_further, &diagnostic.fault)?;
+    let sentence = reported_sentence(alloc, is_further, &diagnostic.fault)?;
     let help = help_text(alloc, diagnostic.help)?;
     with_help(alloc, &sentence, &help)
 }

@@ -10,10 +10,10 @@ use crate::position::Range;
 use std::alloc::AllocError;
 use timefd_sources::Description;
 
-/// How bad it is.
+/// How bad a finding is.
 #[derive(Clone, Copy)]
 pub enum Severity {
-    /// A fault, or a warning that is denied.
+    /// A fault, or a denied warning.
     Error,
     /// Any other warning.
     Warning,
@@ -22,28 +22,28 @@ pub enum Severity {
 /// Something that is wrong.
 #[derive(Drop)]
 pub struct Finding {
-    /// Where it stands.
+    /// Where it is in the document.
     pub range: Range,
     /// How bad it is.
     pub severity: Severity,
-    /// Its stable name.
+    /// The stable name of its kind.
     pub code: &'static str,
-    /// A sentence on it.
+    /// A sentence about it.
     pub message: String,
 }
 
-/// A description of a document, and up to where the document is counted.
+/// A description of a document, and how far the document is counted.
 #[derive(Clone, Copy)]
 pub struct Spot<'a> {
-    /// The document.
+    /// The document's text.
     pub text: &'a str,
-    /// The description, which stands in it.
+    /// The description, which is in that document.
     pub description: &'a Description,
-    /// Up to where it is counted.
+    /// How far the document is counted.
     pub counter: Counter,
 }
 
-/// Adds what is wrong with the bytes from an index up to another.
+/// Adds a finding for the bytes from one index up to another. An `Err` says that memory ran out.
 pub fn push(
     found: &mut Vec<Finding>,
     spot: Spot<'_>,

@@ -1,12 +1,12 @@
-//! What is shown of a part of a description.
+//! What is shown for a part of a description.
 
 use crate::position::Range;
 
-/// What is shown of a part of a description.
+/// What is shown for a part of a description.
 #[derive(Drop)]
 pub struct Hover {
-    /// The part.
+    /// Where the part is.
     pub range: Range,
-    /// What it is, how many bytes it reserves, and what it is written as, in two lines.
+    /// What the part is, how many bytes it reserves, and an example of what it writes, in two lines.
     pub text: String,
 }

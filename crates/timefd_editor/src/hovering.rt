@@ -13,10 +13,11 @@ use timefd_drawing::shown::safe;
 use timefd_explain::{Node, explanation_of};
 use timefd_lint_sources::{Source, descriptions_in, is_passed_over, language_of};
 use timefd_parse::Language;
-use timefd_sources::{Description, Piece, place_of};
+use timefd_sources::{Description, Piece, index_in_source};
 
 /// What the part at a byte index means, in a description that its language accepts: the component with its
-/// modifiers, the bytes that it reserves, an example. An `Err` says that memory ran out.
+/// modifiers, the bytes that it reserves, and an example. `None` if there is no such part. An `Err` says that
+/// memory ran out.
 pub fn hover(alloc: Global, source: Source<'_>, index: usize) -> Result<Option<Hover>, AllocError>
     ensures part { IfOk result (λ found. IfSome found (IsHoverIn source.entry index)) }
     ensures shown { IfOk result (IsShownAt source.entry index) }
@@ -28,7 +29,7 @@ pub fn hover(alloc: Global, source: Source<'_>, index: usize) -> Result<Option<H
     }
 }
 
-// The first description whose literal stands at an index.
+// The first description whose literal covers an index.
 fn first_at(descriptions: &[Description], index: usize) -> Option<&Description>
     ensures { option_map (λ found. found.now) result ≡ spec.first_at descriptions.now index }
 {
@@ -40,14 +41,14 @@ fn first_at(descriptions: &[Description], index: usize) -> Option<&Description>
     None
 }
 
-// Whether a literal stands at an index.
+// Whether a literal covers an index.
 fn is_at(piece: Piece, index: usize) -> bool
     ensures { result ≡ spec.is_at piece index }
 {
     piece.start <= index && index < piece.end
 }
 
-// What is shown of the part of a description that stands at an index of its document.
+// What is shown for the part of a description at an index of its document.
 fn hover_on(
     alloc: Global,
     text: &str,
@@ -61,41 +62,42 @@ fn hover_on(
         return Ok(None);
     }
     match str::from_utf8(bytes) {
-        Ok(told) => {
-            let at = index_in(&description.unescaped.places, index);
-            hover_at(alloc, text, description, told, at)
+        Ok(reported) => {
+            let at = index_in(&description.unescaped.positions, index);
+            hover_at(alloc, text, description, reported, at)
         }
         Err(_) => Ok(None),
     }
 }
 
-// The index of the last byte of a description that stands at a place of its document or in front of that.
-fn index_in(places: &[usize], place: usize) -> usize
-    ensures { result ≡ spec.index_in places.now place }
+// The index of the last byte of a description that comes from this position of its document, or from an
+// earlier one.
+fn index_in(positions: &[usize], position: usize) -> usize
+    ensures { result ≡ spec.index_in positions.now position }
 {
     let mut at = 0;
-    for (index, other) in places.iter().enumerate() {
-        if *other <= place {
+    for (index, other) in positions.iter().enumerate() {
+        if *other <= position {
             at = index;
         }
     }
     at
 }
 
-// What is shown of the part of a description, which is this text, at an index of it.
+// What is shown for the part at an index of this text, which is the description's.
 fn hover_at(
     alloc: Global,
     text: &str,
     description: &Description,
-    told: &str,
+    reported: &str,
     at: usize,
 ) -> Result<Option<Hover>, AllocError>
-    ensures { IfOk result (IsShownWhere text.now description.now told.now at) }
+    ensures { IfOk result (IsShownWhere text.now description.now reported.now at) }
 {
     let language = language_of(description.dialect);
-    match diagnose(alloc, language, told)? {
+    match diagnose(alloc, language, reported)? {
         Some(_) => Ok(None),
-        None => shown(alloc, text, description, language, told, at),
+        None => shown(alloc, text, description, language, reported, at),
     }
 }
 
@@ -104,12 +106,12 @@ fn shown(
     text: &str,
     description: &Description,
     language: Language,
-    told: &str,
+    reported: &str,
     at: usize,
 ) -> Result<Option<Hover>, AllocError>
-    ensures { IfOk result (IsShownIn text.now description.now language told.now at) }
+    ensures { IfOk result (IsShownIn text.now description.now language reported.now at) }
 {
-    let nodes = explanation_of(alloc, language, told)?.nodes;
+    let nodes = explanation_of(alloc, language, reported)?.nodes;
     match innermost(&nodes, at) {
         Some(node) => {
             let hover = hover_of(alloc, text, description, node)?;
@@ -119,7 +121,7 @@ fn shown(
     }
 }
 
-// The last node that covers an index: each stands in front of those that it holds.
+// The last node that covers an index. A node comes before the nodes inside it, so it is the innermost one.
 fn innermost(nodes: &[Node], at: usize) -> Option<&Node>
     ensures { option_map (λ node. node.now) result ≡ spec.innermost nodes.now at }
 {
@@ -138,7 +140,7 @@ fn covers(node: &Node, at: usize) -> bool
     node.start <= at && at < node.end
 }
 
-// What is shown of a node.
+// What is shown for a node.
 fn hover_of(
     alloc: Global,
     text: &str,
@@ -147,8 +149,8 @@ fn hover_of(
 ) -> Result<Hover, AllocError>
     ensures { IfOk result (IsHoverOf text.now description.now node.now) }
 {
-    let start = place_of(description, node.start);
-    let end = place_of(description, node.end);
+    let start = index_in_source(description, node.start);
+    let end = index_in_source(description, node.end);
     Ok(Hover {
         range: range_from(text, none_counted(text), start, end),
         text: words_on(alloc, node)?,
@@ -163,7 +165,7 @@ fn words_on(alloc: Global, node: &Node) -> Result<String, AllocError>
     format!(in alloc; "{words}\nat most {bytes} bytes{example}")
 }
 
-// What a part is written as, where that is said.
+// The line with an example, if there is one.
 fn example_in(alloc: Global, example: &str) -> Result<String, AllocError>
     ensures { IfOk result (λ words. string_bytes words ≡ spec.example_in example.now) }
 {

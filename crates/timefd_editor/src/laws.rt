@@ -1,8 +1,9 @@
-//! What holds of places, as the contracts of functions that do nothing.
+//! What holds for positions, as the contracts of functions that do nothing.
 
 ghost use Rattle.timefd_editor.specs.Positions.{RoundTrip};
 
-/// The index of an index's place is that index, between two characters and outside of `\r\n`.
+/// Turning an index into a position and back gives the same index, if it is between two characters and not
+/// inside of `\r\n`.
 pub fn round_trip()
     ensures { RoundTrip }
 {}

@@ -1,4 +1,5 @@
-//! What an editor shows of a document: what is wrong with the descriptions in it, and where.
+//! What an editor shows about a document: what is wrong with its descriptions, what they mean, and what can
+//! be done to them.
 #![tactic(auto)]
 
 mod action;

@@ -1,11 +1,11 @@
-//! Places in a document, as editors count them.
+//! Positions in a document, as editors count them.
 
 ghost use Rattle.std.specs.Prelude.{◌≡◌, ◌≤◌, length, slice_index};
 ghost use Rattle.timefd_editor.specs.Positions as spec;
 
 use crate::walk::{Walk, goes_on};
 
-/// A place in a document as the Language Server Protocol counts: lines from 0, each ended by `\n`,
+/// A position in a document, as the Language Server Protocol counts it: lines from 0, each ended by `\n`,
 /// `\r\n` or `\r`, and UTF-16 code units from the start of the line.
 #[derive(Clone, Copy, PartialEq, Eq)]
 pub struct Position {
@@ -13,15 +13,15 @@ pub struct Position {
     pub character: usize,
 }
 
-/// What stands from one place up to another.
+/// The text from one position up to another.
 #[derive(Clone, Copy, PartialEq, Eq)]
 pub struct Range {
     pub start: Position,
     pub end: Position,
 }
 
-/// The place of the byte at an index. Inside of a character it is that of the character's start, and
-/// behind the text that of the text's end. The newline of `\r\n` stands where the next line begins.
+/// The position of the byte at an index. An index inside of a character gives the character's start, and one
+/// after the text gives the text's end. The `\n` of `\r\n` is at the start of the next line.
 pub fn position_of(text: &str, index: usize) -> Position
     ensures { result ≡ spec.position_of text.now index }
 {
@@ -30,8 +30,9 @@ pub fn position_of(text: &str, index: usize) -> Position
     Walk::start().through(&bytes[..start]).position
 }
 
-/// The byte index of a place: behind the line's last character where the line is shorter, and the
-/// text's length behind the last line. A place between the two units of a character is its start.
+/// The byte index of a position. If the line is shorter, it is the index after the line's last character. If
+/// the text has fewer lines, it is the text's length. A position between the two units of a character gives
+/// the character's start.
 pub fn index_of(text: &str, position: Position) -> usize
     ensures index { result ≡ spec.index_of text.now position }
     ensures within { result ≤ length text.now }
@@ -47,7 +48,7 @@ pub fn index_of(text: &str, position: Position) -> usize
     bytes.len()
 }
 
-/// The start of the character that an index is inside of; any other index itself.
+/// The start of the character that an index is inside of, or the index itself if it isn't inside of one.
 #[tactic(auto, using(crate::proofs::WalkLemmas::char_start_at, crate::proofs::WalkLemmas::char_start_back))]
 pub fn char_start(text: &[u8], index: usize) -> usize
     ensures { result ≡ spec.char_start text.now index }
@@ -62,7 +63,7 @@ pub fn char_start(text: &[u8], index: usize) -> usize
     0
 }
 
-// Whether the byte at an index goes on with a character.
+// Whether the byte at an index continues a character.
 fn is_inside(text: &[u8], index: usize) -> bool
     ensures { result ≡ spec.goes_on (slice_index text.now index) }
 {

@@ -5,17 +5,17 @@ ghost use Rattle.timefd_editor.specs.Positions as spec;
 
 use crate::position::Position;
 
-/// How far a text is walked through.
+/// How far a walk through a text is.
 #[derive(Clone, Copy)]
 pub struct Walk {
-    /// The place of the byte that follows.
+    /// The position of the next byte.
     pub position: Position,
-    /// Whether a carriage return stands in front of it.
-    pub is_behind_return: bool,
+    /// Whether the previous byte is a carriage return.
+    pub is_after_return: bool,
 }
 
 impl Walk {
-    /// In front of a text.
+    /// A walk at the start of a text.
     pub fn start() -> Walk
         ensures { result ≡ spec.start }
     {
@@ -24,11 +24,11 @@ impl Walk {
                 line: 0,
                 character: 0,
             },
-            is_behind_return: false,
+            is_after_return: false,
         }
     }
 
-    /// Behind some bytes.
+    /// The walk after these bytes.
     pub fn through(self, bytes: &[u8]) -> Walk
         ensures { result ≡ spec.walked self bytes.now }
     {
@@ -39,31 +39,32 @@ impl Walk {
         walk
     }
 
-    /// Behind one more byte.
+    /// The walk after one more byte.
     pub fn step(self, byte: u8) -> Walk
         ensures { result ≡ spec.step self byte }
     {
         Walk {
             position: Position {
-                line: self.line_behind(byte),
-                character: self.character_behind(byte),
+                line: self.line_after(byte),
+                character: self.character_after(byte),
             },
-            is_behind_return: byte == b'\r',
+            is_after_return: byte == b'\r',
         }
     }
 
-    /// Whether this is the place that is sought, or the last one of its line: where this byte follows.
+    /// Whether a walk to `sought` stops here, before this byte: this is that position, or the last one of its
+    /// line.
     pub fn stops_at(self, sought: Position, byte: u8) -> bool
         ensures { result ≡ spec.stops_at self sought byte }
     {
         self.position.line == sought.line
             && !self.is_second(byte)
             && (is_line_end(byte)
-                || (!goes_on(byte) && sought.character < self.character_behind(byte)))
+                || (!goes_on(byte) && sought.character < self.character_after(byte)))
     }
 
-    fn line_behind(self, byte: u8) -> usize
-        ensures { result ≡ spec.line_behind self byte }
+    fn line_after(self, byte: u8) -> usize
+        ensures { result ≡ spec.line_after self byte }
     {
         if is_line_end(byte) && !self.is_second(byte) {
             self.position.line.saturating_add(1)
@@ -72,8 +73,8 @@ impl Walk {
         }
     }
 
-    fn character_behind(self, byte: u8) -> usize
-        ensures { result ≡ spec.character_behind self byte }
+    fn character_after(self, byte: u8) -> usize
+        ensures { result ≡ spec.character_after self byte }
     {
         if is_line_end(byte) {
             0
@@ -82,11 +83,11 @@ impl Walk {
         }
     }
 
-    // Whether a byte is the newline of `\r\n`, whose carriage return has ended the line.
+    // Whether the byte is the newline of `\r\n`, whose carriage return already ended the line.
     fn is_second(self, byte: u8) -> bool
         ensures { result ≡ spec.is_second self byte }
     {
-        self.is_behind_return && byte == b'\n'
+        self.is_after_return && byte == b'\n'
     }
 }
 
@@ -96,14 +97,14 @@ fn is_line_end(byte: u8) -> bool
     byte == b'\n' || byte == b'\r'
 }
 
-/// Whether a byte goes on with a character that an earlier one begins.
+/// Whether a byte continues a character that an earlier byte begins.
 pub fn goes_on(byte: u8) -> bool
     ensures { result ≡ spec.goes_on byte }
 {
     byte >= 0x80 && byte < 0xC0
 }
 
-// How many units the character has that a byte begins.
+// How many UTF-16 units the character has that a byte begins: 0 if the byte continues one.
 fn units(byte: u8) -> usize
     ensures { result ≡ spec.units byte }
 {

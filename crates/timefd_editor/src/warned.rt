@@ -1,15 +1,15 @@
-//! What is told of a description as a whole: its warnings, and that it is no text.
+//! What is reported about a description as a whole: its warnings, and that it isn't UTF-8.
 
 ghost use Rattle.std.specs.Prelude.{OnOk};
 ghost use Rattle.timefd_editor.specs.Each.{Adds, AreOf};
-ghost use Rattle.timefd_editor.specs.Finding.{AreWarnings, IsAtLiteral, IsNote, IsTold, IsWarned, IsWarnedAt};
+ghost use Rattle.timefd_editor.specs.Finding.{AreWarnings, IsAtLiteral, IsNote, IsReported, IsWarned, IsWarnedAt};
 ghost use Rattle.timefd_editor.specs.Positions.{IsCounted};
 
 use crate::finding::{Finding, Severity, Spot, push};
 use std::alloc::{AllocError, Global};
 use timefd_warnings::{Level, Levels, Warning};
 
-/// Adds the warnings that a description has, in the order of their codes.
+/// Adds the warnings of a description, in the order of their codes. An `Err` says that memory ran out.
 pub fn push_warnings(
     alloc: Global,
     spot: Spot<'_>,
@@ -70,12 +70,12 @@ fn push_at_level(
 {
     match level {
         Level::Allowed => Ok(()),
-        Level::Warned => push_told(alloc, spot, Severity::Warning, warning, found),
-        Level::Denied => push_told(alloc, spot, Severity::Error, warning, found),
+        Level::Warned => push_reported(alloc, spot, Severity::Warning, warning, found),
+        Level::Denied => push_reported(alloc, spot, Severity::Error, warning, found),
     }
 }
 
-fn push_told(
+fn push_reported(
     alloc: Global,
     spot: Spot<'_>,
     severity: Severity,
@@ -83,7 +83,7 @@ fn push_told(
     found: &mut Vec<Finding>,
 ) -> Result<(), AllocError>
     requires { IsCounted spot.text.now spot.counter }
-    ensures { OnOk result (Adds (IsTold spot.entry.text.now spot.entry.description.now severity warning)
+    ensures { OnOk result (Adds (IsReported spot.entry.text.now spot.entry.description.now severity warning)
         found.old.items found.new.items) }
 {
     push_at_literal(
@@ -96,7 +96,7 @@ fn push_told(
     )
 }
 
-/// Adds that a description is no UTF-8.
+/// Adds that a description isn't UTF-8. An `Err` says that memory ran out.
 pub fn push_note(alloc: Global, spot: Spot<'_>, found: &mut Vec<Finding>) -> Result<(), AllocError>
     requires { IsCounted spot.text.now spot.counter }
     ensures { OnOk result (Adds (IsNote spot.entry.text.now spot.entry.description.now)
@@ -107,12 +107,12 @@ pub fn push_note(alloc: Global, spot: Spot<'_>, found: &mut Vec<Finding>) -> Res
         spot,
         Severity::Error,
         "not-text",
-        "the bytes are no UTF-8",
+        "the bytes aren't UTF-8",
         found,
     )
 }
 
-// Adds what is told of a description as a whole: its literal is at fault.
+// Adds a finding about a description as a whole, at its literal.
 fn push_at_literal(
     alloc: Global,
     spot: Spot<'_>,

@@ -20,18 +20,18 @@ pub examples_more : (before after : List Node) (n : Node) → after ≡ before +
     → Examples before → Examples after
 examples_more before after n e has all = subst Examples (sym e) (one_more before n has all)
 
-told : (w : What) (words x : Text) → AreWordsOf w words → IsExampleOf w x
+reported : (w : What) (words x : Text) → AreWordsOf w words → IsExampleOf w x
     → IsExampleFor (kind_in w) words x
-told (what.Literal text) words x named is = tt
-told (what.Component c) words x named is = (c, named, is)
-told (what.Optional format) words x named is = is
-told what.First words x named is = is
-told what.Several words x named is = is
+reported (what.Literal text) words x named is = tt
+reported (what.Component c) words x named is = (c, named, is)
+reported (what.Optional format) words x named is = is
+reported what.First words x named is = is
+reported what.Several words x named is = is
 
 pub example_for : (w : What) (k : NodeKind) (words x : Text) → k ≡ kind_in w → AreWordsOf w words
     → IsExampleOf w x → IsExampleFor k words x
 example_for w k words x e named is =
-    subst (λ kind. IsExampleFor kind words x) (sym e) (told w words x named is)
+    subst (λ kind. IsExampleFor kind words x) (sym e) (reported w words x named is)
 
 pub named_alone : (c : Component) (words : Text) → words ≡ names.words Defaults.Written (modern c) → Names c words
 named_alone c words e = ([], e ∙ sym (append-nil (names.words Defaults.Written (modern c))))

@@ -29,16 +29,16 @@ no_key (k ∷ key) after c rest word some e =
     both_ways (is_word_byte k) (subst (λ b. is_word_byte b ≡ false) is word)
     (key-word k (and_parts (is_key_byte k) (list_all is_key_byte key) some).0)
 
--- white bytes, and a byte of no word and no white one
+-- White bytes, and then a byte that is neither white nor a part of a word.
 special_ends : (w : Text) (c : ℕ) (rest : Text) → ZeroOrMore is_white w → is_word_byte c ≡ false
     → is_white c ≡ false → EndsHead (w ++ c ∷ rest)
 special_ends w c rest all word white = (
   white_stops w c rest all word,
-  λ m behind is e.
-      let cut = cut_word (w ++ c ∷ rest) w (c ∷ rest) m behind
+  λ m after is e.
+      let cut = cut_word (w ++ c ∷ rest) w (c ∷ rest) m after
       (record { whole = refl; passes = all; stops = white }) is e in
-      no_key m.key (colon ∷ m.value ++ behind) c rest word is.key
-      (cut.word_is ∙ append_assoc m.key (colon ∷ m.value) behind),
+      no_key m.key (colon ∷ m.value ++ after) c rest word is.key
+      (cut.word_is ∙ append_assoc m.key (colon ∷ m.value) after),
 )
 
 pub regrouped : (a b c d : Text) → ((a ++ left ∷ b) ++ right ∷ c) ++ d ≡ a ++ left ∷ (b ++ right ∷ (c ++ d))
@@ -54,57 +54,57 @@ ends_head (nested w ps ns) white are all =
 
 -- Modifiers.
 
--- modifiers, and what is behind them
-pub record Modified (behind rest : Text) : Type 0 where
+-- Modifiers, and what follows them.
+pub record Modified (after rest : Text) : Type 0 where
   pub others : List Modifier
   pub are : AreModifiers others
-  pub rest_is : rest ≡ modifiers_text others ++ behind
+  pub rest_is : rest ≡ modifiers_text others ++ after
 
-modifiers_stop : (ms : List Modifier) (behind : Text) → AreModifiers ms
-    → StopsBefore is_word_byte behind → StopsBefore is_word_byte (modifiers_text ms ++ behind)
-modifiers_stop [] behind are stops = stops
-modifiers_stop (m ∷ ms) behind are stops =
+modifiers_stop : (ms : List Modifier) (after : Text) → AreModifiers ms
+    → StopsBefore is_word_byte after → StopsBefore is_word_byte (modifiers_text ms ++ after)
+modifiers_stop [] after are stops = stops
+modifiers_stop (m ∷ ms) after are stops =
     subst (StopsBefore is_word_byte)
-    (sym (at_front m.white m.key (colon ∷ m.value) (modifiers_text ms) behind))
+    (sym (at_front m.white m.key (colon ∷ m.value) (modifiers_text ms) after))
     (stops_one is_white is_word_byte white-not_word m.white _ are.0.white)
   where
     at_front : (a b c d e : Text) → ((a ++ b ++ c) ++ d) ++ e ≡ a ++ (b ++ (c ++ (d ++ e)))
     at_front a b c d e = simp append_assoc
 
-pub modified_first : (h : Head) (behind rest : Text) → IsHead h
-    → rest ≡ modifiers_text h.modifiers ++ behind → Modified behind rest
-modified_first h behind rest is e =
+pub modified_first : (h : Head) (after rest : Text) → IsHead h
+    → rest ≡ modifiers_text h.modifiers ++ after → Modified after rest
+modified_first h after rest is e =
     record { others = h.modifiers; are = is.modifiers; rest_is = e }
 
-pub modified_more : (behind rest after : Text) (c : code.Modifier) → EndsHead behind
-    → Modified behind rest → BeginsModified rest c after
+pub modified_more : (after rest later : Text) (c : code.Modifier) → EndsHead after
+    → Modified after rest → BeginsModified rest c later
     → ((m : Modifier) (b : Text) → IsModifier m → StopsBefore is_word_byte b
-    → rest ≡ modifier_text m ++ b → after ≡ b)
-    → Modified behind after
-modified_more behind rest after c ends before begins finds =
+    → rest ≡ modifier_text m ++ b → later ≡ b)
+    → Modified after later
+modified_more after rest later c ends before begins finds =
     by before.others before.are before.rest_is
   where
-    by : (ms : List Modifier) → AreModifiers ms → rest ≡ modifiers_text ms ++ behind
-        → Modified behind after
-    by [] are e = absurd (ends.1 begins.modifier after begins.is (sym e ∙ begins.whole))
+    by : (ms : List Modifier) → AreModifiers ms → rest ≡ modifiers_text ms ++ after
+        → Modified after later
+    by [] are e = absurd (ends.1 begins.modifier later begins.is (sym e ∙ begins.whole))
     by (m ∷ ms) are e = record {
       others = ms;
       are = are.1;
-      rest_is = finds m (modifiers_text ms ++ behind) are.0
-          (modifiers_stop ms behind are.1 ends.0)
-          (e ∙ append_assoc (modifier_text m) (modifiers_text ms) behind);
+      rest_is = finds m (modifiers_text ms ++ after) are.0
+          (modifiers_stop ms after are.1 ends.0)
+          (e ∙ append_assoc (modifier_text m) (modifiers_text ms) after);
     }
 
-pub modified_end : (behind rest : Text) → EndsHead behind → Modified behind rest
+pub modified_end : (after rest : Text) → EndsHead after → Modified after rest
     → ((m : Modifier) (b : Text) → IsModifier m → StopsBefore is_word_byte b
     → rest ≡ modifier_text m ++ b → ⊥)
-    → rest ≡ behind
-modified_end behind rest ends before none = by before.others before.are before.rest_is
+    → rest ≡ after
+modified_end after rest ends before none = by before.others before.are before.rest_is
   where
-    by : (ms : List Modifier) → AreModifiers ms → rest ≡ modifiers_text ms ++ behind
-        → rest ≡ behind
+    by : (ms : List Modifier) → AreModifiers ms → rest ≡ modifiers_text ms ++ after
+        → rest ≡ after
     by [] are e = e
     by (m ∷ ms) are e =
-        absurd (none m (modifiers_text ms ++ behind) are.0
-        (modifiers_stop ms behind are.1 ends.0)
-        (e ∙ append_assoc (modifier_text m) (modifiers_text ms) behind))
+        absurd (none m (modifiers_text ms ++ after) are.0
+        (modifiers_stop ms after are.1 ends.0)
+        (e ∙ append_assoc (modifier_text m) (modifiers_text ms) after))

@@ -1,4 +1,4 @@
--- What stands in a bracket, by the tree that it is.
+-- What is in a bracket, for each kind of tree.
 use Rattle.std.proofs.Common.{ℕ, ◌≡◌, ◌∙◌, ◌+◌, cond, not, Bool, true, false, codes, List, [], ◌∷◌, ◌++◌, length, map, Option, Some, None, Result, Ok, IsTrue, refl, sym, ap, subst, append_assoc}
 use Rattle.std.proofs.lemmas.Bool.{not-true}
 use Rattle.std.specs.Prelude.{⊤}
@@ -15,19 +15,19 @@ use Rattle.timefd_language.specs.Letters.{Flag, letters, item_of}
 use Rattle.timefd_language.specs.Names.{Row, row_of}
 use Rattle.timefd_language.specs.Strftime.{Directives, no_directives, plain, directive, AreDirectives, SpellsStrftime, directive_items}
 use Rattle.timefd_language.specs.Values.{format}
-use Rattle.timefd_language.specs.Verdict.{PlacedDescription, ◌or◌, unless, behind, bad_modifiers, settings, made, component_verdict, touching, too_many, nested_refused, nested_wanted, any_modifier, is_formatted, only, optional_verdict, first_verdict, verdict}
+use Rattle.timefd_language.specs.Verdict.{PlacedDescription, ◌or◌, unless, after, bad_modifiers, settings, made, component_verdict, touching, too_many, nested_refused, nested_wanted, any_modifier, is_formatted, only, optional_verdict, first_verdict, verdict}
 use Rattle.timefd_explain.specs.Inside.{Nests}
 use Rattle.timefd_language.proofs.Lift.{unless_fault}
 use Rattle.timefd_language.proofs.Lookup.{Each, each-passes}
 use Rattle.timefd_language.proofs.ModernPieces.{item_has}
-use Rattle.timefd_language.proofs.Roomy.{behind_ok, made_ok, unless_ok}
+use Rattle.timefd_language.proofs.Roomy.{after_ok, made_ok, unless_ok}
 
--- the tree of each nested description
+-- The tree of each nested description.
 abbrev pub packed : List PlacedDescription → List Tree
 packed ps = map (λ p. pack p.trees) ps
 
--- A bracket with descriptions of these trees is this tree: a component holds none of them. An optional
--- item and alternatives are of version 3.
+-- A bracket with descriptions of these trees is this tree. A component holds no descriptions. Optional items
+-- and alternatives are only in version 3.
 abbrev pub Holds : Bool → List Tree → Tree → Type 0
 Holds strict held (component c) = ⊤
 Holds strict held (literal bytes) = ⊥
@@ -40,7 +40,7 @@ component_is : (strict : Bool) (h : Head) (o : Option Row) (t : Tree)
 component_is strict h None t e = absurd cc
 component_is strict h (Some r) t e =
     let leaf = made_ok strict h (r.component (settings strict r.keys (placed h))) t
-    (behind_ok (bad_modifiers strict r.keys [] (placed h))
+    (after_ok (bad_modifiers strict r.keys [] (placed h))
     (made strict h (r.component (settings strict r.keys (placed h)))) t e) in
     (leaf.0, leaf.1)
 
@@ -84,18 +84,18 @@ of_first false h ps close t e =
     t e)
 
 of_component : (strict : Bool) (h : Head) (ps : List PlacedDescription) (t : Tree)
-    → behind (nested_refused ps) (component_verdict strict h (row_of strict h.name)) ≡ Ok t
+    → after (nested_refused ps) (component_verdict strict h (row_of strict h.name)) ≡ Ok t
     → Holds strict (packed ps) t
 of_component strict h ps t e =
     let c = component_is strict h (row_of strict h.name) t
-    (behind_ok (nested_refused ps) (component_verdict strict h (row_of strict h.name)) t e) in
+    (after_ok (nested_refused ps) (component_verdict strict h (row_of strict h.name)) t e) in
     subst (Holds strict (packed ps)) c.1 tt
 
 verdict_holds : (strict : Bool) (h : Head) (ps : List PlacedDescription) (close : ℕ) (t : Tree)
     → verdict strict h ps close ≡ Ok t → Holds strict (packed ps) t
 verdict_holds strict h ps close t e =
     let rest : Result Tree Fault =
-    behind (nested_refused ps) (component_verdict strict h (row_of strict h.name)) in
+    after (nested_refused ps) (component_verdict strict h (row_of strict h.name)) in
     chosen (Holds strict (packed ps)) (same strict (codes "optional") h.name)
     (optional_verdict strict h ps close)
     (cond (same strict (codes "first") h.name) (first_verdict strict h ps close) rest) t
@@ -103,9 +103,9 @@ verdict_holds strict h ps close t e =
     (chosen (Holds strict (packed ps)) (same strict (codes "first") h.name)
     (first_verdict strict h ps close) rest t (of_first strict h ps close t)
     (of_component strict h ps t))
-    (behind_ok (touching ps) _ t e)
+    (after_ok (touching ps) _ t e)
 
--- the tree of each nested description
+-- The tree of each nested description.
 abbrev pub held_trees : Nested → List Tree
 held_trees no_nested = []
 held_trees (nested w ps ns) = pack (items ps) ∷ held_trees ns
@@ -122,9 +122,9 @@ bracket_holds v h ns white t e =
     (verdict_holds (is_version_three v) h (parts_from (length (head_text h)) ns)
     (length (head_text h ++ nested_text ns ++ white)) t e)
 
--- Texts of one tree.
+-- Texts that spell one tree.
 
--- the text is a bracket with these descriptions, and the tree holds theirs
+-- The text is a bracket with these descriptions, and the tree holds their trees.
 pub record IsBracket (limit : ℕ) (text : Text) (t : Tree) : Type 0 where
   pub head : Head
   pub inside : Nested
@@ -194,7 +194,7 @@ nesting_bracket v limit text t s n = by s.0 s.1 s.2 s.3
           },
         )
 
--- Compounds are of strftime.
+-- Compounds are only in strftime.
 
 abbrev pub IsCompound : Tree → Type 0
 IsCompound (component c) = ⊥

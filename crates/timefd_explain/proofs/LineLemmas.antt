@@ -4,7 +4,7 @@ use Rattle.timefd_component.specs.Tree.{Text}
 use Rattle.timefd_explain.specs.Lines.{AreLines, IsLine}
 use Rattle.timefd_explain.specs.declared.node.Node.{Node}
 
--- behind what is appended, the lines of the nodes that are left make the lines of all nodes
+-- What is appended, followed by the lines of the nodes that are left, makes the lines of all nodes.
 pub record LeavesLines (text : Text) (nodes : List Node) (was : Text) (rest : List Node) (now : Text) : Type 0 where
   pub whole : (left : Text) → AreLines text rest left
       → (all : Text) × AreLines text nodes all × (was ++ all ≡ now ++ left)

@@ -14,7 +14,7 @@ use Rattle.timefd_explain.proofs.HeadLemmas.{ends_head, regrouped}
 use Rattle.timefd_explain.proofs.InsideLemmas.{Holds, held_trees, nesting_bracket, spelled_flat}
 use Rattle.timefd_explain.proofs.PartLemmas.{adds_none, adds_both, described_list}
 
--- the descriptions that are left, and the nodes of those before them
+-- The descriptions that are left, and the nodes of those before them.
 pub record Nesting (d : ℕ) (t : Tree) (rest : Text) (old new : List Node) : Type 0 where
   pub others : Nested
   pub white : Text
@@ -35,8 +35,8 @@ held_are d (optional f t) ns n h =
 held_are d (first ts) ns n h = sym (ap (alternatives d) h.1)
 
 pub nesting_first : (d : ℕ) (text : Text) (t : Tree) (rest : Text) (ns : List Node)
-    → ((h : Head) (behind : Text) → IsHead h → EndsHead behind → text ≡ head_text h ++ behind
-    → rest ≡ behind)
+    → ((h : Head) (after : Text) → IsHead h → EndsHead after → text ≡ head_text h ++ after
+    → rest ≡ after)
     → Spells Three nesting_limit 0 text (t ∷ []) → Nests t → Nesting d t rest ns ns
 nesting_first d text t rest ns finds s n =
     let b = (nesting_bracket Three nesting_limit text t s n).1 in record {
@@ -54,32 +54,32 @@ nesting_first d text t rest ns finds s n =
 first_byte : (a b : ℕ) (x y : Text) → a ∷ x ≡ b ∷ y → a ≡ b
 first_byte a b x y e = cc
 
--- the end of a bracket begins with no description
-pub no_description : (rest white inner behind : Text) → ZeroOrMore is_white white
-    → rest ≡ white ++ right ∷ [] → BeginsNested Three rest inner behind → ⊥
-no_description rest white inner behind all e begins =
+-- The end of a bracket doesn't begin with a description.
+pub no_description : (rest white inner after : Text) → ZeroOrMore is_white white
+    → rest ≡ white ++ right ∷ [] → BeginsNested Three rest inner after → ⊥
+no_description rest white inner after all e begins =
     let same = same_cut is_white rest white (right ∷ []) begins.white
-    (left ∷ (inner ++ right ∷ behind)) (record { whole = e; passes = all; stops = refl })
+    (left ∷ (inner ++ right ∷ after)) (record { whole = e; passes = all; stops = refl })
     begins.whole begins.all_white refl in
-    omega (arith, first_byte right left [] (inner ++ right ∷ behind) same.rest)
+    omega (arith, first_byte right left [] (inner ++ right ∷ after) same.rest)
 
-pub nesting_more : (d : ℕ) (t : Tree) (rest inner behind : Text) (old a b : List Node)
-    → BeginsNested Three rest inner behind
+pub nesting_more : (d : ℕ) (t : Tree) (rest inner after : Text) (old a b : List Node)
+    → BeginsNested Three rest inner after
     → ((white w x : Text) (list : List Tree) → ZeroOrMore is_white white
     → Spells Three nesting_limit 1 w list → rest ≡ white ++ left ∷ (w ++ right ∷ x)
-    → (inner ≡ w) × (behind ≡ x))
+    → (inner ≡ w) × (after ≡ x))
     → ((list : List Tree) → Spells Three nesting_limit 0 inner list
     → Adds (described d (pack list)) a b)
-    → Nesting d t rest old a → Nesting d t behind old b
-nesting_more d t rest inner behind old a b begins finds adds before =
+    → Nesting d t rest old a → Nesting d t after old b
+nesting_more d t rest inner after old a b begins finds adds before =
     by before.others before.are before.rest_is before.parts_are
   where
     by : (ns : Nested) → AreNested Three nesting_limit 0 ns
         → rest ≡ nested_text ns ++ (before.white ++ right ∷ [])
         → held_parts d t ≡ before.done ++ alternatives d (trees (held_trees ns))
-        → Nesting d t behind old b
+        → Nesting d t after old b
     by no_nested are e p =
-        absurd (no_description rest before.white inner behind before.all_white e begins)
+        absurd (no_description rest before.white inner after before.all_white e begins)
     by (nested w ps ns) are e p =
         let same = finds w (spelling ps) (nested_text ns ++ (before.white ++ right ∷ []))
         (items ps) are.0 (ps, are.2, refl, refl)
@@ -116,7 +116,7 @@ nesting_end d t rest old new none before =
         are.0 (ps, are.2, refl, refl)
         (e ∙ regrouped w (spelling ps) (nested_text ns) (before.white ++ right ∷ [])))
 
--- A description is its node and those of its pieces.
+-- The nodes of a description are its own node and those of its pieces.
 pub described_adds : (d depth inside : ℕ) (text : Text) (list : List Tree) (a b c : List Node)
     → depth ≡ capped d → inside ≡ capped (depth + 1) → Spells Three nesting_limit 0 text list
     → Adds (description d (pack list) ∷ []) a b
@@ -128,13 +128,13 @@ described_adds d depth inside text list a b c is deeper s one more =
     (adds_both (description d (pack list) ∷ []) (all_parts (d + 1) (trees list)) a b c one
     (more (d + 1) (omega (arith, is, deeper))))
 
--- a nested description is shorter than what holds it
-pub nested_within : (rest inner behind : Text) → BeginsNested Three rest inner behind
+-- A nested description is shorter than what holds it.
+pub nested_within : (rest inner after : Text) → BeginsNested Three rest inner after
     → length inner < length rest
-nested_within rest inner behind begins =
+nested_within rest inner after begins =
     omega (
       arith,
       ap length begins.whole,
-      length-append begins.white (left ∷ (inner ++ right ∷ behind)),
-      length-append inner (right ∷ behind),
+      length-append begins.white (left ∷ (inner ++ right ∷ after)),
+      length-append inner (right ∷ after),
     )

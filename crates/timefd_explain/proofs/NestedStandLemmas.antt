@@ -1,4 +1,4 @@
--- Where the descriptions in a bracket stand, one after another.
+-- Where the descriptions in a bracket are, one after another.
 use Rattle.std.proofs.Common.{ℕ, ◌≡◌, ◌∙◌, ◌+◌, ◌-◌, ◌<◌, ◌≤◌, true, List, [], ◌∷◌, ◌++◌, length, map, refl, sym, ap, subst, arith, append_assoc, append-nil, length-append}
 use Rattle.std.proofs.lemmas.List.{map-append}
 use Rattle.timefd_component.specs.Tree.{Text, Tree, component, literal, compound, optional, first, Trees, trees, pack}
@@ -16,7 +16,7 @@ use Rattle.timefd_explain.proofs.InsideLemmas.{Holds, held_trees, nesting_bracke
 use Rattle.timefd_explain.proofs.NestedLemmas.{no_description}
 use Rattle.timefd_explain.proofs.StandLemmas.{joined}
 
--- the descriptions that are left, where they stand, and the nodes of those before them
+-- The descriptions that are left, where they are, and the nodes of those before them.
 pub record NestingAt (start : ℕ) (t : Tree) (text rest : Text) (old new : List Node) : Type 0 where
   pub others : Nested
   pub white : Text
@@ -54,8 +54,8 @@ held_stand start (first ts) text ns h rest spans n holds is cut stand = record {
 }
 
 pub nesting_at_first : (start : ℕ) (text : Text) (t : Tree) (rest : Text) (ns : List Node)
-    → ((h : Head) (behind : Text) → IsHead h → EndsHead behind → text ≡ head_text h ++ behind
-    → rest ≡ behind)
+    → ((h : Head) (after : Text) → IsHead h → EndsHead after → text ≡ head_text h ++ after
+    → rest ≡ after)
     → Spells Three nesting_limit 0 text (t ∷ []) → Nests t → NestingAt start t text rest ns ns
 nesting_at_first start text t rest ns finds s n =
     let b = (nesting_bracket Three nesting_limit text t s n).1 in
@@ -76,29 +76,29 @@ nesting_at_first start text t rest ns finds s n =
       goes_on = λ spans h. held_stand start t text b.inside b.head rest spans n b.holds b.is_head cut h;
     }
 
--- a nested description and its brackets end within the text
-pub nested_ends : (start : ℕ) (t : Tree) (text rest inner behind : Text) (old a : List Node)
-    → BeginsNested Three rest inner behind → NestingAt start t text rest old a
-    → length behind + length inner + 2 ≤ length text
-nested_ends start t text rest inner behind old a begins before = omega (
+-- A nested description and its brackets end within the text.
+pub nested_ends : (start : ℕ) (t : Tree) (text rest inner after : Text) (old a : List Node)
+    → BeginsNested Three rest inner after → NestingAt start t text rest old a
+    → length after + length inner + 2 ≤ length text
+nested_ends start t text rest inner after old a begins before = omega (
   arith,
   ap length before.cut,
   length-append before.front rest,
   ap length begins.whole,
-  length-append begins.white (left ∷ (inner ++ right ∷ behind)),
-  length-append inner (right ∷ behind),
+  length-append begins.white (left ∷ (inner ++ right ∷ after)),
+  length-append inner (right ∷ after),
 )
 
-pub nesting_at_more : (start : ℕ) (t : Tree) (text rest inner behind : Text) (at : ℕ) (old a b : List Node)
-    → BeginsNested Three rest inner behind
+pub nesting_at_more : (start : ℕ) (t : Tree) (text rest inner after : Text) (at : ℕ) (old a b : List Node)
+    → BeginsNested Three rest inner after
     → ((white w x : Text) (list : List Tree) → ZeroOrMore is_white white
     → Spells Three nesting_limit 1 w list → rest ≡ white ++ left ∷ (w ++ right ∷ x)
-    → (inner ≡ w) × (behind ≡ x))
-    → at ≡ start + (length text - (length behind + length inner + 2))
+    → (inner ≡ w) × (after ≡ x))
+    → at ≡ start + (length text - (length after + length inner + 2))
     → ((list : List Tree) → Spells Three nesting_limit 0 inner list
     → AddsAt (DescriptionStands (pack list) at inner) a b)
-    → NestingAt start t text rest old a → NestingAt start t text behind old b
-nesting_at_more start t text rest inner behind at old a b begins finds place adds before =
+    → NestingAt start t text rest old a → NestingAt start t text after old b
+nesting_at_more start t text rest inner after at old a b begins finds location adds before =
     by before.others before.are before.rest_is before.goes_on
   where
     by : (ns : Nested) → AreNested Three nesting_limit 0 ns
@@ -106,29 +106,29 @@ nesting_at_more start t text rest inner behind at old a b begins finds place add
         → ((spans : List Span)
         → AlternativesStand (trees (held_trees ns)) (start + length before.front) rest spans
         → HeldStand t start text (map span_of before.more ++ spans))
-        → NestingAt start t text behind old b
+        → NestingAt start t text after old b
     by no_nested are e goes_on =
-        absurd (no_description rest before.white inner behind before.all_white e begins)
+        absurd (no_description rest before.white inner after before.all_white e begins)
     by (nested w ps ns) are e goes_on =
         let same = finds w (spelling ps) (nested_text ns ++ (before.white ++ right ∷ []))
         (items ps) are.0 (ps, are.2, refl, refl)
         (e ∙ regrouped w (spelling ps) (nested_text ns) (before.white ++ right ∷ [])) in
         let one = adds (items ps) (ps, outer_pieces ps Three nesting_limit 0 are.2, same.0, refl) in
-        let cut : rest ≡ w ++ left ∷ (inner ++ right ∷ behind) =
+        let cut : rest ≡ w ++ left ∷ (inner ++ right ∷ after) =
         e ∙ regrouped w (spelling ps) (nested_text ns) (before.white ++ right ∷ [])
         ∙ ap (λ x. w ++ left ∷ (x ++ right ∷ (nested_text ns ++ (before.white ++ right ∷ [])))) (sym same.0)
         ∙ ap (λ x. w ++ left ∷ (inner ++ right ∷ x)) (sym same.1) in
         let passed : Text = w ++ left ∷ (inner ++ right ∷ []) in
         let long : length passed ≡ length w + length inner + 2 =
         omega (arith, length-append w (left ∷ (inner ++ right ∷ [])), length-append inner (right ∷ [])) in
-        let whole : length text ≡ length before.front + (length w + (length inner + (length behind + 2))) =
+        let whole : length text ≡ length before.front + (length w + (length inner + (length after + 2))) =
         omega (
           arith,
           ap length before.cut,
           length-append before.front rest,
           ap length cut,
-          length-append w (left ∷ (inner ++ right ∷ behind)),
-          length-append inner (right ∷ behind),
+          length-append w (left ∷ (inner ++ right ∷ after)),
+          length-append inner (right ∷ after),
         ) in
         record {
           others = ns;
@@ -137,8 +137,8 @@ nesting_at_more start t text rest inner behind at old a b begins finds place add
           all_white = before.all_white;
           rest_is = same.1;
           front = before.front ++ passed;
-          cut = before.cut ∙ ap (λ x. before.front ++ x) (cut ∙ sym (regrouped_end w inner behind))
-              ∙ sym (append_assoc before.front passed behind);
+          cut = before.cut ∙ ap (λ x. before.front ++ x) (cut ∙ sym (regrouped_end w inner after))
+              ∙ sym (append_assoc before.front passed after);
           more = before.more ++ one.more;
           whole = one.whole ∙ ap (λ ns. ns ++ one.more) before.whole
               ∙ append_assoc old before.more one.more;
@@ -147,14 +147,14 @@ nesting_at_more start t text rest inner behind at old a b begins finds place add
               (goes_on (map span_of one.more ++ spans) (record {
                 white = w;
                 inner = inner;
-                rest = behind;
+                rest = after;
                 here = map span_of one.more;
-                behind = spans;
+                after = spans;
                 all_white = are.0;
                 cut = cut;
                 stands = subst (λ k. DescriptionStands (pack (items ps)) k inner (map span_of one.more))
-                    (omega (arith, place, whole)) one.stand;
-                others = subst (λ k. AlternativesStand (trees (held_trees ns)) k behind spans)
+                    (omega (arith, location, whole)) one.stand;
+                others = subst (λ k. AlternativesStand (trees (held_trees ns)) k after spans)
                     (omega (arith, long, length-append before.front passed)) h;
                 all = refl;
               }));

@@ -8,24 +8,24 @@ use Rattle.timefd_explain.specs.declared.node.NodeKind.{NodeKind}
 use Rattle.timefd_explain.specs.declared.piece.What.{What}
 use Rattle.timefd_explain.specs.declared.piece.What.TheVariants as what
 use Rattle.timefd_explain.specs.Examples.{AreWordsOf, kind_in}
-use Rattle.timefd_explain.specs.Parts.{Part, piece, description, parts, all_parts, members, described, alternatives, IsTold, IsPiece, IsPart, AreParts, Adds, capped}
+use Rattle.timefd_explain.specs.Parts.{Part, piece, description, parts, all_parts, members, described, alternatives, IsReported, IsPiece, IsPart, AreParts, Adds, capped}
 use Rattle.timefd_explain.specs.Shown.{IsExampleOf, IsWhat}
 use Rattle.timefd_explain.proofs.InsideLemmas.{NoCompounds}
 
 -- One node.
 
-told_so : (w : What) (tree : Tree) (kind : NodeKind) (words x : Text) → kind ≡ kind_in w
-    → AreWordsOf w words → IsExampleOf w x → IsWhat w tree → IsTold tree kind words x
-told_so (what.Literal text) tree kind words x k named is e =
-    subst (λ t. IsTold t kind words x) (sym e) (k, named, is)
-told_so (what.Component c) tree kind words x k named is e =
-    subst (λ t. IsTold t kind words x) (sym e) (k, named, is)
-told_so (what.Optional format) tree kind words x k named is e =
-    subst (λ t. IsTold t kind words x) (sym e.1) (k, named, is)
-told_so what.First tree kind words x k named is e =
-    subst (λ t. IsTold t kind words x) (sym e.1) (k, named, is)
-told_so what.Several tree kind words x k named is e =
-    subst (λ t. IsTold t kind words x) (sym e.1) (k, named, is)
+reported_so : (w : What) (tree : Tree) (kind : NodeKind) (words x : Text) → kind ≡ kind_in w
+    → AreWordsOf w words → IsExampleOf w x → IsWhat w tree → IsReported tree kind words x
+reported_so (what.Literal text) tree kind words x k named is e =
+    subst (λ t. IsReported t kind words x) (sym e) (k, named, is)
+reported_so (what.Component c) tree kind words x k named is e =
+    subst (λ t. IsReported t kind words x) (sym e) (k, named, is)
+reported_so (what.Optional format) tree kind words x k named is e =
+    subst (λ t. IsReported t kind words x) (sym e.1) (k, named, is)
+reported_so what.First tree kind words x k named is e =
+    subst (λ t. IsReported t kind words x) (sym e.1) (k, named, is)
+reported_so what.Several tree kind words x k named is e =
+    subst (λ t. IsReported t kind words x) (sym e.1) (k, named, is)
 
 pub piece_for : (w : What) (d : ℕ) (tree : Tree) (n : Node) → n.depth ≡ capped d
     → n.bytes ≡ kept_bytes (reserve tree) → n.kind ≡ kind_in w
@@ -34,10 +34,10 @@ pub piece_for : (w : What) (d : ℕ) (tree : Tree) (n : Node) → n.depth ≡ ca
 piece_for w d tree n depth bytes kind named is e = record {
   depth = depth;
   bytes = bytes;
-  told = told_so w tree n.kind (string_bytes n.words) (string_bytes n.example) kind named is e;
+  reported = reported_so w tree n.kind (string_bytes n.words) (string_bytes n.example) kind named is e;
 }
 
--- Nodes in turn.
+-- Nodes, one after another.
 
 parts_joined : (ps qs : List Part) (ns ms : List Node) → AreParts ps ns → AreParts qs ms
     → AreParts (ps ++ qs) (ns ++ ms)
@@ -61,13 +61,13 @@ adds_both ps qs a b c one two = record {
   each = parts_joined ps qs one.more two.more one.each two.each;
 }
 
--- what is appended to no nodes is all of them
+-- Nodes that are appended to an empty list are the whole list.
 pub adds_all : (ps : List Part) (old new : List Node) → Adds ps old new → old ≡ []
     → AreParts ps new
 adds_all ps old new adds none =
     subst (AreParts ps) (sym (adds.whole ∙ ap (λ ns. ns ++ adds.more) none)) adds.each
 
--- Trees in turn.
+-- Trees, one after another.
 
 pub all_more : (d : ℕ) (ts : List Tree) (t : Tree)
     → all_parts d (trees (ts ++ t ∷ [])) ≡ all_parts d (trees ts) ++ parts d t
@@ -81,7 +81,7 @@ pub members_more : (d : ℕ) (ts : List Tree) (t : Tree)
 members_more d [] t = refl
 members_more d (u ∷ ts) t = ap (λ ps. piece d u ∷ ps) (members_more d ts t)
 
--- a description of pieces
+-- A description of several pieces.
 pub described_list : (d : ℕ) (ts : List Tree) → NoCompounds ts
     → described d (pack ts) ≡ description d (pack ts) ∷ all_parts (d + 1) (trees ts)
 described_list d [] flat = refl

@@ -1,4 +1,4 @@
--- A piece, and what it holds, by what it is.
+-- A piece, and what it holds, for each kind of piece.
 use Rattle.std.proofs.Common.{ℕ, ◌≡◌, ◌+◌, Bool, List, [], ◌∷◌, ◌++◌, Result, Ok, Err, OnOk, refl, sym, subst, arith}
 use Rattle.std.specs.Prelude.{⊤}
 use Rattle.timefd_component.specs.Tree.{Text, Tree, Trees, component, literal, compound, optional, first}
@@ -17,7 +17,7 @@ use Rattle.timefd_explain.specs.Shown.{IsWhat}
 use Rattle.timefd_explain.proofs.InsideLemmas.{nesting_bracket, spelled_flat, strftime_flat}
 use Rattle.timefd_explain.proofs.PartLemmas.{adds_one, adds_both}
 
--- what nests is of version 3, and a compound of strftime
+-- Only version 3 nests, and only strftime has compounds.
 
 pub three : (language : Language) (text : Text) (t : Tree)
     → SpellsIn language nesting_limit text (t ∷ []) → Nests t
@@ -37,16 +37,16 @@ pub on_ok : {A E : Type 0} (r : Result A E) (P Q : Type 0) → (P → Q) → OnO
 on_ok (Ok x) P Q f p = f p
 on_ok (Err e) P Q f p = tt
 
--- the nodes of a piece of this text, behind one of its own, by what it is told as
+-- The nodes of a piece of this text, after its own node, for each kind of tree.
 module _ {E : Type 0} (r : Result ⊤ E) (language : Language) (text : Text) (d depth inside : ℕ)
     (tree : Tree) (n : Node) (old one new : List Node) (is : depth ≡ capped d)
     (deeper : inside ≡ capped (depth + 1))
     (s : SpellsIn language nesting_limit text (tree ∷ [])) (pushed : one ≡ old ++ n ∷ [])
     (node_is : IsPiece d tree n) where
-  -- behind the node of this tree, these parts
-  behind_node : (t : Tree) (ps : List Part) → parts d t ≡ piece d t ∷ ps → tree ≡ t
+  -- After the node of this tree, these parts follow.
+  after_node : (t : Tree) (ps : List Part) → parts d t ≡ piece d t ∷ ps → tree ≡ t
       → Adds ps one new → Adds (parts d tree) old new
-  behind_node t ps e w adds =
+  after_node t ps e w adds =
       subst (λ x. Adds (parts d x) old new) (sym w)
       (subst (λ x. Adds x old new) (sym e)
       (adds_both (piece d t ∷ []) ps old one new
@@ -57,7 +57,7 @@ module _ {E : Type 0} (r : Result ⊤ E) (language : Language) (text : Text) (d 
       → Nests u → OnOk r (Adds (held_parts k u) one new))
       → OnOk r (Adds (parts d tree) old new)
   nested_adds t e nests w held =
-      on_ok r _ _ (behind_node t (held_parts (d + 1) t) e w)
+      on_ok r _ _ (after_node t (held_parts (d + 1) t) e w)
       (held (d + 1) t (omega (arith, is, deeper))
       (three language text t (subst (λ x. SpellsIn language nesting_limit text (x ∷ [])) w s) nests)
       nests)
@@ -79,12 +79,12 @@ module _ {E : Type 0} (r : Result ⊤ E) (language : Language) (text : Text) (d 
       → OnOk r (Adds (members k ts) one new))
       → OnOk r (Adds (parts d tree) old new)
   several_adds w held =
-      on_ok r _ _ (behind_node (compound w.0) (members (d + 1) w.0) refl w.1)
+      on_ok r _ _ (after_node (compound w.0) (members (d + 1) w.0) refl w.1)
       (held (d + 1) w.0 (omega (arith, is, deeper))
       (letter language text w.0
       (subst (λ x. SpellsIn language nesting_limit text (x ∷ [])) w.1 s)))
 
--- the node of a piece that holds nothing
+-- The node of a piece that holds nothing.
 pub component_adds : (d : ℕ) (c : Component) (tree : Tree) (n : Node) (old new : List Node)
     → new ≡ old ++ n ∷ [] → IsPiece d tree n → IsWhat (what.Component c) tree
     → Adds (parts d tree) old new

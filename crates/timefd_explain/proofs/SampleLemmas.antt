@@ -1,4 +1,4 @@
--- All components show something of the moment, and no zero of a negative number.
+-- All components show something of the moment, and none shows the zero of a negative number.
 use Rattle.std.proofs.Common.{ℕ, ◌≡◌, ◌∙◌, ◌+◌, ◌-◌, ◌*◌, ◌≤◌, Bool, true, false, nat_le, nat_lt, if◌then◌else◌, [], ◌∷◌, Option, Some, None, MatchOption, Result, Ok, Err, IfOk, IfErr, IfSome, rules, refl, sym, ap, subst, arith, append-nil, string_bytes}
 use Rattle.std.specs.Str.{IsUtf8}
 use Rattle.std.specs.declared.alloc.AllocError.{AllocError}
@@ -20,7 +20,7 @@ use Rattle.timefd_format.specs.Written.{shown, text_of, followed, written_all}
 use Rattle.timefd_format.specs.declared.field.Field.{Field}
 use Rattle.timefd_format.specs.declared.field.Lack.{Lack}
 use Rattle.timefd_format.specs.declared.text.TextError.{TextError}
-use Rattle.timefd_format.specs.declared.text.TextError.TheVariants as told
+use Rattle.timefd_format.specs.declared.text.TextError.TheVariants as reported
 use Rattle.timefd_format.specs.declared.unshown.Unshown.{Unshown}
 use Rattle.timefd_format.proofs.RenderingLemmas.{writes_listed}
 use Rattle.timefd_format_item.specs.Meaning.{item_tree, item_trees}
@@ -36,7 +36,7 @@ use Rattle.timefd_moment.specs.declared.unix_time.UnixTime.{UnixTime}
 use Rattle.timefd_moment.proofs.CalendarLemmas.{days_before, months_next, months_none}
 use Rattle.timefd_explain.specs.Samples.{IsDate, IsExample, IsMemory, IsOffset, IsSample, IsTime}
 
--- something is shown
+-- Something is shown.
 abbrev Shown : Result Field Lack → Type 0
 Shown r = IfErr r (λ lack. ⊥)
 
@@ -55,7 +55,7 @@ of_offset : (o : Option UtcOffset) (g : UtcOffset → Result Field Lack) → Mat
 of_offset None g is h = absurd is
 of_offset (Some z) g is h = h z is
 
--- Years: this one and those beside it are short enough.
+-- Years: the year itself and those next to it are short enough.
 
 standard : (width unit y : ℕ) (p : Padding) (b : Bool) → y ≡ 1002026
     → Shown (year 9999 width unit p b y)
@@ -65,16 +65,16 @@ extended : (width unit y : ℕ) (p : Padding) (b : Bool) → y ≡ 1002026
     → Shown (year 999999 width unit p b y)
 extended width unit y p b e = subst (λ n. Shown (year 999999 width unit p b n)) (sym e) tt
 
--- the year of a week is the date's or one beside it
+-- The year of a week is the date's year or one next to it.
 beside : (P : ℕ → Type 0) → P 1002025 → P 1002026 → P 1002027 → (d : Date) → d.years ≡ 1002026
     → P (iso_years d)
-beside P before same behind d e =
+beside P before same after d e =
     by d.years e (nat_le (thursday d) 7) (nat_lt (days_in_year d.years + 7) (thursday d))
   where
     at : (early late : Bool)
         → P (if early then 1002026 - 1 else (if late then 1002026 + 1 else 1002026))
     at true late = before
-    at false true = behind
+    at false true = after
     at false false = same
 
     by : (y : ℕ) → y ≡ 1002026 → (early late : Bool)
@@ -118,7 +118,7 @@ utc_is d t o day time offset =
       offset.1,
     )
 
--- the time since 1970 of a number of nanoseconds
+-- The time since 1970, as a number of nanoseconds.
 abbrev since : ℕ → UnixTime
 since n =
     if nat_lt n (unix_start * 1000000000)
@@ -190,13 +190,13 @@ field_shown m is (Hour p) = of_date m.date _ is.date (λ d day. tt)
 field_shown m is (UnixTimestamp p) = of_date m.date _ is.date (λ d day. tt)
 field_shown m is (Year p) = of_date m.date _ is.date (λ d day. tt)
 
--- no component shows nothing
+-- No component shows nothing.
 never : (m : Moment) (c : Component) (r : Result Field Lack) (u : Unshown) → Shown r
     → text_of c r ≡ Err u → ⊥
 never m c (Ok f) u h e = absurd cc
 never m c (Err l) u h e = h
 
--- One item alone.
+-- A single item.
 
 component_tree : (c : Component) → item_tree (items.Component c) ≡ component c
 component_tree c = search (rules, the_lemmas)
@@ -232,9 +232,9 @@ one_utf8 c r h = h (subst (λ t. HaveUtf8Literals (trees (t ∷ []))) (sym (comp
 memory_alone : (x : Result Text Unshown) (r : Result (Vec ℕ Global) TextError)
     → ((u : Unshown) → x ≡ Err u → ⊥) → AreBytes x r → IfErr r IsMemory
 memory_alone x (Ok v) h is = tt
-memory_alone x (Err (told.Memory e)) h is = tt
-memory_alone (Ok text) (Err (told.Unshown u)) h is = absurd is
-memory_alone (Err v) (Err (told.Unshown u)) h is = h v refl
+memory_alone x (Err (reported.Memory e)) h is = tt
+memory_alone (Ok text) (Err (reported.Unshown u)) h is = absurd is
+memory_alone (Err v) (Err (reported.Unshown u)) h is = h v refl
 
 pub one_memory : (m : Moment) (c : Component) (r : Result (Vec ℕ Global) TextError) → IsSample m
     → AreBytes (written_all m (trees (item_trees (items.Component c ∷ [])))) r
@@ -245,7 +245,7 @@ one_memory m c r is h =
 
 pub ruleset one = (one_written, one_utf8, one_memory)
 
--- It is a text of the component.
+-- The example is a text of the component.
 
 has_hours : (o : Option UtcOffset) → MatchOption o ⊥ IsOffset → IfSome o HasHours
 has_hours None is = tt

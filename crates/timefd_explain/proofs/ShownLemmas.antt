@@ -48,7 +48,7 @@ spelled_more l [] (u ∷ ts) s t are is = absurd are
 spelled_more l (r ∷ ss) [] s t are is = absurd are
 spelled_more l (r ∷ ss) (u ∷ ts) s t are is = (are.0, spelled_more l ss ts s t are.1 is)
 
--- the pieces so far, and the list that the rest spells
+-- The pieces so far, and the list that the rest spells.
 pub record Continues (language : Language) (text : Text) (list : List Tree) (shown : List Shown)
     (rest : Text) : Type 0 where
   pub done : List Tree
@@ -57,7 +57,7 @@ pub record Continues (language : Language) (text : Text) (list : List Tree) (sho
   pub whole : texts shown ++ rest ≡ text
   pub each : AreShown shown done
   pub spelled : AreSpelled language shown done
-  pub behind : SpellsIn language nesting_limit rest others
+  pub after : SpellsIn language nesting_limit rest others
 
 pub continues_first : (language : Language) (text : Text) (list : List Tree)
     → SpellsIn language nesting_limit text list → Continues language text list [] text
@@ -68,30 +68,30 @@ continues_first language text list s = record {
   whole = refl;
   each = tt;
   spelled = tt;
-  behind = s;
+  after = s;
 }
 
 pub continues_more : (language : Language) (text : Text) (list : List Tree) (shown : List Shown)
-    (rest piece after : Text) (s : Shown) → Continues language text list shown rest
-    → piece ++ after ≡ rest
+    (rest piece later : Text) (s : Shown) → Continues language text list shown rest
+    → piece ++ later ≡ rest
     → ((others : List Tree) → SpellsIn language nesting_limit rest others
-    → BeginsList language piece after others)
+    → BeginsList language piece later others)
     → ((tree : Tree) → SpellsIn language nesting_limit piece (tree ∷ []) → ShowsOne piece s tree)
-    → Continues language text list (shown ++ s ∷ []) after
-continues_more language text list shown rest piece after s before joined begins shows =
-    let b = begins before.others before.behind in
+    → Continues language text list (shown ++ s ∷ []) later
+continues_more language text list shown rest piece later s before joined begins shows =
+    let b = begins before.others before.after in
     let one = shows b.tree b.first in record {
       done = before.done ++ b.tree ∷ [];
       others = b.others;
       list_is = before.list_is ∙ ap (λ ts. before.done ++ ts) b.whole
           ∙ sym (append_assoc before.done (b.tree ∷ []) b.others);
-      whole = ap (λ t. t ++ after) (texts_more shown s ∙ ap (λ t. texts shown ++ t) one.0)
-          ∙ append_assoc (texts shown) piece after ∙ ap (λ t. texts shown ++ t) joined
+      whole = ap (λ t. t ++ later) (texts_more shown s ∙ ap (λ t. texts shown ++ t) one.0)
+          ∙ append_assoc (texts shown) piece later ∙ ap (λ t. texts shown ++ t) joined
           ∙ before.whole;
       each = shown_more shown before.done s b.tree before.each one.1;
       spelled = spelled_more language shown before.done s b.tree before.spelled
           (subst (λ t. SpellsIn language nesting_limit t (b.tree ∷ [])) (sym one.0) b.first);
-      behind = b.behind;
+      after = b.after;
     }
 
 pub continues_end : (language : Language) (text : Text) (list : List Tree) (shown : List Shown)
@@ -100,7 +100,7 @@ pub continues_end : (language : Language) (text : Text) (list : List Tree) (show
     → (others ≡ []) × (rest ≡ []))
     → Shows language text list shown
 continues_end language text list shown rest before ends =
-    let e = ends before.others before.behind in
+    let e = ends before.others before.after in
     let list_is : list ≡ before.done =
     before.list_is ∙ ap (λ ts. before.done ++ ts) e.0 ∙ append-nil before.done in record {
       whole = sym (append-nil (texts shown)) ∙ ap (λ t. texts shown ++ t) (sym e.1)
@@ -128,7 +128,7 @@ within_more ss items s rest piece after text e is joined within =
       length-append piece after,
     )
 
--- a piece is as long as all of them at most
+-- A piece is at most as long as all of them together.
 pub piece_within : (ss : List Shown) (at : ℕ) (s : Shown) → at < length ss → s ≡ get_or ss at s
     → length s.text.now ≤ length (texts ss)
 piece_within [] at s below is = absurd (omega (arith, below))
@@ -166,7 +166,7 @@ pub sum_end : (ss : List Shown) (at bytes total : ℕ) → length ss ≤ at → 
 sum_end ss at bytes total past capped all =
     omega (arith, capped, all, ap sum (drop_all at ss past))
 
--- the sum of the pieces' bytes is what the trees reserve
+-- The sum of the pieces' bytes is what the trees reserve.
 pub sum_is : (ss : List Shown) (list : List Tree) → AreShown ss list
     → kept_bytes (sum ss) ≡ kept_bytes (reserve_all (trees list))
 sum_is [] [] are = refl
@@ -174,9 +174,9 @@ sum_is [] (t ∷ ts) are = absurd are
 sum_is (s ∷ ss) [] are = absurd are
 sum_is (s ∷ ss) (t ∷ ts) are = omega (arith, are.0.bytes, sum_is ss ts are.1)
 
--- Items, and what is read of one piece.
+-- Items, and what is found for one piece.
 
--- a literal of bytes is no string
+-- A literal of bytes isn't a string.
 pub no_bytes : (item : BorrowedFormatItem) (bytes : Bor (List ℕ)) → item ≡ items.Literal bytes
     → IsTrue (is_of_strings item) → ⊥
 no_bytes item bytes e is =
@@ -212,24 +212,24 @@ optional_tree member = search (rules, the_lemmas)
 pub description_of : (v : DescriptionVersion) (list : List Tree) (output : BorrowedOutput)
     (d : FormatDescriptionV3) → output ≡ outputs.Description d → IsOutput v list output
     → description_tree d ≡ pack list
-description_of v list output d e is = told v (subst (IsOutput v list) e is)
+description_of v list output d e is = reported v (subst (IsOutput v list) e is)
   where
-    told : (v : DescriptionVersion) → IsOutput v list (outputs.Description d)
+    reported : (v : DescriptionVersion) → IsOutput v list (outputs.Description d)
         → description_tree d ≡ pack list
-    told One is = absurd is
-    told Two is = absurd is
-    told Three is = is
+    reported One is = absurd is
+    reported Two is = absurd is
+    reported Three is = is
 
 pub items_of : (v : DescriptionVersion) (list : List Tree) (output : BorrowedOutput)
     (read : Vec BorrowedFormatItem Global) → output ≡ outputs.Items read → IsOutput v list output
     → map item_tree read.items ≡ list
-items_of v list output read e is = told v (subst (IsOutput v list) e is)
+items_of v list output read e is = reported v (subst (IsOutput v list) e is)
   where
-    told : (v : DescriptionVersion) → IsOutput v list (outputs.Items read)
+    reported : (v : DescriptionVersion) → IsOutput v list (outputs.Items read)
         → map item_tree read.items ≡ list
-    told One is = is
-    told Two is = is
-    told Three is = absurd is
+    reported One is = is
+    reported Two is = is
+    reported Three is = absurd is
 
 pub some_item : (xs : List BorrowedFormatItem) → (length xs ≡ 0 → ⊥) → 0 < length xs
 some_item [] some = absurd (some refl)

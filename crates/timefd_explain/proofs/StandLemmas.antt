@@ -1,4 +1,4 @@
--- Where nodes stand that are appended, one after another.
+-- Where the nodes are that are appended one after another.
 use Rattle.std.proofs.Common.{ℕ, zero, suc, Bool, ◌≡◌, ◌∙◌, ◌+◌, ◌<◌, ◌≤◌, ◌^◌, List, [], ◌∷◌, ◌++◌, length, map, drop, get_or, Result, Ok, Err, OnOk, refl, sym, ap, subst, arith, append_assoc, append-nil, length-append}
 use Rattle.std.proofs.lemmas.List.{drop_all, map-append}
 use Rattle.std.specs.Prelude.{⊤}
@@ -20,9 +20,9 @@ use Rattle.timefd_explain.specs.Shown.{AreShown, AreSpelled, IsShown, IsWhat, Sh
 use Rattle.timefd_explain.specs.Stands.{AddsAt, DescriptionStands, HeldStand, Leads, OnePiece, PieceStands, PiecesStand, Span, around, members_at, span, span_of, whole}
 use Rattle.timefd_explain.proofs.InsideLemmas.{NoCompounds, spelled_flat}
 use Rattle.timefd_explain.proofs.PieceLemmas.{letter, on_ok, three}
-use Rattle.timefd_explain.proofs.WalkLemmas.{from_place}
+use Rattle.timefd_explain.proofs.WalkLemmas.{from_location}
 
--- Nodes that stand so.
+-- Nodes with these spans.
 
 pub one_at : (n : Node) (s : Span) (old new : List Node) → new ≡ old ++ n ∷ [] → span_of n ≡ s
     → AddsAt (λ spans. spans ≡ s ∷ []) old new
@@ -36,7 +36,7 @@ at_is P Q old new f adds = record {
   stand = f (map span_of adds.more) adds.stand;
 }
 
--- those of a node, and of these behind it
+-- The span of a node, and those of the nodes after it.
 pub leads_at : (n : Node) (s : Span) (Others : List Span → Type 0) (old one new : List Node)
     → one ≡ old ++ n ∷ [] → span_of n ≡ s → AddsAt Others one new → AddsAt (Leads s Others) old new
 leads_at n s Others old one new pushed is adds = record {
@@ -49,7 +49,7 @@ leads_at n s Others old one new pushed is adds = record {
   };
 }
 
--- A piece, and what it holds, by what it is.
+-- A piece, and what it holds, for each kind of piece.
 
 module _ {E : Type 0} (r : Result ⊤ E) (language : Language) (text : Text) (start : ℕ) (tree : Tree)
     (n : Node) (old one new : List Node) (s : SpellsIn language nesting_limit text (tree ∷ []))
@@ -96,7 +96,7 @@ module _ {E : Type 0} (r : Result ⊤ E) (language : Language) (text : Text) (st
       (held w.0 (letter language text w.0
       (subst (λ x. SpellsIn language nesting_limit text (x ∷ [])) w.1 s)))
 
--- the node of a piece that holds nothing
+-- The node of a piece that holds nothing.
 pub component_at : (start : ℕ) (text : Text) (c : Component) (tree : Tree) (n : Node) (old new : List Node)
     → new ≡ old ++ n ∷ [] → span_of n ≡ whole start text → IsWhat (what.Component c) tree
     → AddsAt (PieceStands tree start text) old new
@@ -111,9 +111,9 @@ literal_at start text bytes tree n old new pushed is w =
     subst (λ x. AddsAt (PieceStands x start text) old new) (sym w)
     (one_at n (whole start text) old new pushed is)
 
--- Pieces in turn.
+-- Pieces, one after another.
 
--- the nodes of the pieces so far, and where the pieces begin that are left
+-- The nodes of the pieces so far, and where the pieces begin that are left.
 pub record WalkedAt (language : Language) (list : List Tree) (begins : ℕ) (text : Text) (ss : List Shown)
     (start : ℕ) (old new : List Node) : Type 0 where
   pub others : List Tree
@@ -137,7 +137,7 @@ walked_at_first language list begins text ss ns shows = record {
   goes_on = λ spans h. subst (λ t. PiecesStand language (trees list) begins t spans) shows.whole h;
 }
 
--- so many more nodes
+-- More nodes, joined to those before.
 pub joined : (a b : List Node) (spans : List Span)
     → map span_of a ++ (map span_of b ++ spans) ≡ map span_of (a ++ b) ++ spans
 joined a b spans =
@@ -173,7 +173,7 @@ one_walked_at language list begins text s ss start next old a b is adds before =
                 front = s.text.now;
                 rest = texts ss;
                 here = map span_of one.more;
-                behind = spans;
+                after = spans;
                 cut = refl;
                 spells = spelled.0;
                 stands = one.stand;
@@ -191,16 +191,16 @@ pub walked_at_more : (language : Language) (list : List Tree) (begins : ℕ) (te
     → WalkedAt language list begins text (drop (at + 1) ss) next old b
 walked_at_more language list begins text ss at s start next old a b below is e adds before =
     one_walked_at language list begins text s (drop (at + 1) ss) start next old a b e adds
-    (subst (λ xs. WalkedAt language list begins text xs start old a) (from_place ss at s below is) before)
+    (subst (λ xs. WalkedAt language list begins text xs start old a) (from_location ss at s below is) before)
 
--- a piece ends within the text
+-- A piece ends within the text.
 pub walked_at_within : (language : Language) (list : List Tree) (begins : ℕ) (text : Text) (ss : List Shown)
     (at : ℕ) (s : Shown) (start : ℕ) (old a : List Node) → at < length ss → s ≡ get_or ss at s
     → WalkedAt language list begins text (drop at ss) start old a
     → start + length s.text.now ≤ begins + length text
 walked_at_within language list begins text ss at s start old a below is before =
     let here : WalkedAt language list begins text (s ∷ drop (at + 1) ss) start old a =
-    subst (λ xs. WalkedAt language list begins text xs start old a) (from_place ss at s below is) before in
+    subst (λ xs. WalkedAt language list begins text xs start old a) (from_location ss at s below is) before in
     omega (arith, here.reached, length-append s.text.now (texts (drop (at + 1) ss)))
 
 pub walked_at_end : (language : Language) (list : List Tree) (begins : ℕ) (text : Text) (ss : List Shown)
@@ -223,7 +223,7 @@ walked_at_end language list begins text ss at start old new past before =
             (goes_on [] (refl, refl))
         by (t ∷ ts) shown goes_on = absurd shown
 
--- what is appended to no nodes is all of them
+-- Nodes that are appended to an empty list are the whole list.
 pub all_stand : (P : List Span → Type 0) (old new : List Node) → AddsAt P old new → old ≡ []
     → P (map span_of new)
 all_stand P old new adds none =
@@ -231,7 +231,7 @@ all_stand P old new adds none =
 
 -- Members.
 
--- the members so far, and those that are left
+-- The members so far, and those that are left.
 pub record ListedAt (start : ℕ) (all : List Tree) (xs : List BorrowedFormatItem) (old new : List Node)
     : Type 0 where
   pub done : List Tree
@@ -256,7 +256,7 @@ pub listed_at_more : (start : ℕ) (all : List Tree) (xs : List BorrowedFormatIt
     → ListedAt start all (drop (at + 1) xs) old b
 listed_at_more start all xs at x n old a b below is e stands before = record {
   done = before.done ++ item_tree x ∷ [];
-  all_are = before.all_are ∙ ap (λ ys. before.done ++ item_trees ys) (from_place xs at x below is)
+  all_are = before.all_are ∙ ap (λ ys. before.done ++ item_trees ys) (from_location xs at x below is)
       ∙ sym (append_assoc before.done (item_tree x ∷ []) (item_trees (drop (at + 1) xs)));
   more = before.more ++ n ∷ [];
   whole = e ∙ ap (λ ns. ns ++ n ∷ []) before.whole ∙ append_assoc old before.more (n ∷ []);
@@ -278,7 +278,7 @@ listed_at_end start all xs at old new past before = record {
 
 -- Descriptions.
 
--- the one piece of a text
+-- The single piece of a text.
 alone : (t : Tree) (at : ℕ) (text : Text) (spans : List Span)
     → PiecesStand (Version Three) (more_trees t no_trees) at text spans → PieceStands t at text spans
 alone t at text spans h =
@@ -308,7 +308,7 @@ described_stands (first ts ∷ []) flat at inner spans h = record {
 }
 described_stands (t ∷ u ∷ ts) flat at inner spans h = h
 
--- Behind the node of a description stand those of its pieces.
+-- After the node of a description come those of its pieces.
 pub described_at : (list : List Tree) (begins at : ℕ) (inner : Text) (a b c : List Node) → begins ≡ at + 1
     → Spells Three nesting_limit 0 inner list → AddsAt (λ spans. spans ≡ around at inner ∷ []) a b
     → AddsAt (PiecesStand (Version Three) (trees list) begins inner) b c
@@ -332,7 +332,7 @@ same_item [] at a b below = absurd (omega (arith, below))
 same_item (x ∷ xs) zero a b below = refl
 same_item (x ∷ xs) (suc at) a b below = same_item xs at a b (omega (arith, below))
 
--- a piece that is taken twice has one length
+-- A piece that is looked up twice has the same length.
 pub same_long : (ss : List Shown) (at : ℕ) (s t : Shown) → at < length ss → s ≡ get_or ss at s
     → length (get_or ss at t).text.now ≡ length s.text.now
 same_long ss at s t below is =

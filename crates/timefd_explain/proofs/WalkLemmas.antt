@@ -1,4 +1,4 @@
--- Pieces in turn, with the nodes of each.
+-- Pieces, one after another, with the nodes of each.
 use Rattle.std.proofs.Common.{ℕ, ◌≡◌, ◌∙◌, ◌+◌, ◌<◌, ◌≤◌, List, [], ◌∷◌, ◌++◌, length, drop, get_or, refl, sym, ap, subst, add-one, drop-cons, append_assoc, append-nil}
 use Rattle.std.proofs.lemmas.List.{drop_all}
 use Rattle.timefd_component.specs.Tree.{Text, Tree, trees}
@@ -13,7 +13,7 @@ use Rattle.timefd_explain.specs.Parts.{all_parts, members, parts, piece, IsPiece
 use Rattle.timefd_explain.specs.Shown.{AreShown, AreSpelled, IsShown, Shows}
 use Rattle.timefd_explain.proofs.PartLemmas.{adds_none, adds_one, adds_both, all_more, members_more}
 
--- the nodes of the pieces so far, and the pieces that are left
+-- The nodes of the pieces so far, and the pieces that are left.
 pub record Walked (language : Language) (d : ℕ) (list : List Tree) (ss : List Shown)
     (old new : List Node) : Type 0 where
   pub done : List Tree
@@ -35,9 +35,9 @@ walked_first language d text list ss ns shows = record {
   adds = adds_none ns;
 }
 
-pub from_place : {A : Type 0} (xs : List A) (at : ℕ) (x : A) → at < length xs → x ≡ get_or xs at x
+pub from_location : {A : Type 0} (xs : List A) (at : ℕ) (x : A) → at < length xs → x ≡ get_or xs at x
     → drop at xs ≡ x ∷ drop (at + 1) xs
-from_place xs at x below is =
+from_location xs at x below is =
     let head : drop at xs ≡ get_or xs at x ∷ drop (at + 1) xs =
     rw add-one (drop-cons xs at x below) in
     head ∙ ap (λ y. y ∷ drop (at + 1) xs) (sym is)
@@ -71,7 +71,7 @@ pub walked_more : (language : Language) (d : ℕ) (list : List Tree) (ss : List 
     → Walked language d list (drop at ss) old a → Walked language d list (drop (at + 1) ss) old b
 walked_more language d list ss at s old a b below is adds before =
     one_walked language d list s (drop (at + 1) ss) old a b adds
-    (subst (λ xs. Walked language d list xs old a) (from_place ss at s below is) before)
+    (subst (λ xs. Walked language d list xs old a) (from_location ss at s below is) before)
 
 pub walked_end : (language : Language) (d : ℕ) (list : List Tree) (ss : List Shown) (at : ℕ)
     (old new : List Node) → length ss ≤ at → Walked language d list (drop at ss) old new
@@ -87,7 +87,7 @@ walked_end language d list ss at old new past before =
         (sym (e ∙ append-nil before.done)) before.adds
     by (t ∷ ts) e shown = absurd shown
 
--- the nodes of the members so far, and the members that are left
+-- The nodes of the members so far, and the members that are left.
 pub record Listed (d : ℕ) (all : List Tree) (xs : List BorrowedFormatItem) (old new : List Node)
     : Type 0 where
   pub done : List Tree
@@ -104,7 +104,7 @@ pub listed_more : (d : ℕ) (all : List Tree) (xs : List BorrowedFormatItem) (at
     → Listed d all (drop at xs) old a → Listed d all (drop (at + 1) xs) old b
 listed_more d all xs at x n old a b below is e piece_is before = record {
   done = before.done ++ item_tree x ∷ [];
-  all_are = before.all_are ∙ ap (λ ys. before.done ++ item_trees ys) (from_place xs at x below is)
+  all_are = before.all_are ∙ ap (λ ys. before.done ++ item_trees ys) (from_location xs at x below is)
       ∙ sym (append_assoc before.done (item_tree x ∷ []) (item_trees (drop (at + 1) xs)));
   adds = subst (λ ps. Adds ps old b) (sym (members_more d before.done (item_tree x)))
       (adds_both (members d (trees before.done)) (piece d (item_tree x) ∷ []) old a b before.adds

@@ -19,7 +19,7 @@ kind_in (what.Optional format) = kinds.Optional
 kind_in what.First = kinds.First
 kind_in what.Several = kinds.Several
 
--- the words begin with the component's name and all its modifiers
+-- The words begin with the component's name and all its modifiers.
 abbrev pub Names : Component → Text → Type 0
 Names c words = (rest : Text) × (words ≡ names.words Defaults.Written (modern c) ++ rest)
 
@@ -32,10 +32,10 @@ AreWordsOf (what.Literal text) words = words ≡ codes "literal"
 AreWordsOf (what.Component c) words = Names c words
 AreWordsOf (what.Optional format) words = words ≡ optional_words format
 AreWordsOf what.First words = words ≡ codes "first of these"
-AreWordsOf what.Several words = words ≡ codes "these in turn"
+AreWordsOf what.Several words = words ≡ codes "these, one after another"
 
--- The example of a node of this kind with these words. That of a component is what the formatter writes
--- of the component that the words name, at the moment of the examples.
+-- The example of a node of this kind with these words. For a component it is what the formatter writes, at
+-- the moment of the examples, for the component that the words name.
 abbrev pub IsExampleFor : NodeKind → Text → Text → Type 0
 IsExampleFor kinds.Literal words example = ⊤
 IsExampleFor kinds.Component words example = (c : Component) × Names c words × IsExample c example

@@ -1,17 +1,17 @@
--- What stands in a bracket that holds descriptions.
+-- What is in a bracket that holds descriptions.
 use Rattle.std.specs.Prelude.{ℕ, ◌≡◌, [], ◌++◌, List, ⊤}
 use Rattle.timefd_component.specs.Tree.{Text, Tree, component, literal, compound, optional, first}
 use Rattle.timefd_language.specs.Bytes.{is_word_byte, StopsBefore}
 use Rattle.timefd_language.specs.Head.{Modifier, IsModifier, modifier_text}
 use Rattle.timefd_explain.specs.Parts.{Part, described, alternatives}
 
--- A head ends in front of this text, which goes on with no modifier.
+-- A head ends before this text: no modifier follows.
 abbrev pub EndsHead : Text → Type 0
-EndsHead behind =
-    StopsBefore is_word_byte behind
-    × ((m : Modifier) (rest : Text) → IsModifier m → behind ≡ modifier_text m ++ rest → ⊥)
+EndsHead after =
+    StopsBefore is_word_byte after
+    × ((m : Modifier) (rest : Text) → IsModifier m → after ≡ modifier_text m ++ rest → ⊥)
 
--- the tree holds descriptions
+-- The tree holds descriptions.
 abbrev pub Nests : Tree → Type 0
 Nests (component c) = ⊥
 Nests (literal bytes) = ⊥
@@ -19,7 +19,7 @@ Nests (compound ts) = ⊥
 Nests (optional f t) = ⊤
 Nests (first ts) = ⊤
 
--- the parts of the descriptions that it holds
+-- The parts of the descriptions that the tree holds.
 abbrev pub held_parts : ℕ → Tree → List Part
 held_parts d (component c) = []
 held_parts d (literal bytes) = []

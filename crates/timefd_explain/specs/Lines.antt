@@ -15,16 +15,16 @@ use Rattle.timefd_explain.specs.Parts.{AreParts, all_parts}
 use Rattle.timefd_explain.specs.Stands.{NodesStand}
 use Rattle.timefd_explain.specs.declared.node.Node.{Node}
 
--- a number, in five columns at least
+-- A number, padded with spaces to at least five columns.
 abbrev pub in_columns : ℕ → Text
 in_columns n = styled_decimal (format_spec 32 0 0 5 (2 ^ 64 - 1)) n
 
--- two spaces for each bracket around a node
+-- Two spaces for each bracket around a node.
 abbrev pub indent : ℕ → Text
 indent zero = []
 indent (suc n) = indent n ++ codes "  "
 
--- what a node came from, where it came from some text
+-- The text that a node came from, if there is any.
 abbrev pub quoted : Text → Text
 quoted [] = []
 quoted (b ∷ bs) = codes "`" ++ (safe (b ∷ bs) ++ codes "`  ")
@@ -33,7 +33,7 @@ abbrev pub as_example : Text → Text
 as_example [] = codes "\n"
 as_example (b ∷ bs) = codes ", as `" ++ (safe (b ∷ bs) ++ codes "`\n")
 
--- these bytes of a text, or nothing where a text has none there
+-- These bytes of a text, or nothing if the text doesn't have them.
 abbrev pub cut_or_nothing : Option (Bor Text) → Text
 cut_or_nothing None = []
 cut_or_nothing (Some part) = part.now
@@ -49,36 +49,37 @@ line n source = in_columns n.bytes ++ (codes "  " ++ (indent n.depth ++ (quoted 
 abbrev pub IsLine : Text → Node → Text → Type 0
 IsLine text n shown = (source : Text) × IsCut text n.start n.end source × (shown ≡ line n source)
 
--- one for each node, in turn
+-- One line for each node, in order.
 abbrev pub AreLines : Text → List Node → Text → Type 0
 AreLines text [] shown = shown ≡ []
 AreLines text (n ∷ ns) shown =
     (first : Text) × (rest : Text) × IsLine text n first × AreLines text ns rest × (shown ≡ first ++ rest)
 
--- Below the text and its place stands a line for each node, and how many bytes all reserve.
+-- After the text and its position there is a line for each node, and a last one with the bytes that all of
+-- them reserve.
 abbrev pub IsTree : Text → ℕ → Text → List Node → ℕ → Text → Type 0
 IsTree file number text nodes bytes tree = (lines : Text) × AreLines text nodes lines
     × (tree ≡ safe file ++ (codes ":" ++ (decimal number ++ (codes ": " ++ (safe text ++ (codes "\n"
     ++ (lines ++ (in_columns bytes ++ codes "  in all\n"))))))))
 
--- These are the nodes of the text, where its parts stand, and the bytes that it reserves.
+-- These are the nodes of the text, with the ranges of its parts, and the bytes that it reserves.
 pub record IsExplanation (language : Language) (text : Text) (nodes : List Node) (bytes : ℕ) : Type 0 where
   pub sum : (list : List Tree) → SpellsIn language nesting_limit text list
       → bytes ≡ kept_bytes (reserve_all (trees list))
   pub parts : (list : List Tree) → SpellsIn language nesting_limit text list
       → AreParts (all_parts 0 (trees list)) nodes
-  pub places : (list : List Tree) → SpellsIn language nesting_limit text list
+  pub positions : (list : List Tree) → SpellsIn language nesting_limit text list
       → NodesStand language (trees list) text nodes
   pub examples : Examples nodes
 
--- The tree is that of the text.
+-- The tree shows the text.
 pub record IsExplained (language : Language) (file : Text) (number : ℕ) (text tree : Text) : Type 0 where
   pub nodes : List Node
   pub bytes : ℕ
   pub explanation : IsExplanation language text nodes bytes
   pub drawn : IsTree file number text nodes bytes tree
 
--- That of a text is written where it is asked for, and else nothing.
+-- The tree of a text is written if it is asked for, and else nothing is.
 abbrev pub IsExplainedIf : Bool → Language → Text → ℕ → Text → Text → Type 0
 IsExplainedIf true language file number text tree = IsExplained language file number text tree
 IsExplainedIf false language file number text tree = tree ≡ []

@@ -1,4 +1,4 @@
--- The parts of what a text spells, each in front of those that it holds, and the nodes that show them.
+-- The parts of what a text spells, each before those that it holds, and the nodes that show them.
 use Rattle.std.specs.Prelude.{ℕ, ◌≡◌, ◌+◌, ◌-◌, ◌^◌, min, codes, List, [], ◌∷◌, ◌++◌, string_bytes, ⊤}
 use Rattle.timefd_component.specs.Reserved.{reserve}
 use Rattle.timefd_component.specs.Tree.{Text, Tree, component, literal, compound, optional, first, Trees, no_trees, more_trees}
@@ -9,19 +9,19 @@ use Rattle.timefd_explain.specs.declared.node.NodeKind.{NodeKind}
 use Rattle.timefd_explain.specs.declared.node.NodeKind.TheVariants as kinds
 use Rattle.timefd_explain.specs.Examples.{Names, optional_words}
 
--- a piece or a description in brackets, which has so many brackets around it; of a description it is
--- the tree that its pieces are packed to
+-- A piece, or a description in brackets, with the number of brackets around it. A description has the tree
+-- that its pieces are packed to.
 pub data Part : Type 0 where
   piece : ℕ → Tree → Part
   description : ℕ → Tree → Part
 
--- Members of a composite letter hold nothing.
+-- The members of a composite letter hold nothing.
 abbrev pub members : ℕ → Trees → List Part
 members d no_trees = []
 members d (more_trees t ts) = piece d t ∷ members d ts
 
 abbrev mutual
-  -- a piece, and what it holds
+  -- A piece, and what it holds.
   pub parts : ℕ → Tree → List Part
   parts d (component c) = piece d (component c) ∷ []
   parts d (literal bytes) = piece d (literal bytes) ∷ []
@@ -29,12 +29,12 @@ abbrev mutual
   parts d (optional f t) = piece d (optional f t) ∷ described (d + 1) t
   parts d (first ts) = piece d (first ts) ∷ alternatives (d + 1) ts
 
-  -- pieces in turn
+  -- Pieces, one after another.
   pub all_parts : ℕ → Trees → List Part
   all_parts d no_trees = []
   all_parts d (more_trees t ts) = parts d t ++ all_parts d ts
 
-  -- a description, and its pieces: those of a compound, or else the one that it is
+  -- A description, and its pieces: those of a compound, or else the single one that it is.
   pub described : ℕ → Tree → List Part
   described d (component c) = description d (component c) ∷ piece (d + 1) (component c) ∷ []
   described d (literal bytes) = description d (literal bytes) ∷ piece (d + 1) (literal bytes) ∷ []
@@ -45,32 +45,32 @@ abbrev mutual
   described d (first ts) =
       description d (first ts) ∷ piece (d + 1) (first ts) ∷ alternatives (d + 1 + 1) ts
 
-  -- descriptions in turn
+  -- Descriptions, one after another.
   pub alternatives : ℕ → Trees → List Part
   alternatives d no_trees = []
   alternatives d (more_trees t ts) = described d t ++ alternatives d ts
 
--- so many, up to the most that a node can hold
+-- The number, up to the most that a node can hold.
 abbrev pub capped : ℕ → ℕ
 capped n = min n (2 ^ 64 - 1)
 
--- what is told of a piece
-abbrev pub IsTold : Tree → NodeKind → Text → Text → Type 0
-IsTold (component c) kind words example =
+-- What a node reports about a piece.
+abbrev pub IsReported : Tree → NodeKind → Text → Text → Type 0
+IsReported (component c) kind words example =
     (kind ≡ kinds.Component) × Names c words × IsExample c example
-IsTold (literal bytes) kind words example =
+IsReported (literal bytes) kind words example =
     (kind ≡ kinds.Literal) × (words ≡ codes "literal") × (example ≡ bytes)
-IsTold (compound ts) kind words example =
-    (kind ≡ kinds.Several) × (words ≡ codes "these in turn") × (example ≡ [])
-IsTold (optional f t) kind words example =
+IsReported (compound ts) kind words example =
+    (kind ≡ kinds.Several) × (words ≡ codes "these, one after another") × (example ≡ [])
+IsReported (optional f t) kind words example =
     (kind ≡ kinds.Optional) × (words ≡ optional_words f) × (example ≡ [])
-IsTold (first ts) kind words example =
+IsReported (first ts) kind words example =
     (kind ≡ kinds.First) × (words ≡ codes "first of these") × (example ≡ [])
 
 pub record IsPiece (d : ℕ) (tree : Tree) (n : Node) : Type 0 where
   pub depth : n.depth ≡ capped d
   pub bytes : n.bytes ≡ kept_bytes (reserve tree)
-  pub told : IsTold tree n.kind (string_bytes n.words) (string_bytes n.example)
+  pub reported : IsReported tree n.kind (string_bytes n.words) (string_bytes n.example)
 
 pub record IsDescription (d : ℕ) (tree : Tree) (n : Node) : Type 0 where
   pub depth : n.depth ≡ capped d
@@ -82,7 +82,7 @@ abbrev pub IsPart : Part → Node → Type 0
 IsPart (piece d tree) n = IsPiece d tree n
 IsPart (description d tree) n = IsDescription d tree n
 
--- one for each part, in turn
+-- One node for each part, in order.
 abbrev pub AreParts : List Part → List Node → Type 0
 AreParts [] [] = ⊤
 AreParts [] (n ∷ ns) = ⊥

@@ -1,4 +1,4 @@
--- The moment of the examples, and what the formatter writes of it.
+-- The moment of the examples, and what the formatter writes for it.
 use Rattle.std.specs.Prelude.{◌≡◌, false, MatchOption, Ok, ⊤}
 use Rattle.timefd_component.specs.Tree.{Text}
 use Rattle.timefd_component.specs.declared.component.Component.{Component}
@@ -10,7 +10,7 @@ use Rattle.timefd_moment.specs.declared.moment.Moment.{Moment}
 use Rattle.timefd_moment.specs.declared.offset.UtcOffset.{UtcOffset}
 use Rattle.timefd_moment.specs.declared.time.Time.{Time}
 
--- 2026-02-03: years are counted from the year -1,000,000 on
+-- 2026-02-03. Years are counted from the year -1,000,000.
 abbrev pub IsDate : Date → Type 0
 IsDate d = (d.years ≡ 1002026) × (d.month ≡ 2) × (d.day ≡ 3)
 
@@ -22,17 +22,17 @@ IsTime t = (t.hour ≡ 9) × (t.minute ≡ 5) × (t.second ≡ 7) × (t.nanoseco
 abbrev pub IsOffset : UtcOffset → Type 0
 IsOffset o = (o.is_negative ≡ false) × (o.seconds ≡ 5400)
 
--- all of 2026-02-03 09:05:07.012345678 +01:30 is known
+-- All of 2026-02-03 09:05:07.012345678 +01:30 is known.
 pub record IsSample (m : Moment) : Type 0 where
   pub date : MatchOption m.date ⊥ IsDate
   pub time : MatchOption m.time ⊥ IsTime
   pub offset : MatchOption m.offset ⊥ IsOffset
 
--- the formatter writes this text of the component at that moment
+-- The formatter writes this text for the component at that moment.
 abbrev pub IsExample : Component → Text → Type 0
 IsExample c text = (m : Moment) × IsSample m × (shown m c ≡ Ok text)
 
--- there is no text for want of memory
+-- There is no text because memory ran out.
 abbrev pub IsMemory : TextError → Type 0
 IsMemory (fails.Unshown u) = ⊥
 IsMemory (fails.Memory e) = ⊤

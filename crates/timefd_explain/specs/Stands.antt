@@ -1,4 +1,4 @@
--- Where the parts of a text stand in it.
+-- Where the parts of a text are in it.
 use Rattle.std.specs.Prelude.{ℕ, ◌≡◌, ◌+◌, List, [], ◌∷◌, ◌++◌, length, map}
 use Rattle.timefd_component.specs.Tree.{Text, Tree, component, literal, compound, optional, first, Trees, no_trees, more_trees}
 use Rattle.timefd_language.specs.declared.description_version.DescriptionVersion.TheVariants.{Three}
@@ -10,7 +10,7 @@ use Rattle.timefd_parse.specs.declared.language.Language.{Language}
 use Rattle.timefd_parse.specs.declared.language.Language.TheVariants.{Version}
 use Rattle.timefd_explain.specs.declared.node.Node.{Node}
 
--- from this byte of a text on, in front of that one
+-- A byte range of a text, from `start` to before `end`.
 pub record Span : Type 0 where
   pub start : ℕ
   pub end : ℕ
@@ -21,26 +21,27 @@ span start end = record { start = start; end = end }
 abbrev pub span_of : Node → Span
 span_of n = span n.start n.end
 
--- all of a text that begins at this byte
+-- A whole text that begins at this byte.
 abbrev pub whole : ℕ → Text → Span
 whole at text = span at (at + length text)
 
--- a description and its brackets, of which the first is this byte
+-- A description with its brackets, where this byte is the opening one.
 abbrev pub around : ℕ → Text → Span
 around at inner = span at (at + length inner + 2)
 
--- The members of a composite letter have no text of their own, and stand in front of its.
+-- The members of a composite letter have no text of their own: their empty ranges are where the letter's text
+-- begins.
 abbrev pub members_at : ℕ → Trees → List Span
 members_at at no_trees = []
 members_at at (more_trees t ts) = span at at ∷ members_at at ts
 
--- this one, and behind it these
+-- This span comes first, and these follow it.
 pub record Leads (one : Span) (Others : List Span → Type 0) (spans : List Span) : Type 0 where
   pub others : List Span
   pub all : spans ≡ one ∷ others
   pub stand : Others others
 
--- behind the head of a bracket
+-- After the head of a bracket.
 pub record InBracket (Inside : ℕ → Text → List Span → Type 0) (at : ℕ) (text : Text) (spans : List Span)
     : Type 0 where
   pub head : Head
@@ -49,43 +50,43 @@ pub record InBracket (Inside : ℕ → Text → List Span → Type 0) (at : ℕ)
   pub cut : text ≡ head_text head ++ inside
   pub stand : Inside (at + length (head_text head)) inside spans
 
--- the end of a bracket, in which nothing stands
+-- The end of a bracket that holds nothing more.
 pub record Closes (at : ℕ) (text : Text) (spans : List Span) : Type 0 where
   pub white : Text
   pub all_white : ZeroOrMore is_white white
   pub cut : text ≡ white ++ right ∷ []
   pub none : spans ≡ []
 
--- a description in brackets, behind white bytes, and what follows it
+-- A description in brackets, after white space, and what follows it.
 pub record OneNested (Description Others : ℕ → Text → List Span → Type 0) (at : ℕ) (text : Text)
     (spans : List Span) : Type 0 where
   pub white : Text
   pub inner : Text
   pub rest : Text
   pub here : List Span
-  pub behind : List Span
+  pub after : List Span
   pub all_white : ZeroOrMore is_white white
   pub cut : text ≡ white ++ left ∷ (inner ++ right ∷ rest)
   pub stands : Description (at + length white) inner here
-  pub others : Others (at + length white + length inner + 2) rest behind
-  pub all : spans ≡ here ++ behind
+  pub others : Others (at + length white + length inner + 2) rest after
+  pub all : spans ≡ here ++ after
 
--- a front that spells this tree alone, and what follows it
+-- The start of a text, which spells this tree alone, and what follows it.
 pub record OnePiece (language : Language) (t : Tree) (Piece Others : ℕ → Text → List Span → Type 0)
     (at : ℕ) (text : Text) (spans : List Span) : Type 0 where
   pub front : Text
   pub rest : Text
   pub here : List Span
-  pub behind : List Span
+  pub after : List Span
   pub cut : text ≡ front ++ rest
   pub spells : SpellsIn language nesting_limit front (t ∷ [])
   pub stands : Piece at front here
-  pub others : Others (at + length front) rest behind
-  pub all : spans ≡ here ++ behind
+  pub others : Others (at + length front) rest after
+  pub all : spans ≡ here ++ after
 
--- The spans of the parts in their order: of what begins at this byte, and has this text.
+-- The spans of the parts, in order, for a text that begins at this byte.
 abbrev mutual
-  -- a piece, and what it holds
+  -- A piece, and what it holds.
   pub PieceStands : Tree → ℕ → Text → List Span → Type 0
   PieceStands (component c) at text spans = spans ≡ whole at text ∷ []
   PieceStands (literal bytes) at text spans = spans ≡ whole at text ∷ []
@@ -95,7 +96,7 @@ abbrev mutual
   PieceStands (first ts) at text spans =
       Leads (whole at text) (InBracket (AlternativesStand ts) at text) spans
 
-  -- a description, of which the first bracket is this byte and this text is inside; and its pieces
+  -- A description, where this byte is its opening bracket and this text is inside; and its pieces.
   pub DescriptionStands : Tree → ℕ → Text → List Span → Type 0
   DescriptionStands (component c) at inner spans = spans ≡ around at inner ∷ whole (at + 1) inner ∷ []
   DescriptionStands (literal bytes) at inner spans = spans ≡ around at inner ∷ whole (at + 1) inner ∷ []
@@ -108,19 +109,19 @@ abbrev mutual
       Leads (around at inner) (Leads (whole (at + 1) inner)
       (InBracket (AlternativesStand ts) (at + 1) inner)) spans
 
-  -- descriptions in turn, up to the end of the bracket
+  -- Descriptions, one after another, up to the end of the bracket.
   pub AlternativesStand : Trees → ℕ → Text → List Span → Type 0
   AlternativesStand no_trees at text spans = Closes at text spans
   AlternativesStand (more_trees t ts) at text spans =
       OneNested (DescriptionStands t) (AlternativesStand ts) at text spans
 
-  -- pieces in turn: each front of the text that spells one tree, and what that holds
+  -- Pieces, one after another: each is a start of the text that spells one tree, with what it holds.
   pub PiecesStand : Language → Trees → ℕ → Text → List Span → Type 0
   PiecesStand language no_trees at text spans = (text ≡ []) × (spans ≡ [])
   PiecesStand language (more_trees t ts) at text spans =
       OnePiece language t (PieceStands t) (PiecesStand language ts) at text spans
 
--- what a bracket holds
+-- What a bracket holds.
 abbrev pub HeldStand : Tree → ℕ → Text → List Span → Type 0
 HeldStand (component c) at text spans = spans ≡ []
 HeldStand (literal bytes) at text spans = spans ≡ []
@@ -128,12 +129,12 @@ HeldStand (compound ts) at text spans = spans ≡ []
 HeldStand (optional f t) at text spans = InBracket (OneNested (DescriptionStands t) Closes) at text spans
 HeldStand (first ts) at text spans = InBracket (AlternativesStand ts) at text spans
 
--- Nodes are appended that stand so.
+-- The nodes that are appended have these spans.
 pub record AddsAt (Stand : List Span → Type 0) (old new : List Node) : Type 0 where
   pub more : List Node
   pub whole : new ≡ old ++ more
   pub stand : Stand (map span_of more)
 
--- The nodes of a text stand where its parts do.
+-- The nodes of a text have the spans of its parts.
 abbrev pub NodesStand : Language → Trees → Text → List Node → Type 0
 NodesStand language ts text nodes = PiecesStand language ts 0 text (map span_of nodes)

@@ -1,5 +1,5 @@
-//! What components write of one fixed moment: 2026-02-03 09:05:07.012345678 +01:30:00, a Tuesday.
-//! Its numbers show how they are filled.
+//! What components write for one fixed moment: 2026-02-03 09:05:07.012345678 +01:30:00, a Tuesday. Its
+//! numbers show how they are padded.
 
 ghost use Rattle.std.specs.Prelude.{◌≡◌, IfErr, IfOk, IsUtf8, Ok, string_bytes};
 ghost use Rattle.timefd_component.specs.Modern.{modern};
@@ -13,8 +13,8 @@ use timefd_format::{TextError, format_items};
 use timefd_format_item::BorrowedFormatItem;
 use timefd_moment::{Date, Moment, Time, UtcOffset};
 
-/// What the formatter writes of a component at that moment. Of a deprecated one it is the text of
-/// the one which it stands for. An `Err` says that memory ran out.
+/// What the formatter writes for a component at that moment. A deprecated component has the text of the
+/// component that replaces it. An `Err` says that memory ran out.
 #[tactic(auto, using(crate::proofs::SampleLemmas::of_example))]
 pub fn sample(alloc: Global, component: Component) -> Result<String, AllocError>
     ensures written { IfOk result (λ text. IsExample component (string_bytes text)) }

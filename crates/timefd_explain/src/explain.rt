@@ -1,4 +1,4 @@
-//! An accepted description as its nodes, and as lines.
+//! Shows an accepted description as its nodes, and as lines.
 
 ghost use Rattle.std.specs.Prelude.{◌≡◌, List, IfOk, string_bytes};
 ghost use Rattle.timefd_component.specs.Reserved.{reserve_all};
@@ -22,15 +22,15 @@ use timefd_parse::Language;
 // Room for the nodes of a short text.
 const NODES: usize = 8;
 
-// Room for its lines.
+// Room for the lines of a short text.
 const ROOM: usize = 512;
 
-/// What is shown of a text.
+/// What is shown for a text.
 #[derive(Drop)]
 pub struct Explanation {
-    /// Its nodes, each in front of those that it holds.
+    /// The nodes of the text, each before those that it holds.
     pub nodes: Vec<Node>,
-    /// How many bytes it reserves.
+    /// How many bytes the text reserves.
     pub bytes: usize,
 }
 
@@ -40,16 +40,16 @@ pub fn explanation_of(
     language: Language,
     text: &str,
 ) -> Result<Explanation, AllocError>
-    // The bytes are those of the items that the text spells.
+    // The bytes are the sum for the items that the text spells.
     ensures sum { (list : List Tree) → SpellsIn language nesting_limit text.now list
         → IfOk result (λ found. found.bytes ≡ kept_bytes (reserve_all (trees list))) }
 
-    // Its nodes stand one for one for the parts of what the text spells.
+    // Each node shows one part of what the text spells, in order.
     ensures parts { (list : List Tree) → SpellsIn language nesting_limit text.now list
         → IfOk result (λ found. AreParts (all_parts 0 (trees list)) found.nodes.items) }
 
-    // They stand where these parts do.
-    ensures places { (list : List Tree) → SpellsIn language nesting_limit text.now list
+    // The nodes have the byte ranges of these parts.
+    ensures positions { (list : List Tree) → SpellsIn language nesting_limit text.now list
         → IfOk result (λ found. NodesStand language (trees list) text.now found.nodes.items) }
 
     // Each node, however deep, has its example.
@@ -60,9 +60,9 @@ pub fn explanation_of(
     Ok(Explanation { nodes, bytes })
 }
 
-/// A text that a language accepts: a line for each of its nodes, with the bytes that it reserves,
-/// an example, the text that it came from and what it is; and the sum of the bytes. An `Err` says that
-/// memory ran out.
+/// Shows a text that a language accepts: a line for each of its nodes, with the bytes that it reserves, an
+/// example, the text that it came from and what it is; and the sum of the bytes. An `Err` says that memory
+/// ran out.
 pub fn explained(
     alloc: Global,
     language: Language,

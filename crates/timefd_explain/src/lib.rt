@@ -1,5 +1,5 @@
-//! An accepted description as its tree: the nodes, and a line for each, with the words of its component and
-//! what that writes of one fixed moment.
+//! Shows an accepted description as a tree: its nodes, and a line for each of them, with the words of its
+//! component and what that writes for one fixed moment.
 #![tactic(auto)]
 
 mod example;

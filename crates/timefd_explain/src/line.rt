@@ -8,7 +8,7 @@ use crate::node::Node;
 use std::alloc::{AllocError, Global};
 use timefd_drawing::shown::push_safe;
 
-/// Appends the lines of the nodes of a text.
+/// Appends a line for each node of a text. An `Err` says that memory ran out.
 pub fn push_lines(
     alloc: Global,
     out: &mut String,
@@ -24,7 +24,7 @@ pub fn push_lines(
     Ok(())
 }
 
-// Appends a node's line.
+// Appends the line of a node.
 fn push_line(alloc: Global, out: &mut String, text: &str, node: &Node) -> Result<(), AllocError>
     ensures { OnOk result ((line : _) × IsLine text.now node.now line
         × (string_bytes out.new ≡ string_bytes out.old ++ line)) }
@@ -36,7 +36,7 @@ fn push_line(alloc: Global, out: &mut String, text: &str, node: &Node) -> Result
     push_example(alloc, out, &node.example)
 }
 
-// Two spaces for each bracket.
+// Appends two spaces for each bracket.
 fn push_indent(out: &mut String, depth: usize) -> Result<(), AllocError>
     ensures { OnOk result (string_bytes out.new ≡ string_bytes out.old ++ spec.indent depth) }
 {
@@ -46,7 +46,7 @@ fn push_indent(out: &mut String, depth: usize) -> Result<(), AllocError>
     Ok(())
 }
 
-// The text that a node came from.
+// Appends the text that a node came from, if there is any.
 fn push_quoted(alloc: Global, out: &mut String, text: &str) -> Result<(), AllocError>
     ensures { OnOk result (string_bytes out.new ≡ string_bytes out.old ++ spec.quoted text.now) }
 {

@@ -1,4 +1,4 @@
-//! The nodes of what a composite letter of strftime stands for.
+//! The nodes of the items that a composite letter of strftime means.
 
 ghost use Rattle.std.specs.Prelude.{ℕ, ◌≡◌, [], ◌∷◌, IsTrue, OnOk};
 ghost use Rattle.timefd_component.specs.Tree.{Trees, compound, trees};
@@ -10,7 +10,7 @@ ghost use Rattle.timefd_explain.specs.Parts.{Adds, capped};
 ghost use Rattle.timefd_explain.specs.Parts as spec;
 ghost use Rattle.timefd_explain.specs.Stands.{AddsAt, members_at};
 
-use crate::node::{Node, Place, node_of};
+use crate::node::{Location, Node, node_of};
 use crate::piece::item_what;
 use std::alloc::{AllocError, Global};
 use timefd_items::item_bytes;
@@ -18,7 +18,8 @@ use timefd_parse::{
     BorrowedFormatItem, Language, ParseError, StrftimeTables, parse_strftime_borrowed,
 };
 
-/// Appends the nodes of what a composite letter stands for, each so deep; they have no text of their own.
+/// Appends the nodes of the items that a composite letter means, all at the given depth. They have no text of
+/// their own.
 pub fn push_members(
     alloc: Global,
     nodes: &mut Vec<Node>,
@@ -30,7 +31,7 @@ pub fn push_members(
     ensures parts { (d : ℕ) (ts : Trees) → depth ≡ capped d
         → SpellsStrftime text.now (compound ts ∷ [])
         → OnOk result (Adds (spec.members d ts) nodes.old.items nodes.new.items) }
-    ensures places { (ts : Trees) → SpellsStrftime text.now (compound ts ∷ [])
+    ensures positions { (ts : Trees) → SpellsStrftime text.now (compound ts ∷ [])
         → OnOk result (AddsAt (λ spans. spans ≡ members_at start ts) nodes.old.items nodes.new.items) }
 {
     let tables = StrftimeTables::new();
@@ -41,7 +42,7 @@ pub fn push_members(
     }
 }
 
-// Appends the nodes of what the first item stands for, if it stands for several.
+// Appends the nodes of what the first item means, if that is several items.
 fn push_composite(
     alloc: Global,
     nodes: &mut Vec<Node>,
@@ -54,7 +55,7 @@ fn push_composite(
     ensures parts { (d : ℕ) (ts : Trees) → depth ≡ capped d
         → item_trees items.now ≡ compound ts ∷ []
         → OnOk result (Adds (spec.members d ts) nodes.old.items nodes.new.items) }
-    ensures places { (ts : Trees) → item_trees items.now ≡ compound ts ∷ []
+    ensures positions { (ts : Trees) → item_trees items.now ≡ compound ts ∷ []
         → OnOk result (AddsAt (λ spans. spans ≡ members_at start ts) nodes.old.items nodes.new.items) }
 {
     if items.is_empty() {
@@ -80,10 +81,10 @@ fn push_items(
     ensures parts { (d : ℕ) → depth ≡ capped d
         → OnOk result (Adds (spec.members d (trees (item_trees members.now)))
         nodes.old.items nodes.new.items) }
-    ensures places { OnOk result (AddsAt (λ spans. spans ≡ members_at start (trees (item_trees members.now)))
+    ensures positions { OnOk result (AddsAt (λ spans. spans ≡ members_at start (trees (item_trees members.now)))
         nodes.old.items nodes.new.items) }
 {
-    let place = Place {
+    let location = Location {
         depth,
         start,
         text: "",
@@ -91,7 +92,7 @@ fn push_items(
     for member in members {
         let what = item_what(alloc, member)?;
         let bytes = item_bytes(member);
-        nodes.push(node_of(alloc, Language::Strftime, place, bytes, &what)?)?;
+        nodes.push(node_of(alloc, Language::Strftime, location, bytes, &what)?)?;
     }
     Ok(())
 }

@@ -28,39 +28,40 @@ pub enum NodeKind {
     Optional,
     /// Alternatives.
     First,
-    /// Items in turn, as a composite letter of strftime has them.
+    /// Several items, one after another, as a composite letter of strftime has them.
     Several,
     /// A description in brackets.
     Description,
 }
 
-/// What is shown of a node.
+/// What is shown for a node.
 #[derive(Drop)]
 pub struct Node {
-    /// In how many brackets it stands.
+    /// How many brackets are around it.
     pub depth: usize,
-    /// The byte indices of the text that it came from. Both are alike where it came from none.
+    /// The byte range of the text that it came from, from `start` to before `end`. Both are equal if it came
+    /// from no text.
     pub start: usize,
     pub end: usize,
     /// How many bytes it reserves.
     pub bytes: usize,
     /// What kind of node it is.
     pub kind: NodeKind,
-    /// What it is, in words.
+    /// The node in words.
     pub words: String,
-    /// What it is written as. Of a component it is what the formatter writes of the moment of the
-    /// examples. It is empty where that isn't said.
+    /// An example of what it writes. A component shows what the formatter writes for it at the moment of the
+    /// examples. It is empty for a node without an example.
     pub example: String,
 }
 
-/// Where a node stands.
+/// Where a node is.
 #[derive(Clone, Copy)]
-pub struct Place<'a> {
-    /// In how many brackets.
+pub struct Location<'a> {
+    /// How many brackets are around it.
     pub depth: usize,
-    /// The byte index of its text.
+    /// The byte index where its text begins.
     pub start: usize,
-    /// Its text, which is empty where it came from none.
+    /// Its text, which is empty if it came from no text.
     pub text: &'a str,
 }
 
@@ -69,7 +70,7 @@ pub struct Place<'a> {
 pub fn node_of(
     alloc: Global,
     language: Language,
-    place: Place<'_>,
+    location: Location<'_>,
     bytes: usize,
     what: &What,
 ) -> Result<Node, AllocError>
@@ -77,17 +78,17 @@ pub fn node_of(
     ensures words { IfOk result (λ node. AreWordsOf what.now (string_bytes node.words)) }
     ensures example { IfOk result (λ node. IsExampleOf what.now (string_bytes node.example)) }
     ensures node { IfOk result HasExample }
-    ensures piece { (d : ℕ) (tree : Tree) → place.entry.depth ≡ capped d → IsWhat what.now tree
+    ensures piece { (d : ℕ) (tree : Tree) → location.entry.depth ≡ capped d → IsWhat what.now tree
         → bytes ≡ kept_bytes (reserve tree) → IfOk result (IsPiece d tree) }
-    ensures start { IfOk result (λ node. node.start ≡ place.entry.start) }
-    ensures end { IfOk result (λ node. node.end ≡ capped (place.entry.start + length place.entry.text.now)) }
+    ensures start { IfOk result (λ node. node.start ≡ location.entry.start) }
+    ensures end { IfOk result (λ node. node.end ≡ capped (location.entry.start + length location.entry.text.now)) }
 {
-    let words = words_in(alloc, language, place.text, what)?;
+    let words = words_in(alloc, language, location.text, what)?;
     let example = example_of(alloc, what)?;
     Ok(Node {
-        depth: place.depth,
-        start: place.start,
-        end: place.start.saturating_add(place.text.len()),
+        depth: location.depth,
+        start: location.start,
+        end: location.start.saturating_add(location.text.len()),
         bytes,
         kind: kind_of(what),
         words,
@@ -108,7 +109,7 @@ fn words_in(
         What::Literal(_) => String::from_str(alloc, "literal"),
         What::Optional(format) => String::from_str(alloc, optional_words(*format)),
         What::First => String::from_str(alloc, "first of these"),
-        What::Several => String::from_str(alloc, "these in turn"),
+        What::Several => String::from_str(alloc, "these, one after another"),
     }
 }
 
@@ -144,7 +145,7 @@ fn example_of(alloc: Global, what: &What) -> Result<String, AllocError>
     }
 }
 
-// The words of a component, and behind them which modifiers the text sets. That isn't said where it
+// The words of a component, and after them which modifiers the text sets. That is left out if the component
 // came from no text.
 #[tactic(auto, using(crate::proofs::ExampleLemmas::named_alone, crate::proofs::ExampleLemmas::named_so))]
 fn component_words(
@@ -169,7 +170,7 @@ fn component_words(
     Ok(words)
 }
 
-// The modifiers of a bracket, or the flag of a directive.
+// The modifiers in a bracket, or the flag of a directive.
 fn set_in(alloc: Global, language: Language, text: &str) -> Result<String, AllocError> {
     match language {
         Language::Version(_) => modifiers_in(alloc, text),
@@ -183,19 +184,19 @@ fn modifiers_in(alloc: Global, text: &str) -> Result<String, AllocError> {
         return Ok(out);
     };
     let mut rest = modifiers;
-    'modifiers: while let Some((modifier, behind)) = first_modifier(rest) {
+    'modifiers: while let Some((modifier, after)) = first_modifier(rest) {
         if !out.is_empty() {
             out.push_str(" ")?;
         }
         out.push_str(modifier.key)?;
         out.push_str(":")?;
         out.push_str(modifier.value)?;
-        rest = behind;
+        rest = after;
     }
     Ok(out)
 }
 
-// What stands between the percent sign and the letter of a directive.
+// What is between the percent sign and the letter of a directive.
 fn flag_in(directive: &str) -> &str {
     directive
         .get(1..directive.len().saturating_sub(1))

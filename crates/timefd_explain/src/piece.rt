@@ -21,7 +21,7 @@ use timefd_parse::{
 /// What a piece is.
 #[derive(Drop)]
 pub enum What {
-    /// A literal, which stands for this text.
+    /// A literal, and the text that it means.
     Literal(String),
     /// A component.
     Component(Component),
@@ -29,11 +29,11 @@ pub enum What {
     Optional(bool),
     /// Alternatives.
     First,
-    /// Items in turn, as a composite letter of strftime has them.
+    /// Several items, one after another, as a composite letter of strftime has them.
     Several,
 }
 
-/// A piece of a text, as it stands there.
+/// A piece of a text, with what it is.
 #[derive(Drop)]
 pub struct Shown<'a> {
     pub text: &'a str,
@@ -42,7 +42,7 @@ pub struct Shown<'a> {
     pub what: What,
 }
 
-/// What the text of one piece is.
+/// Finds what the text of one piece is. An `Err` says that memory ran out.
 pub fn piece_of<'a>(
     alloc: Global,
     language: Language,
@@ -131,7 +131,7 @@ fn item_piece<'a>(
     })
 }
 
-/// What an item is, which has no literal of bytes.
+/// What an item is. It may not be a literal of bytes.
 pub fn item_what(alloc: Global, item: &BorrowedFormatItem<'_>) -> Result<What, AllocError>
     requires { IsTrue (is_of_strings item.now) }
     ensures { IfOk result (λ what. IsWhat what (item_tree item.now)) }

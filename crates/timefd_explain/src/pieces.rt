@@ -16,29 +16,29 @@ use timefd_parse::{Language, first_piece};
 // Room for the pieces of a short text.
 const ROOM: usize = 8;
 
-/// The pieces of a text that a language accepts, in turn.
+/// The pieces of a text that a language accepts, in order. An `Err` says that memory ran out.
 pub fn pieces_of<'a>(
     alloc: Global,
     language: Language,
     text: &'a str,
 ) -> Result<Vec<Shown<'a>>, AllocError>
-    // They are those of the items that the text spells: each stands for one, and shows it.
+    // The pieces spell the items that the text spells, one each, and show them.
     ensures shows { (list : List Tree) → SpellsIn language nesting_limit text.now list
         → IfOk result (λ shown. Shows language text.now list shown.items) }
 
-    // What they have of the text is no more than the text.
+    // Together the texts of the pieces are at most as long as the text.
     ensures within { IfOk result (λ shown. length (texts shown.items) ≤ length text.now) }
 {
     let mut shown = Vec::with_capacity(alloc, ROOM)?;
     let mut rest = text;
-    'pieces: while let Some((piece, behind)) = first_of(alloc, language, rest) {
+    'pieces: while let Some((piece, after)) = first_of(alloc, language, rest) {
         shown.push(piece_of(alloc, language, piece)?)?;
-        rest = behind;
+        rest = after;
     }
     Ok(shown)
 }
 
-// The first piece of a text, and what follows it. `None` where the text begins with none.
+// The first piece of a text, and what follows it. `None` if the text begins with no piece.
 fn first_of<'a>(alloc: Global, language: Language, text: &'a str) -> Option<(&'a str, &'a str)>
     ensures joined { IfSome result (λ parts. parts.0.now ++ parts.1.now ≡ text.now) }
     ensures shorter { IfSome result (λ parts. length parts.1.now < length text.now) }
@@ -53,7 +53,7 @@ fn first_of<'a>(alloc: Global, language: Language, text: &'a str) -> Option<(&'a
     }
 }
 
-/// How many bytes the pieces reserve together.
+/// How many bytes the pieces reserve together, at most `usize::MAX`.
 pub fn bytes_of(pieces: &[Shown<'_>]) -> usize
     ensures { (list : List Tree) → AreShown pieces.now list
         → result ≡ kept_bytes (reserve_all (trees list)) }

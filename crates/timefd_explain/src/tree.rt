@@ -1,4 +1,4 @@
-//! The tree of an accepted text, a line a node.
+//! The tree of an accepted text, with a line for each node.
 
 ghost use Rattle.std.specs.Prelude.{ℕ, ◌≡◌, ◌≤◌, ◌<◌, ◌+◌, ◌^◌, List, [], ◌∷◌, ◌++◌, length, IfOk, OnOk};
 ghost use Rattle.timefd_component.specs.Reserved.{reserve, reserve_all};
@@ -16,7 +16,7 @@ ghost use Rattle.timefd_explain.specs.Shown.{IsShown};
 ghost use Rattle.timefd_explain.specs.Stands.{AddsAt, DescriptionStands, HeldStand, PieceStands, PiecesStand, around};
 
 use crate::members::push_members;
-use crate::node::{Node, NodeKind, Place, node_of};
+use crate::node::{Location, Node, NodeKind, node_of};
 use crate::piece::{Shown, What};
 use crate::pieces::{bytes_of, pieces_of};
 use std::alloc::{AllocError, Global};
@@ -25,8 +25,8 @@ use timefd_parse::{
     first_modifier, first_nested,
 };
 
-/// Appends the nodes of a text that begins at this byte index, in so many brackets, and answers how
-/// many bytes it reserves.
+/// Appends the nodes of a text that begins at byte index `begins`, in `depth` brackets, and returns how many
+/// bytes the text reserves.
 #[cycle(tree)]
 pub fn push_pieces(
     alloc: Global,
@@ -36,20 +36,20 @@ pub fn push_pieces(
     begins: usize,
     text: &str,
 ) -> Result<usize, AllocError>
-    // They are the bytes of the items that the text spells.
+    // The bytes are the sum for the items that the text spells.
     ensures sum { (list : List Tree) → SpellsIn language nesting_limit text.now list
         → IfOk result (λ bytes. bytes ≡ kept_bytes (reserve_all (trees list))) }
 
-    // All nodes have their examples, if those that were there have.
+    // All nodes have their examples, if those that were there before have them.
     ensures examples { OnOk result (Examples nodes.old.items → Examples nodes.new.items) }
 
-    // The nodes are those of what the text spells.
+    // The nodes show the parts of what the text spells.
     ensures parts { (d : ℕ) (list : List Tree) → depth ≡ capped d
         → SpellsIn language nesting_limit text.now list
         → OnOk result (Adds (all_parts d (trees list)) nodes.old.items nodes.new.items) }
 
-    // They stand where the pieces do.
-    ensures places { (list : List Tree) → begins + length text.now < 2 ^ 64
+    // The nodes have the byte ranges of the pieces.
+    ensures positions { (list : List Tree) → begins + length text.now < 2 ^ 64
         → SpellsIn language nesting_limit text.now list
         → OnOk result (AddsAt (PiecesStand language (trees list) begins text.now)
         nodes.old.items nodes.new.items) }
@@ -64,7 +64,7 @@ pub fn push_pieces(
     Ok(bytes_of(shown))
 }
 
-// Appends the node of a piece, and those of what it holds.
+// Appends the node of a piece, and the nodes of what it holds.
 #[cycle(tree)]
 #[tactic(auto, using(crate::proofs::ExampleLemmas::examples_more))]
 fn push_piece(
@@ -79,14 +79,14 @@ fn push_piece(
     ensures parts { (d : ℕ) (tree : Tree) → depth ≡ capped d
         → SpellsIn language nesting_limit piece.now.text.now (tree ∷ []) → IsShown piece.now tree
         → OnOk result (Adds (spec.parts d tree) nodes.old.items nodes.new.items) }
-    ensures places { (tree : Tree) → start + length piece.now.text.now < 2 ^ 64
+    ensures positions { (tree : Tree) → start + length piece.now.text.now < 2 ^ 64
         → SpellsIn language nesting_limit piece.now.text.now (tree ∷ []) → IsShown piece.now tree
         → OnOk result (AddsAt (PieceStands tree start piece.now.text.now)
         nodes.old.items nodes.new.items) }
 {
     let Shown { text, bytes, what } = piece;
-    let place = Place { depth, start, text };
-    nodes.push(node_of(alloc, language, place, *bytes, what)?)?;
+    let location = Location { depth, start, text };
+    nodes.push(node_of(alloc, language, location, *bytes, what)?)?;
     let inside = depth.saturating_add(1);
     match what {
         What::Optional(_) => push_nested(alloc, nodes, inside, start, text),
@@ -110,41 +110,37 @@ fn push_nested(
     ensures parts { (d : ℕ) (tree : Tree) → depth ≡ capped d
         → Spells Three nesting_limit 0 text.now (tree ∷ []) → Nests tree
         → OnOk result (Adds (held_parts d tree) nodes.old.items nodes.new.items) }
-    ensures places { (tree : Tree) → start + length text.now < 2 ^ 64
+    ensures positions { (tree : Tree) → start + length text.now < 2 ^ 64
         → Spells Three nesting_limit 0 text.now (tree ∷ []) → Nests tree
         → OnOk result (AddsAt (HeldStand tree start text.now) nodes.old.items nodes.new.items) }
 {
-    let mut rest = behind_head(text);
-    'nested: while let Some((inner, behind)) = first_nested(
-        alloc,
-        DescriptionVersion::Three,
-        rest,
-    ) {
-        // A bracket stands on each side of what is nested.
-        let before = text.len().saturating_sub(behind.len() + inner.len() + 1);
+    let mut rest = after_head(text);
+    'nested: while let Some((inner, after)) = first_nested(alloc, DescriptionVersion::Three, rest) {
+        // The nested description has a bracket on each side.
+        let before = text.len().saturating_sub(after.len() + inner.len() + 1);
         push_described(alloc, nodes, depth, start.saturating_add(before), inner)?;
-        rest = behind;
+        rest = after;
     }
     Ok(())
 }
 
 // What follows the name and the modifiers of a bracket.
-fn behind_head(text: &str) -> &str
+fn after_head(text: &str) -> &str
     ensures within { length result.now ≤ length text.now }
-    ensures behind { (h : Head) (behind : Text) → IsHead h → EndsHead behind
-        → text.now ≡ head_text h ++ behind → result.now ≡ behind }
+    ensures after { (h : Head) (after : Text) → IsHead h → EndsHead after
+        → text.now ≡ head_text h ++ after → result.now ≡ after }
 {
     let Some((_, modifiers)) = bracket_name(text) else {
         return text;
     };
     let mut rest = modifiers;
-    'modifiers: while let Some((_, behind)) = first_modifier(rest) {
-        rest = behind;
+    'modifiers: while let Some((_, after)) = first_modifier(rest) {
+        rest = after;
     }
     rest
 }
 
-// Appends the nodes of a description in brackets, which begins behind the first of them.
+// Appends the nodes of a description in brackets. `begins` is the position after its opening bracket.
 #[cycle(tree)]
 fn push_described(
     alloc: Global,
@@ -157,7 +153,7 @@ fn push_described(
     ensures parts { (d : ℕ) (list : List Tree) → depth ≡ capped d
         → Spells Three nesting_limit 0 inner.now list
         → OnOk result (Adds (described d (pack list)) nodes.old.items nodes.new.items) }
-    ensures places { (at : ℕ) (list : List Tree) → begins ≡ at + 1 → at + length inner.now + 2 < 2 ^ 64
+    ensures positions { (at : ℕ) (list : List Tree) → begins ≡ at + 1 → at + length inner.now + 2 < 2 ^ 64
         → Spells Three nesting_limit 0 inner.now list
         → OnOk result (AddsAt (DescriptionStands (pack list) at inner.now)
         nodes.old.items nodes.new.items) }
@@ -182,7 +178,7 @@ fn push_description(
     ensures parts { (d : ℕ) (list : List Tree) → depth ≡ capped d
         → Spells Three nesting_limit 0 inner.now list
         → OnOk result (Adds (description d (pack list) ∷ []) nodes.old.items nodes.new.items) }
-    ensures places { (at : ℕ) → begins ≡ at + 1 → at + length inner.now + 2 < 2 ^ 64
+    ensures positions { (at : ℕ) → begins ≡ at + 1 → at + length inner.now + 2 < 2 ^ 64
         → OnOk result (AddsAt (λ spans. spans ≡ around at inner.now ∷ [])
         nodes.old.items nodes.new.items) }
 {
@@ -198,7 +194,7 @@ fn push_description(
     Ok(nodes.push(node)?)
 }
 
-// How many bytes a description of version 3 reserves: 0 where the text is none.
+// How many bytes a description of version 3 reserves: 0 if the text isn't one.
 fn reserved(alloc: Global, text: &str) -> Result<usize, AllocError>
     ensures { (list : List Tree) → Spells Three nesting_limit 0 text.now list
         → IfOk result (λ bytes. bytes ≡ reserve (pack list)) }

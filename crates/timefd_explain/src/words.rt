@@ -1,4 +1,4 @@
-//! The words of components, as brackets hold them.
+//! The words of components, as they are written in brackets.
 
 ghost use Rattle.std.specs.Prelude.{◌≡◌, IfOk, string_bytes};
 ghost use Rattle.timefd_component.specs.Modern.{modern};
@@ -9,11 +9,11 @@ use std::alloc::{AllocError, Global};
 use timefd_component::Component;
 use timefd_words::{Defaults, push_words};
 
-// Room for the words of most components, and of what is said behind them.
+// Room for the words of most components, and for what follows them.
 const ROOM: usize = 96;
 
-/// The name of a component with all its modifiers, set or by default. That of a deprecated one is
-/// that of the one which it stands for.
+/// The name of a component with all its modifiers, whether set or by default. A deprecated component has the
+/// words of the component that replaces it.
 pub fn words_of(alloc: Global, component: Component) -> Result<String, AllocError>
     ensures { IfOk result (λ text. string_bytes text ≡ words Omission.Written (modern component)) }
 {

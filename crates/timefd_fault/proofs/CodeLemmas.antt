@@ -1,4 +1,4 @@
--- No two codes have one name: each is read back from its name. Each stands among all.
+-- No two codes have the same name: each is read back from its name. Each is one of all.
 use Rattle.std.proofs.Common.{◌≡◌, ◌∙◌, refl, sym, ap, codes, take, drop}
 use Rattle.std.specs.Prelude.{bytes_eq, if◌then◌else◌}
 use Rattle.timefd_fault.specs.Faults.{Text}

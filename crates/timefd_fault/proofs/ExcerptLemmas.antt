@@ -1,4 +1,4 @@
--- One more text behind those in a buffer.
+-- One more text after those in a buffer.
 use Rattle.std.proofs.Common.{ℕ, ◌≡◌, ◌∙◌, ◌+◌, ◌-◌, ◌<◌, ◌≤◌, ◌++◌, ◌⊎◌, inl, inr, length, take, drop, refl, sym, ap, subst, arith, append_assoc, length-append, length-drop}
 use Rattle.std.proofs.lemmas.Bool.{cases_lt}
 use Rattle.std.proofs.lemmas.List.{get_or_append_left, get_or-append-add, take-append-le}
@@ -58,7 +58,7 @@ of_second s t j is = (
       ),
 )
 
--- where not all is written, nothing behind it is
+-- if not all is written, nothing after it is
 pub kept_short : (whole text before after : Text) (e : Excerpt) → e.written < e.len
     → IsExcerpt whole before after e
     → IsExcerpt (whole ++ text) before after
@@ -88,7 +88,7 @@ wholly whole before after e full is =
     is.front ∙ ap (λ n. take n whole ++ drop n before) all
     ∙ ap (λ t. t ++ drop (length whole) before) (take-length whole)
 
--- so the next text begins right behind it
+-- so the next text begins right after it
 pub more_written : (whole text before after new : Text) (e : Excerpt) (at more : ℕ)
     → e.len ≤ e.written → (e.len ≤ length after → at ≡ e.len)
     → new ≡ take at after ++ (take more text ++ drop (at + more) after)
@@ -110,27 +110,27 @@ more_written whole text before after new e at more full least front room between
       length-drop (length whole) before,
       within,
     ) in
-    let place : at ≡ length whole = least (omega (arith, is.len, within, same)) ∙ is.len in
+    let position : at ≡ length whole = least (omega (arith, is.len, within, same)) ∙ is.len in
     record {
       len = omega (arith, is.len, length-append whole text);
       front = front
           ∙ ap (λ t. take at t ++ (take more text ++ drop (at + more) t)) is_whole
           ∙ ap (λ t. t ++ (take more text ++ drop (at + more)
           (whole ++ drop (length whole) before)))
-          (ap (λ n. take n (whole ++ drop (length whole) before)) place
+          (ap (λ n. take n (whole ++ drop (length whole) before)) position
           ∙ take-append_seam whole (drop (length whole) before))
           ∙ ap (λ t. whole ++ (take more text ++ t))
-          (drop-append-drop (length whole) before whole (at + more) (omega (arith, place)) refl)
+          (drop-append-drop (length whole) before whole (at + more) (omega (arith, position)) refl)
           ∙ sym (append_assoc whole (take more text) (drop (at + more) before))
           ∙ ap (λ t. t ++ drop (at + more) before)
           (sym (take-append-add whole text more)
-          ∙ ap (λ n. take (n + more) (whole ++ text)) (sym place));
+          ∙ ap (λ n. take (n + more) (whole ++ text)) (sym position));
       room = omega (arith, room, same);
-      between = subst (λ n. IsCharBoundary (whole ++ text) (n + more)) (sym place)
+      between = subst (λ n. IsCharBoundary (whole ++ text) (n + more)) (sym position)
           (in_second whole text more between);
       most = λ i longer inside cut.
           let j : ℕ = i - length whole in
-          let is_i : i ≡ length whole + j = omega (arith, longer, place) in
-          most j (omega (arith, longer, place)) (omega (arith, inside, same, place, longer))
+          let is_i : i ≡ length whole + j = omega (arith, longer, position) in
+          most j (omega (arith, longer, position)) (omega (arith, inside, same, position, longer))
           (of_second whole text j (subst (IsCharBoundary (whole ++ text)) is_i cut));
     }

@@ -53,13 +53,13 @@ fault_sound _ _ e = absurd (false≢true e)
 texts_same : (a b : Text) → a ≡ b → pointwise nat_eq a b ≡ true
 texts_same a b e = subst (λ t. pointwise nat_eq a t ≡ true) e (text_same a)
 
-same_places : (k l : Kind) (i j : ℕ) → fault k i ≡ fault l j → nat_eq i j ≡ true
-same_places k l i j e = eq-eqb i j (ap (λ (f : Fault). f.index) e)
+same_positions : (k l : Kind) (i j : ℕ) → fault k i ≡ fault l j → nat_eq i j ≡ true
+same_positions k l i j e = eq-eqb i j (ap (λ (f : Fault). f.index) e)
 
 one_text : (a b : Text) (k l : Kind) (i j : ℕ) → a ≡ b → fault k i ≡ fault l j
     → (pointwise nat_eq a b && nat_eq i j) ≡ true
 one_text a b k l i j p e = and_from (pointwise nat_eq a b) (nat_eq i j) (texts_same a b p)
-    (same_places k l i j e)
+    (same_positions k l i j e)
 
 two_texts : (a b c d : Text) (k l : Kind) (i j : ℕ) → a ≡ b → c ≡ d → fault k i ≡ fault l j
     → (pointwise nat_eq a b && (pointwise nat_eq c d && nat_eq i j)) ≡ true
@@ -71,12 +71,12 @@ kinds : (f g : Fault) → f ≡ g → f.kind ≡ g.kind
 kinds f g e = ap (λ (h : Fault). h.kind) e
 
 fault_same : (a b : InvalidFormatDescription) → fault_of a ≡ fault_of b → same_fault a b ≡ true
-fault_same (UnclosedOpeningBracket i) (UnclosedOpeningBracket j) e = same_places _ _ i j e
+fault_same (UnclosedOpeningBracket i) (UnclosedOpeningBracket j) e = same_positions _ _ i j e
 fault_same (InvalidComponentName a i) (InvalidComponentName b j) e =
     let k = kinds _ _ e in one_text (string_bytes a) (string_bytes b) _ _ i j (cc) e
 fault_same (InvalidModifier a i) (InvalidModifier b j) e =
     let k = kinds _ _ e in one_text (string_bytes a) (string_bytes b) _ _ i j (cc) e
-fault_same (MissingComponentName i) (MissingComponentName j) e = same_places _ _ i j e
+fault_same (MissingComponentName i) (MissingComponentName j) e = same_positions _ _ i j e
 fault_same (MissingRequiredModifier a i) (MissingRequiredModifier b j) e =
     let k = kinds _ _ e in one_text a.now b.now _ _ i j (cc) e
 fault_same (Expected a i) (Expected b j) e = let k = kinds _ _ e in

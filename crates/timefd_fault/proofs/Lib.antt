@@ -5,4 +5,4 @@ pub mod CodeLemmas
 pub mod ExcerptLemmas
 pub mod PartLemmas
 pub mod OwnedLemmas
-pub mod LentLemmas
+pub mod BorrowedLemmas

@@ -1,4 +1,4 @@
--- Texts one behind another, and the sentence that they are.
+-- Texts one after another, and the sentence that they make.
 use Rattle.std.proofs.Common.{ℕ, suc, ◌≡◌, ◌≢◌, ◌∙◌, ◌+◌, ◌<◌, ◌++◌, List, [], ◌∷◌, length, get_or, drop, refl, sym, ap, arith, rules, codes, append-nil}
 use Rattle.std.proofs.Math.Seq.{drop-cons}
 use Rattle.std.specs.Borrow.{Bor}
@@ -11,7 +11,7 @@ joined_cons : (t : Text) (ts : List Text) → joined (t ∷ ts) ≡ t ++ joined 
 joined_cons t [] = sym (append-nil t)
 joined_cons t (u ∷ ts) = refl
 
--- the text at a place and those behind it
+-- the text at an index and those after it
 pub joined_from : (parts : List (Bor (List ℕ))) (i : ℕ) (d : Bor (List ℕ)) → i < length parts
     → joined (texts (drop i parts)) ≡ (get_or parts i d).now ++ joined (texts (drop (i + 1) parts))
 joined_from parts i d less =

@@ -6,17 +6,17 @@ use Rattle.timefd_fault.specs.declared.read_error.ReadError.TheVariants as error
 use Rattle.timefd_fault.specs.declared.parse_error.ParseError.{ParseError}
 use Rattle.timefd_fault.specs.RuleKinds.{rule_kind}
 use Rattle.timefd_fault.specs.ReadErrors.{IsFault}
-use Rattle.timefd_fault.specs.Told.{IsFaultOrMemory, MemoryAlone}
+use Rattle.timefd_fault.specs.Reported.{IsFaultOrMemory, MemoryAlone}
 use Rattle.timefd_fault.specs.declared.borrowed_fault.BorrowedFault.{BorrowedFault}
 use Rattle.timefd_fault.specs.declared.borrowed_parse_error.BorrowedParseError.{BorrowedParseError}
 use Rattle.timefd_fault.specs.declared.borrowed_parse_error.BorrowedParseError.TheVariants.{Invalid, Memory}
 
 -- the fault that is borrowed
-abbrev pub lent_fault : BorrowedFault → Fault
-lent_fault f = fault (rule_kind f.rule) f.index
+abbrev pub to_borrowed_fault : BorrowedFault → Fault
+to_borrowed_fault f = fault (rule_kind f.rule) f.index
 
--- A kind that quotes two words has short ones, as each fault of a text does. So a `usize` counts
--- its sentence.
+-- If a kind quotes two words, they are short, as in each fault of a text. So the length of its
+-- sentence is a `usize`.
 abbrev pub HasShortWords : Kind → Type 0
 HasShortWords unclosed_bracket = ⊤
 HasShortWords (invalid_name name) = ⊤
@@ -44,21 +44,22 @@ HasShortFault (Invalid f) = HasShortWords (rule_kind f.rule)
 HasShortFault (Memory e) = ⊤
 
 -- this fault
-abbrev pub IsLent : Fault → BorrowedParseError → Type 0
-IsLent f (Invalid g) = lent_fault g ≡ f
-IsLent f (Memory e) = ⊥
+abbrev pub IsBorrowed : Fault → BorrowedParseError → Type 0
+IsBorrowed f (Invalid g) = to_borrowed_fault g ≡ f
+IsBorrowed f (Memory e) = ⊥
 
--- out of memory, or a fault of which this holds
-abbrev pub IsLentOf : (Fault → Type 0) → BorrowedParseError → Type 0
-IsLentOf P (Invalid f) = P (lent_fault f)
-IsLentOf P (Memory e) = ⊤
+-- out of memory, or a fault for which this holds
+abbrev pub IsBorrowedOf : (Fault → Type 0) → BorrowedParseError → Type 0
+IsBorrowedOf P (Invalid f) = P (to_borrowed_fault f)
+IsBorrowedOf P (Memory e) = ⊤
 
--- what is lent of an error in a text with so many bytes: the fault, or that memory ran out
+-- the borrowed error for a reader's error in a text with this many bytes: the fault, or that memory
+-- ran out
 abbrev pub Lends : ℕ → ReadError → BorrowedParseError → Type 0
-Lends len errors.Memory lent = IsMemory lent
-Lends len (errors.Invalid f) lent = (g : Fault) → IsFault len f g → IsLent g lent
+Lends len errors.Memory borrowed = IsMemory borrowed
+Lends len (errors.Invalid f) borrowed = (g : Fault) → IsFault len f g → IsBorrowed g borrowed
 
--- what is told of a borrowed error: its fault or, where memory runs out, that
+-- the owned error for a borrowed one: its fault or, if memory runs out, that
 abbrev pub IsOwned : BorrowedParseError → ParseError → Type 0
-IsOwned (Invalid f) told = IsFaultOrMemory (lent_fault f) told
-IsOwned (Memory e) told = MemoryAlone told
+IsOwned (Invalid f) reported = IsFaultOrMemory (to_borrowed_fault f) reported
+IsOwned (Memory e) reported = MemoryAlone reported

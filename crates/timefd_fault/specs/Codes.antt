@@ -32,7 +32,7 @@ words_of (expected what) = what
 words_of (not_supported what context) = what
 words_of other = []
 
--- of what is expected, and of what is not supported
+-- the codes of what is expected, and of what is not supported
 
 abbrev pub expected_code : Text → Code
 expected_code what =
@@ -63,14 +63,17 @@ code_of (not_supported what context) = unsupported_code what
 code_of (duplicate_modifier key) = DuplicateModifier
 code_of (invalid_combination key context) = RefusedModifier
 
--- No two codes have one name.
+-- No two codes have the same name.
 abbrev pub NamesDiffer : Type 0
 NamesDiffer = (a b : Code) → name_of a ≡ name_of b → a ≡ b
 
--- all, in the order of the enum
+-- all codes, in the order of the enum
 abbrev pub all : List Code
-all = UnclosedBracket ∷ UnknownName ∷ InvalidModifier ∷ MissingName ∷ MissingModifier ∷ InvalidEscape ∷ UnescapedBracket ∷ MissingSpace ∷ MissingDescription ∷ MissingAlternative ∷ NestedTooDeep ∷ SeveralDescriptions ∷ OptionalItem ∷ FirstItem ∷ UnsupportedFlag ∷ UnsupportedLetter ∷ NestedInComponent ∷ DuplicateModifier ∷ RefusedModifier ∷ []
+all = UnclosedBracket ∷ UnknownName ∷ InvalidModifier ∷ MissingName ∷ MissingModifier
+    ∷ InvalidEscape ∷ UnescapedBracket ∷ MissingSpace ∷ MissingDescription ∷ MissingAlternative
+    ∷ NestedTooDeep ∷ SeveralDescriptions ∷ OptionalItem ∷ FirstItem ∷ UnsupportedFlag
+    ∷ UnsupportedLetter ∷ NestedInComponent ∷ DuplicateModifier ∷ RefusedModifier ∷ []
 
--- Each code stands among them.
+-- Each code is one of them.
 abbrev pub AllAreThere : Type 0
 AllAreThere = (code : Code) → (before after : List Code) × (all ≡ before ++ code ∷ after)

@@ -1,4 +1,4 @@
--- The faults of a text, each with its place.
+-- The faults of a text, each with its position.
 use Rattle.std.specs.Prelude.{ℕ, Bool, true, false, List, string_bytes}
 use Rattle.timefd_fault.specs.declared.invalid_format_description.InvalidFormatDescription.{InvalidFormatDescription}
 use Rattle.timefd_fault.specs.declared.invalid_format_description.InvalidFormatDescription.TheVariants.{UnclosedOpeningBracket, InvalidComponentName, InvalidModifier, MissingComponentName, MissingRequiredModifier, Expected, NotSupported, DuplicateModifier, InvalidModifierCombination}

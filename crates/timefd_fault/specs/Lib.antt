@@ -4,7 +4,7 @@ pub mod RuleKinds
 pub mod Codes
 pub mod Sentences
 pub mod ReadErrors
-pub mod Told
+pub mod Reported
 pub mod Excerpts
 pub mod Parts
 pub mod BorrowedFaults

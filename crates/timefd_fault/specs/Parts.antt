@@ -3,7 +3,7 @@ use Rattle.std.specs.Prelude.{ℕ, ◌++◌, codes, List, [], ◌∷◌, map}
 use Rattle.std.specs.Borrow.{Bor}
 use Rattle.timefd_fault.specs.Faults.{Text, Kind, unclosed_bracket, invalid_name, invalid_modifier, missing_name, missing_modifier, expected, not_supported, duplicate_modifier, invalid_combination}
 
--- texts one behind another
+-- texts one after another
 abbrev pub joined : List Text → Text
 joined [] = []
 joined (t ∷ []) = t
@@ -18,7 +18,7 @@ not_supported_with what [] index = what ++ (codes " is not supported at byte ind
 not_supported_with what (c ∷ cs) index =
     what ++ (codes " is not supported in " ++ ((c ∷ cs) ++ (codes " at byte index " ++ index)))
 
--- the key that is not valid, and beside what
+-- the key that is not valid, and with what
 abbrev pub combination_with : Text → Text → Text → Text
 combination_with key context index =
     codes "the `" ++ (key ++ (codes "` modifier is not valid at byte index "

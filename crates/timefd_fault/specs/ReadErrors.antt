@@ -6,12 +6,12 @@ use Rattle.timefd_fault.specs.declared.read_error.Fault as code_fault
 use Rattle.timefd_fault.specs.declared.read_error.ReadError as code_error
 use Rattle.timefd_fault.specs.declared.read_error.ReadError.TheVariants as errors
 
--- the fault of a text with so many bytes
+-- the fault of a text with this many bytes
 pub record IsFault (total : ℕ) (f : code_fault.Fault) (g : Fault) : Type 0 where
   pub kind : g.kind ≡ rule_kind f.rule
-  pub place : g.index + f.remaining ≡ total
+  pub position : g.index + f.remaining ≡ total
 
--- out of memory, or a fault of which this holds
+-- out of memory, or a fault for which this holds
 abbrev pub MemoryOr : (code_fault.Fault → Type 0) → code_error.ReadError → Type 0
 MemoryOr P (errors.Invalid f) = P f
 MemoryOr P errors.Memory = ⊤

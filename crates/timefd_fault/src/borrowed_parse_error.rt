@@ -1,26 +1,26 @@
-//! The error of the public calls that borrow its fault.
+//! The error of the public calls, with a fault that borrows what it quotes.
 
 ghost use Rattle.std.specs.Prelude.{◌≡◌, ◌≤◌};
 ghost use Rattle.timefd_fault.specs.ReadErrors.{MemoryOr};
 ghost use Rattle.timefd_fault.specs.BorrowedFaults.{IsOwned, Lends};
 
 use crate::borrowed_fault::BorrowedFault;
-use crate::parse_error::{ParseError, told};
+use crate::parse_error::{ParseError, reported};
 use crate::read_error::{Fault, ReadError};
 use std::alloc::{AllocError, Global};
 
-/// Why a text was not read: `ParseError`, which borrows what its fault quotes of the text.
+/// Why a text was not read. It is like `ParseError`, but borrows what its fault quotes of the text.
 #[derive(Drop)]
 pub enum BorrowedParseError<'a> {
-    /// The text is no description, for this fault.
+    /// The text isn't a description, because of this fault.
     Invalid(BorrowedFault<'a>),
-    /// Memory ran out. No call answers this of a text that has a fault.
+    /// Memory ran out. No call returns this for a text that has a fault.
     Memory(AllocError),
 }
 
 impl<'a> BorrowedParseError<'a> {
-    /// The same with a copy of what the fault quotes, or `Memory` where there is no memory for that.
-    /// A fault that quotes nothing takes none.
+    /// The error with a copy of what the fault quotes, or `Memory` if there is no memory for the
+    /// copy. A fault that quotes nothing takes none.
     pub fn into_owned(self, alloc: Global) -> ParseError
         ensures { IsOwned self.entry result }
     {
@@ -39,11 +39,11 @@ fn owned(alloc: Global, fault: BorrowedFault) -> ParseError
         rule: fault.rule,
         remaining: 0,
     };
-    told(alloc, ReadError::Invalid(at_the_end), fault.index)
+    reported(alloc, ReadError::Invalid(at_the_end), fault.index)
 }
 
-/// What is lent of an error in a text with so many bytes.
-pub fn lent<'a>(error: ReadError<'a>, len: usize) -> BorrowedParseError<'a>
+/// The borrowed error for a reader's error in a text of `len` bytes.
+pub fn borrowed<'a>(error: ReadError<'a>, len: usize) -> BorrowedParseError<'a>
     requires { MemoryOr (λ f. f.remaining ≤ len) error }
     ensures { Lends len error.entry result }
 {

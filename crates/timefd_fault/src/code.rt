@@ -11,31 +11,31 @@ use crate::rule::Rule;
 pub enum Code {
     /// A bracket has no end.
     UnclosedBracket,
-    /// A bracket has the name of no component, or no letter of strftime is this one.
+    /// A bracket has an unknown name, or a directive of strftime an unknown letter.
     UnknownName,
-    /// A word is no modifier of its component, or no key and value.
+    /// A word isn't a modifier of its component, or isn't a key and a value.
     InvalidModifier,
     /// A bracket has no name.
     MissingName,
     /// A component lacks a modifier that it has to have.
     MissingModifier,
-    /// A backslash, or a percent sign of strftime, stands before nothing that it takes.
+    /// A backslash, or a percent sign of strftime, isn't followed by anything that it takes.
     InvalidEscape,
-    /// A `]` stands alone, where version 3 wants a backslash before it.
+    /// A `]` closes nothing, and version 3 needs a backslash before it.
     UnescapedBracket,
-    /// A nested description touches the word in front of it.
+    /// A nested description touches the word before it.
     MissingSpace,
     /// `optional` has no nested description.
     MissingDescription,
-    /// `first` has none.
+    /// `first` has no nested description.
     MissingAlternative,
-    /// A nested description stands inside of too many.
+    /// Descriptions are nested too deep.
     NestedTooDeep,
     /// `optional` has more than one nested description.
     SeveralDescriptions,
-    /// `optional` stands in a version without it.
+    /// `optional` is used in a version without it.
     OptionalItem,
-    /// `first` stands in a version without it.
+    /// `first` is used in a version without it.
     FirstItem,
     /// A flag of strftime that is not read.
     UnsupportedFlag,
@@ -43,9 +43,9 @@ pub enum Code {
     UnsupportedLetter,
     /// A component has a nested description, and takes none.
     NestedInComponent,
-    /// A bracket has a key twice, where version 3 takes it once.
+    /// A bracket has a key twice, but version 3 takes it once.
     DuplicateModifier,
-    /// A key stands with a value of another that refuses it.
+    /// A key is used with a value of another key that refuses it.
     RefusedModifier,
 }
 
@@ -77,7 +77,7 @@ impl Code {
         }
     }
 
-    /// All of them, in the order of the enum.
+    /// All codes, in the order of the enum.
     pub fn all() -> &'static [Code]
         ensures { result.now ≡ spec.all }
     {
@@ -104,7 +104,7 @@ impl Code {
         ]
     }
 
-    /// Its name, which stays the same whatever the fault's sentence says.
+    /// The name of the code, which stays the same whatever the fault's sentence says.
     pub fn name(self) -> &'static str
         ensures { result.now ≡ spec.name_of self }
     {
@@ -132,12 +132,12 @@ impl Code {
     }
 }
 
-/// No two codes have one name.
+/// No two codes have the same name.
 pub fn names_differ()
     ensures { spec.NamesDiffer }
 {}
 
-/// Each code stands among all of them.
+/// Each code is one of those that `all` returns.
 #[tactic(auto, using(crate::proofs::CodeLemmas::all_are_there))]
 pub fn all_are_there()
     ensures { spec.AllAreThere }

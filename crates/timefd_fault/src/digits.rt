@@ -3,7 +3,7 @@
 ghost use Rattle.std.specs.Prelude.{◌≡◌, ◌≤◌, length, drop};
 ghost use Rattle.std.specs.Fmt.{decimal};
 
-// `usize::MAX` has so many digits.
+// `usize::MAX` has this many digits.
 const MAX_LEN: usize = 20;
 
 /// Room for the decimal digits of any number.
@@ -20,7 +20,7 @@ impl Digits {
         }
     }
 
-    /// Writes the number over what was there, and answers its text.
+    /// Writes the number over what was there, and returns its text.
     pub fn format(&mut self, number: usize) -> &str
         ensures text { result.now ≡ decimal number }
         ensures short { length result.now ≤ 20 }
@@ -30,7 +30,7 @@ impl Digits {
     }
 }
 
-// Writes the digits at the end of the buffer, and answers where they start.
+// Writes the digits at the end of the buffer, and returns the index where they start.
 fn write_digits(number: usize, bytes: &mut [u8; MAX_LEN]) -> usize
     ensures within { result ≤ 20 }
     ensures written { drop result bytes.new ≡ decimal number }

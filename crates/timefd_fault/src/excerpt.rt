@@ -1,4 +1,4 @@
-//! Texts one behind another in a buffer that may be short.
+//! Texts one after another in a buffer that may be too short.
 
 ghost use Rattle.std.specs.Prelude.{◌≡◌, ◌+◌, ◌<◌, ◌≤◌, ◌++◌, [], ℕ, length, take, drop};
 ghost use Rattle.std.specs.Str.{IsCharBoundary};
@@ -15,14 +15,15 @@ pub struct Excerpt {
 }
 
 impl Excerpt {
-    /// That of the empty text.
+    /// The excerpt of the empty text.
     pub fn new() -> Excerpt
         ensures { (before : Text) → IsExcerpt [] before before result }
     {
         Excerpt { len: 0, written: 0 }
     }
 
-    /// Writes another text behind the first, as many of its characters as the buffer has room for.
+    /// Writes another text after the first, with as many of its characters as the buffer has room
+    /// for.
     pub fn and(self, text: &str, buffer: &mut [u8]) -> Excerpt
         requires { self.len + length text.now ≤ usize.MAX }
         ensures { (full before : Text) → IsExcerpt full before buffer.old self
@@ -44,8 +45,8 @@ impl Excerpt {
     }
 }
 
-// Writes as many characters of the text as the buffer has room for from this place on, and says how
-// many bytes they take.
+// Writes as many characters of the text as the buffer has room for from index `at` on, and returns
+// how many bytes they take.
 fn write_at(text: &str, buffer: &mut [u8], at: usize) -> usize
     requires { at ≤ length buffer.old }
     ensures front { buffer.new ≡ take at

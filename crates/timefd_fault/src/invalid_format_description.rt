@@ -6,8 +6,8 @@ ghost use Rattle.timefd_fault.specs.Faults as spec;
 use std::alloc::{AllocError, Global};
 use std::fmt;
 
-/// Why a text is no format description, and where. Every index counts bytes from the text's start.
-/// It is the enum of that name of `time`.
+/// Why a text isn't a format description, and where. Every index counts bytes from the start of the
+/// text. It is `time`'s enum of that name.
 #[derive(Debug, PartialEq, Eq, Drop)]
 pub enum InvalidFormatDescription {
     /// A bracket was opened and not closed.
@@ -22,7 +22,7 @@ pub enum InvalidFormatDescription {
         /// Where the name starts.
         index: usize,
     },
-    /// A modifier isn't valid: its key, its value, or the word where one was to stand.
+    /// A modifier isn't valid: its key, its value, or the word where one was expected.
     InvalidModifier {
         /// The key, value or word at fault, as it is written.
         value: String,
@@ -31,7 +31,7 @@ pub enum InvalidFormatDescription {
     },
     /// A bracket holds no component name.
     MissingComponentName {
-        /// Where the name was to stand.
+        /// Where the name was expected.
         index: usize,
     },
     /// A modifier that the component needs isn't there.
@@ -54,21 +54,21 @@ pub enum InvalidFormatDescription {
         what: &'static str,
         /// In what it isn't supported, or empty.
         context: &'static str,
-        /// Where it stands.
+        /// Where it is.
         index: usize,
     },
-    /// A modifier stands twice.
+    /// A modifier is given twice.
     DuplicateModifier {
         /// The modifier's key.
         name: &'static str,
         /// Where the second one starts.
         index: usize,
     },
-    /// A modifier isn't valid beside the others of its component.
+    /// A modifier isn't valid with the others of its component.
     InvalidModifierCombination {
         /// The modifier's key.
         modifier: &'static str,
-        /// Beside what it isn't valid.
+        /// With what it isn't valid.
         context: &'static str,
         /// Where the key starts.
         index: usize,
@@ -76,7 +76,7 @@ pub enum InvalidFormatDescription {
 }
 
 impl InvalidFormatDescription {
-    /// Where the fault is: its index, in bytes from the text's start.
+    /// Where the fault is, as a byte index from the start of the text.
     pub fn index(&self) -> usize
         ensures { result ≡ spec.index self.now }
     {
@@ -93,8 +93,8 @@ impl InvalidFormatDescription {
         }
     }
 
-    /// A copy, which holds the same name or value in memory of its own. An `Err` comes where there
-    /// is none left for it; a fault without either takes none.
+    /// A copy, with the same name or value in memory of its own. An `Err` says that memory ran out.
+    /// A fault without a name or value takes none.
     pub fn clone(&self, alloc: Global) -> Result<Self, AllocError>
         ensures same { IfOk result (λ copy. spec.fault_of copy ≡ spec.fault_of self.now) }
         ensures no_memory { IsFalse (spec.quotes (spec.fault_of self.now).kind) → IsOk result }

@@ -1,8 +1,8 @@
-//! What holds of the definitions.
+//! What holds for the definitions.
 
 ghost use Rattle.timefd_fault.specs.Laws.{FaultEquality};
 
-/// `==` of faults is that of their variants and fields.
+/// `==` compares the variants and the fields of faults.
 pub fn fault_equality()
     ensures { FaultEquality }
 {}

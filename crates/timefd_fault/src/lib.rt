@@ -1,20 +1,20 @@
-//! The faults of a text that is no format description: the rule that is broken, its place, its stable
-//! code, and its sentence, which can be written into a buffer of the caller's without memory. Users
-//! take them from `timefd_items` and `timefd_parse`.
+//! The faults of a text that isn't a format description: the rule that is broken, its position, its
+//! stable code, and its sentence, which can be written into a buffer of the caller without taking
+//! memory. Users import them from `timefd_items` and `timefd_parse`.
 #![tactic(auto)]
 
-// What is told of a text: an error that owns what it quotes, and one that borrows it.
+// What is reported about a text: an error that owns what it quotes, and one that borrows it.
 pub mod borrowed_fault;
 pub mod borrowed_parse_error;
 mod invalid_format_description;
 pub mod parse_error;
 
-// The rules, their codes, and what the readers answer.
+// The rules, their codes, and the errors of the readers.
 pub mod code;
 pub mod read_error;
 pub mod rule;
 
-// Sentences in a buffer that may be short.
+// Sentences in a buffer that may be too short.
 mod digits;
 pub mod excerpt;
 pub mod laws;

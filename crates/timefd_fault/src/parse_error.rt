@@ -1,10 +1,10 @@
-//! The error of the public calls, and how it is made of a fault.
+//! The error of the public calls, and how it is made from a fault.
 
 ghost use Rattle.std.specs.Prelude.{◌≡◌, ◌≤◌, IfOk, IsErr, IsTrue};
 ghost use Rattle.timefd_fault.specs.Faults as spec;
 ghost use Rattle.timefd_fault.specs.ReadErrors.{IsFault, MemoryOr};
 ghost use Rattle.timefd_fault.specs.RuleKinds.{rule_kind};
-ghost use Rattle.timefd_fault.specs.Told.{Tells};
+ghost use Rattle.timefd_fault.specs.Reported.{Tells};
 
 use crate::invalid_format_description::InvalidFormatDescription;
 use crate::read_error::{Fault, ReadError};
@@ -14,14 +14,14 @@ use std::alloc::{AllocError, Global};
 /// Why a text was not read.
 #[derive(Debug, Drop)]
 pub enum ParseError {
-    /// The text is no description, for this fault.
+    /// The text isn't a description, because of this fault.
     Invalid(InvalidFormatDescription),
-    /// Memory ran out. The text has no fault then, or one that quotes its text.
+    /// Memory ran out. The text has no fault, or one that quotes the text.
     Memory(AllocError),
 }
 
-/// What the caller is told of an error in a text with so many bytes.
-pub fn told(alloc: Global, error: ReadError, len: usize) -> ParseError
+/// What is reported to the caller for a reader's error in a text of `len` bytes.
+pub fn reported(alloc: Global, error: ReadError, len: usize) -> ParseError
     requires { MemoryOr (λ f. f.remaining ≤ len) error }
     ensures { Tells len error.entry result }
 {
@@ -34,7 +34,7 @@ pub fn told(alloc: Global, error: ReadError, len: usize) -> ParseError
     }
 }
 
-/// The fault of a text with so many bytes. Only one that quotes the text takes memory.
+/// The fault of a text of `len` bytes. Only a fault that quotes the text takes memory.
 fn invalid_description(
     alloc: Global,
     fault: Fault,

@@ -6,12 +6,12 @@ ghost use Rattle.timefd_fault.specs.declared.read_error.ReadError.TheVariants.{I
 use crate::rule::Rule;
 use std::alloc::{AllocError, AllocFailed};
 
-/// A fault, and how many bytes of the text remain from its place on.
+/// A fault, and its position: the number of bytes from there to the end of the text.
 #[derive(Clone, Copy)]
 pub struct Fault<'a> {
     /// The rule that is broken.
     pub rule: Rule<'a>,
-    /// How many bytes remain.
+    /// The number of bytes from the fault to the end of the text.
     pub remaining: usize,
 }
 

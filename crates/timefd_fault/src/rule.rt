@@ -1,4 +1,4 @@
-//! The rules that a text can break, and what tells of each.
+//! The rules that a text can break, and what is reported for each.
 
 ghost use Rattle.std.specs.Prelude.{◌≡◌};
 ghost use Rattle.timefd_fault.specs.RuleKinds.{kind_of, rule_kind};
@@ -9,31 +9,31 @@ pub enum Rule<'a> {
     /// A bracket has to be closed.
     UnclosedBracket,
     /// A bracket begins with the name of a component, and a letter of strftime is one of its table.
-    /// This is the word that stands there.
+    /// This is the word that is there instead.
     UnknownName(&'a str),
     /// A modifier is a key of its component, a colon and a value. This is what isn't.
     InvalidModifier(&'a str),
     /// A bracket has a name.
     MissingName,
-    /// A component has each modifier that it needs. The modifier's key lacks.
+    /// A component has each modifier that it needs. This is the key of the missing one.
     MissingModifier(&'static str),
-    /// A backslash, or the percent sign of strftime, stands before what it takes.
+    /// A backslash, or the percent sign of strftime, is followed by something that it takes.
     InvalidEscape,
-    /// In version 3 a `]` that stands alone has a backslash before it.
+    /// In version 3 a `]` that closes nothing has a backslash before it.
     UnescapedBracket,
-    /// White space stands before a nested description.
+    /// White space precedes a nested description.
     MissingSpace,
     /// `optional` has a nested description.
     MissingDescription,
-    /// `first` has at least one.
+    /// `first` has at least one nested description.
     MissingAlternative,
-    /// Nested descriptions stand inside of no more than the limit.
+    /// Descriptions are nested no deeper than the limit.
     NestedTooDeep,
-    /// `optional` has no more than one.
+    /// `optional` has no more than one nested description.
     SeveralDescriptions,
-    /// `optional` stands in version 3.
+    /// `optional` is used only in version 3.
     OptionalItem,
-    /// `first` stands in version 3.
+    /// `first` is used only in version 3.
     FirstItem,
     /// A flag of strftime is one that is read.
     UnsupportedFlag,
@@ -41,14 +41,14 @@ pub enum Rule<'a> {
     UnsupportedLetter,
     /// No other component than `optional` and `first` has a nested description.
     NestedInComponent,
-    /// In version 3 a key stands once. This one stands twice.
+    /// In version 3 a key is given only once. This one is given twice.
     DuplicateModifier(&'static str),
-    /// A key doesn't stand beside a value that refuses it: the key, and beside what.
+    /// A key isn't used with a value that refuses it: the key, and with what it is used.
     RefusedModifier(&'static str, &'static str),
 }
 
 impl<'a> Rule<'a> {
-    /// The variant of `InvalidFormatDescription` that tells of it, with its words.
+    /// The variant of `InvalidFormatDescription` that reports the rule, with its words.
     pub fn kind(self) -> FaultKind<'a>
         ensures { kind_of result ≡ rule_kind self.entry }
     {
@@ -89,8 +89,8 @@ impl<'a> Rule<'a> {
     }
 }
 
-/// What tells of a broken rule: `InvalidFormatDescription` without the place. Each variant holds the
-/// fields of its counterpart in their order.
+/// What is reported for a broken rule: `InvalidFormatDescription` without the index. Each variant
+/// holds the fields of its counterpart in their order.
 #[derive(Clone, Copy)]
 pub enum FaultKind<'a> {
     /// `UnclosedOpeningBracket`.
@@ -103,12 +103,12 @@ pub enum FaultKind<'a> {
     MissingName,
     /// `MissingRequiredModifier`, with the modifier's key.
     MissingModifier(&'static str),
-    /// `Expected`, with what was to stand there.
+    /// `Expected`, with what was expected.
     Expected(&'static str),
-    /// `NotSupported`, with what isn't supported, and in what: empty where that is not said.
+    /// `NotSupported`, with what isn't supported, and in what, or an empty text.
     NotSupported(&'static str, &'static str),
     /// `DuplicateModifier`, with the modifier's key.
     DuplicateModifier(&'static str),
-    /// `InvalidModifierCombination`, with the modifier's key, and beside what it isn't valid.
+    /// `InvalidModifierCombination`, with the modifier's key, and with what it isn't valid.
     InvalidCombination(&'static str, &'static str),
 }

@@ -9,7 +9,7 @@ ghost use Rattle.timefd_fault.specs.Parts.{combination_with, joined, not_support
 use crate::excerpt::Excerpt;
 use crate::rule::FaultKind;
 
-/// Writes the sentence of a fault of this kind, whose index is written so.
+/// Writes the sentence of a fault of this kind. `index` is its index as it is written.
 pub fn write_kind(kind: FaultKind, index: &str, buffer: &mut [u8]) -> Excerpt
     requires words { HasShortWords (kind_of kind) }
     requires index { length index.now ≤ 40 }
@@ -60,7 +60,7 @@ fn write_word(before: &str, word: &str, after: &str, index: &str, buffer: &mut [
     write_all(&[before, word, after, index], buffer)
 }
 
-// What isn't supported and, where that is said, in what.
+// What isn't supported and, if the context isn't empty, in what.
 fn write_unsupported(what: &str, context: &str, index: &str, buffer: &mut [u8]) -> Excerpt
     requires { length what.now + length context.now + length index.now ≤ 200 }
     ensures { IsExcerpt (not_supported_with what.now context.now index.now) buffer.old buffer.new
@@ -81,7 +81,7 @@ fn write_unsupported(what: &str, context: &str, index: &str, buffer: &mut [u8]) 
     )
 }
 
-// What isn't valid, and beside what.
+// What isn't valid, and with what.
 fn write_combination(key: &str, context: &str, index: &str, buffer: &mut [u8]) -> Excerpt
     requires { length key.now + length context.now + length index.now ≤ 200 }
     ensures { IsExcerpt (combination_with key.now context.now index.now) buffer.old buffer.new
@@ -100,7 +100,7 @@ fn write_combination(key: &str, context: &str, index: &str, buffer: &mut [u8]) -
     )
 }
 
-// Texts one behind another.
+// Texts one after another.
 fn write_all(parts: &[&str], buffer: &mut [u8]) -> Excerpt
     requires { length (joined (texts parts.now)) ≤ usize.MAX }
     ensures { IsExcerpt (joined (texts parts.now)) buffer.old buffer.new result }

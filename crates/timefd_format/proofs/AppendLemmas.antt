@@ -1,4 +1,4 @@
--- What is appended to what is written.
+-- What is appended to a text in a buffer.
 use Rattle.std.proofs.Common.{ℕ, zero, suc, ◌≡◌, ◌∙◌, ◌+◌, ◌-◌, ◌≤◌, [], ◌∷◌, ◌++◌, length, take, drop, Option, Some, None, Result, Ok, Err, refl, sym, ap, subst, arith, append_assoc, append-nil, length-append, length-take, length-drop}
 use Rattle.timefd_component.specs.Tree.{Text}
 use Rattle.timefd_format.specs.declared.unshown.Unshown.{Unshown}
@@ -18,7 +18,7 @@ take_take (suc q) zero xs h = absurd (omega (arith, h))
 take_take (suc q) (suc k) [] h = refl
 take_take (suc q) (suc k) (x ∷ xs) h = ap (λ ys. x ∷ ys) (take_take q k xs (omega (arith, h)))
 
--- the front of two texts
+-- The front of two texts that follow one another.
 pub take_in : (k q : ℕ) (xs ys : Text) → length xs ≡ k → take (k + q) (xs ++ ys) ≡ xs ++ take q ys
 take_in k q [] ys is = ap (λ n. take n ys) (omega (arith, is))
 take_in k q (x ∷ xs) ys is =
@@ -57,7 +57,7 @@ nothing_appended old at = record {
 pub kept : (old : Text) (at : ℕ) → IsKept old at old
 kept old at = record { same = refl; front = refl }
 
--- after what was appended nothing is
+-- If what was appended is then kept, so is what was in front of it.
 pub kept_after : (a old mid new : Text) (at middle : ℕ) → at ≤ length old → IsAppended a old at mid middle
     → IsKept mid middle new → IsKept old at new
 kept_after a old mid new at middle room one two =
@@ -76,14 +76,14 @@ tries_after a b old mid new at middle (Some end) room one two = both_appended a 
 pub rest_is : (xs : Text) (i : ℕ) → take (length xs - i) (drop i xs) ≡ drop i xs
 rest_is xs i = take_all (length xs - i) (drop i xs) (omega (arith, length-drop i xs))
 
--- what was written at the end of a buffer, appended
+-- What was written at the end of a buffer is then appended.
 pub through : (x : Result Text Unshown) (old short room new : Text) (start at end : ℕ)
     → IsOutcome x old short (Ok start) → IsAppended (drop start short) room at new end → TriesToAppend x room at new (Some end)
 through (Ok text) old short room new start at end o put =
     subst (λ y. IsAppended y room at new end) (ends_with text old short start o) put
 through (Err u) old short room new start at end o put = absurd o
 
--- what was appended, as a part of what it stands in
+-- What was appended, as a part of the text that holds it.
 pub part : (text old new : Text) (at end : ℕ) → at + length text ≤ length old → IsAppended text old at new end
     → take (end - at) (drop at new) ≡ text
 part text old new at end room put =
@@ -92,7 +92,7 @@ part text old new at end room put =
     sym (drop-take at (end - at) new) ∙ ap (λ n. drop at (take n new)) whole ∙ ap (drop at) put.front
     ∙ ap (λ n. drop n (take at old ++ text)) (sym size) ∙ drop-append_seam (take at old) text
 
--- the first of what was appended
+-- The first part of what was appended.
 pub cut : (text shown old new : Text) (at end k : ℕ) → at + length text ≤ length old → IsAppended text old at new end
     → k ≤ length text → take k text ≡ shown → IsAppended shown old at new (at + k)
 cut text shown old new at end k room p within is =

@@ -1,4 +1,4 @@
--- One component, put in front of a place or left out.
+-- One component, put in front of a position or left out.
 use Rattle.std.proofs.Common.{ℕ, ◌≡◌, ◌∙◌, Option, Some, None, Result, Ok, Err, refl, sym, ap, subst}
 use Rattle.timefd_component.specs.declared.component.Component.{Component}
 use Rattle.timefd_component.specs.Modern.{modern}
@@ -6,8 +6,8 @@ use Rattle.timefd_component.specs.Tree.{Text}
 use Rattle.timefd_moment.specs.declared.moment.Moment.{Moment}
 use Rattle.timefd_format.specs.declared.field.Field.{Field}
 use Rattle.timefd_format.specs.declared.field.Lack.{Lack}
-use Rattle.timefd_format.specs.declared.place.Place.{Place}
-use Rattle.timefd_format.specs.declared.place.Place.TheVariants as place
+use Rattle.timefd_format.specs.declared.cursor.WriteCursor.{WriteCursor}
+use Rattle.timefd_format.specs.declared.cursor.WriteCursor.TheVariants as cursor
 use Rattle.timefd_format.specs.declared.unshown.Unshown.{Unshown}
 use Rattle.timefd_format.specs.Fields.{field, field_text}
 use Rattle.timefd_format.specs.Puts.{Puts}
@@ -15,25 +15,25 @@ use Rattle.timefd_format.specs.Writes.{IsLeftOut, IsNotAt, PutsShown, Writes}
 use Rattle.timefd_format.specs.Written.{shown, text_of}
 
 pub put_writes : (x : Result Text Unshown) (old new : Text) (end at : ℕ)
-    → PutsShown x old end new (Some at) → Writes x old (place.At end) new (place.At at)
+    → PutsShown x old end new (Some at) → Writes x old (cursor.At end) new (cursor.At at)
 put_writes (Ok text) old new end at put = put
 put_writes (Err u) old new end at put = absurd cc
 
-pub left_here : (x : Result Text Unshown) (old new : Text) (end : ℕ) (q : Place)
-    → PutsShown x old end new None → IsLeftOut x (place.At end) q → Writes x old (place.At end) new q
-left_here (Ok text) old new end place.NoRoom put left = put
-left_here (Ok text) old new end (place.At at) put left = absurd cc
-left_here (Ok text) old new end (place.Unshown u) put left = absurd cc
+pub left_here : (x : Result Text Unshown) (old new : Text) (end : ℕ) (q : WriteCursor)
+    → PutsShown x old end new None → IsLeftOut x (cursor.At end) q → Writes x old (cursor.At end) new q
+left_here (Ok text) old new end cursor.NoRoom put left = put
+left_here (Ok text) old new end (cursor.At at) put left = absurd cc
+left_here (Ok text) old new end (cursor.Unshown u) put left = absurd cc
 left_here (Err u) old new end q put left = left
 
-pub left_behind : (x : Result Text Unshown) (old new : Text) (p q : Place) → IsNotAt p
+pub left_after : (x : Result Text Unshown) (old new : Text) (p q : WriteCursor) → IsNotAt p
     → IsLeftOut x p q → Writes x old p new q
-left_behind (Ok text) old new place.NoRoom q is left = left
-left_behind (Ok text) old new (place.Unshown u) q is left = left
-left_behind (Ok text) old new (place.At end) q is left = absurd is
-left_behind (Err u) old new p q is left = left
+left_after (Ok text) old new cursor.NoRoom q is left = left
+left_after (Ok text) old new (cursor.Unshown u) q is left = left
+left_after (Ok text) old new (cursor.At end) q is left = absurd is
+left_after (Err u) old new p q is left = left
 
--- what the component shows, by its field
+-- What the component shows, from its field.
 
 shows : (m : Moment) (c d : Component) (r x : Result Field Lack) → d ≡ modern c → r ≡ field m d → r ≡ x
     → shown m c ≡ text_of d x
@@ -51,15 +51,15 @@ pub field_lacks : (m : Moment) (c d : Component) (r : Result Field Lack) (lack :
 field_lacks m c d r lack old end current is so =
     subst (λ x. PutsShown x old end old None) (sym (shows m c d r (Err lack) current is so)) refl
 
-pub shown_left : (m : Moment) (c d : Component) (r : Result Field Lack) (f : Field) (p q : Place)
+pub shown_left : (m : Moment) (c d : Component) (r : Result Field Lack) (f : Field) (p q : WriteCursor)
     → d ≡ modern c → r ≡ field m d → r ≡ Ok f → IsLeftOut (Ok (field_text f)) p q
     → IsLeftOut (shown m c) p q
 shown_left m c d r f p q current is so left =
     subst (λ x. IsLeftOut x p q) (sym (shows m c d r (Ok f) current is so)) left
 
-pub lack_left : (m : Moment) (c d : Component) (r : Result Field Lack) (lack : Lack) (p : Place)
+pub lack_left : (m : Moment) (c d : Component) (r : Result Field Lack) (lack : Lack) (p : WriteCursor)
     → d ≡ modern c → r ≡ field m d → r ≡ Err lack
-    → IsLeftOut (shown m c) p (place.Unshown (record { component = d; lack = lack }))
+    → IsLeftOut (shown m c) p (cursor.Unshown (record { component = d; lack = lack }))
 lack_left m c d r lack p current is so =
-    subst (λ x. IsLeftOut x p (place.Unshown (record { component = d; lack = lack })))
+    subst (λ x. IsLeftOut x p (cursor.Unshown (record { component = d; lack = lack })))
     (sym (shows m c d r (Err lack) current is so)) refl

@@ -8,9 +8,9 @@ use Rattle.timefd_modifier.specs.declared.enums.Padding.{Padding}
 use Rattle.timefd_component.specs.Texts.{filled}
 use Rattle.timefd_component.specs.Tree.{Text}
 use Rattle.timefd_format.specs.Puts.{Puts, pair}
-use Rattle.timefd_format.proofs.WalkLemmas.{puts_behind}
+use Rattle.timefd_format.proofs.WalkLemmas.{puts_after}
 
--- the pairs of so many numbers from one on
+-- The digit pairs of this many consecutive numbers, from the first one on.
 abbrev pairs : ℕ → ℕ → Text
 pairs from zero = []
 pairs from (suc n) = pair from ++ pairs (from + 1) n
@@ -24,7 +24,7 @@ pair_in from (suc n) (suc k) h =
     ap (λ i. take 2 (drop i (pairs from (suc n)))) next
     ∙ pair_in (from + 1) n k (omega (arith, h)) ∙ ap pair same
 
--- the digits of all of them
+-- The digits of all numbers below 100.
 abbrev table : Text
 table =
     codes "00010203040506070809101112131415161718192021222324252627282930313233343536373839"
@@ -90,21 +90,21 @@ two_put number left two old mid new end at k long small w is one = record {
   done = two ++ w.done;
   split = w.split ∙ ap (λ x. x ++ w.done) (one_step left long small ∙ ap (λ x. decimal (left / 100) ++ x) (sym is))
       ∙ append_assoc (decimal (left / 100)) two w.done;
-  puts = puts_behind two w.done old mid new end at k w.inside w.puts one;
+  puts = puts_after two w.done old mid new end at k w.inside w.puts one;
   inside = w.inside;
 }
 
--- what is left of the number stands in front, if there is room
+-- The digits that are left of the number are put in front, if there is room.
 pub all_put : (number left : ℕ) (digits old mid new : Text) (end at : ℕ) (r : Option ℕ)
     → IsPutTo number left old mid end at → decimal left ≡ digits → Puts digits mid at new r
     → Puts (decimal number) old end new r
 all_put number left digits old mid new end at (Some k) w is one =
     subst (λ x. Puts x old end new (Some k)) (sym (w.split ∙ ap (λ x. x ++ w.done) is))
-    (puts_behind digits w.done old mid new end at k w.inside w.puts one)
+    (puts_after digits w.done old mid new end at k w.inside w.puts one)
 all_put number left digits old mid new end at None w is one =
     omega (arith, one, w.puts.0, ap length is, ap length w.split, length-append (decimal left) w.done)
 
--- where two digits have none, the number has none
+-- If two digits have no room, the number has none.
 pub no_room : (number left : ℕ) (two old mid new : Text) (end at : ℕ) → 100 ≤ left → left < 10 ^ 64
     → IsPutTo number left old mid end at → two ≡ pair (left % 100) → Puts two mid at new None
     → Puts (decimal number) old end new None

@@ -30,7 +30,7 @@ zero_filled (suc k) some =
     let left : suc k - 1 ≡ k = omega arith in
     filled_is (suc k) 0 (48 ∷ []) (decimal_digit 0 (omega arith)) ∙ ap (λ j. zeros j ++ 48 ∷ []) left ∙ sym (one_zero k)
 
--- two digits more, of a number below 100
+-- Padded to two digits more, for a number below 100.
 few : (k n : ℕ) → n < 100 → filled Padding.Zero (k + 2) n ≡ zeros k ++ pair n
 few k n short = by (nat_lt n 10) refl
   where
@@ -72,13 +72,13 @@ two_more k n some small = by (nat_lt n 100) refl
         ∙ sym (append_assoc (zeros (k - length (decimal (n / 100)))) (decimal (n / 100)) (pair (n % 100)))
         ∙ ap (λ x. x ++ pair (n % 100)) (sym (filled_is k (n / 100) (decimal (n / 100)) refl))
 
--- a number below 10,000
+-- A number below 10,000.
 pub four : (n : ℕ) → n < 10000 → filled Padding.Zero 4 n ≡ pair (n / 100) ++ pair (n % 100)
 four n short =
     two_more 2 n (omega arith) (omega (arith, short))
     ∙ ap (λ x. x ++ pair (n % 100)) (two_filled (n / 100) (omega (arith, short)))
 
--- two places filled with a space, or not at all
+-- A number of two digits, padded with a space or not at all.
 pub spaced_short : (n : ℕ) → n < 10 → filled Padding.Space 2 n ≡ 32 ∷ (48 + n) ∷ []
 spaced_short n short = ap (λ ds. replicate {A = ℕ} (2 - length ds) 32 ++ ds) (decimal_digit n short)
 

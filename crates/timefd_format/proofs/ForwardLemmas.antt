@@ -1,4 +1,4 @@
--- Leaves in turn.
+-- Leaves, appended one after another.
 use Rattle.std.proofs.Common.{ℕ, ◌≡◌, ◌∙◌, ◌+◌, ◌<◌, ◌≤◌, List, [], ◌∷◌, ◌++◌, length, take, drop, map, get_or, Some, Result, Ok, Err, refl, sym, ap, subst, arith, append_assoc, append-nil, add-one, drop-cons, length-append, length-take}
 use Rattle.std.proofs.lemmas.List.{drop_all}
 use Rattle.timefd_component.specs.Tree.{Text, trees}
@@ -10,7 +10,7 @@ use Rattle.timefd_node_list.specs.LeafMeaning.{leaf_tree}
 use Rattle.timefd_format.specs.Appends.{IsKept, IsAppended, TriesToAppend}
 use Rattle.timefd_format.proofs.AppendLemmas.{both_appended, kept_after, nothing_appended}
 
--- what is left comes after what is appended
+-- The leaves that are left follow what is appended.
 pub record IsSoFar (m : Moment) (leaves : List Leaf) (i : ℕ) (old : Text) (from : ℕ) (room : Text) (at : ℕ) : Type 0 where
   pub done : Text
   pub put : IsAppended done old from room at
@@ -82,7 +82,7 @@ pub kept_so_far : (m : Moment) (leaves : List Leaf) (i : ℕ) (old : Text) (from
     → from ≤ length old → IsSoFar m leaves i old from room at → IsKept room at new → IsKept old from new
 kept_so_far m leaves i old from room new at inside so kept = kept_after so.done old room new from at inside so.put kept
 
--- what was put over the front is the text
+-- What was put over the front is the text.
 pub front_is : (x : Result Text Unshown) (old new : Text) (len : ℕ) → TriesToAppend x old 0 new (Some len)
     → x ≡ Ok (take len new)
 front_is (Ok text) old new len put = ap Ok (sym put.front)

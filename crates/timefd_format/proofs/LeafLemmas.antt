@@ -1,4 +1,4 @@
--- What is written of a tree is written of its leaves in turn.
+-- What is written for a tree is what is written for its leaves, one after another.
 use Rattle.std.proofs.Common.{◌≡◌, ◌∙◌, true, false, List, [], ◌∷◌, ◌++◌, length, Result, Ok, Err, IfOk, refl, sym, ap, subst, arith, append_assoc, append-nil}
 use Rattle.std.specs.Str.{IsUtf8}
 use Rattle.std.proofs.lemmas.Str.{IsUtf8-nil}
@@ -6,13 +6,13 @@ use Rattle.std.proofs.lemmas.List.{take_all, drop_all}
 use Rattle.timefd_component.specs.Tree.{Text, Tree, component, literal, compound, optional, first, Trees, no_trees, more_trees, trees}
 use Rattle.timefd_moment.specs.declared.moment.Moment.{Moment}
 use Rattle.timefd_node_list.specs.Leaves.{leaves, leaves_all, leaves_first}
-use Rattle.timefd_format.specs.declared.place.Place.{Place}
-use Rattle.timefd_format.specs.declared.place.Place.TheVariants as place
+use Rattle.timefd_format.specs.declared.cursor.WriteCursor.{WriteCursor}
+use Rattle.timefd_format.specs.declared.cursor.WriteCursor.TheVariants as cursor
 use Rattle.timefd_format.specs.declared.unshown.Unshown.{Unshown}
 use Rattle.timefd_format.specs.Writes.{IsIn, Writes}
 use Rattle.timefd_format.specs.Written.{written, written_all, written_first, followed, shown}
 use Rattle.timefd_format.proofs.Utf8Lemmas.{followed_utf8}
-use Rattle.timefd_format.proofs.WalkLemmas.{writes_behind, writes_in}
+use Rattle.timefd_format.proofs.WalkLemmas.{writes_after, writes_in}
 
 followed-none : (x : Result Text Unshown) → followed x (Ok []) ≡ x
 followed-none (Ok a) = ap Ok (append-nil a)
@@ -54,15 +54,15 @@ mutual
   by_leaves_first m no_trees = refl
   by_leaves_first m (more_trees t ts) = by_leaves m t
 
--- What the leaves in front of a place are, and what is written behind it.
-pub record IsWrittenTo (m : Moment) (whole left : List Tree) (old new : Text) (at : Place) : Type 0 where
+-- The leaves in front of a position, and what is written after it.
+pub record IsWrittenTo (m : Moment) (whole left : List Tree) (old new : Text) (at : WriteCursor) : Type 0 where
   pub done : List Tree
   pub split : whole ≡ left ++ done
-  pub writes : Writes (written_all m (trees done)) old (place.At (length old)) new at
+  pub writes : Writes (written_all m (trees done)) old (cursor.At (length old)) new at
   pub inside : IsIn (length new) at
   pub utf8 : IfOk (written_all m (trees done)) IsUtf8
 
-pub nothing_yet : (m : Moment) (whole : List Tree) (old : Text) → IsWrittenTo m whole whole old old (place.At (length old))
+pub nothing_yet : (m : Moment) (whole : List Tree) (old : Text) → IsWrittenTo m whole whole old old (cursor.At (length old))
 nothing_yet m whole old = record {
   done = [];
   split = sym (append-nil whole);
@@ -71,27 +71,27 @@ nothing_yet m whole old = record {
   utf8 = IsUtf8-nil;
 }
 
-pub one_leaf : (m : Moment) (whole left rest : List Tree) (t : Tree) (old mid new : Text) (e k : Place)
+pub one_leaf : (m : Moment) (whole left rest : List Tree) (t : Tree) (old mid new : Text) (e k : WriteCursor)
     → IsWrittenTo m whole left old mid e → left ≡ rest ++ t ∷ [] → Writes (written m t) mid e new k
     → IfOk (written m t) IsUtf8 → IsWrittenTo m whole rest old new k
 one_leaf m whole left rest t old mid new e k w is one text = record {
   done = t ∷ w.done;
   split = w.split ∙ ap (λ x. x ++ w.done) is ∙ append_assoc rest (t ∷ []) w.done;
-  writes = writes_behind (written m t) (written_all m (trees w.done)) old mid new (place.At (length old)) e k
+  writes = writes_after (written m t) (written_all m (trees w.done)) old mid new (cursor.At (length old)) e k
       (omega arith) w.writes one;
   inside = writes_in (written m t) mid new e k w.inside one;
   utf8 = followed_utf8 (written m t) (written_all m (trees w.done)) text w.utf8;
 }
 
-pub all_leaves : (m : Moment) (tree : Tree) (left : List Tree) (old new : Text) (e : Place)
+pub all_leaves : (m : Moment) (tree : Tree) (left : List Tree) (old new : Text) (e : WriteCursor)
     → IsWrittenTo m (leaves tree) left old new e → left ≡ []
-    → Writes (written m tree) old (place.At (length old)) new e
+    → Writes (written m tree) old (cursor.At (length old)) new e
 all_leaves m tree left old new e w none =
     let all : w.done ≡ leaves tree = sym (w.split ∙ ap (λ x. x ++ w.done) none) in
-    subst (λ x. Writes x old (place.At (length old)) new e)
+    subst (λ x. Writes x old (cursor.At (length old)) new e)
     (ap (λ ts. written_all m (trees ts)) all ∙ by_leaves m tree) w.writes
 
-pub all_utf8 : (m : Moment) (tree : Tree) (left : List Tree) (old new : Text) (e : Place)
+pub all_utf8 : (m : Moment) (tree : Tree) (left : List Tree) (old new : Text) (e : WriteCursor)
     → IsWrittenTo m (leaves tree) left old new e → left ≡ [] → IfOk (written m tree) IsUtf8
 all_utf8 m tree left old new e w none =
     let all : w.done ≡ leaves tree = sym (w.split ∙ ap (λ x. x ++ w.done) none) in

@@ -1,4 +1,4 @@
--- How long texts are.
+-- The lengths of texts.
 use Rattle.std.proofs.Common.{ℕ, ◌≡◌, ◌+◌, ◌-◌, ◌≤◌, length, Result, Ok, Err, IfOk, refl, subst, arith, length-append}
 use Rattle.timefd_component.specs.declared.component.Component.{Component}
 use Rattle.timefd_component.specs.declared.component.Component.TheVariants.{Subsecond}
@@ -49,7 +49,7 @@ short : (c : Component) → reserved c ≤ 32
 short (Subsecond s) = digits_short s.digits
 short c = omega arith
 
--- no component shows more than 32 bytes
+-- No component shows more than 32 bytes.
 shown_short : (m : Moment) (c : Component) → IfOk (shown m c) (λ text. length text ≤ 32)
 shown_short m c =
     let again : modern (modern c) ≡ modern c = modern_again c (modern c) refl in
@@ -62,7 +62,7 @@ shown_short m c =
     by (Ok text) h = omega (arith, h, short (modern c))
     by (Err u) h = tt
 
--- a component at the end of 32 bytes
+-- The length of a component that was written at the end of 32 bytes.
 pub counted_alone : (m : Moment) (c : Component) (old new : Text) (at : ℕ) → length old ≡ 32
     → IsOutcome (shown m c) old new (Ok at) → IsLen (shown m c) (Ok (32 - at))
 counted_alone m c old new at size o = by (shown m c) o

@@ -17,7 +17,7 @@ pub too_short : (x : Result Text Unshown) (old : Text) (len : ℕ) → IsLen x (
 too_short (Ok text) old len is short = (omega (arith, is, short), refl)
 too_short (Err u) old len is short = absurd is
 
--- a text that was written in a buffer of its length
+-- A text that was written in a buffer of exactly its length.
 pub exact : (x : Result Text Unshown) (old new : Text) (len : ℕ) (r : Result ℕ FormatError) → IsLen x (Ok len)
     → len ≤ length old → length old < 2 ^ 64 - 1 → IsOutcome x (take len old) new r
     → IsFront x old (new ++ drop len old) (Ok len)

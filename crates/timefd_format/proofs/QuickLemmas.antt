@@ -1,4 +1,4 @@
--- What a component shows, where its part of the moment is known.
+-- What a component shows if its part of the moment is known.
 use Rattle.std.proofs.Common.{ℕ, ◌≡◌, ◌∙◌, ◌-◌, ◌/◌, ◌%◌, ◌<◌, ◌≤◌, nat_lt, nat_le, if◌then◌else◌, true, false, ◌++◌, Option, Some, Ok, Err, sym, ap, subst, arith}
 use Rattle.timefd_modifier.specs.declared.enums.Padding.{Padding}
 use Rattle.timefd_component.specs.declared.component.Component.{Component}
@@ -42,7 +42,7 @@ of_offset m c e o old new at r is k has put =
     (sym (ap (shown m) is ∙ ap (λ x. text_of (modern e) (by_kind x m (modern e))) k
     ∙ ap (λ x. text_of (modern e) (on_offset x (λ y. Ok (offset_field y (modern e))))) has)) put
 
--- a year from 0 to 9999 that shows no sign
+-- A year from 0 to 9999, shown without a sign.
 year_is : (c : Component) (greatest years : ℕ) → 9999 ≤ greatest → 1000000 ≤ years → years < 1010000
     → text_of c (year greatest 4 1 Padding.Zero false years)
     ≡ Ok (pair ((years - 1000000) / 100) ++ pair ((years - 1000000) % 100))

@@ -1,4 +1,4 @@
--- What is written of a tree is a rendering of it.
+-- What is written for a tree is a rendering of it.
 use Rattle.std.proofs.Common.{◌≡◌, ◌/◌, ◌⊎◌, inl, inr, true, false, Option, Some, None, Result, Ok, Err, IfOk, IfSome, refl, subst, arith}
 use Rattle.timefd_modifier.specs.declared.enums.Padding.{Padding}
 use Rattle.timefd_component.specs.declared.component.Component.{Component}
@@ -56,7 +56,7 @@ mutual
   formatted_first no_trees text h = h
   formatted_first (more_trees t ts) text h = formatted t text h
 
--- What is written is rendered by any texts that hold of what is shown.
+-- If `P` holds for what is shown, then what is written is a rendering by texts with `P`.
 module _ (m : Moment) (P : Component → Text → Type 0)
     (each : (c : Component) → IfOk (field m c) (λ f. P c (field_text f))) where
   of_field : (c : Component) (r : Result Field Lack) → IfOk r (λ f. P c (field_text f))
@@ -95,7 +95,7 @@ module _ (m : Moment) (P : Component → Text → Type 0)
 pub writes_formatted : (m : Moment) (t : Tree) → IsModern t → IfOk (written m t) (IsFormatted t)
 writes_formatted m t is = writes_by m IsTextOf (λ c. renders m c) t is
 
--- Without the zero of a negative number.
+-- For moments without the zero of a negative number.
 
 offset_where : (P : Field → Type 0) (o : Option UtcOffset) (g : UtcOffset → Result Field Lack)
     → IfSome o HasHours → ((z : UtcOffset) → HasHours z → IfOk (g z) P) → IfOk (on_offset o g) P

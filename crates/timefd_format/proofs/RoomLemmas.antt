@@ -1,4 +1,4 @@
--- What is written of a tree has at most the bytes that the tree reserves.
+-- What is written for a tree is at most as long as the bytes that the tree reserves.
 use Rattle.std.proofs.Common.{ℕ, ◌≡◌, ◌+◌, ◌≤◌, inl, inr, true, false, ◌++◌, codes, length, Result, Ok, Err, IfOk, refl, ap, subst, arith, length-append}
 use Rattle.std.specs.Fmt.{decimal, digits}
 use Rattle.timefd_modifier.specs.declared.enums.Padding.{Padding}
@@ -81,7 +81,7 @@ mutual
   fits_first m no_trees is = omega arith
   fits_first m (more_trees t ts) is = fits m t is.0
 
--- a buffer of the reserved bytes has room
+-- A buffer of the reserved bytes has room.
 pub enough : (m : Moment) (v : View) (old new : Text)
     → reserve (view_tree v) ≤ length old → IsOutcome (written m (view_tree v)) old new (Err fails.Room) → ⊥
 enough m v old new room h = by (written m (view_tree v)) (fits m (view_tree v) (view_modern v)) h

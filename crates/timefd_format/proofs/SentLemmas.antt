@@ -1,4 +1,4 @@
--- From the text that is answered to what a writer is left with, and that it is UTF-8.
+-- From the text that is returned to what a writer has received, and that this is UTF-8.
 use Rattle.std.proofs.Common.{ℕ, List, Option, Result, Ok, Err, IfOk, sym, subst, string_bytes}
 use Rattle.std.specs.Str.{IsUtf8}
 use Rattle.std.specs.Io.KnownBytes.{Appends, Keeps}
@@ -10,7 +10,7 @@ use Rattle.std.specs.declared.vec.Vec.{Vec}
 use Rattle.timefd_component.specs.Tree.{Text, Trees}
 use Rattle.timefd_moment.specs.declared.moment.Moment.{Moment}
 use Rattle.timefd_format.specs.Answers.{IsAnswer, AreBytes}
-use Rattle.timefd_format.specs.declared.text.TextError.TheVariants as told
+use Rattle.timefd_format.specs.declared.text.TextError.TheVariants as reported
 use Rattle.timefd_format.specs.declared.unshown.Unshown.{Unshown}
 use Rattle.timefd_format.specs.declared.output.OutputError.TheVariants as fails
 use Rattle.timefd_format.specs.declared.text.TextError.{TextError}
@@ -30,7 +30,7 @@ refused (Ok text) s old new e is = tt
 refused (Err v) s old new e is = absurd is
 
 pub unshown : (x : Result Text Unshown) (old new : Option (List ℕ)) (u : Unshown)
-    → IsAnswer x (Err (told.Unshown u)) → Keeps old new → IsSent x old new (Err (fails.Unshown u))
+    → IsAnswer x (Err (reported.Unshown u)) → Keeps old new → IsSent x old new (Err (fails.Unshown u))
 unshown (Ok text) old new u is h = absurd is
 unshown (Err v) old new u is h = (is, h)
 
@@ -41,7 +41,7 @@ forgotten (Err v) old new e h = h
 
 pub ruleset sent = (appended, refused, unshown, forgotten)
 
--- the same of bytes
+-- What holds for texts, for a text of bytes.
 
 pub bytes_appended : (x : Result Text Unshown) (v : Vec ℕ Global) (old new : Option (List ℕ)) (done : Unit {0})
     → AreBytes x (Ok v) → Appends old new v.items → IsSent x old new (Ok done)
@@ -54,7 +54,7 @@ bytes_refused (Ok text) v old new e is = tt
 bytes_refused (Err u) v old new e is = absurd is
 
 pub bytes_unshown : (x : Result Text Unshown) (old new : Option (List ℕ)) (u : Unshown)
-    → AreBytes x (Err (told.Unshown u)) → Keeps old new → IsSent x old new (Err (fails.Unshown u))
+    → AreBytes x (Err (reported.Unshown u)) → Keeps old new → IsSent x old new (Err (fails.Unshown u))
 bytes_unshown (Ok text) old new u is h = absurd is
 bytes_unshown (Err v) old new u is h = (is, h)
 

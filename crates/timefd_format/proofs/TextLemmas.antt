@@ -1,4 +1,4 @@
--- What is shown of a component is one of its texts.
+-- What is shown for a component is one of its texts.
 use Rattle.std.proofs.Common.{ℕ, zero, suc, ◌≡◌, ◌∙◌, ◌+◌, ◌-◌, ◌*◌, ◌/◌, ◌%◌, ◌<◌, ◌≤◌, ◌⊎◌, inl, inr, Bool, true, false, ◌||◌, ◌==◌, nat_le, nat_lt, if◌then◌else◌, List, [], ◌∷◌, ◌++◌, length, get_or, codes, Option, Some, None, Result, Ok, Err, IfOk, refl, sym, ap, arith}
 use Rattle.std.proofs.lemmas.Bool.{leb-true, ltb-true, ltb-false}
 use Rattle.timefd_modifier.specs.declared.enums.Padding.{Padding}
@@ -20,7 +20,7 @@ use Rattle.timefd_format.specs.declared.field.Lack.{Lack}
 use Rattle.timefd_format.specs.Fields.{field, field_text, signed, sign_of, sign_text, year, from_one, period_text, on_date, on_time, on_offset, instant_field, stamp_field, whole_seconds}
 use Rattle.timefd_format.specs.Laws.{IsTextOf, IsMinusZero}
 
--- What holds of each date holds of a moment that has one, and so on.
+-- What holds for each date holds for a moment that has one; so do times and offsets.
 
 of_date : (P : Field → Type 0) (o : Option Date) (g : Date → Result Field Lack)
     → ((d : Date) → IfOk (g d) P) → IfOk (on_date o g) P
@@ -113,7 +113,7 @@ magnitude_in y a b = by (nat_lt y 1000000) refl
     by true e = omega (arith, ltb-true _ _ (sym e), a)
     by false e = omega (arith, b)
 
--- a sign in front of a number
+-- A sign in front of a number.
 pub signed_text : (p : Padding) (w : ℕ) (mandatory negative : Bool) (v low high : ℕ) (Z : Text → Type 0)
     → (negative ≡ true → v ≤ low) → (negative ≡ false → v ≤ high)
     → (negative ≡ true → v ≡ 0 → Z (codes "-" ++ filled p w 0))
@@ -124,7 +124,7 @@ signed_text p w mandatory true (suc v) low high Z a b z = inl (inl (suc v, omega
 signed_text p w true false v low high Z a b z = inl (inr (v, b refl, refl))
 signed_text p w false false v low high Z a b z = inl (inr (v, b refl, refl))
 
--- the same of a year, whose value that is shown is a part of it
+-- A sign in front of a year, where the value that is shown is a part of the year.
 year_signed : (mandatory negative : Bool) (n k : ℕ) (digits : Text) (has_plus : ℕ → Bool) (shown : ℕ → Text)
     → n ≤ k → (negative ≡ true → 1 ≤ n) → mandatory ≡ has_plus n → digits ≡ shown n
     → IsSigned k k has_plus shown (sign_text (sign_of negative mandatory) ++ digits)
@@ -158,7 +158,7 @@ year_text k w u p mandatory y Z has_plus shown plus digits = by (nat_le (magnitu
         (digits (magnitude y)))
     by false e = tt
 
--- years of four digits and less have no plus for their size
+-- Years of at most four digits have no plus because of their size.
 small_plus : (b : Bool) (n : ℕ) → n ≤ 9999 → b || nat_le 10000 n ≡ b
 small_plus true n h = refl
 small_plus false n h = by (nat_le 10000 n) refl
@@ -214,11 +214,11 @@ some_before d t o h =
     before : UnixTime
     before = record { is_negative = true; nanoseconds = unix_start * 1000000000 - utc_nanoseconds d t o }
 
-    behind : UnixTime
-    behind = record { is_negative = false; nanoseconds = utc_nanoseconds d t o - unix_start * 1000000000 }
+    after : UnixTime
+    after = record { is_negative = false; nanoseconds = utc_nanoseconds d t o - unix_start * 1000000000 }
 
     by : (b : Bool) → b ≡ nat_lt (utc_nanoseconds d t o) (unix_start * 1000000000)
-        → (if b then before else behind).is_negative ≡ true → 1 ≤ (if b then before else behind).nanoseconds
+        → (if b then before else after).is_negative ≡ true → 1 ≤ (if b then before else after).nanoseconds
     by true e f = omega (arith, ltb-true _ _ (sym e))
     by false e f = absurd cc
 
@@ -255,15 +255,23 @@ renders m (WeekdayMonday p) = of_date _ m.date _ (λ d. inl (weekday p.one_index
 renders m (WeekNumberIso p) = of_date _ m.date _ (λ d. inl (number 1 53 2 (iso_week d) p.padding (iso_week_in d).0 (iso_week_in d).1))
 renders m (WeekNumberSunday p) = of_date _ m.date _ (λ d. inl (number 0 53 2 (sunday_week d) p.padding (omega arith) (omega (arith, ordinal_last d))))
 renders m (WeekNumberMonday p) = of_date _ m.date _ (λ d. inl (number 0 53 2 (monday_week d) p.padding (omega arith) (omega (arith, ordinal_last d))))
-renders m (CalendarYearFullExtendedRange p) = of_date _ m.date _ (λ d. extended 4 1 p.padding p.sign_is_mandatory d.years (IsMinusZero (CalendarYearFullExtendedRange p)) (full p.padding) (whole p.padding))
-renders m (CalendarYearFullStandardRange p) = of_date _ m.date _ (λ d. standard 4 1 p.padding p.sign_is_mandatory d.years (IsMinusZero (CalendarYearFullStandardRange p)) (full p.padding) (whole p.padding))
-renders m (CalendarYearCenturyExtendedRange p) = of_date _ m.date _ (λ d. extended 2 100 p.padding p.sign_is_mandatory d.years (IsMinusZero (CalendarYearCenturyExtendedRange p)) (century p.padding) (λ n. refl))
-renders m (CalendarYearCenturyStandardRange p) = of_date _ m.date _ (λ d. standard 2 100 p.padding p.sign_is_mandatory d.years (IsMinusZero (CalendarYearCenturyStandardRange p)) (century p.padding) (λ n. refl))
+renders m (CalendarYearFullExtendedRange p) = of_date _ m.date _
+    (λ d. extended 4 1 p.padding p.sign_is_mandatory d.years (IsMinusZero (CalendarYearFullExtendedRange p)) (full p.padding) (whole p.padding))
+renders m (CalendarYearFullStandardRange p) = of_date _ m.date _
+    (λ d. standard 4 1 p.padding p.sign_is_mandatory d.years (IsMinusZero (CalendarYearFullStandardRange p)) (full p.padding) (whole p.padding))
+renders m (CalendarYearCenturyExtendedRange p) = of_date _ m.date _
+    (λ d. extended 2 100 p.padding p.sign_is_mandatory d.years (IsMinusZero (CalendarYearCenturyExtendedRange p)) (century p.padding) (λ n. refl))
+renders m (CalendarYearCenturyStandardRange p) = of_date _ m.date _
+    (λ d. standard 2 100 p.padding p.sign_is_mandatory d.years (IsMinusZero (CalendarYearCenturyStandardRange p)) (century p.padding) (λ n. refl))
 renders m (CalendarYearLastTwo p) = of_date _ m.date _ (λ d. inl (number 0 99 2 (magnitude d.years % 100) p.padding (omega arith) (omega arith)))
-renders m (IsoYearFullExtendedRange p) = of_date _ m.date _ (λ d. extended 4 1 p.padding p.sign_is_mandatory (iso_years d) (IsMinusZero (IsoYearFullExtendedRange p)) (full p.padding) (whole p.padding))
-renders m (IsoYearFullStandardRange p) = of_date _ m.date _ (λ d. standard 4 1 p.padding p.sign_is_mandatory (iso_years d) (IsMinusZero (IsoYearFullStandardRange p)) (full p.padding) (whole p.padding))
-renders m (IsoYearCenturyExtendedRange p) = of_date _ m.date _ (λ d. extended 2 100 p.padding p.sign_is_mandatory (iso_years d) (IsMinusZero (IsoYearCenturyExtendedRange p)) (century p.padding) (λ n. refl))
-renders m (IsoYearCenturyStandardRange p) = of_date _ m.date _ (λ d. standard 2 100 p.padding p.sign_is_mandatory (iso_years d) (IsMinusZero (IsoYearCenturyStandardRange p)) (century p.padding) (λ n. refl))
+renders m (IsoYearFullExtendedRange p) = of_date _ m.date _
+    (λ d. extended 4 1 p.padding p.sign_is_mandatory (iso_years d) (IsMinusZero (IsoYearFullExtendedRange p)) (full p.padding) (whole p.padding))
+renders m (IsoYearFullStandardRange p) = of_date _ m.date _
+    (λ d. standard 4 1 p.padding p.sign_is_mandatory (iso_years d) (IsMinusZero (IsoYearFullStandardRange p)) (full p.padding) (whole p.padding))
+renders m (IsoYearCenturyExtendedRange p) = of_date _ m.date _
+    (λ d. extended 2 100 p.padding p.sign_is_mandatory (iso_years d) (IsMinusZero (IsoYearCenturyExtendedRange p)) (century p.padding) (λ n. refl))
+renders m (IsoYearCenturyStandardRange p) = of_date _ m.date _
+    (λ d. standard 2 100 p.padding p.sign_is_mandatory (iso_years d) (IsMinusZero (IsoYearCenturyStandardRange p)) (century p.padding) (λ n. refl))
 renders m (IsoYearLastTwo p) = of_date _ m.date _ (λ d. inl (number 0 99 2 (magnitude (iso_years d) % 100) p.padding (omega arith) (omega arith)))
 renders m (Hour12 p) = of_time _ m.time _ (λ t. inl (number 1 12 2 (hour_of_twelve t.hour) p.padding (omega arith) (omega arith)))
 renders m (Hour24 p) = of_time _ m.time _ (λ t. inl (number 0 23 2 t.hour p.padding (omega arith) t.hours))
@@ -271,7 +279,9 @@ renders m (Minute p) = of_time _ m.time _ (λ t. inl (number 0 59 2 t.minute p.p
 renders m (Second p) = of_time _ m.time _ (λ t. inl (number 0 59 2 t.second p.padding (omega arith) t.seconds))
 renders m (Period p) = of_time _ m.time _ (λ t. inl (period p.is_uppercase (nat_le 12 t.hour)))
 renders m (Subsecond p) = of_time _ m.time _ (λ t. inl (t.nanosecond, t.nanoseconds, refl))
-renders m (OffsetHour p) = of_offset _ m.offset _ (λ o. signed_text p.padding 2 p.sign_is_mandatory o.is_negative (o.seconds / 3600) 25 25 (IsMinusZero (OffsetHour p)) (λ n. omega (arith, o.within)) (λ n. omega (arith, o.within)) (λ n z. refl))
+renders m (OffsetHour p) = of_offset _ m.offset _
+    (λ o. signed_text p.padding 2 p.sign_is_mandatory o.is_negative (o.seconds / 3600) 25 25 (IsMinusZero (OffsetHour p))
+    (λ n. omega (arith, o.within)) (λ n. omega (arith, o.within)) (λ n z. refl))
 renders m (OffsetMinute p) = of_offset _ m.offset _ (λ o. inl (number 0 59 2 (o.seconds / 60 % 60) p.padding (omega arith) (omega arith)))
 renders m (OffsetSecond p) = of_offset _ m.offset _ (λ o. inl (number 0 59 2 (o.seconds % 60) p.padding (omega arith) (omega arith)))
 renders m (Ignore p) = inl refl
@@ -279,19 +289,25 @@ renders m (End p) = inl refl
 renders m (UnixTimestampSecond p) = of_date _ m.date _ (λ d. of_time _ m.time _ (λ t. of_offset _ m.offset _ (λ o.
     let u : UnixTime = unix_time d t o in
     of_instant (λ f. IsTextOf (UnixTimestampSecond p) (field_text f)) u (UnixTimestampSecond p) (λ shown.
-    signed_text Padding.None 1 p.sign_is_mandatory u.is_negative (whole_seconds u) 31619087596800 31494784780799 (IsMinusZero (UnixTimestampSecond p)) (λ n. below_seconds u n (lowest u shown n)) (λ n. above_seconds u n (highest u shown n)) (λ n e. some_seconds u n (some_before d t o n) e)))))
+    signed_text Padding.None 1 p.sign_is_mandatory u.is_negative (whole_seconds u) 31619087596800 31494784780799
+    (IsMinusZero (UnixTimestampSecond p)) (λ n. below_seconds u n (lowest u shown n)) (λ n. above_seconds u n (highest u shown n))
+    (λ n e. some_seconds u n (some_before d t o n) e)))))
 renders m (UnixTimestampMillisecond p) = of_date _ m.date _ (λ d. of_time _ m.time _ (λ t. of_offset _ m.offset _ (λ o.
     let u : UnixTime = unix_time d t o in
     of_instant (λ f. IsTextOf (UnixTimestampMillisecond p) (field_text f)) u (UnixTimestampMillisecond p) (λ shown.
-    signed_text Padding.None 1 p.sign_is_mandatory u.is_negative (u.nanoseconds / 1000000) 31619087596800000 31494784780799999 (IsMinusZero (UnixTimestampMillisecond p)) (λ n. omega (arith, lowest u shown n)) (λ n. omega (arith, highest u shown n)) (λ n e. refl)))))
+    signed_text Padding.None 1 p.sign_is_mandatory u.is_negative (u.nanoseconds / 1000000) 31619087596800000 31494784780799999
+    (IsMinusZero (UnixTimestampMillisecond p)) (λ n. omega (arith, lowest u shown n)) (λ n. omega (arith, highest u shown n)) (λ n e. refl)))))
 renders m (UnixTimestampMicrosecond p) = of_date _ m.date _ (λ d. of_time _ m.time _ (λ t. of_offset _ m.offset _ (λ o.
     let u : UnixTime = unix_time d t o in
     of_instant (λ f. IsTextOf (UnixTimestampMicrosecond p) (field_text f)) u (UnixTimestampMicrosecond p) (λ shown.
-    signed_text Padding.None 1 p.sign_is_mandatory u.is_negative (u.nanoseconds / 1000) 31619087596800000000 31494784780799999999 (IsMinusZero (UnixTimestampMicrosecond p)) (λ n. omega (arith, lowest u shown n)) (λ n. omega (arith, highest u shown n)) (λ n e. refl)))))
+    signed_text Padding.None 1 p.sign_is_mandatory u.is_negative (u.nanoseconds / 1000) 31619087596800000000 31494784780799999999
+    (IsMinusZero (UnixTimestampMicrosecond p)) (λ n. omega (arith, lowest u shown n)) (λ n. omega (arith, highest u shown n)) (λ n e. refl)))))
 renders m (UnixTimestampNanosecond p) = of_date _ m.date _ (λ d. of_time _ m.time _ (λ t. of_offset _ m.offset _ (λ o.
     let u : UnixTime = unix_time d t o in
     of_instant (λ f. IsTextOf (UnixTimestampNanosecond p) (field_text f)) u (UnixTimestampNanosecond p) (λ shown.
-    signed_text Padding.None 1 p.sign_is_mandatory u.is_negative u.nanoseconds 31619087596800000000000 31494784780799999999999 (IsMinusZero (UnixTimestampNanosecond p)) (λ n. omega (arith, lowest u shown n)) (λ n. omega (arith, highest u shown n)) (λ n e. absurd (omega (arith, some_before d t o n, e)))))))
+    signed_text Padding.None 1 p.sign_is_mandatory u.is_negative u.nanoseconds 31619087596800000000000 31494784780799999999999
+    (IsMinusZero (UnixTimestampNanosecond p)) (λ n. omega (arith, lowest u shown n)) (λ n. omega (arith, highest u shown n))
+    (λ n e. absurd (omega (arith, some_before d t o n, e)))))))
 renders m (Month p) = of_date _ m.date _ (λ d. inl refl)
 renders m (Weekday p) = of_date _ m.date _ (λ d. inl refl)
 renders m (WeekNumber p) = of_date _ m.date _ (λ d. inl refl)

@@ -27,7 +27,7 @@ cons_ascii : (b : ℕ) (xs : Text) → b < 128 → IsAscii xs → IsAscii (b ∷
 cons_ascii b xs h g zero = h
 cons_ascii b xs h g (suc i) = g i
 
--- constant texts
+-- Constant texts.
 abbrev is_ascii : Text → Bool
 is_ascii [] = true
 is_ascii (b ∷ xs) = nat_lt b 128 && is_ascii xs

@@ -1,11 +1,11 @@
--- Texts put one in front of another.
+-- Texts, put one in front of another.
 use Rattle.std.proofs.Common.{ℕ, zero, suc, ◌≡◌, ◌∙◌, ◌+◌, ◌<◌, ◌≤◌, List, [], ◌∷◌, ◌++◌, length, take, drop, map, get_or, Some, Result, Ok, Err, refl, sym, ap, subst, arith, append_assoc, add-one, drop-cons, length-append, length-take, length-drop}
 use Rattle.std.proofs.lemmas.List.{take-append-le}
 use Rattle.std.proofs.Math.Seq.{drop-append_seam}
 use Rattle.timefd_component.specs.Tree.{Text, Tree, trees}
 use Rattle.timefd_moment.specs.declared.moment.Moment.{Moment}
-use Rattle.timefd_format.specs.declared.place.Place.{Place}
-use Rattle.timefd_format.specs.declared.place.Place.TheVariants as place
+use Rattle.timefd_format.specs.declared.cursor.WriteCursor.{WriteCursor}
+use Rattle.timefd_format.specs.declared.cursor.WriteCursor.TheVariants as cursor
 use Rattle.timefd_format.specs.declared.unshown.Unshown.{Unshown}
 use Rattle.timefd_format.specs.Puts.{Puts}
 use Rattle.timefd_format.specs.Writes.{IsIn, PutsOn, Writes}
@@ -17,9 +17,9 @@ take_take (suc q) zero xs h = absurd (omega (arith, h))
 take_take (suc q) (suc k) [] h = refl
 take_take (suc q) (suc k) (x ∷ xs) h = ap (λ ys. x ∷ ys) (take_take q k xs (omega (arith, h)))
 
-pub puts_behind : (a b old mid new : Text) (e k q : ℕ) → e ≤ length old → Puts b old e mid (Some k)
+pub puts_after : (a b old mid new : Text) (e k q : ℕ) → e ≤ length old → Puts b old e mid (Some k)
     → Puts a mid k new (Some q) → Puts (a ++ b) old e new (Some q)
-puts_behind a b old mid new e k q size one two =
+puts_after a b old mid new e k q size one two =
     let long : length (a ++ b) ≡ length a + length b = length-append a b in
     let sum : q + length (a ++ b) ≡ e = omega (arith, long, one.0, two.0) in
     let len : length (take k old) ≡ k = omega (arith, length-take k old, one.0, size) in
@@ -31,48 +31,48 @@ puts_behind a b old mid new e k q size one two =
     take_take q k old (omega (arith, two.0)) in
     (sum, two.1 ∙ (λ i. front i ++ (a ++ back i)) ∙ ap (λ x. take q old ++ x) (sym (append_assoc a b (drop e old))))
 
-pub on_behind : (a b old mid new : Text) (e k q : Place) → IsIn (length old) e
+pub on_after : (a b old mid new : Text) (e k q : WriteCursor) → IsIn (length old) e
     → PutsOn b old e mid k → PutsOn a mid k new q → PutsOn (a ++ b) old e new q
-on_behind a b old mid new place.NoRoom place.NoRoom q size one two = two
-on_behind a b old mid new place.NoRoom (place.At k) q size one two = absurd cc
-on_behind a b old mid new place.NoRoom (place.Unshown v) q size one two = absurd cc
-on_behind a b old mid new (place.Unshown u) place.NoRoom q size one two = absurd cc
-on_behind a b old mid new (place.Unshown u) (place.At k) q size one two = absurd cc
-on_behind a b old mid new (place.Unshown u) (place.Unshown v) q size one two = two ∙ one
-on_behind a b old mid new (place.At e) place.NoRoom place.NoRoom size one two =
+on_after a b old mid new cursor.NoRoom cursor.NoRoom q size one two = two
+on_after a b old mid new cursor.NoRoom (cursor.At k) q size one two = absurd cc
+on_after a b old mid new cursor.NoRoom (cursor.Unshown v) q size one two = absurd cc
+on_after a b old mid new (cursor.Unshown u) cursor.NoRoom q size one two = absurd cc
+on_after a b old mid new (cursor.Unshown u) (cursor.At k) q size one two = absurd cc
+on_after a b old mid new (cursor.Unshown u) (cursor.Unshown v) q size one two = two ∙ one
+on_after a b old mid new (cursor.At e) cursor.NoRoom cursor.NoRoom size one two =
     omega (arith, one, length-append a b)
-on_behind a b old mid new (place.At e) place.NoRoom (place.At q) size one two = absurd cc
-on_behind a b old mid new (place.At e) place.NoRoom (place.Unshown v) size one two = absurd cc
-on_behind a b old mid new (place.At e) (place.Unshown v) q size one two = absurd one
-on_behind a b old mid new (place.At e) (place.At k) place.NoRoom size one two =
+on_after a b old mid new (cursor.At e) cursor.NoRoom (cursor.At q) size one two = absurd cc
+on_after a b old mid new (cursor.At e) cursor.NoRoom (cursor.Unshown v) size one two = absurd cc
+on_after a b old mid new (cursor.At e) (cursor.Unshown v) q size one two = absurd one
+on_after a b old mid new (cursor.At e) (cursor.At k) cursor.NoRoom size one two =
     omega (arith, one.0, two, length-append a b)
-on_behind a b old mid new (place.At e) (place.At k) (place.Unshown v) size one two = absurd two
-on_behind a b old mid new (place.At e) (place.At k) (place.At q) size one two =
-    puts_behind a b old mid new e k q size one two
+on_after a b old mid new (cursor.At e) (cursor.At k) (cursor.Unshown v) size one two = absurd two
+on_after a b old mid new (cursor.At e) (cursor.At k) (cursor.At q) size one two =
+    puts_after a b old mid new e k q size one two
 
--- what is told behind is told, if what is put in front shows something
-told_on : (a old mid new : Text) (u : Unshown) (k q : Place) → k ≡ place.Unshown u
-    → PutsOn a mid k new q → q ≡ place.Unshown u
-told_on a old mid new u (place.At k) q is two = absurd cc
-told_on a old mid new u place.NoRoom q is two = absurd cc
-told_on a old mid new u (place.Unshown v) q is two = two ∙ is
+-- A component that shows nothing stays reported if what is put in front of it shows something.
+reported_on : (a old mid new : Text) (u : Unshown) (k q : WriteCursor) → k ≡ cursor.Unshown u
+    → PutsOn a mid k new q → q ≡ cursor.Unshown u
+reported_on a old mid new u (cursor.At k) q is two = absurd cc
+reported_on a old mid new u cursor.NoRoom q is two = absurd cc
+reported_on a old mid new u (cursor.Unshown v) q is two = two ∙ is
 
-pub writes_behind : (x rest : Result Text Unshown) (old mid new : Text) (e k q : Place)
+pub writes_after : (x rest : Result Text Unshown) (old mid new : Text) (e k q : WriteCursor)
     → IsIn (length old) e → Writes rest old e mid k → Writes x mid k new q
     → Writes (followed x rest) old e new q
-writes_behind (Ok a) (Ok b) old mid new e k q size one two =
-    on_behind a b old mid new e k q size one two
-writes_behind (Ok a) (Err u) old mid new e k q size one two = told_on a old mid new u k q one two
-writes_behind (Err v) rest old mid new e k q size one two = two
+writes_after (Ok a) (Ok b) old mid new e k q size one two =
+    on_after a b old mid new e k q size one two
+writes_after (Ok a) (Err u) old mid new e k q size one two = reported_on a old mid new u k q one two
+writes_after (Err v) rest old mid new e k q size one two = two
 
--- the place that is left is in the buffer
-pub on_in : (a old new : Text) (e q : Place) → IsIn (length old) e → PutsOn a old e new q
+-- The position that results is in the buffer.
+pub on_in : (a old new : Text) (e q : WriteCursor) → IsIn (length old) e → PutsOn a old e new q
     → IsIn (length new) q
-on_in a old new e place.NoRoom size one = tt
-on_in a old new e (place.Unshown u) size one = tt
-on_in a old new place.NoRoom (place.At q) size one = absurd cc
-on_in a old new (place.Unshown u) (place.At q) size one = absurd cc
-on_in a old new (place.At e) (place.At q) size one =
+on_in a old new e cursor.NoRoom size one = tt
+on_in a old new e (cursor.Unshown u) size one = tt
+on_in a old new cursor.NoRoom (cursor.At q) size one = absurd cc
+on_in a old new (cursor.Unshown u) (cursor.At q) size one = absurd cc
+on_in a old new (cursor.At e) (cursor.At q) size one =
     omega (
       arith,
       size,
@@ -84,12 +84,12 @@ on_in a old new (place.At e) (place.At q) size one =
       length-drop e old,
     )
 
-pub writes_in : (x : Result Text Unshown) (old new : Text) (e q : Place) → IsIn (length old) e
+pub writes_in : (x : Result Text Unshown) (old new : Text) (e q : WriteCursor) → IsIn (length old) e
     → Writes x old e new q → IsIn (length new) q
 writes_in (Ok a) old new e q size one = on_in a old new e q size one
-writes_in (Err v) old new e place.NoRoom size one = tt
-writes_in (Err v) old new e (place.Unshown u) size one = tt
-writes_in (Err v) old new e (place.At q) size one = absurd cc
+writes_in (Err v) old new e cursor.NoRoom size one = tt
+writes_in (Err v) old new e (cursor.Unshown u) size one = tt
+writes_in (Err v) old new e (cursor.At q) size one = absurd cc
 
 module _ {A : Type 0} (tree : A → Tree) (m : Moment) (xs : List A) (at : ℕ) (x : A)
     (below : at < length xs) (is : x ≡ get_or xs at x) where
@@ -98,12 +98,12 @@ module _ {A : Type 0} (tree : A → Tree) (m : Moment) (xs : List A) (at : ℕ) 
       let first : drop at xs ≡ get_or xs at x ∷ drop (at + 1) xs = rw add-one (drop-cons xs at x below) in
       first ∙ ap (λ y. y ∷ drop (at + 1) xs) (sym is)
 
-  -- one more part in front of those that are written
-  pub one_more : (old mid new : Text) (e k q : Place)
+  -- One more part, in front of those that are written.
+  pub one_more : (old mid new : Text) (e k q : WriteCursor)
       → IsIn (length old) e → Writes (written_all m (trees (map tree (drop (at + 1) xs)))) old e mid k
       → Writes (written m (tree x)) mid k new q
       → Writes (written_all m (trees (map tree (drop at xs)))) old e new q
   one_more old mid new e k q size rest one =
       subst (λ ys. Writes (written_all m (trees (map tree ys))) old e new q) (sym cut)
-      (writes_behind (written m (tree x)) (written_all m (trees (map tree (drop (at + 1) xs)))) old mid new
+      (writes_after (written m (tree x)) (written_all m (trees (map tree (drop (at + 1) xs)))) old mid new
       e k q size rest one)

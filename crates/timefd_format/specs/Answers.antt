@@ -1,4 +1,4 @@
--- What is answered as a text, beside what was to be written.
+-- How a returned text relates to what was to be written.
 use Rattle.std.specs.Prelude.{ℕ, ◌≡◌, Result, Ok, Err, ⊤, string_bytes}
 use Rattle.std.specs.declared.string.String.{String}
 use Rattle.std.specs.declared.vec.Vec.{Vec}
@@ -8,7 +8,7 @@ use Rattle.timefd_format.specs.declared.text.TextError.{TextError}
 use Rattle.timefd_format.specs.declared.text.TextError.TheVariants as fails
 use Rattle.timefd_format.specs.declared.unshown.Unshown.{Unshown}
 
--- The text, or the first component that shows nothing, or that memory ran out.
+-- Either the text is returned, or the first component that shows nothing, or memory ran out.
 abbrev pub IsAnswer : Result Text Unshown → Result (String Global) TextError → Type 0
 IsAnswer (Ok text) (Ok answer) = string_bytes answer ≡ text
 IsAnswer (Ok text) (Err (fails.Unshown u)) = ⊥
@@ -17,7 +17,7 @@ IsAnswer (Err v) (Ok answer) = ⊥
 IsAnswer (Err v) (Err (fails.Unshown u)) = u ≡ v
 IsAnswer (Err v) (Err (fails.Memory e)) = ⊤
 
--- the same in bytes
+-- `IsAnswer` for a text of bytes.
 abbrev pub AreBytes : Result Text Unshown → Result (Vec ℕ Global) TextError → Type 0
 AreBytes (Ok text) (Ok answer) = answer.items ≡ text
 AreBytes (Ok text) (Err (fails.Unshown u)) = ⊥

@@ -1,4 +1,4 @@
--- What a component shows of a moment, and the text of that.
+-- What a component shows of a moment, and the text of that field.
 use Rattle.std.specs.Prelude.{ℕ, ◌+◌, ◌-◌, ◌/◌, ◌%◌, ◌≤◌, ◌++◌, Bool, true, false, ◌||◌, nat_le, if◌then◌else◌, List, [], codes, get_or, Option, Some, None, Result, Ok, Err, ⊤}
 use Rattle.timefd_modifier.specs.declared.enums.Padding.{Padding}
 use Rattle.timefd_component.specs.declared.component.Component.{Component}
@@ -27,7 +27,7 @@ sign_text Sign.None = []
 sign_text Sign.Minus = codes "-"
 sign_text Sign.Plus = codes "+"
 
--- the name at a place from 0
+-- The name with a given index, counted from 0.
 abbrev pub name_at : List Text → ℕ → Text
 name_at names n = get_or names n []
 
@@ -47,7 +47,7 @@ field_text (shows.Number n) = sign_text n.sign ++ filled n.padding n.width n.val
 field_text (shows.Fraction digits nanosecond) = subsecond digits nanosecond
 field_text shows.Nothing = []
 
--- what a field may hold
+-- What a field may hold.
 abbrev pub IsField : Field → Type 0
 IsField (shows.MonthShort month) = (1 ≤ month) × (month ≤ 12)
 IsField (shows.MonthLong month) = (1 ≤ month) × (month ≤ 12)
@@ -74,8 +74,8 @@ signed is_negative has_plus padding width value = shows.Number (record {
 abbrev pub plain : Padding → ℕ → ℕ → Field
 plain = signed false false
 
--- A year of at most this magnitude, or of it the hundreds. Beside years of five digits and more, which
--- are told apart by a sign, no other needs one.
+-- A year of at most this magnitude, or its hundreds. Only years of five digits and more need a plus: it
+-- distinguishes them from years of four.
 abbrev pub year : ℕ → ℕ → ℕ → Padding → Bool → ℕ → Result Field Lack
 year greatest width unit padding mandatory years =
     if nat_le (magnitude years) greatest then Ok
@@ -123,14 +123,14 @@ time_field t (Period m) = shows.Period m.is_uppercase (nat_le 12 t.hour)
 time_field t (Subsecond m) = shows.Fraction m.digits t.nanosecond
 time_field t _ = shows.Nothing
 
--- The sign is that of the whole offset: of half an hour behind UTC the hours are -00.
+-- The sign is the sign of the whole offset: half an hour west of UTC has the hours -00.
 abbrev pub offset_field : UtcOffset → Component → Field
 offset_field o (OffsetHour m) = signed o.is_negative m.sign_is_mandatory m.padding 2 (o.seconds / 3600)
 offset_field o (OffsetMinute m) = plain m.padding 2 (o.seconds / 60 % 60)
 offset_field o (OffsetSecond m) = plain m.padding 2 (o.seconds % 60)
 offset_field o _ = shows.Nothing
 
--- whole seconds, rounded down
+-- The whole seconds, rounded down.
 abbrev pub whole_seconds : UnixTime → ℕ
 whole_seconds u =
     if u.is_negative then (u.nanoseconds + 999999999) / 1000000000 else u.nanoseconds / 1000000000
@@ -149,7 +149,7 @@ stamp_field u _ = shows.Nothing
 abbrev pub instant_field : UnixTime → Component → Result Field Lack
 instant_field u c = if is_within u then Ok (stamp_field u c) else Err lack.InstantOutOfRange
 
--- what a component shows
+-- Which part of a moment a component shows.
 abbrev pub kind : Component → Kind
 kind (Hour12 m) = of.Time
 kind (Hour24 m) = of.Time
@@ -189,6 +189,6 @@ by_kind of.Instant m c =
     instant_field (unix_time d t o) c)))
 by_kind of.Nothing m c = Ok shows.Nothing
 
--- what a modern component shows of a moment
+-- What a modern component shows of a moment.
 abbrev pub field : Moment → Component → Result Field Lack
 field m c = by_kind (kind c) m c

@@ -1,4 +1,4 @@
--- Trees all of whose literals are UTF-8, as those of a text are.
+-- Trees whose literals are all UTF-8, as the literals of a parsed text are.
 use Rattle.std.specs.Prelude.{⊤}
 use Rattle.std.specs.Str.{IsUtf8}
 use Rattle.timefd_component.specs.Tree.{Tree, component, literal, compound, optional, first, Trees, no_trees, more_trees}

@@ -1,4 +1,4 @@
--- What a writer is left with, beside what was to be written.
+-- What a writer has received, compared with what was to be written.
 use Rattle.std.specs.Prelude.{◌≡◌, List, ℕ, Option, Result, Ok, Err, ⊤}
 use Rattle.std.specs.Io.KnownBytes.{Appends, Keeps}
 use Rattle.timefd_component.specs.Tree.{Text}
@@ -6,8 +6,8 @@ use Rattle.timefd_format.specs.declared.unshown.Unshown.{Unshown}
 use Rattle.timefd_format.specs.declared.output.OutputError.{OutputError}
 use Rattle.timefd_format.specs.declared.output.OutputError.TheVariants as fails
 
--- The text is appended, or nothing is: for the first component that shows nothing, or for want of
--- memory. The error of a writer says nothing of what it took.
+-- The text is appended, or nothing is: because a component shows nothing, or memory ran out. An error of the
+-- writer itself leaves open how much it took.
 abbrev pub IsSent : Result Text Unshown → Option (List ℕ) → Option (List ℕ)
     → Result (Unit {0}) OutputError → Type 0
 IsSent (Ok text) old new (Ok done) = Appends old new text

@@ -1,4 +1,4 @@
--- The sentences of errors. Each names the component.
+-- The sentences of the errors. Each names the component.
 use Rattle.std.specs.Prelude.{◌++◌, codes, Option, Some, None}
 use Rattle.timefd_component.specs.declared.component.Component.{Component}
 use Rattle.timefd_component.specs.declared.component.Component.TheVariants.{Day, MonthShort, MonthLong, MonthNumerical, Ordinal, WeekdayShort, WeekdayLong, WeekdaySunday, WeekdayMonday, WeekNumberIso, WeekNumberSunday, WeekNumberMonday, CalendarYearFullExtendedRange, CalendarYearFullStandardRange, CalendarYearCenturyExtendedRange, CalendarYearCenturyStandardRange, IsoYearFullExtendedRange, IsoYearFullStandardRange, IsoYearCenturyExtendedRange, IsoYearCenturyStandardRange, CalendarYearLastTwo, IsoYearLastTwo, Hour12, Hour24, Minute, Second, Period, Subsecond, OffsetHour, OffsetMinute, OffsetSecond, UnixTimestampSecond, UnixTimestampMillisecond, UnixTimestampMicrosecond, UnixTimestampNanosecond, Ignore, End, Month, Weekday, WeekNumber, Hour, UnixTimestamp, Year}
@@ -9,11 +9,11 @@ use Rattle.timefd_format.specs.declared.unshown.Unshown.{Unshown}
 use Rattle.timefd_format.specs.declared.write.FormatError.{FormatError}
 use Rattle.timefd_format.specs.declared.write.FormatError.TheVariants as fails
 use Rattle.timefd_format.specs.declared.text.TextError.{TextError}
-use Rattle.timefd_format.specs.declared.text.TextError.TheVariants as told
+use Rattle.timefd_format.specs.declared.text.TextError.TheVariants as reported
 use Rattle.timefd_format.specs.declared.output.OutputError.{OutputError}
 use Rattle.timefd_format.specs.declared.output.OutputError.TheVariants as ends
 
--- the name that a bracket of the component begins with
+-- The name at the start of the component's bracket.
 abbrev pub name : Component → Text
 name (Day m) = codes "day"
 name (MonthShort m) = codes "month"
@@ -59,7 +59,7 @@ name (Hour m) = codes "hour"
 name (UnixTimestamp m) = codes "unix_timestamp"
 name (Year m) = codes "year"
 
--- why a component shows nothing
+-- Why a component shows nothing.
 abbrev pub reason : Lack → Text
 reason lack.NoDate = codes "the value has no date"
 reason lack.NoTime = codes "the value has no time of day"
@@ -76,10 +76,10 @@ format_sentence (fails.Unshown u) = unshown_sentence u
 format_sentence fails.Room = codes "the buffer has no room for the text"
 
 abbrev pub text_sentence : TextError → Text
-text_sentence (told.Unshown u) = unshown_sentence u
-text_sentence (told.Memory e) = codes "memory ran out"
+text_sentence (reported.Unshown u) = unshown_sentence u
+text_sentence (reported.Memory e) = codes "memory ran out"
 
--- what an output says of its own error is its own
+-- The sentence of an output's own error is left to that error.
 abbrev pub output_sentence : OutputError → Option Text
 output_sentence (ends.Unshown u) = Some (unshown_sentence u)
 output_sentence (ends.Memory e) = Some (codes "memory ran out")

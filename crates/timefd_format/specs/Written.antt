@@ -1,5 +1,5 @@
--- What is written of a tree for a moment: THE text that the moment determines, or the first component
--- that shows nothing of it, and why.
+-- What is written for a moment by a tree: THE text that the moment determines, or the first component that
+-- shows nothing of it, and why.
 use Rattle.std.specs.Prelude.{◌++◌, [], if◌then◌else◌, Result, Ok, Err}
 use Rattle.timefd_component.specs.declared.component.Component.{Component}
 use Rattle.timefd_component.specs.Modern.{modern}
@@ -14,16 +14,16 @@ abbrev pub text_of : Component → Result Field Lack → Result Text Unshown
 text_of c (Ok f) = Ok (field_text f)
 text_of c (Err lack) = Err (record { component = c; lack = lack })
 
--- the text of a component, of a deprecated one that of the component it stands for
+-- The text of a component. A deprecated one has the text of the component that replaces it.
 abbrev pub shown : Moment → Component → Result Text Unshown
 shown m c = text_of (modern c) (field m (modern c))
 
--- A text, and what stands behind it.
+-- A text, and what follows it.
 abbrev pub in_front : Text → Result Text Unshown → Result Text Unshown
 in_front a (Ok b) = Ok (a ++ b)
 in_front a (Err u) = Err u
 
--- What shows nothing in front is told first.
+-- Of two components that show nothing, the front one is reported.
 abbrev pub followed : Result Text Unshown → Result Text Unshown → Result Text Unshown
 followed (Ok a) rest = in_front a rest
 followed (Err u) rest = Err u

@@ -1,4 +1,4 @@
-//! Digits, signs and bytes, appended to what is written.
+//! Appends digits, signs and bytes to a text in a buffer.
 
 ghost use Rattle.std.specs.Prelude.{◌≡◌, ◌+◌, ◌/◌, ◌%◌, ◌<◌, ◌≤◌, ◌++◌, ◌∷◌, [], length};
 ghost use Rattle.timefd_format.specs.Appends.{IsAppended};
@@ -8,7 +8,7 @@ ghost use Rattle.timefd_format.specs.Puts as spec;
 
 use crate::digits::pair;
 
-/// Appends bytes, and answers where they end.
+/// Appends bytes, and returns the position after them.
 #[inline(always)]
 #[tactic(auto, using(crate::proofs::AppendLemmas::copied))]
 pub(crate) fn append_bytes(bytes: &[u8], room: &mut [u8], at: usize) -> usize
@@ -20,7 +20,7 @@ pub(crate) fn append_bytes(bytes: &[u8], room: &mut [u8], at: usize) -> usize
     end
 }
 
-/// The two digits of a number below 100, one by one.
+/// The two digits of a number below 100, as a pair of bytes.
 #[inline(always)]
 fn both_digits(number: u32) -> (u8, u8)
     requires { number < 100 }
@@ -66,7 +66,7 @@ pub(crate) fn append_four(number: u32, room: &mut [u8], at: usize) -> usize
     append_two(number % 100, room, middle)
 }
 
-/// Appends a sign. Most numbers have none.
+/// Appends a sign, if there is one. Most numbers have none.
 #[inline(always)]
 #[tactic(auto, using(crate::proofs::AppendLemmas::nothing_appended))]
 pub(crate) fn append_sign(is_negative: bool, has_plus: bool, room: &mut [u8], at: usize) -> usize

@@ -1,4 +1,4 @@
-//! The field of a component of a time of day or an offset.
+//! The field of a component that shows a time of day or an offset.
 
 ghost use Rattle.std.specs.Prelude.{◌≡◌, ◌≤◌};
 ghost use Rattle.timefd_format.specs.Fields as spec;

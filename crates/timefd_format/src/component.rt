@@ -4,36 +4,36 @@ ghost use Rattle.std.specs.Prelude.{◌≤◌, length};
 ghost use Rattle.timefd_format.specs.Writes.{IsIn, IsLeftOut, PutsShown, Writes};
 ghost use Rattle.timefd_format.specs.Written.{shown};
 
-use crate::place::Place;
+use crate::cursor::WriteCursor;
 use crate::put_field::put_field;
 use crate::shown::field;
 use crate::unshown::Unshown;
 use timefd_component::Component;
 use timefd_moment::Moment;
 
-/// Writes what a component shows of the moment in front of a place.
+/// Writes what a component shows of the moment in front of what is already written.
 #[inline(always)]
-#[tactic(auto, using(crate::proofs::ComponentLemmas::put_writes, crate::proofs::ComponentLemmas::left_here, crate::proofs::ComponentLemmas::left_behind))]
+#[tactic(auto, using(crate::proofs::ComponentLemmas::put_writes, crate::proofs::ComponentLemmas::left_here, crate::proofs::ComponentLemmas::left_after))]
 pub(crate) fn write_component(
     moment: Moment,
     component: Component,
     buffer: &mut [u8],
-    place: Place,
-) -> Place
-    requires { IsIn (length buffer.old) place }
-    ensures { Writes (shown moment component) buffer.old place buffer.new result }
+    cursor: WriteCursor,
+) -> WriteCursor
+    requires { IsIn (length buffer.old) cursor }
+    ensures { Writes (shown moment component) buffer.old cursor buffer.new result }
 {
-    match place {
-        Place::At(end) => match put_component(moment, component, buffer, end) {
-            Some(at) => Place::At(at),
-            None => leave_out(moment, component, place),
+    match cursor {
+        WriteCursor::At(end) => match put_component(moment, component, buffer, end) {
+            Some(at) => WriteCursor::At(at),
+            None => leave_out(moment, component, cursor),
         },
-        Place::NoRoom | Place::Unshown(_) => leave_out(moment, component, place),
+        WriteCursor::NoRoom | WriteCursor::Unshown(_) => leave_out(moment, component, cursor),
     }
 }
 
-/// Puts what a component shows in front of what stands from `end` on, and answers where it begins. `None`
-/// where it shows nothing, or there is no room.
+/// Puts what a component shows directly in front of `end`, and returns the position where it begins. `None`
+/// if it shows nothing, or there is no room.
 #[inline(never)]
 #[tactic(auto, using(crate::proofs::ComponentLemmas::field_put, crate::proofs::ComponentLemmas::field_lacks))]
 fn put_component(
@@ -52,19 +52,19 @@ fn put_component(
     }
 }
 
-/// The place where a component isn't put: it tells the component where that shows nothing, and else that
-/// there is no room.
+/// The position after a component that isn't put: it names the component if that shows nothing, and else says
+/// that there is no room.
 #[inline(never)]
 #[tactic(auto, using(crate::proofs::ComponentLemmas::shown_left, crate::proofs::ComponentLemmas::lack_left))]
-fn leave_out(moment: Moment, component: Component, place: Place) -> Place
-    ensures { IsLeftOut (shown moment component) place result }
+fn leave_out(moment: Moment, component: Component, cursor: WriteCursor) -> WriteCursor
+    ensures { IsLeftOut (shown moment component) cursor result }
 {
     let component = component.modern();
     match field(moment, component) {
-        Ok(_) => match place {
-            Place::At(_) | Place::NoRoom => Place::NoRoom,
-            Place::Unshown(_) => place,
+        Ok(_) => match cursor {
+            WriteCursor::At(_) | WriteCursor::NoRoom => WriteCursor::NoRoom,
+            WriteCursor::Unshown(_) => cursor,
         },
-        Err(lack) => Place::Unshown(Unshown { component, lack }),
+        Err(lack) => WriteCursor::Unshown(Unshown { component, lack }),
     }
 }

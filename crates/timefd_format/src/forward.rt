@@ -1,4 +1,4 @@
-//! Components and literals in turn, from the first one on.
+//! Components and literals, written one after another from the first one on.
 
 ghost use Rattle.std.specs.Prelude.{◌≤◌, ◌+◌, Ok, length, map};
 ghost use Rattle.timefd_component.specs.Tree.{trees};
@@ -11,8 +11,8 @@ use crate::quick::append_component;
 use timefd_moment::Moment;
 use timefd_node_list::Leaf;
 
-/// Appends what components and literals show in turn, and answers where that ends. `None` says nothing, and
-/// leaves what stands in front as it is.
+/// Appends what components and literals show, one after another, and returns the position after it. `None` if
+/// a component shows nothing, or little room is left; then the bytes in front of `from` are as they were.
 #[inline(always)]
 #[tactic(auto, using(crate::proofs::ForwardLemmas::none_so_far, crate::proofs::ForwardLemmas::one_so_far, crate::proofs::ForwardLemmas::all_so_far, crate::proofs::ForwardLemmas::kept_so_far))]
 pub fn append_leaves(
@@ -32,7 +32,7 @@ pub fn append_leaves(
     Some(at)
 }
 
-/// Appends what a component or literal shows. `None` also where fewer bytes are left than the longest component
+/// Appends what a component or literal shows. `None` also if fewer bytes are left than the longest component
 /// takes.
 #[inline(always)]
 fn append_leaf(moment: &Moment, leaf: &Leaf<'_>, room: &mut [u8], at: usize) -> Option<usize>
@@ -48,7 +48,8 @@ fn append_leaf(moment: &Moment, leaf: &Leaf<'_>, room: &mut [u8], at: usize) -> 
     }
 }
 
-/// Appends a literal, and answers where it ends. `None` says nothing. Most literals have one byte.
+/// Appends a literal, and returns the position after it. `None` if there is no room. Most literals have one
+/// byte.
 #[inline(always)]
 pub fn append_literal(bytes: &[u8], room: &mut [u8], at: usize) -> Option<usize>
     requires { at + 32 ≤ length room.old }

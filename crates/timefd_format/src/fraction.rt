@@ -7,7 +7,7 @@ ghost use Rattle.timefd_format.specs.Appends.{IsAppended};
 use crate::append::{append_bytes, append_four};
 use timefd_modifier::{Padding, SubsecondDigits};
 
-/// Appends the digits of a number of nanoseconds that are shown.
+/// Appends those digits of a number of nanoseconds that are shown.
 #[inline(always)]
 #[tactic(auto, using(crate::proofs::AppendLemmas::cut))]
 pub(crate) fn append_fraction(
@@ -24,7 +24,7 @@ pub(crate) fn append_fraction(
     at + digits_shown(digits, &room[at..end])
 }
 
-/// Appends nine digits.
+/// Appends the nine digits of a number.
 #[inline(always)]
 #[tactic(auto, using(crate::proofs::FilledLemmas::nine_appended))]
 fn append_nine(number: u32, room: &mut [u8], at: usize) -> usize
@@ -38,7 +38,7 @@ fn append_nine(number: u32, room: &mut [u8], at: usize) -> usize
     append_four(number % 10_000, room, middle)
 }
 
-/// How many of nine digits are shown.
+/// How many of the nine digits are shown.
 #[inline(always)]
 pub(crate) fn digits_shown(digits: SubsecondDigits, nine: &[u8]) -> usize
     requires { length nine.now ≡ 9 }
@@ -60,7 +60,7 @@ pub(crate) fn digits_shown(digits: SubsecondDigits, nine: &[u8]) -> usize
     }
 }
 
-/// How many digits are left without the zeros at the end, at least one.
+/// How many digits remain without the zeros at the end, at least one.
 #[inline(always)]
 #[tactic(auto, using(crate::proofs::FractionLemmas::one_left))]
 fn fewest(nine: &[u8]) -> usize

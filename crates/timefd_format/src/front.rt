@@ -1,4 +1,4 @@
-//! Texts over the front of a buffer.
+//! Texts written over the front of a buffer.
 
 ghost use Rattle.std.specs.Prelude.{◌≡◌, IfSome, None, Ok, map};
 ghost use Rattle.timefd_component.specs.Tree.{trees};
@@ -15,8 +15,8 @@ use timefd_node_list::Leaf;
 // A text is written here first. Few are longer.
 const ROOM: usize = 128;
 
-/// Writes the moment by components and literals in turn over the front of the buffer, and answers
-/// how long the text is. After an `Err` the buffer is as it was. It takes no memory.
+/// Writes the moment by components and literals, one after another, over the front of the buffer, and returns
+/// the length of the text in bytes. After an `Err` the buffer is as it was. Allocates no memory.
 #[inline(never)]
 pub fn write_front(
     moment: &Moment,
@@ -32,8 +32,8 @@ pub fn write_front(
     }
 }
 
-/// The same, where each component shows something and the room has bytes to spare. `None` says nothing, and
-/// changes nothing.
+/// Does what `write_front` does if each component shows something and `room` has bytes to spare. `None` if it
+/// can't be done this way; then `buffer` is as it was.
 #[inline(always)]
 #[tactic(auto, using(crate::proofs::ForwardLemmas::front_is, crate::proofs::ForwardLemmas::front_within))]
 fn write_short(
@@ -50,7 +50,7 @@ fn write_short(
     Some(copy_front(&room[..len], buffer))
 }
 
-/// Copies a text over the front of the buffer, if that has room for it.
+/// Copies a text over the front of the buffer, if there is room for it.
 #[inline(always)]
 fn copy_front(text: &[u8], buffer: &mut [u8]) -> Result<usize, FormatError>
     ensures { IsFront (Ok text.now) buffer.old buffer.new result }

@@ -1,4 +1,4 @@
-//! The field of a component of an instant.
+//! The field of a component that shows an instant.
 
 ghost use Rattle.std.specs.Prelude.{◌≡◌, ◌≤◌, IfOk};
 ghost use Rattle.timefd_format.specs.Fields as spec;

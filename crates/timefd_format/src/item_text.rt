@@ -1,4 +1,4 @@
-//! What items write, in memory of its own.
+//! What items write, in newly allocated memory.
 
 ghost use Rattle.std.specs.Prelude.{IfOk, IfSome, IsUtf8};
 ghost use Rattle.timefd_component.specs.Tree.{trees};
@@ -16,8 +16,8 @@ use std::io;
 use timefd_format_item::BorrowedFormatItem;
 use timefd_moment::Moment;
 
-/// What items of version 1 or 2, or of strftime, show of the moment: bytes, since a literal of
-/// items that were made by hand may be any. They are UTF-8 where all literals are.
+/// What items of version 1 or 2, or of strftime, show of the moment. It is bytes, since a literal of manually
+/// built items may hold any. They are UTF-8 if all literals are.
 #[tactic(auto, using(crate::proofs::SentLemmas::bytes_utf8))]
 pub fn format_items(
     alloc: Global,
@@ -28,7 +28,7 @@ pub fn format_items(
     ensures utf8 { HaveUtf8Literals (trees (item_trees items.now))
         → IfOk result (λ bytes. IsUtf8 bytes.items) }
 {
-    // Most texts have room at once. A longer one is written anew, each time with twice the room.
+    // Most texts fit at once. A longer one is written again, each time with twice the room.
     for doublings in 0..40u32 {
         if let Some(answer) = written_in(alloc, moment, items, 64 << doublings) {
             return answer;
@@ -37,7 +37,7 @@ pub fn format_items(
     Err(TextError::Memory(AllocError))
 }
 
-/// The same in a buffer of so many bytes, or `None` where that has no room.
+/// Writes the items in a buffer of `room` bytes, or returns `None` if the text doesn't fit.
 fn written_in(
     alloc: Global,
     moment: Moment,
@@ -60,8 +60,8 @@ fn written_in(
     }
 }
 
-/// Writes what items show of the moment to an output, all at once. Where they show nothing, or
-/// memory runs out, nothing is written.
+/// Writes what items show of the moment to an output, all at once. If a component shows nothing, or memory
+/// runs out, nothing is written.
 #[tactic(auto, using(crate::proofs::SentLemmas::bytes_sent))]
 pub fn format_items_to<W: io::Write>(
     alloc: Global,

@@ -1,4 +1,4 @@
-//! How long a text is, whatever its length.
+//! How long a text is, even if it fits no buffer.
 
 ghost use Rattle.std.specs.Prelude.{◌≡◌, Result, length, map};
 ghost use Rattle.timefd_component.specs.Tree.{Text, trees};
@@ -12,11 +12,11 @@ use timefd_component::Component;
 use timefd_moment::Moment;
 use timefd_node_list::Leaf;
 
-// No component writes more bytes.
+// No component writes more bytes than this.
 const MOST: usize = 32;
 
-/// How many bytes components and literals write, at most `usize::MAX`. An `Err` names the first component that
-/// shows nothing.
+/// How many bytes components and literals write, at most `usize::MAX`. An `Err` names the first component
+/// that shows nothing.
 pub(crate) fn text_len(moment: &Moment, leaves: &[Leaf<'_>]) -> Result<usize, Unshown>
     ensures { IsLen (written_all moment.now (trees (map leaf_tree leaves.now))) result }
 {
@@ -29,7 +29,7 @@ pub(crate) fn text_len(moment: &Moment, leaves: &[Leaf<'_>]) -> Result<usize, Un
     len
 }
 
-/// The length of a text and of what comes after it, at most `usize::MAX`. The first `Err` counts.
+/// The length of a text and of what follows it, at most `usize::MAX`. The first `Err` counts.
 #[tactic(auto, using(crate::proofs::LenLemmas::both_counted, crate::proofs::LenLemmas::after_unshown, crate::proofs::LenLemmas::first_unshown))]
 pub fn len_of_both(
     text: Result<usize, Unshown>,
@@ -63,7 +63,7 @@ pub fn component_len(moment: Moment, component: Component) -> Result<usize, Unsh
     len_in(moment, component, &mut [0; MOST])
 }
 
-/// The same, written in a buffer that is long enough for any component.
+/// Counts by writing the component in a buffer that is long enough for any of them.
 #[tactic(auto, using(crate::proofs::LenLemmas::counted_alone, crate::proofs::LenLemmas::unshown_alone))]
 fn len_in(moment: Moment, component: Component, buffer: &mut [u8]) -> Result<usize, Unshown>
     requires { length buffer.old ≡ 32 }

@@ -1,9 +1,10 @@
-//! Writes dates and times by format descriptions, over the front of a buffer or into its end.
+//! Writes dates and times by format descriptions, over the front of a buffer or at its end.
 #![tactic(auto)]
 
 mod append;
 mod clock;
 mod component;
+mod cursor;
 mod digits;
 mod field;
 mod forward;
@@ -20,7 +21,6 @@ mod names;
 mod naming;
 mod numbers;
 mod output;
-mod place;
 mod put;
 mod put_field;
 mod quick;

@@ -1,4 +1,4 @@
-//! Texts of any length over the front of a buffer: how long one is is found first.
+//! Texts of any length over the front of a buffer: the length is found first.
 
 ghost use Rattle.std.specs.Prelude.{Ok, map};
 ghost use Rattle.timefd_component.specs.Tree.{trees};
@@ -12,8 +12,8 @@ use crate::write::FormatError;
 use timefd_moment::Moment;
 use timefd_node_list::Leaf;
 
-/// Writes the moment by components and literals in turn over the front of the buffer, and answers how long the text
-/// is.
+/// Writes the moment by components and literals, one after another, over the front of the buffer, and returns
+/// the length of the text in bytes.
 #[inline(never)]
 #[tactic(auto, using(crate::proofs::LongLemmas::none_shown))]
 pub(crate) fn write_long(
@@ -30,7 +30,7 @@ pub(crate) fn write_long(
     }
 }
 
-/// The same, where the length of the text is known.
+/// Writes a text whose length is known.
 #[tactic(auto, using(crate::proofs::LongLemmas::too_short, crate::proofs::LongLemmas::exact))]
 fn write_counted(
     moment: &Moment,

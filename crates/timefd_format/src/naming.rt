@@ -1,11 +1,11 @@
-//! The names of components, as brackets begin with them.
+//! The names of components, as written at the start of a bracket.
 
 ghost use Rattle.std.specs.Prelude.{◌≡◌};
 ghost use Rattle.timefd_format.specs.Sentences as spec;
 
 use timefd_component::Component;
 
-/// The name that a bracket of the component begins with.
+/// The name at the start of the component's bracket, like `hour`.
 pub fn component_name(component: Component) -> &'static str
     ensures { result.now ≡ spec.name component }
 {

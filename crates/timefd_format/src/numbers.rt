@@ -6,7 +6,7 @@ ghost use Rattle.timefd_format.specs.Fields as spec;
 use crate::field::{Field, Number, Sign};
 use timefd_modifier::Padding;
 
-/// The sign that is shown.
+/// The sign that is shown for a number.
 pub(crate) fn sign_of(is_negative: bool, has_plus: bool) -> Sign
     ensures { result ≡ spec.sign_of is_negative has_plus }
 {
@@ -19,7 +19,7 @@ pub(crate) fn sign_of(is_negative: bool, has_plus: bool) -> Sign
     }
 }
 
-/// A number behind a sign.
+/// A number after a sign.
 pub(crate) fn signed(sign: Sign, padding: Padding, width: usize, value: u128) -> Field
     ensures { result ≡ Field.Number (record {
       sign = sign;

@@ -11,10 +11,10 @@ use std::io;
 use timefd_moment::Moment;
 use timefd_node_list::View;
 
-/// Why a text was not written to an output.
+/// Why a text wasn't written to an output.
 #[derive(Debug, Drop)]
 pub enum OutputError {
-    /// A component shows nothing of the moment. It is the first such one.
+    /// A component shows nothing of the moment. It is the first one.
     Unshown(Unshown),
     /// Memory ran out.
     Memory(AllocError),
@@ -22,8 +22,8 @@ pub enum OutputError {
     Io(io::Error),
 }
 
-/// Writes what a description shows of the moment to an output, all at once. Where it shows
-/// nothing, or memory runs out, nothing is written.
+/// Writes what a description shows of the moment to an output, all at once. If a component shows nothing, or
+/// memory runs out, nothing is written.
 #[tactic(auto, using(crate::proofs::SentLemmas::sent))]
 pub fn format_to<W: io::Write>(
     alloc: Global,

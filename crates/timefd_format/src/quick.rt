@@ -1,4 +1,4 @@
-//! What most components show, appended at once. All else goes by its rule.
+//! A quick way to append what most components show. All others go the slow way.
 
 ghost use Rattle.std.specs.Prelude.{◌+◌, ◌≤◌, ◌<◌, ℕ, length, Ok};
 ghost use Rattle.timefd_component.specs.Texts.{filled};
@@ -15,7 +15,8 @@ use timefd_component::Component;
 use timefd_modifier::Padding;
 use timefd_moment::Moment;
 
-/// Appends what a component shows, and answers where it ends. `None` says nothing.
+/// Appends what a component shows, and returns the position after it. `None` if it shows nothing; then the
+/// bytes in front of `at` are as they were.
 #[inline(always)]
 pub fn append_component(
     moment: &Moment,
@@ -32,8 +33,8 @@ pub fn append_component(
     }
 }
 
-/// The same, where it is a number of two digits, a year of four, a fraction or a name. `None` says nothing, and leaves what
-/// stands in front as it is.
+/// Appends what a component shows if that is a number of two digits, a year of four, a fraction or a name.
+/// `None` for all others, and if the moment lacks a part; then the bytes in front of `at` are as they were.
 #[inline(always)]
 pub fn append_quickly(
     moment: &Moment,
@@ -142,7 +143,7 @@ pub fn append_quickly(
     }
 }
 
-/// Appends a number of up to two digits.
+/// Appends a number of at most two digits.
 #[inline(always)]
 #[tactic(auto, using(crate::proofs::DigitLemmas::two_filled))]
 fn append_padded(padding: Padding, number: u32, room: &mut [u8], at: usize) -> usize
@@ -203,7 +204,7 @@ fn append_hours(
     append_padded(padding, hours, room, digits)
 }
 
-/// Appends a year of four digits, where it has no sign.
+/// Appends a year of four digits, if it is shown without a sign.
 #[inline(always)]
 #[tactic(auto, using(crate::proofs::QuickLemmas::year_appended))]
 fn append_year(

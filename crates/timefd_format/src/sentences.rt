@@ -1,4 +1,4 @@
-//! What the errors print as.
+//! How the errors are displayed.
 
 ghost use Rattle.std.specs.Prelude.{Some};
 ghost use Rattle.timefd_format.specs.Sentences as spec;

@@ -208,7 +208,7 @@ const STANDARD: u32 = 9_999;
 
 const EXTENDED: u32 = 999_999;
 
-/// How much of a year is shown: in how many digits, and in which unit.
+/// How much of a year is shown: the number of digits, and the unit in years.
 #[derive(Clone, Copy)]
 struct Form {
     width: usize,

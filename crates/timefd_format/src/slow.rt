@@ -1,4 +1,4 @@
-//! What any component shows, appended to what is written.
+//! Appends what any component shows.
 
 ghost use Rattle.std.specs.Prelude.{◌+◌, ◌≤◌, length};
 ghost use Rattle.timefd_format.specs.Appends.{TriesToAppend};
@@ -9,7 +9,8 @@ use crate::write::write_component;
 use timefd_component::Component;
 use timefd_moment::Moment;
 
-/// Appends what a component shows, by the rule of any component, and answers where it ends. `None` says nothing.
+/// Appends what any component shows, by its general rule, and returns the position after it. `None` if it
+/// shows nothing; then the bytes in front of `at` are as they were.
 #[inline(never)]
 pub fn append_slowly(
     moment: &Moment,
@@ -23,7 +24,7 @@ pub fn append_slowly(
     append_through(moment, component, &mut [0; 32], room, at)
 }
 
-/// The same, where it is written in a buffer of its own first.
+/// Appends what a component shows, which is first written to the buffer `short`.
 #[inline(always)]
 #[tactic(auto, using(crate::proofs::AppendLemmas::through))]
 fn append_through(

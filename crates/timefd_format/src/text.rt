@@ -1,4 +1,4 @@
-//! Texts in memory of their own.
+//! Texts in newly allocated memory.
 
 ghost use Rattle.std.specs.Prelude.{◌≤◌, length};
 ghost use Rattle.timefd_component.specs.Reserved.{reserve};
@@ -15,13 +15,13 @@ use timefd_node_list::View;
 /// Why there is no text.
 #[derive(Debug, Drop)]
 pub enum TextError {
-    /// A component shows nothing of the moment. It is the first such one.
+    /// A component shows nothing of the moment. It is the first one.
     Unshown(Unshown),
     /// Memory ran out.
     Memory(AllocError),
 }
 
-/// What a description shows of the moment.
+/// What a description shows of the moment, as a new string.
 pub fn format(alloc: Global, moment: Moment, view: View<'_, '_>) -> Result<String, TextError>
     ensures { IsAnswer (written moment (view_tree view.entry)) result }
 {
@@ -32,7 +32,7 @@ pub fn format(alloc: Global, moment: Moment, view: View<'_, '_>) -> Result<Strin
     text_in(alloc, moment, view, &mut buffer)
 }
 
-/// The same, written in a buffer of the reserved bytes first.
+/// Formats in a buffer with at least the bytes that the description reserves.
 fn text_in(
     alloc: Global,
     moment: Moment,

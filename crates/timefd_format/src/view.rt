@@ -7,18 +7,18 @@ ghost use Rattle.timefd_node_list.specs.LeafMeaning.{leaf_tree};
 ghost use Rattle.timefd_node_list.specs.Views.{view_tree};
 
 use crate::component::write_component;
-use crate::place::{Place, put_on};
+use crate::cursor::{WriteCursor, put_on};
 use timefd_moment::Moment;
 use timefd_node_list::{Leaf, View};
 
-/// Writes what a description shows of the moment at the end of the buffer. It takes no memory, and
-/// no stack whatever the nesting.
-pub(crate) fn write_view(moment: Moment, view: View<'_, '_>, buffer: &mut [u8]) -> Place
+/// Writes what a description shows of the moment at the end of the buffer. Allocates no memory, and needs no
+/// stack for nested parts.
+pub(crate) fn write_view(moment: Moment, view: View<'_, '_>, buffer: &mut [u8]) -> WriteCursor
     ensures writes { Writes (written moment (view_tree view.entry)) buffer.old
-        (Place.At (length buffer.old)) buffer.new result }
+        (WriteCursor.At (length buffer.old)) buffer.new result }
     ensures utf8 { IfOk (written moment (view_tree view.entry)) IsUtf8 }
 {
-    let mut at = Place::At(buffer.len());
+    let mut at = WriteCursor::At(buffer.len());
     let mut leaves = view.leaves();
     'leaves: while let Some((front, leaf)) = leaves.split_last() {
         at = write_leaf(moment, leaf, buffer, at);
@@ -27,25 +27,30 @@ pub(crate) fn write_view(moment: Moment, view: View<'_, '_>, buffer: &mut [u8]) 
     at
 }
 
-/// Writes what a component or literal shows of the moment in front of a place.
+/// Writes what a component or literal shows of the moment in front of what is already written.
 #[tactic(auto, using(crate::proofs::Utf8Lemmas::shown_utf8))]
 #[inline(always)]
-pub(crate) fn write_leaf(moment: Moment, leaf: Leaf<'_>, buffer: &mut [u8], place: Place) -> Place
-    requires { IsIn (length buffer.old) place }
-    ensures writes { Writes (written moment (leaf_tree leaf.entry)) buffer.old place buffer.new
+pub(crate) fn write_leaf(
+    moment: Moment,
+    leaf: Leaf<'_>,
+    buffer: &mut [u8],
+    cursor: WriteCursor,
+) -> WriteCursor
+    requires { IsIn (length buffer.old) cursor }
+    ensures writes { Writes (written moment (leaf_tree leaf.entry)) buffer.old cursor buffer.new
         result }
     ensures utf8 { IfOk (written moment (leaf_tree leaf.entry)) IsUtf8 }
 {
     match leaf {
-        Leaf::Component(component) => write_component(moment, component, buffer, place),
-        Leaf::Literal(text) => put_text(buffer, place, text),
+        Leaf::Component(component) => write_component(moment, component, buffer, cursor),
+        Leaf::Literal(text) => put_text(buffer, cursor, text),
     }
 }
 
-fn put_text(buffer: &mut [u8], place: Place, text: &str) -> Place
-    requires { IsIn (length buffer.old) place }
-    ensures puts { PutsOn text.now buffer.old place buffer.new result }
+fn put_text(buffer: &mut [u8], cursor: WriteCursor, text: &str) -> WriteCursor
+    requires { IsIn (length buffer.old) cursor }
+    ensures puts { PutsOn text.now buffer.old cursor buffer.new result }
     ensures utf8 { IsUtf8 text.now }
 {
-    put_on(buffer, place, text.as_bytes())
+    put_on(buffer, cursor, text.as_bytes())
 }

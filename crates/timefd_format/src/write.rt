@@ -1,4 +1,4 @@
-//! The public calls.
+//! The public functions that write at the end of a buffer.
 
 ghost use Rattle.std.specs.Prelude.{◌≡◌, ◌≤◌, IfErr, IfOk, IsUtf8, drop, length};
 ghost use Rattle.timefd_component.specs.Reserved.{reserve};
@@ -9,8 +9,8 @@ ghost use Rattle.timefd_format.specs.Outcomes.{IsOutcome};
 ghost use Rattle.timefd_format.specs.Written.{shown, written, written_all};
 ghost use Rattle.timefd_node_list.specs.Views.{view_tree};
 
+use crate::cursor::WriteCursor;
 use crate::items;
-use crate::place::Place;
 use crate::put_field::put_field;
 use crate::shown::field;
 use crate::unshown::Unshown;
@@ -23,14 +23,14 @@ use timefd_node_list::View;
 /// Why nothing is written.
 #[derive(Debug, Clone, Copy)]
 pub enum FormatError {
-    /// A component shows nothing of the value. It is the first such one.
+    /// A component shows nothing of the value. It is the first one.
     Unshown(Unshown),
     /// The buffer has no room.
     Room,
 }
 
-/// Writes the moment by a description of version 3 at the end of the buffer, and answers where it
-/// begins there.
+/// Writes the moment by a description of version 3 at the end of the buffer, and returns the position where
+/// the text begins.
 pub fn write_description(
     moment: Moment,
     view: View<'_, '_>,
@@ -43,14 +43,14 @@ pub fn write_description(
     ensures utf8 { IfOk result (λ at. IsUtf8 (drop at buffer.new)) }
 {
     match write_view(moment, view, buffer) {
-        Place::At(at) => Ok(at),
-        Place::NoRoom => Err(FormatError::Room),
-        Place::Unshown(unshown) => Err(FormatError::Unshown(unshown)),
+        WriteCursor::At(at) => Ok(at),
+        WriteCursor::NoRoom => Err(FormatError::Room),
+        WriteCursor::Unshown(unshown) => Err(FormatError::Unshown(unshown)),
     }
 }
 
-/// Writes the moment by items of version 1 or 2, or of strftime, at the end of the buffer, and
-/// answers where it begins there.
+/// Writes the moment by items of version 1 or 2, or of strftime, at the end of the buffer, and returns the
+/// position where the text begins.
 pub fn write_items(
     moment: Moment,
     items: &[BorrowedFormatItem<'_>],
@@ -61,16 +61,16 @@ pub fn write_items(
     ensures utf8 { HaveUtf8Literals (trees (item_trees items.now))
         → IfOk result (λ at. IsUtf8 (drop at buffer.new)) }
 {
-    let end = Place::At(buffer.len());
+    let end = WriteCursor::At(buffer.len());
     match items::write_all(moment, items, buffer, end) {
-        Place::At(at) => Ok(at),
-        Place::NoRoom => Err(FormatError::Room),
-        Place::Unshown(unshown) => Err(FormatError::Unshown(unshown)),
+        WriteCursor::At(at) => Ok(at),
+        WriteCursor::NoRoom => Err(FormatError::Room),
+        WriteCursor::Unshown(unshown) => Err(FormatError::Unshown(unshown)),
     }
 }
 
-/// Writes what one component shows of the moment at the end of the buffer, and answers where it
-/// begins there. A deprecated component shows what its modern form does.
+/// Writes what one component shows of the moment at the end of the buffer, and returns the position where the
+/// text begins. A deprecated component shows what its modern form does.
 pub fn write_component(
     moment: Moment,
     component: Component,

@@ -11,7 +11,7 @@ use Rattle.timefd_format_item.specs.Laws.{TreeEquality}
 pub tree_equality_law : TreeEquality
 tree_equality_law a b = (tree_sound a b, λ e. subst (λ x. same_tree a x ≡ true) e (tree_same a))
 
--- what is compared where a component is there
+-- what the comparison says if there is a component
 pub held_component : (held : Option Component) (a b : Component) (answer : Bool) → held ≡ Some a
     → answer ≡ same_component a b
     → (IsTrue answer → held ≡ Some b) × (held ≡ Some b → IsTrue answer)
@@ -21,7 +21,7 @@ held_component held a b answer h e = (
       e ∙ subst (λ x. same_component a x ≡ true) alike (component_same a),
 )
 
--- what is compared where trees are there
+-- what the comparison says if there are trees
 pub held_trees : (held : Option Trees) (xs ys : Trees) (answer : Bool) → held ≡ Some xs
     → answer ≡ same_trees xs ys
     → (IsTrue answer → held ≡ Some ys) × (held ≡ Some ys → IsTrue answer)

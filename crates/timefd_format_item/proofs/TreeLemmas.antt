@@ -10,7 +10,7 @@ and_false : (b : Bool) → (b && false) ≡ false
 and_false true = refl
 and_false false = refl
 
--- lists of two lengths differ
+-- lists of different lengths differ
 pub same_trees-lengths : (xs ys : List BorrowedFormatItem) → length xs ≢ length ys
     → same_trees (trees (map item_tree xs)) (trees (map item_tree ys)) ≡ false
 same_trees-lengths [] [] d = absurd (d refl)
@@ -20,7 +20,7 @@ same_trees-lengths (x ∷ xs) (y ∷ ys) d =
     ap (λ t. same_tree (item_tree x) (item_tree y) && t) (same_trees-lengths xs ys (search rules)) ∙
     and_false (same_tree (item_tree x) (item_tree y))
 
--- a pair of equal items in front does not matter
+-- a pair of equal items in front makes no difference
 pub same_trees-drop : (xs ys : List BorrowedFormatItem) (k : ℕ) (x y : BorrowedFormatItem)
     → k < length xs → length xs ≡ length ys
     → same_tree (item_tree (slice_index_or xs k x)) (item_tree (slice_index_or ys k y)) ≡ true

@@ -6,7 +6,7 @@ use Rattle.timefd_format_item.specs.declared.borrowed_format_item.BorrowedFormat
 use Rattle.timefd_format_item.specs.declared.borrowed_format_item.BorrowedFormatItem.TheFolds.{fold-BorrowedFormatItem}
 use Rattle.timefd_component.specs.Tree.{Tree, component, literal, compound, optional, first, trees}
 
--- one item, with the tree of each inner item in its place
+-- one item, with the tree of each inner item instead of that item
 abbrev pub item_step : BorrowedFormatItem-F Tree → Tree
 item_step (item.Literal bytes) = literal bytes.now
 item_step (item.StringLiteral text) = literal text.now

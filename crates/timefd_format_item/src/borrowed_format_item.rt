@@ -12,21 +12,21 @@ mod debug;
 
 use timefd_component::Component;
 
-/// An item of a description, which borrows all that it holds. It is the enum of that name of
+/// An item of a description, which borrows all that it holds. It mirrors the enum of the same name in
 /// `time`.
 #[derive(Clone, Copy)]
 pub enum BorrowedFormatItem<'a> {
-    /// Bytes as they stand, which need not be UTF-8.
+    /// Bytes as they are, which need not be UTF-8.
     Literal(&'a [u8]),
-    /// Text as it stands.
+    /// Text as it is.
     StringLiteral(&'a str),
     /// A component, with its modifiers.
     Component(Component),
-    /// Items in turn.
+    /// Items one after another.
     Compound(&'a [Self]),
     /// An item that a parser may skip, and a formatter writes.
     Optional(&'a Self),
-    /// Alternatives: a parser takes the first that fits, a formatter writes the first.
+    /// Alternatives: a parser takes the first that matches, a formatter writes the first.
     First(&'a [Self]),
 }
 

@@ -1,6 +1,6 @@
 //! The error of a conversion from an item of another variant.
 
-/// The item is of another variant than the one that was asked for. It is the struct of that name of
-/// `time`.
+/// The item has another variant than the one that was asked for. This struct mirrors the one of the
+/// same name in `time`.
 #[derive(Debug, Clone, Copy, PartialEq, Eq)]
 pub struct DifferentVariant;

@@ -1,8 +1,8 @@
-//! What holds of the definitions.
+//! The laws of the definitions.
 
 ghost use Rattle.timefd_format_item.specs.Laws.{TreeEquality};
 
-/// Equality of items is that of their trees.
+/// Two items are equal exactly if their trees are.
 pub fn tree_equality()
     ensures { TreeEquality }
 {}

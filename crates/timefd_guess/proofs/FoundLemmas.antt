@@ -1,4 +1,4 @@
--- What is found of texts so far, and what holds of it.
+-- What was found of the texts so far, and what holds of it.
 use Rattle.std.proofs.Common.{ℕ, ◌≡◌, ◌+◌, ◌-◌, ◌++◌, Bool, true, false, List, [], ◌∷◌, take, drop, get_or, length, Some, None, length-take, append-nil, append_assoc, refl, sym, ap, subst, ◌∙◌, inl, inr, arith, Result, Ok, Err}
 use Rattle.std.specs.Prelude.{All, ◌≤◌, IfOk}
 use Rattle.std.specs.declared.alloc.AllocError.{AllocError}
@@ -6,7 +6,7 @@ use Rattle.std.proofs.Math.Seq.{take-length}
 use Rattle.std.proofs.lemmas.List.Elements.{All-nil, All-cons, All-append, All-take}
 use denote.Ref.{Bor}
 use Rattle.timefd_component.specs.Tree.{Text, Tree, pack}
-use Rattle.timefd_fault.specs.BorrowedFaults.{IsLentOf, lent_fault}
+use Rattle.timefd_fault.specs.BorrowedFaults.{IsBorrowedOf, to_borrowed_fault}
 use Rattle.timefd_fault.specs.declared.borrowed_fault.BorrowedFault.{BorrowedFault}
 use Rattle.timefd_fault.specs.declared.borrowed_parse_error.BorrowedParseError.{BorrowedParseError}
 use Rattle.timefd_fault.specs.declared.borrowed_parse_error.BorrowedParseError.TheVariants.{Invalid}
@@ -22,7 +22,7 @@ use Rattle.timefd_language.specs.declared.description_version.DescriptionVersion
 use Rattle.timefd_guess.specs.declared.candidate.Candidate.{Candidate}
 use Rattle.timefd_guess.specs.declared.guessing.Guess.{Guess}
 
--- the first of a list and those after it, as a pattern takes them
+-- a nonempty list is its first element and those after it, as a pattern takes them
 split : {A : Type 0} (rest : List A) (n : ℕ) (d : A) → n ≡ length rest → 1 ≤ length rest
     → rest ≡ get_or rest 0 d ∷ take (n - 1) (drop 1 rest)
 split [] n d same some = absurd (omega (arith, some))
@@ -42,7 +42,7 @@ pub comes_none : (tree : Tree) (text : Text) → IsRead (fields_of tree text) No
     → ComesBack tree text false
 comes_none tree text read = (None, read, refl)
 
--- what is left decides
+-- the result depends only on what is left
 abbrev pub Decides : Tree → List Text → List Text → Type 0
 Decides tree all rest = (is_so : Bool) → AllComeBack tree rest is_so → AllComeBack tree all is_so
 
@@ -63,7 +63,7 @@ pub all_came : (tree : Tree) (all : List Text) (rest : List (Bor Text)) → rest
 all_came tree all rest none so_far =
     so_far true (subst (λ r. AllComeBack tree (texts r) true) (sym none) refl)
 
--- A description that is read, or is none.
+-- A description that is read, or that is refused.
 
 abbrev pub IsTreeOf : Text → Tree → Type 0
 IsTreeOf description tree =
@@ -89,10 +89,10 @@ reads_none description all f faulty = inr (f, faulty, refl)
 
 pub reads_none_of : (description : Text) (all : List Text) (e : BorrowedParseError)
     (fault : BorrowedFault) → e ≡ Invalid fault
-    → IsLentOf (FaultOf Three nesting_limit description) e → ReadsAll description all false
-reads_none_of description all e fault is told =
-    reads_none description all (lent_fault fault)
-    (subst (IsLentOf (FaultOf Three nesting_limit description)) is told)
+    → IsBorrowedOf (FaultOf Three nesting_limit description) e → ReadsAll description all false
+reads_none_of description all e fault is reported =
+    reads_none description all (to_borrowed_fault fault)
+    (subst (IsBorrowedOf (FaultOf Three nesting_limit description)) is reported)
 
 pub read_by_none : (description : Text) (all : List Text) (f : Fault)
     → FaultOf Three nesting_limit description f → ReadBy description all 0
@@ -100,10 +100,10 @@ read_by_none description all f faulty = inr (f, faulty, refl)
 
 pub read_by_none_of : (description : Text) (all : List Text) (e : BorrowedParseError)
     (fault : BorrowedFault) → e ≡ Invalid fault
-    → IsLentOf (FaultOf Three nesting_limit description) e → ReadBy description all 0
-read_by_none_of description all e fault is told =
-    read_by_none description all (lent_fault fault)
-    (subst (IsLentOf (FaultOf Three nesting_limit description)) is told)
+    → IsBorrowedOf (FaultOf Three nesting_limit description) e → ReadBy description all 0
+read_by_none_of description all e fault is reported =
+    read_by_none description all (to_borrowed_fault fault)
+    (subst (IsBorrowedOf (FaultOf Three nesting_limit description)) is reported)
 
 -- How many come back.
 
@@ -137,7 +137,7 @@ all_counted tree all rest count none so_far =
     subst (Counts tree all) (omega arith)
     (so_far 0 (subst (λ r. Counts tree (texts r) 0) (sym none) refl))
 
--- What is counted is no more than what is gone.
+-- No more are counted than were taken.
 pub bound_more : (rest : List (Bor Text)) (k count new most : ℕ) (one : Bool) → k ≡ length rest
     → 1 ≤ length rest → new ≡ count + one_if one → count + length rest ≤ most
     → new + length (take (k - 1) (drop 1 rest)) ≤ most
@@ -149,7 +149,7 @@ bound_more (first ∷ rest) k count new most false same some sum within =
 
 -- Candidates that are found.
 
--- what is found of the rest comes after
+-- what the rest gives comes after
 abbrev pub Finds : List Entry → List Text → List Entry → List Guess → List Guess → Type 0
 Finds rows all rest old found =
     (more : List Guess) → AreFound rest all more → Adds rows all old (found ++ more)
@@ -224,7 +224,7 @@ all_in_groups rows all rest found none so_far =
     let whole = so_far [] (subst (λ r. AreFound (rows_in r) all []) (sym none) refl) in
     subst (AreFound rows all) (sym (sym (append-nil found) ∙ whole.2)) whole.1
 
--- Each of them reads each text, and writes it back.
+-- Each of them reads each text and writes it back.
 
 read_back : (tree : Tree) (text : Text) → ComesBack tree text true → IsReadBack tree text
 read_back tree text (None, read, is) = cc

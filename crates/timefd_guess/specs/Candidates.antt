@@ -6,7 +6,7 @@ use Rattle.timefd_guess.specs.declared.candidate.Candidate.{Candidate}
 use Rattle.timefd_guess.specs.declared.candidates.Group.{Group}
 use Rattle.timefd_guess.specs.declared.candidates.Group.TheVariants.{Rfc3339, Iso8601, Spaced, Compact, Mail, Programs, Servers, Named, Local, Unix, Times}
 
--- a description, and the one in which day and month stand in each other's place
+-- a description, and the same one with day and month swapped
 pub record Entry : Type 0 where
   pub text : Text
   pub swapped : Option Text
@@ -193,24 +193,36 @@ local_entries =
     ∷ codes "[month padding:none]/[day padding:none]/[year] [hour]:[minute]" swaps_to codes "[day padding:none]/[month padding:none]/[year] [hour]:[minute]"
     ∷ codes "[day]/[month]/[year] [hour]:[minute]:[second]" swaps_to codes "[month]/[day]/[year] [hour]:[minute]:[second]"
     ∷ codes "[month]/[day]/[year] [hour]:[minute]:[second]" swaps_to codes "[day]/[month]/[year] [hour]:[minute]:[second]"
-    ∷ codes "[day padding:none]/[month padding:none]/[year] [hour]:[minute]:[second]" swaps_to codes "[month padding:none]/[day padding:none]/[year] [hour]:[minute]:[second]"
-    ∷ codes "[month padding:none]/[day padding:none]/[year] [hour]:[minute]:[second]" swaps_to codes "[day padding:none]/[month padding:none]/[year] [hour]:[minute]:[second]"
+    ∷ codes "[day padding:none]/[month padding:none]/[year] [hour]:[minute]:[second]"
+    swaps_to codes "[month padding:none]/[day padding:none]/[year] [hour]:[minute]:[second]"
+    ∷ codes "[month padding:none]/[day padding:none]/[year] [hour]:[minute]:[second]"
+    swaps_to codes "[day padding:none]/[month padding:none]/[year] [hour]:[minute]:[second]"
     ∷ codes "[day]/[month]/[year], [hour]:[minute]:[second]" swaps_to codes "[month]/[day]/[year], [hour]:[minute]:[second]"
     ∷ codes "[month]/[day]/[year], [hour]:[minute]:[second]" swaps_to codes "[day]/[month]/[year], [hour]:[minute]:[second]"
-    ∷ codes "[day padding:none]/[month padding:none]/[year], [hour]:[minute]:[second]" swaps_to codes "[month padding:none]/[day padding:none]/[year], [hour]:[minute]:[second]"
-    ∷ codes "[month padding:none]/[day padding:none]/[year], [hour]:[minute]:[second]" swaps_to codes "[day padding:none]/[month padding:none]/[year], [hour]:[minute]:[second]"
+    ∷ codes "[day padding:none]/[month padding:none]/[year], [hour]:[minute]:[second]"
+    swaps_to codes "[month padding:none]/[day padding:none]/[year], [hour]:[minute]:[second]"
+    ∷ codes "[month padding:none]/[day padding:none]/[year], [hour]:[minute]:[second]"
+    swaps_to codes "[day padding:none]/[month padding:none]/[year], [hour]:[minute]:[second]"
     ∷ codes "[day]/[month]/[year] [hour repr:12]:[minute] [period]" swaps_to codes "[month]/[day]/[year] [hour repr:12]:[minute] [period]"
     ∷ codes "[month]/[day]/[year] [hour repr:12]:[minute] [period]" swaps_to codes "[day]/[month]/[year] [hour repr:12]:[minute] [period]"
-    ∷ codes "[day padding:none]/[month padding:none]/[year] [hour repr:12 padding:none]:[minute] [period]" swaps_to codes "[month padding:none]/[day padding:none]/[year] [hour repr:12 padding:none]:[minute] [period]"
-    ∷ codes "[month padding:none]/[day padding:none]/[year] [hour repr:12 padding:none]:[minute] [period]" swaps_to codes "[day padding:none]/[month padding:none]/[year] [hour repr:12 padding:none]:[minute] [period]"
+    ∷ codes "[day padding:none]/[month padding:none]/[year] [hour repr:12 padding:none]:[minute] [period]"
+    swaps_to codes "[month padding:none]/[day padding:none]/[year] [hour repr:12 padding:none]:[minute] [period]"
+    ∷ codes "[month padding:none]/[day padding:none]/[year] [hour repr:12 padding:none]:[minute] [period]"
+    swaps_to codes "[day padding:none]/[month padding:none]/[year] [hour repr:12 padding:none]:[minute] [period]"
     ∷ codes "[day]/[month]/[year] [hour repr:12]:[minute]:[second] [period]" swaps_to codes "[month]/[day]/[year] [hour repr:12]:[minute]:[second] [period]"
     ∷ codes "[month]/[day]/[year] [hour repr:12]:[minute]:[second] [period]" swaps_to codes "[day]/[month]/[year] [hour repr:12]:[minute]:[second] [period]"
-    ∷ codes "[day padding:none]/[month padding:none]/[year] [hour repr:12 padding:none]:[minute]:[second] [period]" swaps_to codes "[month padding:none]/[day padding:none]/[year] [hour repr:12 padding:none]:[minute]:[second] [period]"
-    ∷ codes "[month padding:none]/[day padding:none]/[year] [hour repr:12 padding:none]:[minute]:[second] [period]" swaps_to codes "[day padding:none]/[month padding:none]/[year] [hour repr:12 padding:none]:[minute]:[second] [period]"
-    ∷ codes "[day]/[month]/[year], [hour repr:12]:[minute]:[second] [period]" swaps_to codes "[month]/[day]/[year], [hour repr:12]:[minute]:[second] [period]"
-    ∷ codes "[month]/[day]/[year], [hour repr:12]:[minute]:[second] [period]" swaps_to codes "[day]/[month]/[year], [hour repr:12]:[minute]:[second] [period]"
-    ∷ codes "[day padding:none]/[month padding:none]/[year], [hour repr:12 padding:none]:[minute]:[second] [period]" swaps_to codes "[month padding:none]/[day padding:none]/[year], [hour repr:12 padding:none]:[minute]:[second] [period]"
-    ∷ codes "[month padding:none]/[day padding:none]/[year], [hour repr:12 padding:none]:[minute]:[second] [period]" swaps_to codes "[day padding:none]/[month padding:none]/[year], [hour repr:12 padding:none]:[minute]:[second] [period]"
+    ∷ codes "[day padding:none]/[month padding:none]/[year] [hour repr:12 padding:none]:[minute]:[second] [period]"
+    swaps_to codes "[month padding:none]/[day padding:none]/[year] [hour repr:12 padding:none]:[minute]:[second] [period]"
+    ∷ codes "[month padding:none]/[day padding:none]/[year] [hour repr:12 padding:none]:[minute]:[second] [period]"
+    swaps_to codes "[day padding:none]/[month padding:none]/[year] [hour repr:12 padding:none]:[minute]:[second] [period]"
+    ∷ codes "[day]/[month]/[year], [hour repr:12]:[minute]:[second] [period]"
+    swaps_to codes "[month]/[day]/[year], [hour repr:12]:[minute]:[second] [period]"
+    ∷ codes "[month]/[day]/[year], [hour repr:12]:[minute]:[second] [period]"
+    swaps_to codes "[day]/[month]/[year], [hour repr:12]:[minute]:[second] [period]"
+    ∷ codes "[day padding:none]/[month padding:none]/[year], [hour repr:12 padding:none]:[minute]:[second] [period]"
+    swaps_to codes "[month padding:none]/[day padding:none]/[year], [hour repr:12 padding:none]:[minute]:[second] [period]"
+    ∷ codes "[month padding:none]/[day padding:none]/[year], [hour repr:12 padding:none]:[minute]:[second] [period]"
+    swaps_to codes "[day padding:none]/[month padding:none]/[year], [hour repr:12 padding:none]:[minute]:[second] [period]"
     ∷ codes "[day]-[month]-[year]" swaps_to codes "[month]-[day]-[year]"
     ∷ codes "[month]-[day]-[year]" swaps_to codes "[day]-[month]-[year]"
     ∷ codes "[day padding:none]-[month padding:none]-[year]" swaps_to codes "[month padding:none]-[day padding:none]-[year]"
@@ -221,8 +233,10 @@ local_entries =
     ∷ codes "[month padding:none]-[day padding:none]-[year] [hour]:[minute]" swaps_to codes "[day padding:none]-[month padding:none]-[year] [hour]:[minute]"
     ∷ codes "[day]-[month]-[year] [hour]:[minute]:[second]" swaps_to codes "[month]-[day]-[year] [hour]:[minute]:[second]"
     ∷ codes "[month]-[day]-[year] [hour]:[minute]:[second]" swaps_to codes "[day]-[month]-[year] [hour]:[minute]:[second]"
-    ∷ codes "[day padding:none]-[month padding:none]-[year] [hour]:[minute]:[second]" swaps_to codes "[month padding:none]-[day padding:none]-[year] [hour]:[minute]:[second]"
-    ∷ codes "[month padding:none]-[day padding:none]-[year] [hour]:[minute]:[second]" swaps_to codes "[day padding:none]-[month padding:none]-[year] [hour]:[minute]:[second]"
+    ∷ codes "[day padding:none]-[month padding:none]-[year] [hour]:[minute]:[second]"
+    swaps_to codes "[month padding:none]-[day padding:none]-[year] [hour]:[minute]:[second]"
+    ∷ codes "[month padding:none]-[day padding:none]-[year] [hour]:[minute]:[second]"
+    swaps_to codes "[day padding:none]-[month padding:none]-[year] [hour]:[minute]:[second]"
     ∷ []
 
 unfoldable pub unix_entries : List Entry
@@ -273,7 +287,7 @@ all_groups =
     ∷ Times
     ∷ []
 
--- the rows of groups in turn
+-- the rows of groups, one group after another
 abbrev pub rows_in : List Group → List Entry
 rows_in [] = []
 rows_in (group ∷ groups) = rows_of group ++ rows_in groups

@@ -5,7 +5,8 @@
 pub struct Candidate {
     /// The description, in version 3.
     pub description: &'static str,
-    /// The one in which day and month stand in each other's place, where texts alone tell them apart.
+    /// The same description with day and month swapped, if only the texts can show which of the two
+    /// is meant.
     pub swapped: Option<&'static str>,
 }
 

@@ -5,7 +5,7 @@ ghost use Rattle.timefd_guess.specs.Candidates as spec;
 
 use crate::candidate::{Candidate, candidate};
 
-/// Where descriptions are from.
+/// Where descriptions come from.
 #[derive(Clone, Copy)]
 pub enum Group {
     /// RFC 3339.
@@ -52,7 +52,7 @@ pub fn all_groups() -> &'static [Group]
 }
 
 impl Group {
-    /// Its descriptions, likeliest first.
+    /// The descriptions of the group, likeliest first.
     pub fn rows(self) -> &'static [Candidate]
         ensures { spec.entries result.now ≡ spec.rows_of self }
     {

@@ -14,7 +14,7 @@ use timefd_parse::{BorrowedOutput, DescriptionVersion, NESTING_LIMIT, parse_all_
 use timefd_read_dates::read_fields;
 use timefd_read_moment::moment;
 
-/// Whether the description reads each text, and writes it back. An `Err` says that memory ran out.
+/// Whether the description reads each text and writes it back. An `Err` says that memory ran out.
 pub fn reads_all(alloc: Global, description: &str, texts: &[&str]) -> Result<bool, AllocError>
     ensures { IfOk result (spec.ReadsAll description.now (spec.texts texts.now)) }
 {
@@ -28,7 +28,7 @@ pub fn reads_all(alloc: Global, description: &str, texts: &[&str]) -> Result<boo
     }
 }
 
-/// Whether each text comes back.
+/// Whether each text comes back. An `Err` says that memory ran out.
 #[tactic(auto, using(crate::proofs::FoundLemmas::comes_more, crate::proofs::FoundLemmas::comes_not, crate::proofs::FoundLemmas::all_came))]
 fn all_come_back(alloc: Global, view: View<'_, '_>, texts: &[&str]) -> Result<bool, AllocError>
     ensures { IfOk result (spec.AllComeBack (view_tree view.entry) (spec.texts texts.now)) }
@@ -43,7 +43,8 @@ fn all_come_back(alloc: Global, view: View<'_, '_>, texts: &[&str]) -> Result<bo
     Ok(true)
 }
 
-/// Whether the whole text is read, and what is written of the moment that it shows is the text again.
+/// Whether the text is read as a whole, and writing the moment that it shows gives the text again. An
+/// `Err` says that memory ran out.
 pub fn comes_back(alloc: Global, view: View<'_, '_>, text: &str) -> Result<bool, AllocError>
     ensures { IfOk result (spec.ComesBack (view_tree view.entry) text.now) }
 {
@@ -66,7 +67,7 @@ fn moment_in(view: View<'_, '_>, text: &str) -> Option<Moment>
     }
 }
 
-/// Whether this text is written of the moment.
+/// Whether writing the moment gives this text.
 fn is_written(
     alloc: Global,
     view: View<'_, '_>,

@@ -10,7 +10,7 @@ use crate::comes_back::reads_all;
 use crate::swapped::undecided;
 use std::alloc::{AllocError, Global};
 
-/// How many descriptions are offered at most.
+/// The most descriptions that are offered.
 pub const MOST: usize = 12;
 
 /// A description that reads all texts.
@@ -18,21 +18,22 @@ pub const MOST: usize = 12;
 pub struct Guess {
     /// The description, in version 3.
     pub description: &'static str,
-    /// How many of the texts are read with day and month swapped too, and so don't tell them apart.
+    /// How many of the texts can be read with day and month swapped too, so that they don't show which is
+    /// which.
     pub undecided: usize,
 }
 
-/// The descriptions that texts of dates and times may be written by, likeliest first, at most [`MOST`]: each
-/// reads each text as a date, a time or both, and writes it back byte for byte.
+/// The descriptions that texts of dates and times may be written by, likeliest first, at most [`MOST`]. Each
+/// of them reads each text as a date, a time or both, and writes it back byte for byte.
 ///
 /// An `Err` says that memory ran out.
 #[tactic(auto, using(crate::proofs::FoundLemmas::guesses_read))]
 pub fn guesses(alloc: Global, texts: &[&str]) -> Result<Vec<Guess>, AllocError>
-    // The first twelve of those candidates that read all texts and write them back.
+    // The first twelve candidates that read all texts and write them back.
     ensures first { IfOk result (λ found. spec.AreGuesses all_entries (spec.texts texts.now)
         found.items) }
 
-    // Each reads each text as a moment, and what is written of that is the text again.
+    // Each description reads each text as a moment, and writing that moment gives the text again.
     ensures reads { IfOk result (λ found. All (spec.ReadsBack (spec.texts texts.now)) found.items) }
     ensures few { IfOk result (λ found. length found.items ≤ 12) }
 {
@@ -55,7 +56,7 @@ fn found_of_all(alloc: Global, texts: &[&str]) -> Result<Vec<Guess>, AllocError>
     Ok(found)
 }
 
-/// Appends those of the candidates that read all texts.
+/// Appends the candidates that read all texts.
 #[tactic(auto, using(crate::proofs::FoundLemmas::none_found, crate::proofs::FoundLemmas::one_found, crate::proofs::FoundLemmas::all_found))]
 fn push_found(
     alloc: Global,
@@ -74,7 +75,7 @@ fn push_found(
     Ok(())
 }
 
-/// Appends the candidate, if it reads all texts.
+/// Appends the candidate if it reads all texts.
 fn push_if(
     alloc: Global,
     found: &mut Vec<Guess>,

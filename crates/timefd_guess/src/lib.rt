@@ -1,5 +1,5 @@
-//! Which descriptions texts of dates and times may be written by: those of a table that read each text, and
-//! write it back, likeliest first.
+//! Finds the descriptions that texts of dates and times may be written by. They come from a table: those
+//! that read each text and write it back, likeliest first.
 #![tactic(auto)]
 
 mod candidate;

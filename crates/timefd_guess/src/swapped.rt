@@ -1,4 +1,4 @@
-//! Texts that tell day and month apart, or not.
+//! Whether texts show which number is the day and which is the month.
 
 ghost use Rattle.std.specs.Prelude.{◌≡◌, ◌<◌, ◌+◌, ◌^◌, IfOk};
 ghost use Rattle.timefd_guess.specs.Candidates.{text_option};
@@ -11,8 +11,8 @@ use timefd_fault::BorrowedParseError;
 use timefd_node_list::View;
 use timefd_parse::{BorrowedOutput, DescriptionVersion, NESTING_LIMIT, parse_all_borrowed};
 
-/// How many texts the description with day and month swapped reads and writes back too; none, where there
-/// is no such description. An `Err` says that memory ran out.
+/// How many texts the description with day and month swapped reads and writes back too. 0 if there is no
+/// such description. An `Err` says that memory ran out.
 pub fn undecided(alloc: Global, swapped: Option<&str>, texts: &[&str]) -> Result<usize, AllocError>
     ensures { IfOk result (spec.AreUndecided (text_option swapped.entry) (spec.texts texts.now)) }
 {
@@ -49,7 +49,7 @@ fn count(alloc: Global, view: View<'_, '_>, texts: &[&str]) -> Result<usize, All
     Ok(count)
 }
 
-/// One more, if it counts.
+/// The count, plus one if `yes`.
 fn counted(count: usize, yes: bool) -> usize
     requires { count < 2 ^ 63 }
     ensures { result ≡ count + spec.one_if yes }

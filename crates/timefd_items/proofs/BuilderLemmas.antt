@@ -1,4 +1,4 @@
--- Trees put together: how many they are, and that what each of them reserves still fits.
+-- Trees that are put together: how many there are, and that what each of them reserves still fits.
 use Rattle.std.proofs.Common.{◌≡◌, ◌∙◌, ℕ, zero, suc, ◌+◌, ◌-◌, ◌^◌, ◌<◌, ◌≤◌, Bool, true, false, if◌then◌else◌, nat_le, List, [], ◌∷◌}
 use Rattle.std.proofs.Common.{◌++◌, length, take, drop, Some, None, is_some, refl, sym, ap, arith, length-append}
 use Rattle.std.proofs.lemmas.Bool.Decides.{nat_tests}
@@ -11,7 +11,7 @@ use Rattle.timefd_node_list.specs.Tallies.{kept_sum, sum_within}
 use Rattle.timefd_component.specs.Tree.{Tree, trees, pack}
 use Rattle.timefd_node_list.proofs.NodeLemmas.{length-before, length-ending}
 
--- How many they are. A `Vec` has fewer nodes than this.
+-- How many there are. A `Vec` has fewer nodes than this.
 pub few_nodes : (l : NodeList) → node_count l < 2 ^ 63
 few_nodes l = omega (arith, l.nodes.ok.0, l.nodes.ok.1, l.nodes.small)
 
@@ -51,7 +51,7 @@ first_of : (us : List Tree) → reserve_first (trees us) ≤ largest us
 first_of [] = omega arith
 first_of (u ∷ us) = omega arith
 
--- the first of the last trees, so many, is one of all
+-- the first of the last `k` trees is one of all
 pub first-ending : (k : ℕ) (ts : List Tree) (most : ℕ) → largest ts ≤ most
     → reserve_first (trees (ending k ts)) ≤ most
 first-ending k ts most h = omega (arith, h, largest-drop (length ts - k) ts, first_of (ending k ts))
@@ -71,7 +71,7 @@ optional-ending format ts most h g =
     formatted format (reserve (pack (ending 1 ts))) most
     (omega (arith, one_packed (ending 1 ts) (length-ending 1 ts h), first-ending 1 ts most g))
 
--- Where each fits, what their nodes keep sums up to what they reserve.
+-- If each fits, what their nodes keep sums up to what they reserve.
 sum_fits : (sum bytes : ℕ) → bytes ≤ 2 ^ 64 - 1
     → sum_within (within (2 ^ 64 - 1) sum) (kept_bytes bytes) ≡ within (2 ^ 64 - 1) (bytes + sum)
 sum_fits sum bytes h = grind (arith, nat_tests)
@@ -94,7 +94,7 @@ sum_tells k ts h =
     ∙ some_within (nat_le (reserve_all (trees (ending k ts))) (2 ^ 64 - 1))
     (reserve_all (trees (ending k ts)))
 
--- One tree alone stays what it is.
+-- A single tree stays as it is.
 alone : (us : List Tree) → length us ≡ 1 → us ≡ pack us ∷ []
 alone [] h = absurd (omega (arith, h))
 alone (u ∷ []) h = refl

@@ -21,20 +21,20 @@ pub adds_leaf : (old new : NodeList) (t : Tree) → tree_count t ≡ 1
     → list_trees new ≡ before 0 (list_trees old) ++ t ∷ [] → AddsNode old new
     → Adds old new (t ∷ [])
 adds_leaf old new t one e n = record {
-  behind = e ∙ ap (λ us. us ++ t ∷ []) (before_zero (list_trees old));
+  after = e ∙ ap (λ us. us ++ t ∷ []) (before_zero (list_trees old));
   nodes = omega (arith, n.nodes, one);
   capacity = n.capacity;
 }
 
 -- Of all these trees some are left to be added.
 pub record Adding (old new : NodeList) (left all : List Tree) : Type 0 where
-  pub behind : list_trees new ++ left ≡ list_trees old ++ all
+  pub after : list_trees new ++ left ≡ list_trees old ++ all
   pub nodes : vec_len new.nodes + trees_count (trees left) ≡ vec_len old.nodes + trees_count
       (trees all)
   pub capacity : vec_capacity new.nodes ≡ vec_capacity old.nodes
 
 pub adding_none : (l : NodeList) (all : List Tree) → Adding l l all all
-adding_none l all = record { behind = refl; nodes = refl; capacity = refl }
+adding_none l all = record { after = refl; nodes = refl; capacity = refl }
 
 pub adding_room : (a b : NodeList) (t : Tree) (left rest all : List Tree) → Adding a b left all
     → left ≡ t ∷ rest → HasRoom a (trees_count (trees all)) → HasRoom b (tree_count t)
@@ -44,8 +44,8 @@ adding_room a b t left rest all h e room =
 pub adding_more : (a b c : NodeList) (t : Tree) (left rest all : List Tree) → Adding a b left all
     → left ≡ t ∷ rest → Adds b c (t ∷ []) → Adding a c rest all
 adding_more a b c t left rest all h e g = record {
-  behind = ap (λ ts. ts ++ rest) g.behind ∙ append_assoc (list_trees b) (t ∷ []) rest ∙
-      ap (λ ts. list_trees b ++ ts) (sym e) ∙ h.behind;
+  after = ap (λ ts. ts ++ rest) g.after ∙ append_assoc (list_trees b) (t ∷ []) rest ∙
+      ap (λ ts. list_trees b ++ ts) (sym e) ∙ h.after;
   nodes = omega (arith, h.nodes, g.nodes, ap (λ ts. trees_count (trees ts)) e);
   capacity = g.capacity ∙ h.capacity;
 }
@@ -53,7 +53,7 @@ adding_more a b c t left rest all h e g = record {
 pub adding_done : (a b : NodeList) (left all : List Tree) → Adding a b left all → left ≡ []
     → Adds a b all
 adding_done a b left all h e = record {
-  behind = sym (append_nil (list_trees b)) ∙ ap (λ ts. list_trees b ++ ts) (sym e) ∙ h.behind;
+  after = sym (append_nil (list_trees b)) ∙ ap (λ ts. list_trees b ++ ts) (sym e) ∙ h.after;
   nodes = omega (arith, h.nodes, ap (λ ts. trees_count (trees ts)) e);
   capacity = h.capacity;
 }
@@ -63,12 +63,12 @@ pub adds_made : (make : List Tree → Tree) (a b c : NodeList) (us : List Tree) 
     → list_trees c ≡ before k (list_trees b) ++ make (ending k (list_trees b)) ∷ [] → AddsNode b c
     → Adds a c (make us ∷ [])
 adds_made make a b c us k h long count e n =
-    let front : before k (list_trees b) ≡ list_trees a = ap (λ ts. before k ts) h.behind ∙
+    let front : before k (list_trees b) ≡ list_trees a = ap (λ ts. before k ts) h.after ∙
     before-append (list_trees a) us k long in
-    let members : ending k (list_trees b) ≡ us = ap (λ ts. ending k ts) h.behind ∙
+    let members : ending k (list_trees b) ≡ us = ap (λ ts. ending k ts) h.after ∙
     ending-append (list_trees a) us k long in
     record {
-      behind = e ∙ ap (λ ts. ts ++ make (ending k (list_trees b)) ∷ []) front ∙
+      after = e ∙ ap (λ ts. ts ++ make (ending k (list_trees b)) ∷ []) front ∙
           ap (λ ts. list_trees a ++ make ts ∷ []) members;
       nodes = omega (arith, h.nodes, n.nodes, count);
       capacity = n.capacity ∙ h.capacity;
@@ -76,7 +76,7 @@ adds_made make a b c us k h long count e n =
 
 pub adds_length : (a b : NodeList) (us : List Tree) → Adds a b us
     → length us ≤ length (list_trees b)
-adds_length a b us h = omega (arith, ap length h.behind, length-append (list_trees a) us)
+adds_length a b us h = omega (arith, ap length h.after, length-append (list_trees a) us)
 
 pub length-inner_trees : (xs : List FormatDescriptionV3Inner)
     → length (map inner_tree xs) ≡ length xs
@@ -91,7 +91,7 @@ member_count [] i x h e = absurd (omega (arith, h))
 member_count (y ∷ ys) zero x h e = omega (arith, ap (λ z. tree_count (inner_tree z)) e)
 member_count (y ∷ ys) (suc i) x h e = omega (arith, member_count ys i x (omega (arith, h)) e)
 
--- nor than all from its place on
+-- nor than all from its index on
 pub member_left : (xs : List FormatDescriptionV3Inner) (i : ℕ) (x : FormatDescriptionV3Inner)
     → i < length xs → x ≡ get_or xs i x
     → tree_count (inner_tree x) ≤ trees_count (trees (map inner_tree (drop i xs)))
@@ -179,7 +179,7 @@ pub none_by_length : (xs : List FormatDescriptionV3Inner) (b : Bool) → b ≡ (
 none_by_length [] b e = e
 none_by_length (x ∷ xs) b e = e ∙ not_none (length xs)
 
--- a node's tree behind those that it left
+-- a node's tree after those that it left
 pub tree_pushed : (xs ys zs : List FormatDescriptionV3Inner) (t : FormatDescriptionV3Inner)
     (p : Part) (ts : List Tree) → zs ≡ ys ++ t ∷ []
     → map inner_tree ys ≡ before (arity p.role) (map inner_tree xs)

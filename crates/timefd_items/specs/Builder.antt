@@ -8,6 +8,6 @@ use Rattle.timefd_component.specs.Tree.{Tree}
 abbrev pub built : DescriptionBuilder → List Tree
 built b = list_trees b.list
 
--- so many parts more can be added, or made of the last ones, with no more memory
+-- this many more parts can be added, or made from the last ones, without more memory
 abbrev pub room : DescriptionBuilder → ℕ
 room b = list.room b.list

@@ -1,4 +1,4 @@
--- The tree of what a description is, its parts lent, and how many of them are owned.
+-- The tree of a description whose parts are borrowed, and how many of them are owned.
 use Rattle.std.specs.Prelude.{ℕ, ◌≡◌, ◌+◌, map, sum}
 use Rattle.timefd_items.specs.declared.format_description_v3.content.Content.{Content}
 use Rattle.timefd_items.specs.declared.format_description_v3.content.Content.TheVariants as content
@@ -13,7 +13,7 @@ content_tree (content.Compound items) = compound (trees (map inner_tree items.no
 content_tree (content.Optional format item) = optional format (inner_tree item.now)
 content_tree (content.First items) = first (trees (map inner_tree items.now))
 
--- what an owned part is that has so many owned parts, itself among them
+-- what an owned part is that has this many owned parts, itself included
 abbrev pub IsOwned : Content → ℕ → Type 0
 IsOwned (content.Component c) count = ⊥
 IsOwned (content.Literal text) count = count ≡ 1

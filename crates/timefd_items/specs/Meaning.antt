@@ -18,7 +18,7 @@ use Rattle.timefd_items.specs.declared.format_description_v3.inner.FormatDescrip
 use Rattle.timefd_items.specs.declared.format_description_v3.inner.FormatDescriptionV3Inner.TheFolds.{fold-FormatDescriptionV3Inner}
 use Rattle.timefd_component.specs.Tree.{Tree, component, literal, compound, optional, first, trees}
 
--- one description, with the tree of each inner one in its place
+-- one description, with the tree of each inner one instead of it
 abbrev pub inner_step : FormatDescriptionV3Inner-F Tree → Tree
 inner_step (inner.Day m) = component (Day m)
 inner_step (inner.MonthShort m) = component (MonthShort m)

@@ -20,12 +20,11 @@ use std::alloc::{AllocError, Global};
 use timefd_node_list::View;
 use timefd_node_list::node_list::NodeList;
 
-/// A description of version 3, as a formatter takes it: a tree whose reserved bytes a `usize`
-/// counts. `FormatDescriptionV3Inner::into_opaque` makes one. It is the struct of that name of
-/// `time`.
+/// A description of version 3, as a formatter takes it: a tree whose reserved bytes fit a `usize`.
+/// `FormatDescriptionV3Inner::into_opaque` makes one. It is `time`'s struct of that name.
 #[derive(Drop)]
 pub struct FormatDescriptionV3<'a> {
-    // The one tree, or none for the compound of none.
+    // The one tree, or none for the compound of nothing.
     list: NodeList<'a>,
     ghost one: { length (list_trees list) ≤ 1 },
     ghost fits: { reserve (pack (list_trees list)) ≤ 2 ^ 64 - 1 },
@@ -58,14 +57,14 @@ impl<'a> FormatDescriptionV3<'a> {
         self.list.last_bytes()
     }
 
-    /// The tree that it is, to look at in place. This is this port's own.
+    /// The tree of the description, to look at in place. This call is this port's own.
     pub fn view(&self) -> View<'_, 'a>
         ensures { view_tree result ≡ description_tree self.now }
     {
         View::new(self.list.nodes())
     }
 
-    /// A tree of the same meaning, to look at. An `Err` comes where there is no memory left for it.
+    /// A tree of the same meaning, to look at. An `Err` says that memory ran out.
     pub fn to_inner(&self, alloc: Global) -> Result<FormatDescriptionV3Inner<'a>, AllocError>
         ensures { IfOk result (λ tree. inner_tree tree ≡ description_tree self.now) }
     {
@@ -76,7 +75,7 @@ impl<'a> FormatDescriptionV3<'a> {
     }
 
     /// A description of the same meaning that borrows nothing, so it may outlive the text. An `Err`
-    /// comes where there is no memory left for it.
+    /// says that memory ran out.
     pub fn to_owned(&self, alloc: Global) -> Result<FormatDescriptionV3<'static>, AllocError>
         ensures same { IfOk result (λ copy. description_tree copy ≡ description_tree self.now) }
         ensures exact { IfOk result (λ copy. unused_parts copy ≡ 0) }
@@ -86,9 +85,9 @@ impl<'a> FormatDescriptionV3<'a> {
         })
     }
 
-    /// A description of the same meaning, which borrows what this one borrows and owns what it owns:
-    /// it takes one block for its parts, of just their size, and one for each text that is owned. An
-    /// `Err` comes where there is no memory left for it.
+    /// A description of the same meaning, which borrows what this one borrows and owns what it owns.
+    /// It takes one block of memory for its parts, exactly of their size, and one for each owned
+    /// text. An `Err` says that memory ran out.
     pub fn clone(&self, alloc: Global) -> Result<Self, AllocError>
         ensures same { IfOk result (λ copy. description_tree copy ≡ description_tree self.now) }
         ensures owners { IfOk result (λ copy. description_owners copy ≡ description_owners self.now) }

@@ -1,6 +1,6 @@
-//! What a format description is made of: components, the items of versions 1 and 2 and of strftime,
-//! the descriptions of version 3, and the faults of other texts. The first two, the faults and the
-//! lists of nodes that descriptions are stand in crates below.
+//! What format descriptions are made of: components, the items of versions 1 and 2 and of strftime,
+//! the descriptions of version 3, and the faults of other texts. The components, the items, the
+//! faults, and the lists of nodes that make up descriptions are in crates below.
 #![tactic(auto)]
 
 mod format_description_v3;

@@ -11,9 +11,9 @@ use timefd_component::Component;
 use timefd_component::reserved::reserved_bytes;
 use timefd_format_item::BorrowedFormatItem;
 
-/// The greatest length of what items of versions 1 and 2 and of strftime are written as in turn, at
-/// most `usize::MAX`: what `max_bytes_needed` answers of a description of version 3. A deprecated
-/// component, which no text has, counts as none. This is this port's own.
+/// The greatest number of bytes that items of versions 1 and 2 and of strftime are written as, one
+/// after another, at most `usize::MAX`. For a description of version 3 `max_bytes_needed` returns
+/// it. A deprecated component, which no text has, counts 0 bytes. This call is this port's own.
 #[cycle(bytes)]
 pub fn items_bytes(items: &[BorrowedFormatItem<'_>]) -> usize
     ensures { result ≡ kept_bytes (reserve_all (trees (item_trees items.now))) }
@@ -25,7 +25,7 @@ pub fn items_bytes(items: &[BorrowedFormatItem<'_>]) -> usize
     bytes
 }
 
-/// The same of one item.
+/// The greatest number of bytes that one item is written as, at most `usize::MAX`.
 #[cycle(bytes)]
 pub fn item_bytes(item: &BorrowedFormatItem<'_>) -> usize
     ensures { result ≡ kept_bytes (reserve (item_tree item.now)) }

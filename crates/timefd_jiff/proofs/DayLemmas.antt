@@ -1,4 +1,4 @@
--- The days before a date, counted from the year -1,000,000 on and from the year -10,000 on.
+-- The days before a date, counted from the year -1,000,000 and from the year -10,000.
 use Rattle.std.proofs.Common.{ℕ, zero, suc, ◌≡◌, ◌∙◌, ◌+◌, ◌-◌, ◌%◌, Bool, true, false, cond, if◌then◌else◌, ℤ, pos, negsuc, ◌+ℤ◌, unsigned_abs, refl, sym, ap, arith}
 use Rattle.jiff_core.specs.declared.civil.date.Date.{Date as JiffDate}
 use Rattle.jiff_core.specs.Calendar.{IsYear, day_count, day_of_year, days_of_months as jiff_months, days_of_years as jiff_years}
@@ -74,7 +74,7 @@ days_apart y years m d e is =
     ap (λ x. days_of_months x (m - 1)) e ∙ months_apart y (m - 1) is in
     omega (arith, ap days_of_years at, years_apart n, months, count_is y m d)
 
--- both numbers of one day, and both weekdays
+-- both day numbers of a date, and both weekdays
 numbered : (j : JiffDate) (number : ℕ) → number ≡ day_count j.year j.month j.day + 361590075
     → (pos number ≡ epoch_day j +ℤ pos 365962028) × ((number + 5) % 7 ≡ weekday_of j)
 numbered j number e = (

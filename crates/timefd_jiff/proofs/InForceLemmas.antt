@@ -1,4 +1,4 @@
--- How many transitions lie at or before an instant tells which is in force.
+-- The number of transitions at or before an instant determines which one is in force.
 use Rattle.std.proofs.Common.{ℕ, suc, ◌≡◌, ◌∙◌, ◌+◌, ◌-◌, ◌<◌, ◌==◌, ℤ, ◌≤ℤ◌, cond, false, None, length, refl, sym, ap, subst, arith}
 use Rattle.std.proofs.lemmas.Bool.Decides.{nat_tests}
 use denote.Ref.{Bor}
@@ -11,7 +11,7 @@ use Rattle.jiff_tz.specs.Zone.{offset_at}
 use Rattle.jiff_tz.proofs.ZoneTheorems.{count_is}
 use Rattle.timefd_jiff.specs.InForce.{BeforeAll, LastInForce}
 
--- a zone of a table has the table's offset
+-- a zone with a table has the table's offset
 opened : (z : Bor Table) (n : ℤ) → offset_at (Tzif z) n ≡ (table.offset_at z.now n).seconds
 unfolding offset_at
 opened z n = refl

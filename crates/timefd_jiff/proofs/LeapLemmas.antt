@@ -1,4 +1,4 @@
--- Leap years, of the years counted from -1,000,000 on and of the signed ones.
+-- Leap years, for years counted from -1,000,000 and for signed years.
 use Rattle.std.proofs.Common.{ℕ, suc, ◌≡◌, ◌∙◌, ◌+◌, ◌-◌, ◌%◌, ◌==◌, ◌||◌, if◌then◌else◌, ℤ, pos, negsuc, ◌+ℤ◌, unsigned_abs, sym, ap, arith}
 use Rattle.jiff_core.specs.Calendar.{IsYear, is_leap_year, days_in_month as jiff_days}
 use Rattle.jiff.proofs.SpanFacts.{signed_arith}
@@ -6,7 +6,7 @@ use Rattle.std.specs.Int.{IsInRange}
 use Rattle.timefd_moment.specs.Calendar.{IsDay, counted, is_leap, days_in_month}
 use Rattle.timefd_moment.proofs.LeapLemmas.{leap_of, periods_apart, same}
 
--- numbers that make a multiple of 400 together
+-- numbers whose sum is a multiple of 400
 together : (c s : ℕ) → c + s ≡ 1000000 → is_leap c ≡ is_leap s
 together c s e =
     let four : (c % 4 == 0) ≡ (s % 4 == 0) = same (c % 4) (s % 4) (λ h. omega (arith, e, h)) (λ h. omega (arith, e, h)) in
@@ -30,7 +30,7 @@ pub same_months : (y : ℤ) (m : ℕ) → IsYear y → days_in_month (counted y)
 same_months y m is =
     ap (λ b. if m == 2 then (if b then 29 else 28) else (if (m == 4) || (m == 6) || (m == 9) || (m == 11) then 30 else 31)) (leap y is)
 
--- what jiff has of a day is what a date has
+-- the bounds of a day of `jiff` are those of a date
 pub day_in : (y : ℤ) (years m d : ℕ) → years ≡ counted y → IsYear y → IsInRange 1 12 m
     → IsInRange 1 (jiff_days y m) d → IsDay years m d
 day_in y years m d e is month day = (
@@ -42,7 +42,7 @@ day_in y years m d e is month day = (
   omega (arith, day.1, same_months y m is, ap (λ x. days_in_month x m) e),
 )
 
--- and the other way
+-- and the other way round
 pub day_back : (y : ℤ) (years m d : ℕ) → years ≡ counted y → IsYear y → IsDay years m d
     → IsInRange 1 (jiff_days y m) d
 day_back y years m d e is all = (all.4, omega (arith, all.5, same_months y m is, ap (λ x. days_in_month x m) e))

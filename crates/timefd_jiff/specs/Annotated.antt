@@ -1,4 +1,4 @@
--- The moment that is read of a text, and the time zone in brackets after it.
+-- The moment that is read from a text, and the time zone in brackets after it.
 use Rattle.std.specs.Prelude.{◌≡◌, Option, Some, None, Result, Ok, Err, ⊤}
 use Rattle.jiff_core.specs.declared.error.Error.{Error}
 use Rattle.jiff_fmt.specs.Temporal.{PiecesParts, ZonePiece, named_zone, fixed_zone}

@@ -1,4 +1,4 @@
--- The moment that is read of a text, beside the parts that jiff's grammar has of it.
+-- The moment that is read from a text, and the parts that jiff's grammar finds in it.
 use Rattle.std.specs.Prelude.{◌≡◌, ℤ, Option, Some, None, option_map, Result, Ok, Err, ⊤}
 use Rattle.jiff_core.specs.declared.error.Error.{Error}
 use Rattle.jiff_fmt.specs.Temporal.{DateParts, TimeParts, PiecesParts, piece_seconds}
@@ -20,7 +20,7 @@ IsTimeRead (Some p) None = ⊥
 IsTimeRead (Some p) (Some t) =
     (t.hour ≡ p.hour) × (t.minute ≡ p.minute) × (t.second ≡ p.second) × (t.nanosecond ≡ p.subsec)
 
--- of an offset in seconds, where there is one
+-- the offset with these seconds, if there is one
 abbrev pub IsOffsetRead : Option ℤ → Option UtcOffset → Type 0
 IsOffsetRead None None = ⊤
 IsOffsetRead None (Some o) = ⊥

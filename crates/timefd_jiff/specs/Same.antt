@@ -1,4 +1,4 @@
--- Values of `jiff` and of `timefd_moment` that are the same, field by field.
+-- Values of `jiff` and of `timefd_moment` that are equal, field by field.
 use Rattle.std.specs.Prelude.{◌≡◌, Option, Some, None}
 use Rattle.jiff_core.specs.declared.civil.date.Date.{Date as JiffDate}
 use Rattle.jiff_core.specs.declared.civil.time.Time.{Time as JiffTime}
@@ -25,7 +25,7 @@ IsSameOffset j o = signed o.is_negative o.seconds ≡ j.seconds
 abbrev pub IsSameInstant : Timestamp → UnixTime → Type 0
 IsSameInstant j u = signed u.is_negative u.nanoseconds ≡ j.nanosecond
 
--- what is known of a moment is that
+-- the moment has this part, and it is equal
 
 abbrev pub HasDate : JiffDate → Option Date → Type 0
 HasDate j (Some d) = IsSameDate j d

@@ -13,11 +13,11 @@ use Rattle.timefd_moment.specs.declared.unix_time.UnixTime.{UnixTime}
 use Rattle.timefd_moment.specs.Signed.{signed}
 use Rattle.timefd_jiff.specs.Same.{HasDate, HasTime}
 
--- the nanoseconds since 1970 began in UTC, or before it
+-- the nanoseconds since 1970 began in UTC, negative before it
 abbrev pub instant : UnixTime → ℤ
 instant u = signed u.is_negative u.nanoseconds
 
--- so many seconds ahead of UTC
+-- this many seconds ahead of UTC
 abbrev pub IsAhead : ℤ → UtcOffset → Type 0
 IsAhead seconds o = signed o.is_negative o.seconds ≡ seconds
 
@@ -25,17 +25,17 @@ abbrev pub HasAhead : ℤ → Option UtcOffset → Type 0
 HasAhead seconds (Some o) = IsAhead seconds o
 HasAhead seconds None = ⊥
 
--- The instant is none of jiff's.
+-- `jiff` has no such instant.
 abbrev pub IsBeyond : UnixTime → Error → Type 0
 IsBeyond u e = (IsTimestampNanos (instant u) → ⊥) × (e ≡ Error.Range Bound.UnixEpochSeconds)
 
--- The offset is the one that the zone has at the instant: that of the last transition of its table which is not
--- after it, or of its rule from then on.
+-- The offset is the one that the zone has at the instant: that of the last transition of its table that is
+-- not after the instant, or that of its rule from then on.
 abbrev pub IsOffsetAt : TimeZone → UnixTime → Result UtcOffset Error → Type 0
 IsOffsetAt zone u (Ok o) = IsAhead (offset_at zone (instant u)) o
 IsOffsetAt zone u (Err e) = IsBeyond u e
 
--- The offset is that of the zone at this instant, and the date and the time are those that it makes of it.
+-- The offset is that of the zone at this instant, and the date and the time are the instant's at that offset.
 abbrev pub IsOnClock : TimeZone → ℤ → Moment → Type 0
 IsOnClock zone n m = (local : DateTime)
     × (civil_nanos local ≡ n +ℤ nanos_of_seconds (offset_at zone n))

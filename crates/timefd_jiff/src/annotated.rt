@@ -1,4 +1,4 @@
-//! Moments and the time zones in brackets after them, as `2026-11-23T05:36:07+01:00[Europe/Berlin]`.
+//! Moments with a time zone in brackets, such as `2026-11-23T05:36:07+01:00[Europe/Berlin]`.
 
 ghost use Rattle.std.specs.Prelude.{Bool, option_map};
 ghost use Rattle.jiff_fmt.specs.Temporal.{kind_view, parse_pieces, pieces_view, zone_piece_view};
@@ -9,7 +9,7 @@ use jiff_core::Error;
 use jiff_fmt::temporal::{self, Pieces, TimeZoneAnnotation, TimeZoneAnnotationKind};
 use timefd_moment::Moment;
 
-/// What stands in brackets after a moment.
+/// What is in brackets after a moment.
 #[derive(Debug, Clone, Copy, PartialEq, Eq)]
 pub enum Annotation<'a> {
     /// The name of a time zone.
@@ -23,12 +23,12 @@ pub enum Annotation<'a> {
 pub struct Annotated<'a> {
     /// The moment.
     pub moment: Moment,
-    /// The time zone, by which the moment is not changed.
+    /// The time zone. It doesn't change the moment.
     pub zone: Option<Annotation<'a>>,
 }
 
-/// Reads a moment as [`read_moment`](crate::read_moment) does, and answers the time zone in brackets too.
-/// Nothing is checked of that.
+/// Reads a moment as [`read_moment`](crate::read_moment) does, and returns the time zone in brackets too.
+/// The time zone isn't checked. An `Err` says what is wrong with the text.
 #[tactic(auto, using(crate::proofs::AnnotatedLemmas::reads))]
 pub fn read_annotated(text: &str) -> Result<Annotated<'_>, Error>
     ensures { IsReadAnnotated (parse_pieces text.now) result }

@@ -1,4 +1,4 @@
-//! Days of the calendar. `jiff` has the years -9999 to 9999.
+//! Conversions of dates. `jiff` has the years -9999 to 9999.
 
 ghost use Rattle.std.specs.Prelude.{◌≡◌, ◌≤◌, ◌↔◌, IfErr, IfOk, IsOk};
 ghost use Rattle.timefd_jiff.specs.Same.{IsSameDate};
@@ -8,14 +8,14 @@ use jiff_core::Error;
 use jiff_core::error::Bound;
 use timefd_moment::Date;
 
-/// The same date.
+/// Converts a date from `jiff`.
 pub fn date_from_jiff(date: civil::Date) -> Date
     ensures { IsSameDate date result }
 {
     plain_date(date.to_plain())
 }
 
-/// The same date, of the plain one.
+/// Converts a plain date from `jiff_core`.
 #[tactic(auto, using(crate::proofs::LeapLemmas::day_in))]
 pub(crate) fn plain_date(date: jiff_core::civil::Date) -> Date
     ensures { IsSameDate date result }
@@ -27,7 +27,7 @@ pub(crate) fn plain_date(date: jiff_core::civil::Date) -> Date
     }
 }
 
-/// The same date. An `Err` comes where its year is none from -9999 to 9999.
+/// Converts a date to `jiff`. An `Err` says that its year is not from -9999 to 9999.
 #[tactic(auto, using(crate::proofs::LeapLemmas::day_back))]
 pub fn date_to_jiff(date: Date) -> Result<civil::Date, Error>
     ensures value { IfOk result (λ d. IsSameDate d date) }

@@ -1,4 +1,4 @@
-//! Instants. `jiff` has those of the years -9999 to 9999, whatever the offset.
+//! Conversions of instants. `jiff` has those whose year is from -9999 to 9999 at every offset.
 
 ghost use Rattle.std.specs.Prelude.{◌≡◌, ◌≤◌, ◌↔◌, IfErr, IfOk, IsOk, IsTrue};
 ghost use Rattle.jiff_core.specs.Timestamp.{IsTimestampNanos};
@@ -10,7 +10,7 @@ use jiff_core::Error;
 use jiff_core::error::Bound;
 use timefd_moment::UnixTime;
 
-/// The same instant.
+/// Converts an instant from `jiff`.
 pub fn unix_time_from_jiff(timestamp: Timestamp) -> UnixTime
     ensures value { IsSameInstant timestamp result }
     ensures no_negative_zero { IsTrue result.is_negative → 1 ≤ result.nanoseconds }
@@ -18,7 +18,7 @@ pub fn unix_time_from_jiff(timestamp: Timestamp) -> UnixTime
     UnixTime::from_nanoseconds(timestamp.as_nanosecond())
 }
 
-/// The same instant. An `Err` comes where `jiff` has none such.
+/// Converts an instant to `jiff`. An `Err` says that `jiff` has no such instant.
 #[tactic(auto, using(crate::proofs::SignedLemmas::instant_out))]
 pub fn unix_time_to_jiff(unix: UnixTime) -> Result<Timestamp, Error>
     ensures value { IfOk result (λ t. IsSameInstant t unix) }

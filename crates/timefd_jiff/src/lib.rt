@@ -1,5 +1,5 @@
-//! From the dates, times, offsets and instants of `jiff` to those of `timefd_moment`, and back; a reader of
-//! dates in the forms of RFC 3339; and what clocks in time zones show.
+//! Converts dates, times, offsets and instants of `jiff` to those of `timefd_moment`, and back. Also reads
+//! dates in the forms of RFC 3339, and says what clocks in time zones show.
 #![tactic(auto)]
 
 mod annotated;

@@ -1,4 +1,4 @@
-//! What is known of the values of `jiff`.
+//! Moments of the dates and times of `jiff`.
 
 ghost use Rattle.std.specs.Prelude.{◌≡◌, None};
 ghost use Rattle.jiff.specs.Words.{plain_zoned};
@@ -10,7 +10,7 @@ use jiff::Zoned;
 use jiff::civil::DateTime;
 use timefd_moment::Moment;
 
-/// The date and the time of day, and no offset.
+/// The moment with this date and time of day, and without an offset.
 pub fn moment_from_datetime(datetime: DateTime) -> Moment
     ensures date { HasDate datetime.date result.date }
     ensures time { HasTime datetime.time result.time }
@@ -23,7 +23,7 @@ pub fn moment_from_datetime(datetime: DateTime) -> Moment
     }
 }
 
-/// The date and the time of day on the zone's clock, and its offset.
+/// The moment with the date and the time of day on the zone's clock, and with its offset.
 pub fn moment_from_zoned(zoned: &Zoned<'_>) -> Moment
     ensures date { HasDate (plain_zoned zoned.now).datetime.date result.date }
     ensures time { HasTime (plain_zoned zoned.now).datetime.time result.time }

@@ -10,9 +10,9 @@ use jiff_core::Error;
 use jiff_fmt::temporal::{self, Pieces};
 use timefd_moment::{Moment, Time, UtcOffset};
 
-/// Reads a date, with a time of day and an offset where they are written, as `jiff` reads them:
-/// the forms of RFC 3339 are among them. A second of 60 reads as 59. A zone in brackets is passed
-/// over.
+/// Reads a date, with a time of day and an offset if they are written, as `jiff` does. That
+/// includes the forms of RFC 3339. A second of 60 is read as 59. A zone in brackets is ignored. An
+/// `Err` says what is wrong with the text.
 #[tactic(auto, using(crate::proofs::ReadLemmas::reads))]
 pub fn read_moment(text: &str) -> Result<Moment, Error>
     ensures { IsRead (parse_pieces text.now) result }

@@ -1,4 +1,4 @@
-//! Times of day, and offsets from UTC.
+//! Conversions of times of day and of offsets from UTC.
 
 ghost use Rattle.std.specs.Prelude.{◌≡◌};
 ghost use Rattle.timefd_jiff.specs.Same.{IsSameOffset, IsSameTime};
@@ -6,14 +6,14 @@ ghost use Rattle.timefd_jiff.specs.Same.{IsSameOffset, IsSameTime};
 use jiff::{civil, tz};
 use timefd_moment::{Time, UtcOffset};
 
-/// The same time of day.
+/// Converts a time of day from `jiff`.
 pub fn time_from_jiff(time: civil::Time) -> Time
     ensures { IsSameTime time result }
 {
     plain_time(time.to_plain())
 }
 
-/// The same time of day, of the plain one.
+/// Converts a plain time of day from `jiff_core`.
 pub(crate) fn plain_time(time: jiff_core::civil::Time) -> Time
     ensures { IsSameTime time result }
 {
@@ -25,7 +25,7 @@ pub(crate) fn plain_time(time: jiff_core::civil::Time) -> Time
     }
 }
 
-/// The same time of day.
+/// Converts a time of day to `jiff`.
 pub fn time_to_jiff(time: Time) -> civil::Time
     ensures { IsSameTime result time }
 {
@@ -37,14 +37,14 @@ pub fn time_to_jiff(time: Time) -> civil::Time
     })
 }
 
-/// The same offset from UTC.
+/// Converts an offset from `jiff`.
 pub fn offset_from_jiff(offset: tz::Offset) -> UtcOffset
     ensures { IsSameOffset offset result }
 {
     plain_offset(offset.to_plain())
 }
 
-/// The same offset from UTC, of the plain one.
+/// Converts a plain offset from `jiff_core`.
 pub(crate) fn plain_offset(offset: jiff_core::Offset) -> UtcOffset
     ensures { IsSameOffset offset result }
 {
@@ -54,7 +54,7 @@ pub(crate) fn plain_offset(offset: jiff_core::Offset) -> UtcOffset
     }
 }
 
-/// The same offset from UTC.
+/// Converts an offset to `jiff`.
 #[tactic(auto, using(crate::proofs::SignedLemmas::offset_in))]
 pub fn offset_to_jiff(offset: UtcOffset) -> tz::Offset
     ensures { IsSameOffset result offset }

@@ -1,4 +1,4 @@
-//! What a clock in a time zone shows. `jiff` has the instants of the years -9999 to 9999.
+//! What a clock in a time zone shows. `jiff` has instants in the years -9999 to 9999.
 
 ghost use Rattle.timefd_jiff.specs.Zones.{IsOffsetAt, IsOnClock, IsShownIn};
 
@@ -9,7 +9,7 @@ use jiff_core::Error;
 use jiff_tz::TimeZone;
 use timefd_moment::{Moment, UnixTime, UtcOffset};
 
-/// The offset of the zone at an instant. An `Err` comes where `jiff` has none such.
+/// The offset of the zone at an instant. An `Err` says that `jiff` has no such instant.
 pub fn offset_in_zone(zone: &TimeZone<'_>, unix: UnixTime) -> Result<UtcOffset, Error>
     ensures { IsOffsetAt zone.now unix result }
 {
@@ -19,8 +19,8 @@ pub fn offset_in_zone(zone: &TimeZone<'_>, unix: UnixTime) -> Result<UtcOffset, 
     }
 }
 
-/// The date and the time of day that a clock in the zone shows at an instant, and its offset then. An `Err`
-/// comes where `jiff` has no such instant.
+/// The date and the time of day that a clock in the zone shows at an instant, with its offset. An `Err`
+/// says that `jiff` has no such instant.
 pub fn moment_in_zone(zone: &TimeZone<'_>, unix: UnixTime) -> Result<Moment, Error>
     ensures { IsShownIn zone.now unix result }
 {

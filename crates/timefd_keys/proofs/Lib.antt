@@ -1,4 +1,5 @@
 pub mod ReadingLemmas
+pub mod VisitLemmas
 pub mod FoundLemmas
 pub mod NumberLemmas
 pub mod KeyLemmas

@@ -4,10 +4,10 @@ use Rattle.std.proofs.lemmas.List.{take_more}
 use Rattle.timefd_sources.specs.Bytes.{Text, is_blank}
 use Rattle.timefd_keys.specs.Names.{with_front, without_blanks}
 
-blank_behind : (front : Text) (b : ℕ) → is_blank b ≡ true
+blank_after : (front : Text) (b : ℕ) → is_blank b ≡ true
     → without_blanks (front ++ b ∷ []) ≡ without_blanks front
-blank_behind [] b blank = rw blank refl
-blank_behind (c ∷ front) b blank = ap (with_front c) (blank_behind front b blank)
+blank_after [] b blank = rw blank refl
+blank_after (c ∷ front) b blank = ap (with_front c) (blank_after front b blank)
 
 with_front_of : (c b : ℕ) (front : Text) → with_front c (front ++ b ∷ []) ≡ c ∷ front ++ b ∷ []
 with_front_of c b [] = refl
@@ -35,5 +35,5 @@ pub one_less : (rest all : Text) (is : Bool) → without_blanks rest ≡ without
     → is ≡ is_blank (get_or rest (length rest - 1) 0) → is ≡ true → 1 ≤ length rest
     → without_blanks (take (length rest - 1) rest) ≡ without_blanks all
 one_less rest all is so_far test blank le =
-    sym (blank_behind (take (length rest - 1) rest) (get_or rest (length rest - 1) 0) (sym test ∙ blank))
+    sym (blank_after (take (length rest - 1) rest) (get_or rest (length rest - 1) 0) (sym test ∙ blank))
     ∙ ap without_blanks (sym (last rest le)) ∙ so_far

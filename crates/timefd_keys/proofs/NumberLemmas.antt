@@ -1,4 +1,4 @@
--- One digit more.
+-- One more digit.
 use Rattle.std.proofs.Common.{ℕ, zero, suc, ◌≡◌, ◌<◌, ◌-◌, ◌∷◌, sym, ap, ◌∙◌, arith}
 use Rattle.std.specs.Prelude.{Option}
 use Rattle.timefd_sources.specs.Bytes.{Text}

@@ -1,4 +1,4 @@
--- Parts of a string: bytes that stand for themselves, and escapes.
+-- Parts of a string: plain bytes, and escapes.
 use Rattle.std.specs.Prelude.{ℕ, zero, suc, ◌+◌, ◌-◌, ◌*◌, Bool, true, false, not, ◌&&◌, ◌||◌, ◌==◌, nat_lt, if◌then◌else◌, [], ◌∷◌, Option, Some, None}
 use Rattle.timefd_sources.specs.Bytes.{Text, quote, apostrophe, slash, backslash, is_between, is_blank}
 use Rattle.timefd_sources.specs.Escapes.{Part, char_part, character, hex_digit, next_value}
@@ -7,7 +7,7 @@ use Rattle.timefd_keys.specs.declared.style.Style.{Style}
 use Rattle.timefd_keys.specs.declared.style.Style.TheVariants.{Json, Basic, Literal, Double, Single, Plain}
 use Rattle.timefd_keys.specs.Styles.{begins_space}
 
--- a number, and what stands behind it
+-- a number, and what follows it
 pub record Number : Type 0 where
   pub value : ℕ
   pub rest : Text
@@ -23,13 +23,13 @@ abbrev pub with_rest : Option ℕ → Text → Option Number
 with_rest None rest = None
 with_rest (Some value) rest = Some (record { value = value; rest = rest })
 
--- The number of this many hexadecimal digits more, up to the greatest number of a character.
+-- The number with this many more hexadecimal digits, up to the greatest code point.
 abbrev pub number : ℕ → Option ℕ → Text → Option Number
 number zero value text = with_rest value text
 number (suc count) value [] = None
 number (suc count) value (b ∷ bytes) = number count (next_value value (hex_digit b)) bytes
 
--- the first and the second half of a character in JSON
+-- the first and the second surrogate half of a character in JSON
 abbrev pub is_first_half : ℕ → Bool
 is_first_half value = is_between 55296 56319 value
 
@@ -44,14 +44,14 @@ pair first None = None
 pair first (Some n) =
     if is_second_half n.value then character n.rest (Some (joined first n.value)) else None
 
-abbrev pub behind_letter : Text → Option Number
-behind_letter [] = None
-behind_letter (b ∷ bytes) = if b == 117 then number 4 (Some 0) bytes else None
+abbrev pub after_letter : Text → Option Number
+after_letter [] = None
+after_letter (b ∷ bytes) = if b == 117 then number 4 (Some 0) bytes else None
 
 -- `\u` and four digits
 abbrev pub second_half : Text → Option Number
 second_half [] = None
-second_half (b ∷ bytes) = if b == backslash then behind_letter bytes else None
+second_half (b ∷ bytes) = if b == backslash then after_letter bytes else None
 
 abbrev pub joins_halves : Style → Bool
 joins_halves Json = true
@@ -96,7 +96,7 @@ wide_letter b =
     else if b == 80 then Some 8233
     else None
 
--- `\0`, `\a`, `\v`, `\e`, `\/`, and a space or a tab behind a backslash
+-- `\0`, `\a`, `\v`, `\e`, `\/`, and a space or a tab after a backslash
 abbrev pub yaml_letter : ℕ → Option ℕ
 yaml_letter b =
     if b == 48 then Some 0
@@ -111,7 +111,7 @@ abbrev pub or_wide : Option ℕ → ℕ → Option ℕ
 or_wide (Some c) b = Some c
 or_wide None b = wide_letter b
 
--- the character of a letter behind a backslash
+-- the character that a letter after a backslash denotes
 abbrev pub letter : Style → ℕ → Option ℕ
 letter Json b = json_letter b
 letter Basic b = toml_letter b
@@ -120,11 +120,11 @@ letter Double b = or_wide (yaml_letter b) b
 letter Single b = None
 letter Plain b = None
 
--- how many digits stand behind `\x`, `\u`, `\U`; 0 behind other letters
+-- how many digits follow `\x`, `\u`, `\U`; 0 for other letters
 abbrev pub wide_digit_count : ℕ → ℕ
 wide_digit_count b = if b == 120 then 2 else if b == 117 then 4 else if b == 85 then 8 else 0
 
--- the same where a format may not have all of these letters
+-- how many digits follow a letter; 0 if the format doesn't have this escape
 abbrev pub digit_count : Style → ℕ → ℕ
 digit_count Json b = if b == 117 then 4 else 0
 digit_count Basic b = wide_digit_count b
@@ -141,16 +141,16 @@ abbrev pub escape_by : Style → ℕ → Text → Option ℕ → Option Part
 escape_by style b bytes (Some c) = char_part bytes (Some c)
 escape_by style b bytes None = numeric style (digit_count style b) bytes
 
--- behind a backslash
+-- after a backslash
 abbrev pub escape : Style → Text → Option Part
 escape style [] = None
 escape style (b ∷ bytes) = escape_by style b bytes (letter style b)
 
--- a byte that stands for itself
+-- a plain byte, which denotes itself
 abbrev pub itself : ℕ → Text → Part
 itself b bytes = record { stands = b ∷ []; rest = bytes }
 
--- the control character behind the letters of ASCII
+-- the control character after the letters of ASCII
 abbrev pub delete : ℕ
 delete = 126 + 1
 
@@ -168,7 +168,7 @@ abbrev pub second_apostrophe : Text → Option Part
 second_apostrophe [] = None
 second_apostrophe (b ∷ bytes) = if b == apostrophe then Some (itself b bytes) else None
 
--- a colon in front of a space makes a key of what stands before; two blanks in a row aren't read
+-- a colon before a space makes a key of what precedes it; two blanks in a row aren't read
 abbrev pub breaks_plain : ℕ → Text → Bool
 breaks_plain b bytes = ((b == 58) || is_blank b) && begins_space bytes
 
@@ -183,6 +183,6 @@ part_by Double b bytes = escaped_or Double b bytes
 part_by Single b bytes = if b == apostrophe then second_apostrophe bytes else Some (itself b bytes)
 part_by Plain b bytes = if breaks_plain b bytes then None else Some (itself b bytes)
 
--- the part of a string that begins with this byte; none where the format allows none
+-- the part of a string that begins with this byte; none if the format doesn't allow it
 abbrev pub part_of : Style → ℕ → Text → Option Part
 part_of style b bytes = if is_refused style b then None else part_by style b bytes

@@ -8,7 +8,7 @@ use Rattle.timefd_keys.specs.declared.format.Format.TheVariants.{Toml, Json, Yam
 abbrev pub ends_in : Text → Text → Bool
 ends_in name ending = ends_with nat_eq name ending
 
--- the format of the file of a name, by its ending
+-- the format of a file with this name, by its extension
 abbrev pub format_named : Text → Option Format
 format_named name =
     if ends_in name (codes ".toml") then Some Toml

@@ -8,7 +8,7 @@ use Rattle.timefd_keys.specs.declared.key.Key.{Key}
 use Rattle.timefd_keys.specs.declared.key.KeyFault.{KeyFault}
 use Rattle.timefd_keys.specs.declared.key.KeyFault.TheVariants.{NoEqualsSign, EmptyName, UnknownLanguage}
 
--- the language of the first key of a name
+-- the language of the first key with this name
 abbrev pub dialect_of : List Key → Text → Option Dialect
 dialect_of [] name = None
 dialect_of (key ∷ keys) name =
@@ -40,7 +40,7 @@ abbrev pub answer_of : Text → Text → Result Named KeyFault
 answer_of name language =
     if length name == 0 then Err EmptyName else answer_by name (dialect_named language)
 
--- The key that a word is, as `KEY=LANGUAGE`, where the first equals sign counts; or why it is none.
+-- The key in a word `KEY=LANGUAGE`, split at the first equals sign; or why there is none.
 abbrev pub key_of : Text → Result Named KeyFault
 key_of word =
     if position_or_len is_equals_sign word == length word then Err NoEqualsSign
@@ -50,7 +50,7 @@ abbrev pub fault_in : Result Named KeyFault → Option KeyFault
 fault_in (Ok key) = None
 fault_in (Err fault) = Some fault
 
--- why a word is no `KEY=LANGUAGE`
+-- why a word isn't a `KEY=LANGUAGE`
 abbrev pub key_fault : Text → Option KeyFault
 key_fault word = fault_in (key_of word)
 
@@ -58,6 +58,6 @@ abbrev pub listed : Result Named KeyFault → List Named
 listed (Ok key) = key ∷ []
 listed (Err fault) = []
 
--- the key that a word is, if it is one
+-- the key in a word, if there is one
 abbrev pub keys_in : Text → List Named
 keys_in word = listed (key_of word)

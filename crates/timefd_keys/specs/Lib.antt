@@ -5,5 +5,8 @@ pub mod Escapes
 pub mod Strings
 pub mod Names
 pub mod Comments
+pub mod Languages
+pub mod Passing
 pub mod Depths
+pub mod Visits
 pub mod Found

@@ -1,24 +1,24 @@
 -- How strings are written, and which bytes end them.
 use Rattle.std.specs.Prelude.{ℕ, Bool, true, false, not, ◌&&◌, ◌||◌, ◌==◌, nat_le, if◌then◌else◌, [], ◌∷◌, Option, Some, None}
-use Rattle.timefd_sources.specs.Behind.{behind_run}
+use Rattle.timefd_sources.specs.After.{after_run}
 use Rattle.timefd_sources.specs.Bytes.{Text, quote, apostrophe, hash, is_blank, is_line_end}
 use Rattle.timefd_keys.specs.declared.format.Format.{Format}
 use Rattle.timefd_keys.specs.declared.format.Format.TheVariants as formats
 use Rattle.timefd_keys.specs.declared.style.Style.{Style}
 use Rattle.timefd_keys.specs.declared.style.Style.TheVariants.{Json, Basic, Literal, Double, Single, Plain}
 
--- white, a control character, or nothing
+-- a space, a control character, or nothing
 abbrev pub begins_space : Text → Bool
 begins_space [] = true
 begins_space (b ∷ bytes) = nat_le b 32
 
--- whether two bytes more of this kind follow
+-- whether two more bytes of this kind follow
 abbrev pub begins_two : ℕ → Text → Bool
 begins_two b [] = false
 begins_two b (c ∷ []) = false
 begins_two b (c ∷ d ∷ bytes) = (c == b) && (d == b)
 
--- Strings of several lines, which begin with three quotes, are none of these.
+-- Strings of several lines, which begin with three quotes, aren't among these.
 abbrev pub toml_style : ℕ → Text → Option Style
 toml_style b bytes =
     if begins_two b bytes then None
@@ -36,7 +36,7 @@ is_other_indicator b =
     (b == 35) || (b == 38) || (b == 42) || (b == 33) || (b == 124) || (b == 62) || (b == 37) || (b == 64)
     || (b == 96)
 
--- `-`, `?`, `:`: these begin a plain string where no space follows
+-- `-`, `?`, `:`: these begin a plain string if no space follows
 abbrev pub is_mark : ℕ → Bool
 is_mark b = (b == 45) || (b == 63) || (b == 58)
 
@@ -54,7 +54,7 @@ yaml_style b bytes =
     else if begins_plain b bytes then Some Plain
     else None
 
--- how a string is written that begins with this byte
+-- how a string that begins with this byte is written
 abbrev pub style_of : Format → ℕ → Text → Option Style
 style_of formats.Toml b bytes = toml_style b bytes
 style_of formats.Json b bytes = if b == quote then Some Json else None
@@ -65,15 +65,15 @@ abbrev pub ends_line : Text → Bool
 ends_line [] = true
 ends_line (b ∷ bytes) = is_line_end b || (b == hash)
 
--- A plain string ends with its line, or where a comment does; the blanks in front of that don't belong to it.
+-- A plain string ends with its line, or before a comment. The blanks before that don't belong to it.
 abbrev pub ends_plain : ℕ → Text → Bool
-ends_plain b bytes = is_line_end b || (is_blank b && ends_line (behind_run is_blank bytes))
+ends_plain b bytes = is_line_end b || (is_blank b && ends_line (after_run is_blank bytes))
 
 abbrev pub begins_apostrophe : Text → Bool
 begins_apostrophe [] = false
 begins_apostrophe (b ∷ bytes) = b == apostrophe
 
--- whether this byte closes a string; in one with single quotes two of them stand for one
+-- whether this byte closes a string; in one with single quotes two of them denote one
 abbrev pub closes : Style → ℕ → Text → Bool
 closes Json b bytes = b == quote
 closes Basic b bytes = b == quote
@@ -82,7 +82,7 @@ closes Double b bytes = b == quote
 closes Single b bytes = (b == apostrophe) && not (begins_apostrophe bytes)
 closes Plain b bytes = ends_plain b bytes
 
--- whether the end of the text does
+-- whether the end of the text closes a string
 abbrev pub is_closed_by_end : Style → Bool
 is_closed_by_end Json = false
 is_closed_by_end Basic = false
@@ -91,7 +91,7 @@ is_closed_by_end Double = false
 is_closed_by_end Single = false
 is_closed_by_end Plain = true
 
--- whether a string has a quote in front
+-- whether a string begins with a quote
 abbrev pub is_quoted : Style → Bool
 is_quoted Json = true
 is_quoted Basic = true

@@ -5,51 +5,71 @@ ghost use Rattle.timefd_keys.specs.Comments as spec;
 ghost use Rattle.timefd_keys.specs.Comments.{IsLineAt};
 ghost use Rattle.timefd_sources.specs.Bytes.{seen};
 
-use crate::bytes::behind_blanks;
+use crate::bytes::after_blanks;
 use crate::format::Format;
 use crate::style::ends_line;
 use timefd_sources::Dialect;
-use timefd_sources::class::{Class, behind_run};
+use timefd_sources::class::{Class, after_run, is_line_end};
 use timefd_sources::dialect::dialect_of_word;
 use timefd_sources::line::{from, line_start};
-use timefd_sources::marks::{behind, first_word};
+use timefd_sources::marks::{after, first_word};
 
-fn behind_sign(format: Format, text: &[u8]) -> Option<&[u8]>
-    ensures { seen result ≡ spec.behind_sign format text.now }
+fn after_sign(format: Format, text: &[u8]) -> Option<&[u8]>
+    ensures { seen result ≡ spec.after_sign format text.now }
 {
     match format {
-        Format::Toml | Format::Yaml => behind(text, b"#"),
-        Format::Json => behind(text, b"//"),
+        Format::Toml | Format::Yaml => after(text, b"#"),
+        Format::Json => after(text, b"//"),
     }
 }
 
-/// The language of the word that a text begins with, if nothing else stands in its line.
-fn word_told(text: &[u8]) -> Option<Dialect>
-    ensures { result ≡ spec.word_told text.now }
+/// Whether a text begins with the end of a line, or with a comment, or is empty.
+fn ends_comment(format: Format, text: &[u8]) -> bool
+    ensures { result ≡ spec.ends_comment format text.now }
 {
-    if ends_line(behind_blanks(behind_run(Class::Word, text))) {
+    match format {
+        Format::Toml | Format::Yaml => ends_line(text),
+        Format::Json => ends_line_of_json(text),
+    }
+}
+
+fn ends_line_of_json(text: &[u8]) -> bool
+    ensures { result ≡ spec.ends_line_of_json text.now }
+{
+    match text {
+        [] => true,
+        [byte, ..] => is_line_end(*byte) || text.starts_with(b"//") || text.starts_with(b"/*"),
+    }
+}
+
+/// The language that the first word of a text names, if only blanks or a comment follow it in its line.
+fn word_reported(format: Format, text: &[u8]) -> Option<Dialect>
+    ensures { result ≡ spec.word_reported format text.now }
+{
+    if ends_comment(format, after_blanks(after_run(Class::Word, text))) {
         dialect_of_word(first_word(text))
     } else {
         None
     }
 }
 
-/// The language that a comment names with which a text begins.
-fn dialect_told(format: Format, text: &[u8]) -> Option<Dialect>
-    ensures { result ≡ spec.dialect_told format text.now }
+/// The language that a comment at the front of a text names.
+fn dialect_reported(format: Format, text: &[u8]) -> Option<Dialect>
+    ensures { result ≡ spec.dialect_reported format text.now }
 {
-    let comment = behind_blanks(behind_sign(format, text)?);
-    word_told(behind_blanks(behind(comment, b"timefd:")?))
+    let comment = after_blanks(after_sign(format, text)?);
+    word_reported(format, after_blanks(after(comment, b"timefd:")?))
 }
 
-/// The language that a comment names behind the string that is closed at a place, in its line.
-pub fn told_behind(format: Format, source: &[u8], closing: usize) -> Option<Dialect>
-    ensures { result ≡ spec.told_behind format source.now closing }
+/// The language that a comment names after a string, in its line. The string is closed at the byte
+/// `closing`.
+pub fn reported_after(format: Format, source: &[u8], closing: usize) -> Option<Dialect>
+    ensures { result ≡ spec.reported_after format source.now closing }
 {
-    dialect_told(format, behind_run(Class::Aside, from(source, closing)))
+    dialect_reported(format, after_run(Class::Aside, from(source, closing)))
 }
 
-/// The line in front of the one that begins at a place; nothing where that is the first.
+/// The line before the one that begins at a position; empty if that is the first line.
 pub fn line_in_front(source: &[u8], start: usize) -> &[u8]
     requires { start ≤ length source.now }
     ensures { result.now ≡ spec.line_in_front source.now start }
@@ -58,35 +78,35 @@ pub fn line_in_front(source: &[u8], start: usize) -> &[u8]
     &source[line_start(source, 0, 0, end)..end]
 }
 
-/// The language that a comment names that stands alone in the line in front of the one that begins here.
-fn told_in_front(format: Format, source: &[u8], start: usize) -> Option<Dialect>
+/// The language that a comment names that is alone in the line before the one that begins at `start`.
+fn reported_in_front(format: Format, source: &[u8], start: usize) -> Option<Dialect>
     requires { start ≤ length source.now }
-    ensures { result ≡ spec.told_in_front format source.now start }
+    ensures { result ≡ spec.reported_in_front format source.now start }
 {
-    dialect_told(format, behind_blanks(line_in_front(source, start)))
+    dialect_reported(format, after_blanks(line_in_front(source, start)))
 }
 
-/// The line that a place is in.
+/// The line that a position is in.
 #[derive(Clone, Copy)]
 pub struct Line {
-    /// Where it begins.
+    /// Where it begins, as a byte index.
     pub start: usize,
-    /// The language that a comment names that stands alone in the line in front.
-    pub told: Option<Dialect>,
+    /// The language that a comment names that is alone in the line before it.
+    pub reported: Option<Dialect>,
 }
 
 impl Line {
-    /// The first line, which has none in front.
+    /// The first line, which has no line before it.
     pub fn first() -> Line
         ensures { result ≡ spec.first_line }
     {
         Line {
             start: 0,
-            told: None,
+            reported: None,
         }
     }
 
-    /// The line of a later place, if this is that of an earlier one.
+    /// The line of the later position `to`, if this is the line of `from`.
     pub fn later(self, format: Format, source: &[u8], from: usize, to: usize) -> Line
         requires line { IsLineAt format source.now from self }
         requires ordered { from ≤ to }
@@ -99,7 +119,7 @@ impl Line {
         }
         Line {
             start,
-            told: told_in_front(format, source, start),
+            reported: reported_in_front(format, source, start),
         }
     }
 }

@@ -1,4 +1,4 @@
-//! Parts of a string: bytes that stand for themselves, and escapes.
+//! Parts of a string: plain bytes, and escapes.
 
 ghost use Rattle.std.specs.Prelude.{◌≡◌, ◌≤◌, length, MatchOption, ⊤};
 ghost use Rattle.timefd_keys.specs.Escapes as spec;
@@ -11,16 +11,16 @@ use crate::style::Style;
 use timefd_sources::class::is_blank;
 use timefd_sources::part::{Part, Stands, char_part};
 
-// The control character behind the letters of ASCII.
+// The control character after the letters of ASCII.
 const DELETE: u8 = b'\x7f';
 
-fn escape_by(style: Style, byte: u8, behind: &[u8], letter: Option<char>) -> Option<Part<'_>>
-    ensures part { parted_any result ≡ spec.escape_by style byte behind.now letter }
-    ensures within { MatchOption result ⊤ (λ part. length part.rest.now ≤ length behind.now) }
+fn escape_by(style: Style, byte: u8, after: &[u8], letter: Option<char>) -> Option<Part<'_>>
+    ensures part { parted_any result ≡ spec.escape_by style byte after.now letter }
+    ensures within { MatchOption result ⊤ (λ part. length part.rest.now ≤ length after.now) }
 {
     match letter {
-        Some(c) => char_part(behind, Some(c)),
-        None => numeric(style, digit_count(style, byte), behind),
+        Some(c) => char_part(after, Some(c)),
+        None => numeric(style, digit_count(style, byte), after),
     }
 }
 
@@ -30,7 +30,7 @@ fn escape(style: Style, text: &[u8]) -> Option<Part<'_>>
 {
     match text {
         [] => None,
-        [byte, behind @ ..] => escape_by(style, *byte, behind, letter(style, *byte)),
+        [byte, after @ ..] => escape_by(style, *byte, after, letter(style, *byte)),
     }
 }
 
@@ -59,49 +59,49 @@ fn second_apostrophe(text: &[u8]) -> Option<Part<'_>>
     ensures within { MatchOption result ⊤ (λ part. length part.rest.now ≤ length text.now) }
 {
     match text {
-        [b'\'', behind @ ..] => Some(itself(b'\'', behind)),
+        [b'\'', after @ ..] => Some(itself(b'\'', after)),
         _ => None,
     }
 }
 
-fn breaks_plain(byte: u8, behind: &[u8]) -> bool
-    ensures { result ≡ spec.breaks_plain byte behind.now }
+fn breaks_plain(byte: u8, after: &[u8]) -> bool
+    ensures { result ≡ spec.breaks_plain byte after.now }
 {
-    (byte == b':' || is_blank(byte)) && begins_space(behind)
+    (byte == b':' || is_blank(byte)) && begins_space(after)
 }
 
-fn escaped_or(style: Style, byte: u8, behind: &[u8]) -> Option<Part<'_>>
-    ensures part { parted_any result ≡ spec.escaped_or style byte behind.now }
-    ensures within { MatchOption result ⊤ (λ part. length part.rest.now ≤ length behind.now) }
+fn escaped_or(style: Style, byte: u8, after: &[u8]) -> Option<Part<'_>>
+    ensures part { parted_any result ≡ spec.escaped_or style byte after.now }
+    ensures within { MatchOption result ⊤ (λ part. length part.rest.now ≤ length after.now) }
 {
     if byte == b'\\' {
-        escape(style, behind)
+        escape(style, after)
     } else {
-        Some(itself(byte, behind))
+        Some(itself(byte, after))
     }
 }
 
-fn part_by(style: Style, byte: u8, behind: &[u8]) -> Option<Part<'_>>
-    ensures part { parted_any result ≡ spec.part_by style byte behind.now }
-    ensures within { MatchOption result ⊤ (λ part. length part.rest.now ≤ length behind.now) }
+fn part_by(style: Style, byte: u8, after: &[u8]) -> Option<Part<'_>>
+    ensures part { parted_any result ≡ spec.part_by style byte after.now }
+    ensures within { MatchOption result ⊤ (λ part. length part.rest.now ≤ length after.now) }
 {
     match style {
-        Style::Json | Style::Basic | Style::Double => escaped_or(style, byte, behind),
-        Style::Literal => Some(itself(byte, behind)),
-        Style::Single if byte == b'\'' => second_apostrophe(behind),
-        Style::Plain if breaks_plain(byte, behind) => None,
-        Style::Single | Style::Plain => Some(itself(byte, behind)),
+        Style::Json | Style::Basic | Style::Double => escaped_or(style, byte, after),
+        Style::Literal => Some(itself(byte, after)),
+        Style::Single if byte == b'\'' => second_apostrophe(after),
+        Style::Plain if breaks_plain(byte, after) => None,
+        Style::Single | Style::Plain => Some(itself(byte, after)),
     }
 }
 
-/// The part of a string that begins with this byte; none where the format allows none.
-pub fn part_of(style: Style, byte: u8, behind: &[u8]) -> Option<Part<'_>>
-    ensures part { parted_any result ≡ spec.part_of style byte behind.now }
-    ensures within { MatchOption result ⊤ (λ part. length part.rest.now ≤ length behind.now) }
+/// The part of a string that begins with this byte; `None` if the format doesn't allow it.
+pub fn part_of(style: Style, byte: u8, after: &[u8]) -> Option<Part<'_>>
+    ensures part { parted_any result ≡ spec.part_of style byte after.now }
+    ensures within { MatchOption result ⊤ (λ part. length part.rest.now ≤ length after.now) }
 {
     if is_refused(style, byte) {
         None
     } else {
-        part_by(style, byte, behind)
+        part_by(style, byte, after)
     }
 }

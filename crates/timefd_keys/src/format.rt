@@ -11,7 +11,7 @@ pub enum Format {
     Yaml,
 }
 
-/// The format of the file of a name, by its ending.
+/// The format of a file with this name, by its extension.
 pub fn format_named(name: &str) -> Option<Format>
     ensures { result ≡ spec.format_named name.now }
 {

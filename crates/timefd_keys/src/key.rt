@@ -6,39 +6,39 @@ ghost use Rattle.timefd_keys.specs.Keys as spec;
 use timefd_sources::Dialect;
 use timefd_sources::dialect::dialect_named;
 
-/// A key whose strings are descriptions of a language.
+/// A key whose strings are descriptions in this language.
 #[derive(Clone, Copy)]
 pub struct Key<'a> {
     pub name: &'a str,
     pub dialect: Dialect,
 }
 
-/// The language of the first of these keys that has this name.
+/// The language of the first of these keys with this name.
 pub fn dialect_of(keys: &[Key<'_>], name: &[u8]) -> Option<Dialect>
     ensures { result ≡ spec.dialect_of keys.now name.now }
 {
     let mut rest = keys;
-    'keys: while let [key, behind @ ..] = rest {
+    'keys: while let [key, after @ ..] = rest {
         if key.name.as_bytes() == name {
             return Some(key.dialect);
         }
-        rest = behind;
+        rest = after;
     }
     None
 }
 
-/// Why a word is no `KEY=LANGUAGE`.
+/// Why a word isn't a `KEY=LANGUAGE`.
 #[derive(Clone, Copy, Debug, PartialEq, Eq)]
 pub enum KeyFault {
     /// It has no equals sign.
     NoEqualsSign,
-    /// Nothing stands in front of that.
+    /// Nothing precedes the equals sign.
     EmptyName,
-    /// Behind it stands no language.
+    /// What follows the equals sign isn't a language.
     UnknownLanguage,
 }
 
-// The key of a name and the word for its language.
+// The key with this name and the word for its language.
 fn answer_of<'a>(name: &'a str, language: &str) -> Result<Key<'a>, KeyFault>
     ensures { spec.seen result ≡ spec.answer_of name.now language.now }
 {
@@ -51,7 +51,7 @@ fn answer_of<'a>(name: &'a str, language: &str) -> Result<Key<'a>, KeyFault>
     }
 }
 
-/// The key that a word is, as `time_format=3`, where the first equals sign counts; or why it is none.
+/// The key in a word like `time_format=3`, split at the first equals sign; or why there is none.
 pub fn key_of(word: &str) -> Result<Key<'_>, KeyFault>
     ensures { spec.seen result ≡ spec.key_of word.now }
 {
@@ -61,7 +61,7 @@ pub fn key_of(word: &str) -> Result<Key<'_>, KeyFault>
     }
 }
 
-/// Why a word is no `KEY=LANGUAGE`; `None` where it is one.
+/// Why a word isn't a `KEY=LANGUAGE`; `None` if it is one.
 pub fn key_fault(word: &str) -> Option<KeyFault>
     ensures { result ≡ spec.key_fault word.now }
 {

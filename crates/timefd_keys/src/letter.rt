@@ -1,4 +1,4 @@
-//! Letters behind a backslash.
+//! Letters after a backslash.
 
 ghost use Rattle.std.specs.Prelude.{◌≡◌};
 ghost use Rattle.timefd_keys.specs.Escapes as spec;
@@ -76,7 +76,7 @@ fn or_wide(letter: Option<char>, byte: u8) -> Option<char>
     }
 }
 
-/// The character that a letter behind a backslash stands for.
+/// The character that a letter after a backslash denotes.
 pub fn letter(style: Style, byte: u8) -> Option<char>
     ensures { result ≡ spec.letter style byte }
 {
@@ -88,7 +88,8 @@ pub fn letter(style: Style, byte: u8) -> Option<char>
     }
 }
 
-/// How many digits stand behind a letter; 0 where the format hasn't this escape.
+/// The number of digits that follow a letter after a backslash; 0 if the format doesn't have this
+/// escape.
 pub fn digit_count(style: Style, byte: u8) -> usize
     ensures { result ≡ spec.digit_count style byte }
 {

@@ -14,8 +14,11 @@ mod number;
 mod passing;
 mod reading;
 mod scalar;
+mod spot;
+mod step;
 mod style;
+mod visit;
 
 pub use format::{Format, format_named};
-pub use found::descriptions_by;
+pub use found::{Values, descriptions_by, values_by};
 pub use key::{Key, KeyFault, dialect_of, key_fault, key_of};

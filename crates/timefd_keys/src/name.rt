@@ -1,4 +1,4 @@
-//! Names of keys, and where their values stand.
+//! Names of keys, and where their values begin.
 
 ghost use Rattle.std.specs.Prelude.{◌≡◌, ◌≤◌, length, IfOk};
 ghost use Rattle.timefd_keys.specs.Names as spec;
@@ -10,20 +10,21 @@ use crate::format::Format;
 use crate::reading::string_at;
 use crate::style::{begins_plain, is_flow};
 use std::alloc::{AllocError, Global};
-use timefd_sources::class::{Class, behind_run, is_blank, is_line_end};
+use timefd_sources::class::{Class, after_run, is_blank, is_line_end};
 use timefd_sources::line::from;
 use timefd_sources::marks::in_front;
 
 /// What may be the name of a key.
 #[derive(Drop)]
 pub struct Name<'a> {
-    /// The bytes that it stands for.
+    /// The bytes that it denotes.
     pub text: Vec<u8>,
-    /// What stands behind it.
-    pub behind: &'a [u8],
+    /// What follows it.
+    pub after: &'a [u8],
 }
 
-fn is_quote(format: Format, byte: u8) -> bool
+/// Whether a string begins with this byte.
+pub fn is_quote(format: Format, byte: u8) -> bool
     ensures { result ≡ spec.is_quote format byte }
 {
     match format {
@@ -41,38 +42,39 @@ fn begins_comment(text: &[u8]) -> bool
     }
 }
 
-/// Whether a name of YAML without quotes ends in front of this byte.
-fn ends_name(byte: u8, behind: &[u8]) -> bool
-    ensures { result ≡ spec.ends_name byte behind.now }
+/// Whether a YAML name without quotes ends before this byte.
+fn ends_name(byte: u8, after: &[u8]) -> bool
+    ensures { result ≡ spec.ends_name byte after.now }
 {
     is_flow(byte)
         || is_line_end(byte)
-        || byte == b':' && begins_space(behind)
-        || is_blank(byte) && begins_comment(behind)
+        || byte == b':' && begins_space(after)
+        || is_blank(byte) && begins_comment(after)
 }
 
-fn behind_plain(text: &[u8]) -> &[u8]
-    ensures rest { result.now ≡ spec.behind_plain text.now }
+fn after_plain(text: &[u8]) -> &[u8]
+    ensures rest { result.now ≡ spec.after_plain text.now }
     ensures within { length result.now ≤ length text.now }
 {
     let mut rest = text;
-    'bytes: while let [byte, behind @ ..] = rest {
-        if ends_name(*byte, behind) {
+    'bytes: while let [byte, after @ ..] = rest {
+        if ends_name(*byte, after) {
             return rest;
         }
-        rest = behind;
+        rest = after;
     }
     rest
 }
 
-/// What stands behind the name without quotes that a text begins with; all of it where it begins with none.
-fn behind_unquoted(format: Format, text: &[u8]) -> &[u8]
-    ensures rest { result.now ≡ spec.behind_unquoted format text.now }
+/// What follows the name without quotes that a text begins with; the whole text if it doesn't begin with
+/// one.
+fn after_unquoted(format: Format, text: &[u8]) -> &[u8]
+    ensures rest { result.now ≡ spec.after_unquoted format text.now }
     ensures within { length result.now ≤ length text.now }
 {
     match (format, text) {
-        (Format::Toml, _) => behind_run(Class::Bare, text),
-        (Format::Yaml, [byte, behind @ ..]) if begins_plain(*byte, behind) => behind_plain(text),
+        (Format::Toml, _) => after_run(Class::Bare, text),
+        (Format::Yaml, [byte, after @ ..]) if begins_plain(*byte, after) => after_plain(text),
         (Format::Json | Format::Yaml, _) => text,
     }
 }
@@ -101,9 +103,9 @@ fn quoted_name<'a>(
     let Some(reading) = string_at(alloc, format, source, at)? else {
         return Ok(None);
     };
-    let behind = from(from(source, reading.closing), 1);
+    let after = from(from(source, reading.closing), 1);
     let text = reading.unescaped.text;
-    Ok(Some(Name { text, behind }))
+    Ok(Some(Name { text, after }))
 }
 
 fn unquoted_name<'a>(
@@ -113,18 +115,18 @@ fn unquoted_name<'a>(
 ) -> Result<Option<Name<'a>>, AllocError>
     ensures { IfOk result (λ name. seen_any name ≡ spec.unquoted_name format text.now) }
 {
-    let behind = behind_unquoted(format, text);
-    if behind.len() == text.len() {
+    let after = after_unquoted(format, text);
+    if after.len() == text.len() {
         return Ok(None);
     }
-    let word = without_blanks(in_front(text, behind));
+    let word = without_blanks(in_front(text, after));
     Ok(Some(Name {
         text: word.to_vec(alloc)?,
-        behind,
+        after,
     }))
 }
 
-/// The name that stands at a place.
+/// The name at a position.
 pub fn name_at<'a>(
     alloc: Global,
     format: Format,
@@ -141,7 +143,7 @@ pub fn name_at<'a>(
     }
 }
 
-/// What may stand between a name and its value.
+/// The bytes that may be between a name and its value.
 fn between(format: Format) -> Class
     ensures { result ≡ spec.between format }
 {
@@ -160,13 +162,13 @@ fn separator(format: Format) -> u8
     }
 }
 
-/// What begins with the value, behind a name; none where it isn't the name of a key.
-pub fn value_behind(format: Format, text: &[u8]) -> Option<&[u8]>
-    ensures { now_any result ≡ spec.value_behind format text.now }
+/// The text from the value on, given the text after a name; `None` if the name isn't a key's.
+pub fn value_after(format: Format, text: &[u8]) -> Option<&[u8]>
+    ensures { now_any result ≡ spec.value_after format text.now }
 {
     let class = between(format);
-    match behind_run(class, text) {
-        [byte, behind @ ..] if *byte == separator(format) => Some(behind_run(class, behind)),
+    match after_run(class, text) {
+        [byte, after @ ..] if *byte == separator(format) => Some(after_run(class, after)),
         [_, ..] | [] => None,
     }
 }

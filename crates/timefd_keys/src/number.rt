@@ -1,4 +1,4 @@
-//! Numbers of a fixed count of hexadecimal digits.
+//! Numbers with a fixed count of hexadecimal digits.
 
 ghost use Rattle.std.specs.Prelude.{◌≡◌, ◌≤◌, length, MatchOption, Some, ⊤};
 ghost use Rattle.timefd_keys.specs.Escapes.{numbered_any};
@@ -6,7 +6,7 @@ ghost use Rattle.timefd_keys.specs.Escapes as spec;
 
 use timefd_sources::number::{hex_digit, next_value};
 
-/// A number, and what stands behind it.
+/// A number, and what follows it.
 #[derive(Clone, Copy)]
 pub struct Number<'a> {
     pub value: u32,
@@ -25,8 +25,8 @@ fn with_rest(value: Option<u32>, rest: &[u8]) -> Option<Number<'_>>
     }
 }
 
-/// The number of so many hexadecimal digits that a text begins with; none where it is greater than that
-/// of any character.
+/// The number of `count` hexadecimal digits that a text begins with; `None` if it has fewer digits, or
+/// if the number is greater than every code point.
 pub fn number_of(count: usize, text: &[u8]) -> Option<Number<'_>>
     ensures number { numbered_any result ≡ spec.number count (Some 0) text.now }
     ensures within { MatchOption result ⊤ (λ number. length number.rest.now ≤ length text.now) }
@@ -36,12 +36,12 @@ pub fn number_of(count: usize, text: &[u8]) -> Option<Number<'_>>
     let mut left = count;
     let mut rest = text;
     'digits: while left > 0 {
-        let [byte, behind @ ..] = rest else {
+        let [byte, after @ ..] = rest else {
             return None;
         };
         value = next_value(value, hex_digit(*byte));
         left -= 1;
-        rest = behind;
+        rest = after;
     }
     with_rest(value, rest)
 }

@@ -1,84 +1,105 @@
-//! What is passed over in front of the next name: comments, strings of several lines, single signs.
+//! What is skipped before the next name: comments, strings of several lines, single signs.
 
-ghost use Rattle.std.specs.Prelude.{◌≡◌};
+ghost use Rattle.std.specs.Prelude.{◌≡◌, false};
 ghost use Rattle.timefd_keys.specs.Depths.{depth_at};
+ghost use Rattle.timefd_keys.specs.Passing as spec;
 
 use crate::format::Format;
-use timefd_sources::class::is_blank;
+use timefd_sources::class::{Class, after_run, is_blank, is_line_end};
 use timefd_sources::line::from;
 
-/// How many bytes stand in front of a text in another; all of them where it doesn't stand there.
-fn len_before(text: &[u8], wanted: &[u8]) -> usize {
+/// The text from the wanted bytes on; nothing if it doesn't have them.
+fn reaching<'a>(text: &'a [u8], wanted: &[u8]) -> &'a [u8]
+    ensures { result.now ≡ spec.reaching wanted.now text.now }
+{
     let mut rest = text;
-    'bytes: while let [_, behind @ ..] = rest {
+    'bytes: while let [_, after @ ..] = rest {
         if rest.starts_with(wanted) {
-            return text.len().saturating_sub(rest.len());
+            return rest;
         }
-        rest = behind;
+        rest = after;
     }
-    text.len()
+    rest
 }
 
-/// The length of a string of several lines whose quotes are these three, from the first of them on.
-fn lines_len(text: &[u8], quotes: &[u8], escapes: bool) -> usize {
-    let mut rest = from(text, 3);
-    'bytes: while let [byte, behind @ ..] = rest {
-        if rest.starts_with(quotes) {
-            return text.len().saturating_sub(rest.len()).saturating_add(3);
+/// What follows a string of several lines, given the text after its first three quotes. A backslash escapes
+/// the byte after it if `has_escapes`.
+fn after_lines<'a>(text: &'a [u8], quotes: &[u8], has_escapes: bool) -> &'a [u8]
+    ensures { result.now ≡ spec.after_lines quotes.now has_escapes false text.now }
+{
+    let mut rest = text;
+    let mut is_escaped = false;
+    'bytes: while let [byte, after @ ..] = rest {
+        if !is_escaped && rest.starts_with(quotes) {
+            return from(rest, 3);
         }
-        rest = match behind {
-            [_, far @ ..] if escapes && *byte == b'\\' => far,
-            _ => behind,
-        };
+        is_escaped = !is_escaped && has_escapes && *byte == b'\\';
+        rest = after;
     }
-    text.len()
+    rest
 }
 
-fn toml_len(text: &[u8]) -> usize {
-    if text.starts_with(b"#") {
-        len_before(text, b"\n")
-    } else if text.starts_with(b"\"\"\"") {
-        lines_len(text, b"\"\"\"", true)
-    } else if text.starts_with(b"'''") {
-        lines_len(text, b"'''", false)
-    } else {
-        1
+/// Whether a comment may begin at a position of a YAML file.
+fn is_after_space(source: &[u8], at: usize) -> bool
+    ensures { result ≡ spec.is_after_space source.now at }
+{
+    if at == 0 {
+        return true;
     }
-}
-
-fn json_len(text: &[u8]) -> usize {
-    if text.starts_with(b"//") {
-        len_before(text, b"\n")
-    } else if text.starts_with(b"/*") {
-        len_before(text, b"*/")
-    } else {
-        1
+    match from(source, at - 1) {
+        [byte, ..] => is_blank(*byte) || is_line_end(*byte),
+        [] => true,
     }
 }
 
-/// Whether a comment may begin at a place of YAML.
-fn is_behind_space(source: &[u8], at: usize) -> bool {
-    match source.get(at.wrapping_sub(1)) {
-        Some(byte) => is_blank(*byte) || *byte == b'\n',
-        None => true,
-    }
-}
-
-/// How many bytes at a place are passed over, where no name stands.
-pub fn passed_len(format: Format, source: &[u8], at: usize) -> usize {
+/// Whether a comment begins at a position.
+pub fn begins_comment_at(format: Format, source: &[u8], at: usize) -> bool
+    ensures { result ≡ spec.begins_comment_at format source.now at }
+{
     let text = from(source, at);
     match format {
-        Format::Toml => toml_len(text),
-        Format::Json => json_len(text),
-        Format::Yaml if text.starts_with(b"#") && is_behind_space(source, at) => len_before(
-            text, b"\n",
-        ),
-        Format::Yaml => 1,
+        Format::Toml => text.starts_with(b"#"),
+        Format::Json => text.starts_with(b"//") || text.starts_with(b"/*"),
+        Format::Yaml => text.starts_with(b"#") && is_after_space(source, at),
     }
 }
 
-/// How many brackets are open behind the byte at a place, if this many are in front of it.
-pub fn depth_behind(source: &[u8], at: usize, depth: usize) -> usize
+/// What follows the comment that a text begins with; the end of its line doesn't belong to it.
+fn after_comment(text: &[u8]) -> &[u8]
+    ensures { result.now ≡ spec.after_comment text.now }
+{
+    if text.starts_with(b"/*") {
+        from(reaching(from(text, 2), b"*/"), 2)
+    } else {
+        after_run(Class::Line, text)
+    }
+}
+
+/// What follows a text's first byte, or the string of several lines that it begins with.
+fn after_quotes(format: Format, text: &[u8]) -> &[u8]
+    ensures { result.now ≡ spec.after_quotes format text.now }
+{
+    match format {
+        Format::Toml if text.starts_with(b"\"\"\"") => after_lines(from(text, 3), b"\"\"\"", true),
+        Format::Toml if text.starts_with(b"'''") => after_lines(from(text, 3), b"'''", false),
+        Format::Toml | Format::Json | Format::Yaml => from(text, 1),
+    }
+}
+
+/// What follows the bytes that are skipped at a position without a name.
+pub fn after_passed(format: Format, source: &[u8], at: usize) -> &[u8]
+    ensures { result.now ≡ spec.after_passed format source.now at }
+{
+    let text = from(source, at);
+    if begins_comment_at(format, source, at) {
+        after_comment(text)
+    } else {
+        after_quotes(format, text)
+    }
+}
+
+/// How many brackets are open after the byte at a position, if `depth` are open before it.
+pub fn depth_after(source: &[u8], at: usize, depth: usize) -> usize
     ensures { result ≡ depth_at source.now at depth }
 {
     match source.get(at) {

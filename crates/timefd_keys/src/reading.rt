@@ -1,4 +1,4 @@
-//! What a string stands for.
+//! What a string denotes.
 
 ghost use Rattle.std.specs.Prelude.{◌≡◌, ◌≤◌, length, IfOk};
 ghost use Rattle.timefd_keys.specs.Strings as spec;
@@ -11,53 +11,53 @@ use std::alloc::{AllocError, Global};
 use timefd_sources::Unescaped;
 use timefd_sources::part::push_part;
 
-/// What a string stands for, and where.
+/// What a string denotes, and where.
 #[derive(Drop)]
 pub struct Reading {
-    /// Its bytes, and for each the place of what stands for it: its own, or that of the backslash.
+    /// Its bytes, and for each the position of what denotes it: its own, or the backslash of its escape.
     pub unescaped: Unescaped,
-    /// The place of what closes the string: the quote, or what stands behind it.
+    /// The position of what closes the string: the quote, or what follows a string without quotes.
     pub closing: usize,
 }
 
-fn told_as(text: Vec<u8>, places: Vec<usize>, closing: usize) -> Option<Reading>
-    ensures { seen_any result ≡ spec.told_as text.items places.items closing }
+fn reported_as(text: Vec<u8>, positions: Vec<usize>, closing: usize) -> Option<Reading>
+    ensures { seen_any result ≡ spec.reported_as text.items positions.items closing }
 {
     Some(Reading {
-        unescaped: Unescaped { text, places },
+        unescaped: Unescaped { text, positions },
         closing,
     })
 }
 
-/// The bytes that a string stands for, up to what closes it; none where nothing does, or where the format
-/// doesn't allow what stands there. The text ends at the byte `end` of its source.
+/// The bytes that a string denotes, up to what closes it; `None` if nothing closes it, or if the format
+/// doesn't allow what is in it. The text ends at the byte `end` of its source.
 #[tactic(auto, using(crate::proofs::ReadingLemmas::at_first))]
 fn read(alloc: Global, style: Style, all: &[u8], end: usize) -> Result<Option<Reading>, AllocError>
     requires { length all.now ≤ end }
     ensures { IfOk result (λ answer. seen_any answer ≡ spec.read_all style end all.now) }
 {
     let mut text = Vec::new(alloc);
-    let mut places = Vec::new(alloc);
+    let mut positions = Vec::new(alloc);
     let mut rest = all;
-    'parts: while let [byte, behind @ ..] = rest {
-        let place = end - rest.len();
-        if closes(style, *byte, behind) {
-            return Ok(told_as(text, places, place));
+    'parts: while let [byte, after @ ..] = rest {
+        let position = end - rest.len();
+        if closes(style, *byte, after) {
+            return Ok(reported_as(text, positions, position));
         }
-        let Some(next) = part_of(style, *byte, behind) else {
+        let Some(next) = part_of(style, *byte, after) else {
             return Ok(None);
         };
-        push_part(&mut text, &mut places, next.stands, place)?;
+        push_part(&mut text, &mut positions, next.stands, position)?;
         rest = next.rest;
     }
     if is_closed_by_end(style) {
-        return Ok(told_as(text, places, end));
+        return Ok(reported_as(text, positions, end));
     }
     Ok(None)
 }
 
-/// The string that a text begins with, which ends at the byte `end` of its source; none where it begins
-/// with none.
+/// The string that a text begins with; `None` if it doesn't begin with one. The text ends at the byte
+/// `end` of its source.
 fn first_string(
     alloc: Global,
     format: Format,
@@ -67,20 +67,20 @@ fn first_string(
     requires { length text.now ≤ end }
     ensures { IfOk result (λ answer. seen_any answer ≡ spec.first_string format end text.now) }
 {
-    let [byte, behind @ ..] = text else {
+    let [byte, after @ ..] = text else {
         return Ok(None);
     };
-    let Some(style) = style_of(format, *byte, behind) else {
+    let Some(style) = style_of(format, *byte, after) else {
         return Ok(None);
     };
     if is_quoted(style) {
-        read(alloc, style, behind, end)
+        read(alloc, style, after, end)
     } else {
         read(alloc, style, text, end)
     }
 }
 
-/// The string that begins at a place of a source; none where none does.
+/// The string that begins at a position of a source; `None` if none does.
 #[tactic(auto, using(crate::proofs::ReadingLemmas::beyond))]
 pub fn string_at(
     alloc: Global,

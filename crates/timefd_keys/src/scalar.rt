@@ -1,4 +1,4 @@
-//! Escapes by the number of a character.
+//! Escapes that give a code point.
 
 ghost use Rattle.std.specs.Prelude.{◌≡◌, ◌≤◌, length, MatchOption, Some, IsTrue, ⊤};
 ghost use Rattle.timefd_keys.specs.Escapes.{numbered, numbered_any};
@@ -29,12 +29,12 @@ fn joined(first: u32, second: u32) -> u32
     65536 + (first - 55296) * 1024 + (second - 56320)
 }
 
-fn behind_letter(text: &[u8]) -> Option<Number<'_>>
-    ensures number { numbered_any result ≡ spec.behind_letter text.now }
+fn after_letter(text: &[u8]) -> Option<Number<'_>>
+    ensures number { numbered_any result ≡ spec.after_letter text.now }
     ensures within { MatchOption result ⊤ (λ number. length number.rest.now ≤ length text.now) }
 {
     match text {
-        [b'u', behind @ ..] => number_of(4, behind),
+        [b'u', after @ ..] => number_of(4, after),
         _ => None,
     }
 }
@@ -44,12 +44,12 @@ fn second_half(text: &[u8]) -> Option<Number<'_>>
     ensures within { MatchOption result ⊤ (λ number. length number.rest.now ≤ length text.now) }
 {
     match text {
-        [b'\\', behind @ ..] => behind_letter(behind),
+        [b'\\', after @ ..] => after_letter(after),
         _ => None,
     }
 }
 
-// The character of two halves.
+// The character of two surrogate halves.
 fn paired(first: u32, second: Number<'_>) -> Option<Part<'_>>
     requires { IsTrue (spec.is_first_half first) }
     ensures part { parted_any result ≡ spec.pair first (Some (numbered second.entry)) }
@@ -93,7 +93,7 @@ fn scalar_part(style: Style, number: Number<'_>) -> Option<Part<'_>>
     }
 }
 
-/// The character of an escape with this many digits, which stand behind its letter.
+/// The character of an escape with `count` digits. The text begins after the escape's letter.
 pub fn numeric(style: Style, count: usize, text: &[u8]) -> Option<Part<'_>>
     ensures part { parted_any result ≡ spec.numeric style count text.now }
     ensures within { MatchOption result ⊤ (λ part. length part.rest.now ≤ length text.now) }

@@ -3,7 +3,7 @@
 ghost use Rattle.std.specs.Prelude.{◌≡◌};
 ghost use Rattle.timefd_keys.specs.Styles as spec;
 
-use crate::bytes::{begins_space, behind_blanks};
+use crate::bytes::{after_blanks, begins_space};
 use crate::format::Format;
 use timefd_sources::class::{is_blank, is_line_end};
 
@@ -33,10 +33,10 @@ fn begins_two(byte: u8, text: &[u8]) -> bool
     }
 }
 
-fn toml_style(byte: u8, behind: &[u8]) -> Option<Style>
-    ensures { result ≡ spec.toml_style byte behind.now }
+fn toml_style(byte: u8, after: &[u8]) -> Option<Style>
+    ensures { result ≡ spec.toml_style byte after.now }
 {
-    if begins_two(byte, behind) {
+    if begins_two(byte, after) {
         None
     } else if byte == b'"' {
         Some(Style::Basic)
@@ -47,7 +47,7 @@ fn toml_style(byte: u8, behind: &[u8]) -> Option<Style>
     }
 }
 
-/// Whether a byte is a sign of lists and tables in one line.
+/// Whether a byte is a sign of YAML's inline lists and tables.
 pub fn is_flow(byte: u8) -> bool
     ensures { result ≡ spec.is_flow byte }
 {
@@ -74,42 +74,42 @@ fn is_mark(byte: u8) -> bool
     byte == b'-' || byte == b'?' || byte == b':'
 }
 
-/// Whether a byte begins a string of YAML without quotes.
-pub fn begins_plain(byte: u8, behind: &[u8]) -> bool
-    ensures { result ≡ spec.begins_plain byte behind.now }
+/// Whether a byte begins a YAML string without quotes.
+pub fn begins_plain(byte: u8, after: &[u8]) -> bool
+    ensures { result ≡ spec.begins_plain byte after.now }
 {
     if byte <= b' ' || is_flow(byte) || is_other_indicator(byte) {
         false
     } else if is_mark(byte) {
-        !begins_space(behind)
+        !begins_space(after)
     } else {
         true
     }
 }
 
-fn yaml_style(byte: u8, behind: &[u8]) -> Option<Style>
-    ensures { result ≡ spec.yaml_style byte behind.now }
+fn yaml_style(byte: u8, after: &[u8]) -> Option<Style>
+    ensures { result ≡ spec.yaml_style byte after.now }
 {
     if byte == b'"' {
         Some(Style::Double)
     } else if byte == b'\'' {
         Some(Style::Single)
-    } else if begins_plain(byte, behind) {
+    } else if begins_plain(byte, after) {
         Some(Style::Plain)
     } else {
         None
     }
 }
 
-/// How a string is written that begins with this byte; `None` where none does.
-pub fn style_of(format: Format, byte: u8, behind: &[u8]) -> Option<Style>
-    ensures { result ≡ spec.style_of format byte behind.now }
+/// How a string that begins with this byte is written; `None` if no string does.
+pub fn style_of(format: Format, byte: u8, after: &[u8]) -> Option<Style>
+    ensures { result ≡ spec.style_of format byte after.now }
 {
     match format {
-        Format::Toml => toml_style(byte, behind),
+        Format::Toml => toml_style(byte, after),
         Format::Json if byte == b'"' => Some(Style::Json),
         Format::Json => None,
-        Format::Yaml => yaml_style(byte, behind),
+        Format::Yaml => yaml_style(byte, after),
     }
 }
 
@@ -123,10 +123,10 @@ pub fn ends_line(text: &[u8]) -> bool
     }
 }
 
-fn ends_plain(byte: u8, behind: &[u8]) -> bool
-    ensures { result ≡ spec.ends_plain byte behind.now }
+fn ends_plain(byte: u8, after: &[u8]) -> bool
+    ensures { result ≡ spec.ends_plain byte after.now }
 {
-    is_line_end(byte) || is_blank(byte) && ends_line(behind_blanks(behind))
+    is_line_end(byte) || is_blank(byte) && ends_line(after_blanks(after))
 }
 
 fn begins_apostrophe(text: &[u8]) -> bool
@@ -139,14 +139,14 @@ fn begins_apostrophe(text: &[u8]) -> bool
 }
 
 /// Whether this byte closes a string.
-pub fn closes(style: Style, byte: u8, behind: &[u8]) -> bool
-    ensures { result ≡ spec.closes style byte behind.now }
+pub fn closes(style: Style, byte: u8, after: &[u8]) -> bool
+    ensures { result ≡ spec.closes style byte after.now }
 {
     match style {
         Style::Json | Style::Basic | Style::Double => byte == b'"',
         Style::Literal => byte == b'\'',
-        Style::Single => byte == b'\'' && !begins_apostrophe(behind),
-        Style::Plain => ends_plain(byte, behind),
+        Style::Single => byte == b'\'' && !begins_apostrophe(after),
+        Style::Plain => ends_plain(byte, after),
     }
 }
 
@@ -160,7 +160,7 @@ pub fn is_closed_by_end(style: Style) -> bool
     }
 }
 
-/// Whether a string has a quote in front.
+/// Whether a string begins with a quote.
 pub fn is_quoted(style: Style) -> bool
     ensures { result ≡ spec.is_quoted style }
 {

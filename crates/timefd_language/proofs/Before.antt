@@ -1,4 +1,4 @@
--- Texts behind which another stands, without the brackets of `++`.
+-- Texts that another text follows, without the parentheses of `++`.
 use Rattle.std.proofs.Common.{◌≡◌, List, [], ◌∷◌, ◌++◌, refl, ◌∙◌, ap, append_assoc, append-nil}
 use Rattle.timefd_component.specs.Tree.{Text}
 use Rattle.timefd_language.specs.Bytes.{left, right, backslash, colon}
@@ -91,7 +91,7 @@ mutual
       ap (λ x. spelling ps ++ right ∷ x) (nested_before-is ns tail))
       ∙ regroup_three white (left ∷ spelling ps) (right ∷ nested_text ns) tail
 
--- what a broken text is, in both forms
+-- both forms of a broken text are the same text
 pub broken_before-is : (b : Broken) → broken_before b ≡ broken_text b
 broken_before-is (bare_closing rest) = refl
 broken_before-is (half_escape rest) = refl

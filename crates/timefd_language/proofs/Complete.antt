@@ -1,4 +1,4 @@
--- Whatever is put together from pieces is read as those pieces.
+-- A text that is put together from pieces is read as those pieces.
 use Rattle.std.proofs.Common.{ℕ, zero, suc, ◌≡◌, ◌+◌, ◌≤◌, ◌==◌, false, ◌∷◌, ◌++◌, length, refl, ◌∙◌, ap, arith, Ok}
 use Rattle.timefd_language.specs.declared.description_version.DescriptionVersion.{DescriptionVersion}
 use Rattle.timefd_language.specs.declared.description_version.DescriptionVersion.TheVariants.{One, Two, Three}
@@ -49,13 +49,13 @@ pub closed_of-at : (v : DescriptionVersion) (h : Head) (r : NestedReading)
 closed_of-at v h r = refl
 
 -- A bracket whose nested descriptions are read as r.
-pub read-bracket : (k : ℕ) (v : DescriptionVersion) (limit n : ℕ) (h : Head) (text behind : Text)
+pub read-bracket : (k : ℕ) (v : DescriptionVersion) (limit n : ℕ) (h : Head) (text after : Text)
     (r : NestedReading) (c : Closed)
-    → start_of k v n text ≡ at_head h behind → read_nested k v limit n behind ≡ r
+    → start_of k v n text ≡ at_head h after → read_nested k v limit n after ≡ r
     → closed_of v h r ≡ c
     → read (suc k) v limit n text ≡ with_bracket (λ t. read k v limit n t) c
-read-bracket k v limit n h text behind r c e f g =
-    read-from k v limit n text (at_head h behind) e
+read-bracket k v limit n h text after r c e f g =
+    read-from k v limit n text (at_head h after) e
     ∙ ap (λ x. with_bracket (λ t. read k v limit n t) (closed_of v h x)) f
     ∙ ap (with_bracket (λ t. read k v limit n t)) g
 
@@ -66,16 +66,16 @@ unfolding closed_of
 closed_of-tree v h ns white rest tree e = ap (judged h ns white rest) e
 
 -- no run follows a run
-stops_behind : (ps : Pieces) (v : DescriptionVersion) (limit n : ℕ) (tail : Text)
+stops_after : (ps : Pieces) (v : DescriptionVersion) (limit n : ℕ) (tail : Text)
     → ArePieces v limit n ps → BeginsNoRun ps → StopsBefore (is_run_byte v) tail
     → StopsBefore (is_run_byte v) (before ps tail)
-stops_behind no_pieces v limit n tail are ends s = s
-stops_behind (run bytes rest) v limit n tail are ends s = absurd ends
-stops_behind (escape a b rest) One limit n tail are ends s = rw (are.0.0) refl
-stops_behind (escape a b rest) Two limit n tail are ends s = rw (are.0.0) refl
-stops_behind (escape a b rest) Three limit n tail are ends s = rw (are.0.0) refl
-stops_behind (closing rest) v limit n tail are ends s = refl
-stops_behind (bracket h ns white tree rest) v limit n tail are ends s = refl
+stops_after no_pieces v limit n tail are ends s = s
+stops_after (run bytes rest) v limit n tail are ends s = absurd ends
+stops_after (escape a b rest) One limit n tail are ends s = rw (are.0.0) refl
+stops_after (escape a b rest) Two limit n tail are ends s = rw (are.0.0) refl
+stops_after (escape a b rest) Three limit n tail are ends s = rw (are.0.0) refl
+stops_after (closing rest) v limit n tail are ends s = refl
+stops_after (bracket h ns white tree rest) v limit n tail are ends s = refl
 
 pub whole_before : (ns : Nested) (b : ℕ) (rest : Text) → is_word_byte b ≡ false
     → IsWholeBefore ns (b ∷ rest)
@@ -100,7 +100,7 @@ closed_read v limit n rest (suc j) e =
     read-from j v limit (suc n) (right ∷ rest) (at_closing rest)
     (start-closing j v (suc n) rest (omega arith))
 
--- Where the tail is read as nothing and a stop, pieces before it are read as those and the stop.
+-- If the tail is read as no pieces and a stop, pieces before it are read as those pieces and that stop.
 mutual
   pub pieces_read : (ps : Pieces) (v : DescriptionVersion) (limit n : ℕ) (tail : Text) (stop : Stop)
       (m : ℕ)
@@ -112,7 +112,7 @@ mutual
   pieces_read (run bytes rest) v limit n tail stop m are s next (suc k) enough =
       read-from k v limit n (bytes ++ before rest tail) (at_run bytes (before rest tail))
       (start-run k v n bytes (before rest tail) are.0
-      (stops_behind rest v limit n tail are.2 are.1 s))
+      (stops_after rest v limit n tail are.2 are.1 s))
       ∙ ap (λ r. reading (run bytes r.front) r.stop)
       (pieces_read rest v limit n tail stop m are.2 s next k (omega arith))
   pieces_read (escape a b rest) v limit n tail stop m are s next zero enough = absurd (omega arith)

@@ -118,7 +118,7 @@ none-counted (b ∷ digits) not = by (digits_value 0 (b ∷ digits)) refl
           subst (λ m. m < 2 ^ 16) (sym read.1) small,
         ))
 
--- no number
+-- not a number
 pub unread_count : {E : Type 0} (text : Text) (r : Result ℕ E) → ParsesUnsigned 16 10 text r
     → None ≡ result_ok r → None ≡ count_of text
 unread_count text (Ok n) p e = absurd cc

@@ -1,4 +1,4 @@
--- A longest front whose bytes pass, by its length, and where it ends.
+-- The longest front whose bytes pass: its length, and where it ends.
 use Rattle.std.proofs.Common.{◌≡◌, ℕ, zero, suc, ◌+◌, ◌-◌, length-drop, take_all, ◌<◌, ◌≤◌, Bool, true, false, List, [], ◌∷◌, length, take, drop, cond, ap, ◌∙◌, IsUtf8, refl, sym, subst, inl, inr, arith, add-one, take-append-drop}
 use Rattle.std.proofs.lemmas.Bool.{cases_lt, cases_Bool, and_from}
 use Rattle.std.proofs.lemmas.Bool.Decides.{nat_tests}
@@ -26,7 +26,7 @@ ascii_run : (p : ℕ → Bool) (bs : List ℕ) → IsUtf8 bs → ((c : ℕ) → 
     → IsCharBoundary bs (prefix_len p bs)
 ascii_run p bs = after_ascii_run p bs _ refl
 
--- and so does a run that only an ASCII byte stops
+-- so does a run that only an ASCII byte stops
 wide_run : (p : ℕ → Bool) (bs : List ℕ) → ((c : ℕ) → p c ≡ false → c < 128)
     → IsCharBoundary bs (prefix_len p bs)
 wide_run p bs ascii =
@@ -74,9 +74,9 @@ cut_at_prefix p text front rest n e f r =
       stops = rest_stops p text;
     })
 
-pub utf8_behind : (class : Class) (text rest : Text) (n : ℕ)
+pub utf8_after : (class : Class) (text rest : Text) (n : ℕ)
     → n ≡ prefix_len (class_test class) text → IsUtf8 text → rest ≡ drop n text → IsUtf8 rest
-utf8_behind class text rest n e utf8 r =
+utf8_after class text rest n e utf8 r =
     rw (r, e) (IsUtf8-drop text (prefix_len (class_test class) text) utf8
     (boundary class text utf8))
 
@@ -90,7 +90,7 @@ front_len p q bytes n same e =
     let len : n ≡ prefix_len p bytes = e ∙ ap (λ test. prefix_len test bytes) (λ i b. same b i) in
     (len, omega (arith, len, prefix_len-le-length p bytes))
 
--- Where all bytes of one test pass another, a front by the first is within that by the second.
+-- If all bytes that pass one test pass another, the front by the first is within the front by the second.
 pub longer_front : (q p : ℕ → Bool) (bytes : Text) (n : ℕ) → ((b : ℕ) → q b ≡ true → p b ≡ true)
     → n ≤ prefix_len q bytes → n ≤ prefix_len p bytes
 longer_front q p [] n passes le = le
@@ -108,7 +108,7 @@ longer_front q p (b ∷ bytes) (suc n) passes le = elim (cases_Bool (q b)) [
   ))
 ]
 
--- the front from a place within it on
+-- the front, from an index within it on
 pub front_from : (p : ℕ → Bool) (bytes : Text) (n : ℕ) → n ≤ prefix_len p bytes
     → n + prefix_len p (drop n bytes) ≡ prefix_len p bytes
 front_from p bytes zero le = omega arith
@@ -125,7 +125,7 @@ front_from p (b ∷ bytes) (suc n) le = elim (cases_Bool (p b)) [
   ))
 ]
 
--- the same, as a part of the bytes is read
+-- the front from an index within it on, where the bytes are read as a part with a length
 pub front_from_part : (p : ℕ → Bool) (bytes : Text) (n : ℕ) → n ≤ prefix_len p bytes
     → n + prefix_len p (take (length bytes - n) (drop n bytes)) ≡ prefix_len p bytes
 front_from_part p bytes n le =

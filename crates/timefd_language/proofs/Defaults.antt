@@ -1,4 +1,4 @@
--- Each key's first word sets what holds by default in version 3.
+-- The first word of each key sets its default of version 3.
 use Rattle.std.proofs.Common.{◌≡◌, refl, List, [], ◌∷◌, ◌++◌, true}
 use Rattle.timefd_language.specs.declared.setting.Setting.{Setting}
 use Rattle.timefd_language.specs.declared.setting.Settings.{Settings}

@@ -1,4 +1,4 @@
--- No two names, keys or values are the same without regard to case.
+-- No two names, keys or values are the same, even if case is ignored.
 use Rattle.std.proofs.Common.{map, refl, IsTrue}
 use Rattle.timefd_language.specs.declared.key.Key.{Key}
 use Rattle.timefd_language.specs.declared.name.ComponentName.{ComponentName}

@@ -1,4 +1,4 @@
--- Each text is found to be what it is.
+-- Each text is read, and the reading is a correct one.
 use Rattle.std.proofs.Common.{ℕ, zero, suc, ◌≡◌, ◌<◌, ◌≤◌, ◌==◌, Bool, true, false, [], ◌∷◌, ◌++◌, length, length-append, refl, sym, ◌∙◌, ap, subst, arith, Result, Ok, Err, eqb-true}
 use Rattle.std.specs.List.{list_all}
 use Rattle.std.proofs.lemmas.Bool.{both_ways, and_parts, or_from}
@@ -65,12 +65,12 @@ judged_is v limit n h ns white rest (Err f) ih an w e = ((ih, an, w, e), refl)
 no_bracket : (b : ℕ) → (b == left) ≡ false → (b == right) ≡ false → is_bracket_byte b ≡ false
 no_bracket b l r = or_from (b == left) (b == right) l r
 
--- with no nested description, no word stands behind the white bytes
+-- without a nested description, no word follows the white bytes
 whole_before_at : (ns : Nested) (white rest : Text) → ZeroOrMore is_white white
     → StopsBefore is_white rest → NoWord (nested_before ns (white ++ rest)) → IsWholeBefore ns rest
 whole_before_at no_nested white rest w s no_word =
     subst (λ c. StopsBefore is_word_byte c.rest) (span-exact is_white white rest w s)
-    no_word.behind_white
+    no_word.after_white
 whole_before_at (nested white' ps ns) white rest w s no_word = tt
 
 ended_by_is : (v : DescriptionVersion) (limit n : ℕ) (h : Head) (ns : Nested) (white rest : Text)
@@ -110,11 +110,11 @@ stopped_by_is v limit n h ns (inner_broke white front b) ih an is no_word =
 stopped_by_is v limit n h ns (inner_ended white front) ih an is no_word =
     ((ih, an, is.0, is.1, is.2), refl)
 
-closed_of_is : (v : DescriptionVersion) (limit n : ℕ) (h : Head) (behind : Text) (r : NestedReading)
-    → IsHead h → NoWord behind → NestedOf v limit n behind r
-    → ClosedIs v limit n (head_before h behind) (closed_of v h r)
+closed_of_is : (v : DescriptionVersion) (limit n : ℕ) (h : Head) (after : Text) (r : NestedReading)
+    → IsHead h → NoWord after → NestedOf v limit n after r
+    → ClosedIs v limit n (head_before h after) (closed_of v h r)
 unfolding closed_of
-closed_of_is v limit n h behind r ih no_word is =
+closed_of_is v limit n h after r ih no_word is =
     subst (λ x. ClosedIs v limit n (head_before h x) (stopped_by v h r.front r.stop)) (sym is.whole)
     (stopped_by_is v limit n h r.front r.stop ih is.front is.stop (subst NoWord is.whole no_word))
 
@@ -131,7 +131,7 @@ begins_no_run (escape a b rest) v limit n tail are s = tt
 begins_no_run (closing rest) v limit n tail are s = tt
 begins_no_run (bracket h ns white tree rest) v limit n tail are s = tt
 
--- Shorter texts are read right.
+-- Shorter texts are read correctly.
 abbrev pub ReadsBelow : DescriptionVersion → ℕ → ℕ → Text → (Text → Reading) → Type 0
 ReadsBelow v limit n text next = (t : Text) → length t < length text
     → ReadingOf v limit n t (next t)

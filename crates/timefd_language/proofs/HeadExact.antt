@@ -1,4 +1,4 @@
--- What is put together from words, modifiers and a head is read as that.
+-- A text that is put together from words, modifiers and a head is read as those.
 use Rattle.std.proofs.Common.{ℕ, zero, suc, ◌≡◌, ◌<◌, List, [], ◌∷◌, ◌++◌, length, refl, sym, ◌∙◌, ap, append_assoc, arith}
 use Rattle.std.proofs.lemmas.Bool.{and_parts}
 use Rattle.timefd_component.specs.Tree.{Text}
@@ -37,12 +37,12 @@ word_of-misfits (no_value (b ∷ key)) h =
 
 -- Modifiers.
 
-read_modifiers-at : (k : ℕ) (text white behind word rest : Text)
-    → span is_white text ≡ cut white behind → span is_word_byte behind ≡ cut word rest
+read_modifiers-at : (k : ℕ) (text white after word rest : Text)
+    → span is_white text ≡ cut white after → span is_word_byte after ≡ cut word rest
     → read_modifiers (suc k) text ≡ modifiers_continued (λ t. read_modifiers k t) text white word
     rest
 unfolding read_modifiers
-read_modifiers-at k text white behind word rest e f = rw e (rw f refl)
+read_modifiers-at k text white after word rest e f = rw e (rw f refl)
 
 pub modifiers-none : (k : ℕ) (white rest : Text) → ZeroOrMore is_white white
     → StopsBefore is_white rest → StopsBefore is_word_byte rest
@@ -129,16 +129,16 @@ with_modifiers-misfit [] white m rest = refl
 with_modifiers-misfit (x ∷ ms) white m rest =
     ap (with_modifier x) (with_modifiers-misfit ms white m rest)
 
--- Heads: what stands behind `[`.
+-- Heads: what follows `[`.
 
-abbrev pub head_behind : Head → Text → Text
-head_behind h tail = h.white ++ (h.name ++ modifiers_before h.modifiers tail)
+abbrev pub head_after : Head → Text → Text
+head_after h tail = h.white ++ (h.name ++ modifiers_before h.modifiers tail)
 
-head_start-at : (k : ℕ) (text white behind name rest : Text) → span is_white text ≡ cut white behind
-    → span is_word_byte behind ≡ cut name rest
+head_start-at : (k : ℕ) (text white after name rest : Text) → span is_white text ≡ cut white after
+    → span is_word_byte after ≡ cut name rest
     → head_start k text ≡ named k white name rest
 unfolding head_start
-head_start-at k text white behind name rest e f = rw e (rw f refl)
+head_start-at k text white after name rest e f = rw e (rw f refl)
 
 head_start-named : (k : ℕ) (white name rest : Text) → ZeroOrMore is_white white
     → OneOrMore is_word_byte name → StopsBefore is_word_byte rest
@@ -160,7 +160,7 @@ head_start-nameless k white rest w s t =
 pub head_start-misfit : (k : ℕ) (h : Head) (white : Text) (m : Misfit) (rest : Text) → IsHead h
     → length h.modifiers < k
     → OneOrMore is_white white → IsMisfit m → StopsBefore is_word_byte rest
-    → head_start k (head_behind h (white ++ misfit_before m rest)) ≡ at_broken
+    → head_start k (head_after h (white ++ misfit_before m rest)) ≡ at_broken
     (ill_modified h white m rest)
 head_start-misfit k h white m rest ih below w im s =
     head_start-named k h.white h.name _ ih.white ih.name
@@ -173,10 +173,10 @@ head_start-misfit k h white m rest ih below w im s =
     white_first : StopsBefore is_word_byte (white ++ misfit_before m rest)
     white_first = stops_one is_white is_word_byte white-not_word white _ w
 
--- white bytes and then no word, and no word at once: a whole head goes before it
+-- white bytes and then no word, or no word right away: a complete head comes before it
 pub head_start-whole : (k : ℕ) (h : Head) (white rest : Text) → IsHead h → length h.modifiers < k
     → ZeroOrMore is_white white → StopsBefore is_white rest → StopsBefore is_word_byte rest
-    → head_start k (head_behind h (white ++ rest)) ≡ at_head h (white ++ rest)
+    → head_start k (head_after h (white ++ rest)) ≡ at_head h (white ++ rest)
 head_start-whole k h white rest ih below w s t =
     head_start-named k h.white h.name _ ih.white ih.name
     (modifiers_stop h.modifiers _ ih.modifiers first_stops)

@@ -1,4 +1,4 @@
--- What reading finds is there.
+-- The text really consists of what reading finds.
 use Rattle.std.proofs.Common.{ℕ, zero, suc, ◌≡◌, ◌<◌, ◌==◌, ◌⊎◌, inl, inr, not, Bool, true, false, [], ◌∷◌, ◌++◌, length, length-append, refl, sym, ◌∙◌, ap, subst, arith, append_assoc, append-nil, eqb-true}
 use Rattle.std.specs.List.{list_all}
 use Rattle.std.proofs.lemmas.Bool.{and_parts, and_cases, both_ways, not-false, and_from}
@@ -25,7 +25,7 @@ WordIs word (fits key value) = OneOrMore is_key_byte key × OneOrMore is_word_by
     × (word ≡ key ++ colon ∷ value)
 WordIs word (misfits m) = IsMisfit m × (word ≡ misfit_text m)
 
--- a word byte that is no key byte is a colon
+-- a word byte that isn't a key byte is a colon
 is_colon : (b : ℕ) → is_word_byte b ≡ true → is_key_byte b ≡ false → b ≡ colon
 is_colon b w k = by (and_cases (not (b == colon)) (is_word_byte b) k)
   where
@@ -57,10 +57,10 @@ word_is word w = keyed_is word _ _ w (span-is_span is_key_byte word)
 
 -- Modifiers.
 
--- neither a word nor white bytes and a word stand here
+-- neither a word nor white bytes and a word follow
 pub record NoWord (text : Text) : Type 0 where
   pub now : StopsBefore is_word_byte text
-  pub behind_white : StopsBefore is_word_byte (span is_white text).rest
+  pub after_white : StopsBefore is_word_byte (span is_white text).rest
 
 abbrev pub ModifiersAre : Text → ModifiersRead → Type 0
 ModifiersAre text (all_fit ms rest) = AreModifiers ms × NoWord rest
@@ -89,27 +89,27 @@ word_continued_is next white word rest (fits key value) iw s more h =
 word_continued_is next white word rest (misfits m) iw s more h =
     (tt, iw, h.0, s, ap (λ x. white ++ x) (ap (λ x. x ++ rest) h.1 ∙ sym (misfit_before-is m rest)))
 
-modifiers_continued_is : (next : Text → ModifiersRead) (text white behind word rest : Text)
+modifiers_continued_is : (next : Text → ModifiersRead) (text white after word rest : Text)
     → StopsBefore is_word_byte text
-    → span is_white text ≡ cut white behind → IsSpan is_white text (cut white behind)
-    → IsSpan is_word_byte behind (cut word rest)
+    → span is_white text ≡ cut white after → IsSpan is_white text (cut white after)
+    → IsSpan is_word_byte after (cut word rest)
     → ((t : Text) → length t < length text → StopsBefore is_word_byte t → ModifiersAre t (next t))
     → ModifiersAre text (modifiers_continued next text white word rest)
-modifiers_continued_is next text [] behind word rest s e c d more = (
+modifiers_continued_is next text [] after word rest s e c d more = (
   tt,
-  record { now = s; behind_white = rw e (subst (StopsBefore is_word_byte) c.joined s) },
+  record { now = s; after_white = rw e (subst (StopsBefore is_word_byte) c.joined s) },
   refl,
 )
-modifiers_continued_is next text (b ∷ white) behind [] rest s e c d more = (
+modifiers_continued_is next text (b ∷ white) after [] rest s e c d more = (
   tt,
   record {
     now = s;
-    behind_white =
+    after_white =
         rw e (subst (StopsBefore is_word_byte) (sym d.joined) d.stops);
   },
   refl,
 )
-modifiers_continued_is next text (b ∷ white) behind (x ∷ word) rest s e c d more =
+modifiers_continued_is next text (b ∷ white) after (x ∷ word) rest s e c d more =
     subst (λ t. ModifiersAre t (word_continued next (b ∷ white) rest (word_of (x ∷ word))))
     (sym whole)
     (word_continued_is next (b ∷ white) (x ∷ word) rest (word_of (x ∷ word)) c.passes d.stops

@@ -1,4 +1,4 @@
--- Pieces behind pieces: where two runs meet, they are one.
+-- Pieces after pieces: where two runs meet, they become one.
 use Rattle.std.proofs.Common.{ℕ, ◌≡◌, ◌+◌, Bool, List, [], ◌∷◌, ◌++◌, length, length-append, refl, sym, ◌∙◌, ap, arith, append_assoc}
 use Rattle.timefd_language.specs.declared.description_version.DescriptionVersion.{DescriptionVersion}
 use Rattle.timefd_component.specs.Tree.{Text, Tree, component, literal, compound, optional, first, joined, before_joined}
@@ -11,7 +11,7 @@ use Rattle.timefd_language.specs.Broken.{broken_text, broken_fault}
 use Rattle.timefd_language.specs.Laws.{Joining, Shift}
 use Rattle.timefd_language.proofs.Spans.{all-append, zero_from_one}
 
--- a run before pieces, one with the run that they begin with
+-- a run before pieces, joined with the run that they begin with
 abbrev pub with_run : Text → Pieces → Pieces
 with_run bytes no_pieces = run bytes no_pieces
 with_run bytes (run more rest) = run (bytes ++ more) rest
@@ -73,7 +73,7 @@ join-pieces v limit n (closing rest) qs are are' =
 join-pieces v limit n (bracket h ns white tree rest) qs are are' =
     (are.0, are.1, are.2, are.3, join-pieces v limit n rest qs are.4 are')
 
--- Two literals before a list are as good as one.
+-- Two literals before a list mean the same as one.
 pub literals_joined : (a b : Text) (ts : List Tree)
     → before_joined (literal (a ++ b)) ts ≡ before_joined (literal a) (before_joined (literal b) ts)
 literals_joined a b [] = refl

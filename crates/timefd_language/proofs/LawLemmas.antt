@@ -6,19 +6,19 @@ use Rattle.timefd_fault.specs.Faults.{Fault}
 use Rattle.timefd_language.specs.Fault.{raised}
 use Rattle.timefd_language.specs.Grammar.{Pieces, spelling, items, Spells}
 use Rattle.timefd_language.specs.Broken.{broken_fault, FaultOf}
-use Rattle.timefd_language.specs.Front.{Stop, ended, closed, broke, text_behind, Reading, Reads}
+use Rattle.timefd_language.specs.Front.{Stop, ended, closed, broke, text_after, Reading, Reads}
 use Rattle.timefd_language.specs.Laws.{IsAnswered, OneAnswer, OneCut, OneReading}
 use Rattle.timefd_language.proofs.Reader.{reading, read, answer_from, answer_of}
 use Rattle.timefd_language.proofs.Before.{before-is, broken_before-is}
 use Rattle.timefd_language.proofs.Readings.{stop_text, reading_text, IsReading, one_reading}
 use Rattle.timefd_language.proofs.Found.{ReadingOf, found}
 
-stop_text-is : (stop : Stop) → stop_text stop ≡ text_behind stop
+stop_text-is : (stop : Stop) → stop_text stop ≡ text_after stop
 stop_text-is ended = refl
 stop_text-is (closed rest) = refl
 stop_text-is (broke b) = broken_before-is b
 
-reading_text-is : (r : Reading) → reading_text r ≡ spelling r.front ++ text_behind r.stop
+reading_text-is : (r : Reading) → reading_text r ≡ spelling r.front ++ text_after r.stop
 reading_text-is r = before-is r.front (stop_text r.stop) ∙
     ap (λ x. spelling r.front ++ x) (stop_text-is r.stop)
 
@@ -70,11 +70,11 @@ fault_reads : (v : DescriptionVersion) (limit : ℕ) (text : Text) (f : Fault)
     (h : FaultOf v limit text f) → Reads v limit 0 text (reading h.0 (broke h.1))
 fault_reads v limit text f h = record { front = h.2; stop = h.3; whole = h.4 }
 
--- the fault of a reading that breaks off
-fault_behind : Pieces → Stop → Fault → Fault
-fault_behind front ended f = f
-fault_behind front (closed rest) f = f
-fault_behind front (broke b) f = raised (broken_fault b) (length (spelling front))
+-- the fault of a reading that stops at a broken text
+fault_after : Pieces → Stop → Fault → Fault
+fault_after front ended f = f
+fault_after front (closed rest) f = f
+fault_after front (broke b) f = raised (broken_fault b) (length (spelling front))
 
 breaks : Stop → Type 0
 breaks ended = ⊥
@@ -93,7 +93,7 @@ answered v limit text front (broke b) h =
     )
 
 pub one_answer_law : OneAnswer
-unfolding fault_behind breaks
+unfolding fault_after breaks
 one_answer_law v limit text = (
   answered v limit text _ _ (some_reading v limit 0 text (omega arith)),
   record {
@@ -101,7 +101,7 @@ one_answer_law v limit text = (
         (one_read v limit 0 text _ _ (spelled_reads v limit text a h)
         (spelled_reads v limit text b k)) ∙ sym k.3;
     one_fault = λ f g h k.
-        h.5 ∙ ap (λ r. fault_behind r.front r.stop f)
+        h.5 ∙ ap (λ r. fault_after r.front r.stop f)
         (one_read v limit 0 text _ _ (fault_reads v limit text f h)
         (fault_reads v limit text g k)) ∙ sym k.5;
     not_both = λ a f h k. subst (λ r. breaks r.stop)

@@ -30,9 +30,9 @@ pub mod Named
 pub mod Counts
 pub mod StringLemmas
 pub mod Settle
-pub mod PlacesWithin
-pub mod VerdictPlaces
-pub mod PlacesBetween
+pub mod PositionsWithin
+pub mod VerdictPositions
+pub mod PositionsBetween
 pub mod DistinctLemmas
 pub mod ShortWords
 pub mod PlacedLemmas

@@ -13,7 +13,7 @@ use Rattle.timefd_language.specs.Verdict.{PlacedDescription, ◌or◌, unless, b
 use Rattle.timefd_language.specs.Grammar.{Pieces, Nested, no_pieces, run, escape, closing, bracket, no_nested, nested, spelling, nested_text, items, ArePieces, is_empty, parts_from}
 use Rattle.timefd_language.specs.Rewritten.{doubled, rewritten}
 use Rattle.timefd_language.specs.Laws.{Lifting}
-use Rattle.timefd_language.proofs.Roomy.{behind_ok}
+use Rattle.timefd_language.proofs.Roomy.{after_ok}
 use Rattle.timefd_language.proofs.Spans.{zero_from_one}
 use Rattle.timefd_language.proofs.Join.{with_run, with_run-spelling, with_run-pieces, with_run-joined, literals_joined}
 
@@ -38,7 +38,7 @@ nested_refuses : (h : Head) (p : PlacedDescription) (ps : List PlacedDescription
     (t : Tree) → verdict false h (p ∷ ps) close ≡ Ok t → ⊥
 nested_refuses h p ps close t e =
     chosen (same false (codes "optional") h.name) (optional_verdict false h (p ∷ ps) close) _ (Ok t)
-    (behind_ok (touching (p ∷ ps)) _ t e)
+    (after_ok (touching (p ∷ ps)) _ t e)
     (λ o. unless_fault-last (bad_modifiers false (format ∷ []) [] (placed h)) (too_many (p ∷ ps))
     None (fault optional_item 0) _ t o)
     (λ r. chosen (same false (codes "first") h.name) (first_verdict false h (p ∷ ps) close) _ (Ok t)
@@ -79,7 +79,7 @@ doubled_pieces-spelling (b ∷ bytes) ps = by (b == backslash) (doubled_pieces-s
     by true e = ap (λ x. backslash ∷ backslash ∷ x) e
     by false e = with_run-spelling (b ∷ []) (doubled_pieces bytes ps) ∙ ap (λ x. b ∷ x) e
 
--- a run byte of version 1 that is no backslash is one of version 2
+-- a run byte of version 1 that isn't a backslash is a run byte of version 2
 run_byte : (b : ℕ) → is_run_byte One b ≡ true → (b == backslash) ≡ false → is_run_byte Two b ≡ true
 run_byte b h e = by (or_cases (not (is_special b)) ((b == backslash) && true) h)
   where

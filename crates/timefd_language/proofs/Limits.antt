@@ -1,4 +1,4 @@
--- What a greater limit keeps.
+-- What stays the same with a greater limit.
 use Rattle.std.proofs.Common.{ℕ, suc, ◌≡◌, ◌≢◌, ◌≤◌, refl, ◌∙◌, ap, arith}
 use Rattle.timefd_language.specs.declared.description_version.DescriptionVersion.{DescriptionVersion}
 use Rattle.timefd_fault.specs.Faults.{Kind}
@@ -36,7 +36,7 @@ mutual
     nested_grow ns v low high n more are.3,
   )
 
--- A fault that is too deep inside is too deep outside.
+-- If the inner fault is that of too deep nesting, so is the outer one.
 enclosed_deep : (kind : Kind) (index k : ℕ) → kind ≡ too_highly_nested
     → (enclosed kind index k).kind ≡ too_highly_nested
 enclosed_deep kind index k e = ap (λ x. (enclosed x index k).kind) e

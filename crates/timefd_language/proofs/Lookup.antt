@@ -20,7 +20,7 @@ equal-true (a ∷ x) (b ∷ y) e =
     let t : x ≡ y = equal-true x y p.1 in
     cc
 
--- all of a list have a property
+-- each element of a list has a property
 abbrev pub Each : {A : Type 0} → (A → Type 0) → List A → Type 0
 Each P [] = ⊤
 Each P (x ∷ xs) = P x × Each P xs
@@ -30,7 +30,7 @@ pub each-map : {A B : Type 0} (f : A → B) (P : B → Type 0) (xs : List A) →
 each-map f P [] all = tt
 each-map f P (x ∷ xs) all = (all x, each-map f P xs all)
 
--- a property that a test tells
+-- a property that a test decides
 pub each-passes : {A : Type 0} (test : A → Bool) (P : A → Type 0) → ((x : A) → test x ≡ true → P x)
     → (xs : List A) → list_all test xs ≡ true → Each P xs
 each-passes test P tells [] e = tt
@@ -38,7 +38,7 @@ each-passes test P tells (x ∷ xs) e =
     let p = and_parts (test x) (list_all test xs) e in
     (tells x p.0, each-passes test P tells xs p.1)
 
--- what is found by its exact name is one of the list, and has that name
+-- what is found by its exact name is an element of the list, and has that name
 pub named-found : {A : Type 0} (name : A → Text) (P : A → Type 0) (text : Text) (xs : List A)
     (x : A) → Each P xs → named name true text xs ≡ Some x
     → P x × (name x ≡ text)
@@ -65,7 +65,7 @@ named-recased name a b (x ∷ xs) e =
 abbrev pub IsLowered : Text → Type 0
 IsLowered text = map lowered text ≡ text
 
--- where all names are in lower case, case makes no difference to such a text
+-- if all names are in lower case, case makes no difference to such a text
 pub named-lowered : {A : Type 0} (name : A → Text) (text : Text) (xs : List A)
     → Each (λ x. IsLowered (name x)) xs → IsLowered text
     → named name false text xs ≡ named name true text xs

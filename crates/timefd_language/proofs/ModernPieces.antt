@@ -19,7 +19,7 @@ use Rattle.timefd_language.specs.Letters.{Flag, Letter, letters, is_one_of, item
 use Rattle.timefd_language.specs.Strftime.{Directives, no_directives, plain, directive, directive_items, AreDirectives}
 use Rattle.timefd_language.specs.Laws.{Modernity, StrftimeModernity}
 use Rattle.timefd_language.proofs.Lookup.{Each, each-map, each-passes}
-use Rattle.timefd_language.proofs.Roomy.{behind_ok, made_ok, verdict_has}
+use Rattle.timefd_language.proofs.Roomy.{after_ok, made_ok, verdict_has}
 
 -- Rows.
 
@@ -85,7 +85,7 @@ name_modern ComponentName.Year = λ s c e. made_modern _ c e
 rows_modern : Each IsModernRow rows
 rows_modern = each-map row_for IsModernRow component_names name_modern
 
--- what holds of each row holds of the one that is found
+-- what holds of each row holds of the row that is found
 pub row_has : (P : Row → Type 0) (strict : Bool) (name : Text) (rs : List Row) (r : Row)
     → Each P rs → named (λ x. x.name) strict name rs ≡ Some r → P r
 row_has P strict name [] r all e = absurd cc
@@ -104,7 +104,7 @@ component_modern : (strict : Bool) (h : Head) (tree : Tree) (o : Option Row)
 component_modern strict h tree None known e = absurd cc
 component_modern strict h tree (Some r) known e =
     let leaf = made_ok strict h (r.component (settings strict r.keys (placed h))) tree
-    (behind_ok (bad_modifiers strict r.keys [] (placed h))
+    (after_ok (bad_modifiers strict r.keys [] (placed h))
     (made strict h (r.component (settings strict r.keys (placed h)))) tree e) in
     subst IsModern leaf.1 (row_has IsModernRow strict h.name rows r rows_modern known
     (settings strict r.keys (placed h)) leaf.0 leaf.2)
@@ -212,7 +212,7 @@ letters_modern f =
     each-passes (λ l. all_current (l.item f)) (λ l. IsModern (l.item f))
     (λ l e. all_modern (l.item f) e) letters refl
 
--- what holds of each letter's item holds of the one that is found
+-- what holds of each letter's item holds of the item that is found
 pub item_has : (P : Tree → Type 0) (ls : List Letter) (f : Flag) (b : ℕ) (tree : Tree)
     → Each (λ l. P (l.item f)) ls → item_in ls f b ≡ Some tree → P tree
 item_has P [] f b tree all e = absurd cc

@@ -1,4 +1,4 @@
--- Looking up names: those of another length than the text need no comparison.
+-- Looking up names: names of another length than the text needn't be compared.
 use Rattle.std.proofs.Common.{ℕ, ◌≡◌, ◌≢◌, ◌==◌, Bool, true, false, List, [], ◌∷◌, map, length, Option, Some, None, refl, sym, ap, ◌∙◌, eq-eqb}
 use Rattle.std.proofs.lemmas.Bool.{both_ways}
 use Rattle.std.proofs.lemmas.List.{length-map}
@@ -14,13 +14,13 @@ same-length false a b e =
     sym (length-map a lowered) ∙ ap length (equal-true (map lowered a) (map lowered b) e) ∙
     length-map b lowered
 
--- those whose name has so many bytes
+-- the elements whose name has n bytes
 abbrev pub of_length : {A : Type 0} → (A → Text) → ℕ → List A → List A
 of_length name n [] = []
 of_length name n (x ∷ xs) = elim (length (name x) == n)
     [ true ↦ x ∷ of_length name n xs | false ↦ of_length name n xs ]
 
--- the first, or what is found behind it
+-- the first element, or what is found after it
 abbrev first_or : {A : Type 0} → Bool → A → Option A → Option A
 first_or b x o = elim b [ true ↦ Some x | false ↦ o ]
 
@@ -63,14 +63,14 @@ unmatched name strict text (x ∷ xs) all =
 
 -- Names of components.
 
--- no name of this length is the text
+-- none of the names of this length is the text
 pub unnamed : (strict : Bool) (text : Text) (n : ℕ) → length text ≡ n
     → Each (λ r. false ≡ same strict r.name text) (of_length (λ r. r.name) n rows)
     → None ≡ row_of strict text
 unnamed strict text n e all = missed (λ r. r.name) strict text (of_length (λ r. r.name) n rows) all
     ∙ sym (named-of_length (λ r. r.name) strict text n rows e)
 
--- the second of two of this length
+-- the second of two names of this length
 pub second_named : (strict : Bool) (text : Text) (n : ℕ) (x y : ComponentName)
     → of_length (λ r. r.name) n rows ≡ row_for x ∷ row_for y ∷ [] → length text ≡ n
     → false ≡ same strict (row_for x).name text → true ≡ same strict (row_for y).name text

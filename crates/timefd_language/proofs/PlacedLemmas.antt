@@ -1,16 +1,16 @@
--- Faults of a text stand in it, between two characters.
+-- The index of a fault is in its text, between two characters.
 use Rattle.std.proofs.Common.{ℕ, IsUtf8}
 use Rattle.timefd_component.specs.Tree.{Text}
 use Rattle.timefd_fault.specs.Faults.{Fault}
 use Rattle.timefd_language.specs.declared.description_version.DescriptionVersion.{DescriptionVersion}
 use Rattle.timefd_fault.specs.declared.parse_error.ParseError.{ParseError}
-use Rattle.timefd_fault.specs.declared.parse_error.ParseError.TheVariants as told
+use Rattle.timefd_fault.specs.declared.parse_error.ParseError.TheVariants as reported
 use Rattle.timefd_language.specs.Broken.{FaultOf}
 use Rattle.timefd_language.specs.Strftime.{StrftimeFaultOf}
-use Rattle.timefd_language.proofs.PlacesBetween.{placed_between_law, strftime_placed_between_law}
+use Rattle.timefd_language.proofs.PositionsBetween.{placed_between_law, strftime_placed_between_law}
 use Rattle.timefd_fault.specs.declared.borrowed_parse_error.BorrowedParseError.{BorrowedParseError}
 use Rattle.timefd_fault.specs.declared.borrowed_parse_error.BorrowedParseError.TheVariants.{Invalid, Memory}
-use Rattle.timefd_fault.specs.BorrowedFaults.{lent_fault, IsLentOf, IsOwned}
+use Rattle.timefd_fault.specs.BorrowedFaults.{to_borrowed_fault, IsBorrowedOf, IsOwned}
 use Rattle.timefd_fault.specs.Placed.{IsPlaced, HasPlacedFault}
 use Rattle.timefd_fault.proofs.OwnedLemmas.{owned_of}
 
@@ -22,14 +22,14 @@ pub is_strftime_placed : (text : Text) → IsUtf8 text → (f : Fault) → Strft
     → IsPlaced text f
 is_strftime_placed text utf8 f is = strftime_placed_between_law text f utf8 is
 
--- what holds of each fault of a kind holds of one that is lent
-pub lent_more : (P Q : Fault → Type 0) → ((f : Fault) → P f → Q f) → (e : BorrowedParseError)
-    → IsLentOf P e → IsLentOf Q e
-lent_more P Q more (Invalid f) is = more (lent_fault f) is
-lent_more P Q more (Memory m) is = tt
+-- what holds of each fault with a property holds of a borrowed fault with it
+pub borrowed_more : (P Q : Fault → Type 0) → ((f : Fault) → P f → Q f) → (e : BorrowedParseError)
+    → IsBorrowedOf P e → IsBorrowedOf Q e
+borrowed_more P Q more (Invalid f) is = more (to_borrowed_fault f) is
+borrowed_more P Q more (Memory m) is = tt
 
--- a copy of the fault has its place
+-- a copy of the fault has the same index
 pub owned_placed : (text : Text) (e : BorrowedParseError) (r : ParseError)
-    → IsLentOf (IsPlaced text) e → IsOwned e r → HasPlacedFault text r
-owned_placed text e (told.Memory m) is owned = tt
-owned_placed text e (told.Invalid x) is owned = owned_of (IsPlaced text) e x is owned
+    → IsBorrowedOf (IsPlaced text) e → IsOwned e r → HasPlacedFault text r
+owned_placed text e (reported.Memory m) is owned = tt
+owned_placed text e (reported.Invalid x) is owned = owned_of (IsPlaced text) e x is owned

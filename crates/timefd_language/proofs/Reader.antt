@@ -1,5 +1,5 @@
--- Reading a text: its pieces, and what stands behind them. Each step has one more than the steps in
--- it, so that reading ends; the text's length is enough.
+-- Reading a text: its pieces, and what stops them. Each step has a number one greater than the steps
+-- inside of it, so reading ends. The length of the text is a large enough number to start with.
 use Rattle.std.proofs.Common.{ℕ, zero, suc, ◌==◌, nat_lt, Bool, true, false, List, [], ◌∷◌, Result, Ok, Err, length}
 use Rattle.timefd_language.specs.declared.description_version.DescriptionVersion.{DescriptionVersion}
 use Rattle.timefd_language.specs.declared.description_version.DescriptionVersion.TheVariants.{One, Two, Three}
@@ -20,13 +20,13 @@ pub record Cut : Type 0 where
 abbrev pub cut : Text → Text → Cut
 cut front rest = record { front = front; rest = rest }
 
-abbrev pub behind_one : ℕ → Cut → Cut
-behind_one b c = cut (b ∷ c.front) c.rest
+abbrev pub after_one : ℕ → Cut → Cut
+after_one b c = cut (b ∷ c.front) c.rest
 
 unfoldable pub span : (ℕ → Bool) → Text → Cut
 span test [] = cut [] []
 span test (b ∷ bytes) = elim (test b)
-    [ true ↦ behind_one b (span test bytes) | false ↦ cut [] (b ∷ bytes) ]
+    [ true ↦ after_one b (span test bytes) | false ↦ cut [] (b ∷ bytes) ]
 
 -- Words.
 
@@ -39,7 +39,7 @@ valued [] value = misfits (no_key value)
 valued (b ∷ key) [] = misfits (no_value (b ∷ key))
 valued (b ∷ key) (c ∷ value) = fits (b ∷ key) (c ∷ value)
 
--- a front of key bytes, and what stands behind it
+-- a front of key bytes, and what follows it
 abbrev pub keyed : Text → Text → WordRead
 keyed key [] = misfits (no_colon key)
 keyed key (c ∷ value) = valued key value
@@ -60,7 +60,7 @@ abbrev pub with_modifier : Modifier → ModifiersRead → ModifiersRead
 with_modifier m (all_fit ms rest) = all_fit (m ∷ ms) rest
 with_modifier m (one_misfits ms white word rest) = one_misfits (m ∷ ms) white word rest
 
--- white bytes, a word as it was read, and the rest, of which next are the modifiers
+-- white bytes, a word as it was read, and the rest, whose modifiers are `next`
 abbrev pub word_continued : (Text → ModifiersRead) → Text → Text → WordRead → ModifiersRead
 word_continued next white rest (fits key value) =
     with_modifier (modifier white key value) (next rest)
@@ -103,7 +103,7 @@ abbrev pub named : ℕ → Text → Text → Text → Start
 named k white [] rest = at_broken (nameless white rest)
 named k white (b ∷ name) rest = head_continued white (b ∷ name) (read_modifiers k rest)
 
--- what stands behind a `[` that is no escape
+-- what follows a `[` that isn't an escape
 unfoldable pub head_start : ℕ → Text → Start
 head_start k text =
     let w = span is_white text in
@@ -144,7 +144,7 @@ start_of k v n (b ∷ text) =
       ]
     ]
 
--- What a nested description begins with, if one stands there.
+-- What a nested description begins with, if there is one.
 
 pub data NestedStart : Type 0 where
   no_more : Text → Text → NestedStart
@@ -167,7 +167,7 @@ nested_start_of limit n text = let w = span is_white text in nested_at limit n w
 abbrev pub reading : Pieces → Stop → Reading
 reading front stop = record { front = front; stop = stop }
 
--- Nested descriptions, and what stands behind them.
+-- Nested descriptions, and what follows them.
 
 pub data NestedStop : Type 0 where
   over : Text → Text → NestedStop

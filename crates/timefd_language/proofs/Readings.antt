@@ -15,7 +15,7 @@ use Rattle.timefd_language.proofs.StartExact.{start-bare, start-half, start-name
 use Rattle.timefd_language.proofs.Complete.{size, nested_size, read-from, read_nested-from, read-bracket, pieces_read, nested_read, none_read, closed_read, whole_before}
 use Rattle.timefd_language.proofs.Sizes.{size_fits, broken_size, broken_size_fits}
 
--- A broken text begins with no run.
+-- A broken text doesn't begin with a run.
 broken_stops : (b : Broken) (v : DescriptionVersion) (limit n : ℕ) → IsBroken v limit n b
     → StopsBefore (is_run_byte v) (broken_before b)
 broken_stops (bare_closing rest) v limit n is = refl
@@ -60,7 +60,7 @@ inner_read-at v limit n white text front stop m w below inner (suc j) p =
     (nested_start-inner limit n white text w below)
     ∙ ap (inner_read (λ t. read_nested j v limit n t) white) (inner j (omega arith))
 
--- A bracket whose nested descriptions stop so fails.
+-- A bracket whose nested descriptions stop like this is broken.
 fails_read : (k : ℕ) (v : DescriptionVersion) (limit n : ℕ) (h : Head) (ns : Nested)
     (white rest : Text) (stop : NestedStop) (m : ℕ) (b : Broken)
     → IsHead h → AreNested v limit n ns → ZeroOrMore is_white white → StopsBefore is_white rest
@@ -199,12 +199,12 @@ stop_read front (broke b) v limit n k are is enough =
       broken_size_fits b v limit n is,
     ))
 
--- Every reading of a text is the one that read finds.
+-- Every reading of a text is the one that `read` finds.
 pub reading_read : (v : DescriptionVersion) (limit n k : ℕ) (r : Reading) → IsReading v limit n r
     → length (reading_text r) < k → read k v limit n (reading_text r) ≡ r
 reading_read v limit n k r is enough = stop_read r.front r.stop v limit n k is.front is.stop enough
 
--- So a text has at most one.
+-- So a text has at most one reading.
 pub one_reading : (v : DescriptionVersion) (limit n : ℕ) (r s : Reading) → IsReading v limit n r
     → IsReading v limit n s → reading_text r ≡ reading_text s → r ≡ s
 one_reading v limit n r s ir is e =

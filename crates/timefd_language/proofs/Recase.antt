@@ -14,17 +14,17 @@ use Rattle.timefd_language.specs.Settings.{defaults}
 use Rattle.timefd_language.specs.Values.{Values, words, numbers, Key, sets_of, key_in, setting_in, counted, count_of, digits_of, digits_value, format}
 use Rattle.timefd_language.specs.Names.{Row, rows, row_of}
 use Rattle.timefd_component.specs.declared.component.Component.{Component}
-use Rattle.timefd_language.specs.Verdict.{PlacedDescription, ◌or◌, unless, behind, refuse, bad_modifier, bad_modifiers, setting_of, with_option, settings_from, settings, made, any_modifier, is_formatted, only, optional_verdict, first_verdict, component_verdict, verdict}
+use Rattle.timefd_language.specs.Verdict.{PlacedDescription, ◌or◌, unless, after, refuse, bad_modifier, bad_modifiers, setting_of, with_option, settings_from, settings, made, any_modifier, is_formatted, only, optional_verdict, first_verdict, component_verdict, verdict}
 use Rattle.timefd_language.specs.Grammar.{Pieces, no_pieces, run, escape, closing, bracket, Nested, no_nested, nested, items, nested_text, BeginsNoRun, ArePieces, bracket_verdict, parts_from}
 use Rattle.timefd_language.specs.Laws.{Recasing}
-use Rattle.timefd_language.proofs.Roomy.{behind_ok}
+use Rattle.timefd_language.proofs.Roomy.{after_ok}
 use Rattle.timefd_language.proofs.Lookup.{named-recased}
 use Rattle.timefd_language.proofs.Lift.{bracket_refuses, unless_fault}
 use Rattle.timefd_language.specs.Recased.{SameButCase, RecasedModifiers, RecasedHead, Recased}
 
 -- Bytes.
 
--- a byte below `A` is no letter, and so is what has the same lower case
+-- a byte below `A` isn't a letter, so a byte with the same lower case is equal to it
 fixed : (b c : ℕ) → lowered b ≡ lowered c → b < 65 → c ≡ b
 fixed b c e low = by (nat_le 65 c && nat_le c 90) refl
   where
@@ -59,7 +59,7 @@ letter-key b low high (inl h) = key_byte b low (λ e. omega arith) (λ e. omega 
 letter-key b low high (inr h) = key_byte b low (λ e. omega arith) (λ e. omega arith)
     (λ e. omega arith)
 
--- a test that lower case keeps
+-- a test that gives the same for a letter of either case
 Keeps : (ℕ → Bool) → Type 0
 Keeps test = (b : ℕ) → test (lowered b) ≡ test b
 
@@ -127,7 +127,7 @@ head_recased h g r ih = record {
 
 -- Tables.
 
--- one byte at a time: digits and the sign are no letters
+-- one byte at a time: digits and the sign aren't letters
 is_digit : ℕ → Bool
 is_digit b = nat_le 48 b && nat_le b 57
 
@@ -267,14 +267,14 @@ settings_from-recased keys s (m ∷ ms) ns j k r =
 
 -- Brackets.
 
-pub behind_none : (o : Option Fault) (r : Result Tree Fault) (t : Tree) → behind o r ≡ Ok t
+pub after_none : (o : Option Fault) (r : Result Tree Fault) (t : Tree) → after o r ≡ Ok t
     → o ≡ None
-behind_none (Some f) r t e = absurd cc
-behind_none None r t e = refl
+after_none (Some f) r t e = absurd cc
+after_none None r t e = refl
 
-pub none_behind : (o : Option Fault) (r : Result Tree Fault) → o ≡ None → behind o r ≡ r
-none_behind (Some f) r e = absurd cc
-none_behind None r e = refl
+pub none_after : (o : Option Fault) (r : Result Tree Fault) → o ≡ None → after o r ≡ r
+none_after (Some f) r e = absurd cc
+none_after None r e = refl
 
 made-recased : (h g : Head) (r : Result Component Kind) (tree : Tree) → made false h r ≡ Ok tree
     → made false g r ≡ Ok tree
@@ -285,16 +285,16 @@ component-recased : (h g : Head) (o : Option Row) (tree : Tree) → RecasedHead 
     → component_verdict false h o ≡ Ok tree → component_verdict false g o ≡ Ok tree
 component-recased h g None tree r e = absurd cc
 component-recased h g (Some row) tree r e =
-    none_behind (bad_modifiers false row.keys [] (placed g))
+    none_after (bad_modifiers false row.keys [] (placed g))
     (made false g (row.component (settings false row.keys (placed g))))
     (good_modifiers row.keys h.modifiers g.modifiers _ _ [] [] r.modifiers
-    (behind_none (bad_modifiers false row.keys [] (placed h))
+    (after_none (bad_modifiers false row.keys [] (placed h))
     (made false h (row.component (settings false row.keys (placed h)))) tree e))
     ∙ ap (λ s. made false g (row.component s))
     (sym (settings_from-recased row.keys (defaults false) h.modifiers g.modifiers
     (name_index h + length h.name) (name_index g + length g.name) r.modifiers))
     ∙ made-recased h g (row.component (settings false row.keys (placed h))) tree
-    (behind_ok (bad_modifiers false row.keys [] (placed h))
+    (after_ok (bad_modifiers false row.keys [] (placed h))
     (made false h (row.component (settings false row.keys (placed h)))) tree e)
 
 pub unless_two : (a b : Option Fault) (f : Fault) (t u : Tree) → unless (a or b or Some f) t ≡ Ok u

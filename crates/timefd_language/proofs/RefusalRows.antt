@@ -1,4 +1,4 @@
--- Each combination that version 3 refuses.
+-- Examples of each combination that version 3 refuses.
 use Rattle.std.proofs.Common.{ℕ, ◌≡◌, refl, codes, List, [], ◌∷◌, ◌++◌, map, Result, Err}
 use Rattle.timefd_component.specs.Tree.{Text, Tree}
 use Rattle.timefd_fault.specs.Faults.{Fault, fault, invalid_combination}

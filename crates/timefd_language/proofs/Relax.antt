@@ -1,4 +1,4 @@
--- What version 3 spells without nested descriptions, version 2 spells.
+-- A text of version 3 without nested descriptions is a text of version 2 too.
 use Rattle.std.proofs.Common.{ℕ, ◌≡◌, ◌||◌, ◌&&◌, cond, not, map, Bool, true, false, List, [], ◌∷◌, ◌++◌, Result, Ok, Option, Some, None, refl, sym, ◌∙◌, ap, ap₂, subst, codes, is_some}
 use Rattle.std.proofs.lemmas.Bool.{false≢true, not-false, not-true, and_parts}
 use Rattle.std.specs.List.{list_all}
@@ -34,8 +34,8 @@ use Rattle.timefd_language.specs.Grammar.{Pieces, no_pieces, run, escape, closin
 use Rattle.timefd_language.specs.Relaxed.{IsFlat, IsStandard, IsStandardIn, AreStandard, widened, relaxed_tree, relaxed}
 use Rattle.timefd_language.specs.Laws.{Relaxing}
 use Rattle.timefd_language.proofs.Lookup.{Each, each-map, each-passes, IsLowered, equal-true, named-found, named-lowered, count_of-sets}
-use Rattle.timefd_language.proofs.Roomy.{behind_ok, made_ok}
-use Rattle.timefd_language.proofs.Recase.{or_none, none_or, refuse_none, none_refused, behind_none, none_behind, unless_two}
+use Rattle.timefd_language.proofs.Roomy.{after_ok, made_ok}
+use Rattle.timefd_language.proofs.Recase.{or_none, none_or, refuse_none, none_refused, after_none, none_after, unless_two}
 use Rattle.timefd_language.proofs.Lift.{unless_fault}
 
 -- Keys.
@@ -100,7 +100,7 @@ word_names key (v ∷ vs) all = (all.0.0, word_names key vs all.1)
 
 -- Components.
 
--- no year of a range
+-- the component isn't a year of a range
 abbrev IsKept : Component → Type 0
 IsKept c = (c ≡ widened c) × IsStandard c
 
@@ -161,7 +161,7 @@ ignore_same (Some n) c e =
 abbrev in_range : YearRange → Settings → Settings
 in_range r s = record s { range = r }
 
--- a component of the standard range, which in the extended range is that one widened
+-- a component of the standard range, which is widened in the extended range
 abbrev Widens : (Settings → Result Component Kind) → Type 0
 Widens f =
     (s : Settings) (c : Component) → f (in_range YearRange.Standard s) ≡ Ok c
@@ -274,7 +274,7 @@ all_good keys before (m ∷ ms) h =
       all_good keys (before ++ m ∷ []) ms p.1,
     )
 
--- what the tables say of a modifier that is good
+-- what the tables say about a good modifier
 record IsFound (keys : List Key) (m : Placed) : Type 0 where
   key : Key
   setting : Setting
@@ -284,7 +284,7 @@ record IsFound (keys : List Key) (m : Placed) : Type 0 where
   loose_setting : setting_in false key.values m.value ≡ Some setting
   range : is_range setting ≡ equal (codes "range") m.key
 
--- a word that is found, without case too
+-- a word that is found is also found if case is ignored
 record IsWord (key : Text) (values : Values) (text : Text) (v : Setting) : Type 0 where
   loose : setting_in false values text ≡ Some v
   range : is_range v ≡ equal (codes "range") key
@@ -336,7 +336,7 @@ all_found : (keys : List Key) (ms : List Placed) → Each IsPlain keys → Each 
 all_found keys [] plain g = tt
 all_found keys (m ∷ ms) plain g = (good_found keys m plain g.0, all_found keys ms plain g.1)
 
--- they are good without case too
+-- they are also good if case is ignored
 good_without_case : (keys : List Key) (before ms : List Placed) → Each (IsFound keys) ms
     → bad_modifiers false keys before ms ≡ None
 good_without_case keys before [] f = refl
@@ -347,7 +347,7 @@ good_without_case keys before (m ∷ ms) f =
     (ap (λ o. not (is_some o)) f.0.loose_setting))
     (good_without_case keys (before ++ m ∷ []) ms f.1)
 
--- and set the same
+-- they set the same if case is ignored
 settings_same : (keys : List Key) (s : Settings) (ms : List Placed) → Each (IsFound keys) ms
     → settings_from false keys s ms ≡ settings_from true keys s ms
 settings_same keys s [] f = refl
@@ -368,8 +368,8 @@ with_other : (r : YearRange) (s : Settings) (v : Setting) → is_range v ≡ fal
 with_other r s (Setting.Range x) e = absurd (false≢true (sym e))
 with_other r s _ e = refl
 
--- another range at first makes no difference where a modifier sets the range, and else is the range
--- at last
+-- Another range at the start makes no difference if a modifier sets the range. Otherwise it is the
+-- range at the end.
 ranged : (keys : List Key) (r : YearRange) (s : Settings) (ms : List Placed)
     → Each (IsFound keys) ms
     → settings_from true keys (in_range r s) ms ≡ cond (is_set true (codes "range") ms)
@@ -402,7 +402,7 @@ component_relaxed : (h : Head) (r : Row) (tree : Tree) → IsPlainRow r
     → component_verdict true h (Some r) ≡ Ok tree
     → (component_verdict false h (Some r) ≡ Ok (relaxed_tree h tree)) × IsStandardIn h tree
 component_relaxed h r tree plain e = (
-  none_behind (bad_modifiers false r.keys [] (placed h))
+  none_after (bad_modifiers false r.keys [] (placed h))
       (made false h (r.component (settings false r.keys (placed h))))
       (good_without_case r.keys [] (placed h) found)
       ∙ ap (made false h) (by (is_set true (codes "range") (placed h)) refl)
@@ -413,13 +413,13 @@ component_relaxed h r tree plain e = (
     found : Each (IsFound r.keys) (placed h)
     found = all_found r.keys (placed h) plain.keys
         (all_good r.keys [] (placed h)
-        (behind_none (bad_modifiers true r.keys [] (placed h))
+        (after_none (bad_modifiers true r.keys [] (placed h))
         (made true h (r.component (settings true r.keys (placed h)))) tree e))
 
     leaf : (c : Component) × (component c ≡ tree)
         × (r.component (settings true r.keys (placed h)) ≡ Ok c)
     leaf = made_ok true h (r.component (settings true r.keys (placed h))) tree
-        (behind_ok (bad_modifiers true r.keys [] (placed h))
+        (after_ok (bad_modifiers true r.keys [] (placed h))
         (made true h (r.component (settings true r.keys (placed h)))) tree e)
 
     loose : settings false r.keys (placed h) ≡ cond (is_set true (codes "range") (placed h))

@@ -12,7 +12,7 @@ use Rattle.timefd_language.specs.Laws.{ReservesWithin}
 use Rattle.timefd_language.proofs.Sizes.{length_one}
 use Rattle.timefd_language.proofs.Roomy.{verdict_has, component-room}
 
--- of a list of trees, and of the lists of several nested descriptions
+-- the bytes that a list of trees reserves, and the lists of several nested descriptions
 abbrev total : List Tree → ℕ
 total [] = 0
 total (t ∷ ts) = reserve t + total ts
@@ -195,7 +195,7 @@ reserves_within_law limit n text list h =
       omega (arith, within.count, pack-counted list, ap length h.2, ap counted h.3),
     )
 
--- what stands side by side in a text of version 3 reserves no more bytes than the text has
+-- the pieces side by side in a text of version 3 reserve no more bytes than the text has
 pub reserved_within : (limit n : ℕ) (ps : Pieces) → ArePieces Three limit n ps
     → reserve_all (trees (items ps)) ≤ length (spelling ps)
 reserved_within limit n ps are = omega (

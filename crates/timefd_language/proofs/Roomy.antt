@@ -1,4 +1,4 @@
--- The text of a component has room for what the component reserves.
+-- The text of a component is at least as long as what the component reserves.
 use Rattle.std.proofs.Common.{ℕ, ◌≡◌, ◌+◌, ◌≤◌, ◌⊎◌, inl, inr, cond, Bool, true, false, List, [], ◌∷◌, ◌++◌, map, codes, Result, Ok, Err, Option, Some, None, length, length-append, refl, ap, subst, arith, leb-true}
 use Rattle.std.proofs.Math.Dec.{leb}
 use Rattle.std.specs.List.{list_all}
@@ -30,9 +30,9 @@ use Rattle.timefd_language.specs.Values.{Value, Values, words, numbers, Key, set
 use Rattle.timefd_language.specs.declared.name.ComponentName.{ComponentName}
 use Rattle.timefd_language.specs.Names.{Row, row, rows, row_of, row_for, component_names, ignored, day, end, hour, minute, month, offset_hour, offset_minute, offset_second, ordinal, period, second, subsecond, unix_timestamp, weekday, week_number, year}
 use Rattle.timefd_language.proofs.Lookup.{Each, each-map, each-passes, named-found, count_of-sets}
-use Rattle.timefd_language.specs.Verdict.{PlacedDescription, touching, nested_refused, is_formatted, only, optional_verdict, first_verdict, verdict, unless, behind, bad_modifiers, setting_of, with_option, settings_from, settings, combination, made, component_verdict}
+use Rattle.timefd_language.specs.Verdict.{PlacedDescription, touching, nested_refused, is_formatted, only, optional_verdict, first_verdict, verdict, unless, after, bad_modifiers, setting_of, with_option, settings_from, settings, combination, made, component_verdict}
 
--- Settings that need room: how many bytes past those of the name.
+-- Settings that need room: how many bytes more than the name has.
 
 abbrev of_month : MonthRepr → ℕ
 of_month MonthRepr.Long = 2
@@ -54,7 +54,7 @@ of_setting (Setting.Precision p) = of_precision p
 of_setting (Setting.Range r) = of_range r
 of_setting _ = 0
 
--- so many bytes are enough
+-- n bytes are enough
 record HaveRoom (s : Settings) (n : ℕ) : Type 0 where
   month : of_month s.month_repr ≤ n
   precision : of_precision s.precision ≤ n
@@ -221,7 +221,7 @@ digits_room SubsecondDigits.Eight = omega arith
 digits_room SubsecondDigits.Nine = omega arith
 digits_room SubsecondDigits.OneOrMore = omega arith
 
--- a `[`, the name, a byte more, and the modifiers are room enough for a row's component
+-- a `[`, the name, one more byte and the modifiers are room enough for a row's component
 record IsRoomy (r : Row) : Type 0 where
   keys : Each IsLong r.keys
   enough : (s : Settings) (n : ℕ) → HaveRoom s n → (c : Component) → r.component s ≡ Ok c
@@ -297,15 +297,15 @@ pub unless_ok : (o : Option Fault) (t u : Tree) → unless o t ≡ Ok u → t �
 unless_ok (Some f) t u e = absurd cc
 unless_ok None t u e = cc
 
-pub behind_ok : (o : Option Fault) (r : Result Tree Fault) (t : Tree) → behind o r ≡ Ok t → r ≡ Ok t
-behind_ok (Some f) r t e = absurd cc
-behind_ok None r t e = e
+pub after_ok : (o : Option Fault) (r : Result Tree Fault) (t : Tree) → after o r ≡ Ok t → r ≡ Ok t
+after_ok (Some f) r t e = absurd cc
+after_ok None r t e = e
 
 either : (b : Bool) (x y z : Result Tree Fault) → cond b x y ≡ z → (x ≡ z) ⊎ (y ≡ z)
 either true x y z e = inl e
 either false x y z e = inr e
 
--- what holds of an optional item, of a first and of what a component comes to holds of the tree of a
+-- what holds of an optional item, of a first and of the tree of a component holds of the tree of a
 -- verdict
 pub verdict_has : (P : Tree → Type 0) (strict : Bool) (h : Head) (parts : List PlacedDescription)
     (close : ℕ) (tree : Tree)
@@ -315,20 +315,20 @@ pub verdict_has : (P : Tree → Type 0) (strict : Bool) (h : Head) (parts : List
     → verdict strict h parts close ≡ Ok tree → P tree
 verdict_has P strict h parts close tree of_optional of_first of_component e =
     outer (either (same strict (codes "optional") h.name) (optional_verdict strict h parts close) _
-    (Ok tree) (behind_ok (touching parts) _ tree e))
+    (Ok tree) (after_ok (touching parts) _ tree e))
   where
     inner : (first_verdict strict h parts close ≡ Ok tree)
-        ⊎ (behind (nested_refused parts) (component_verdict strict h (row_of strict h.name)) ≡ Ok
+        ⊎ (after (nested_refused parts) (component_verdict strict h (row_of strict h.name)) ≡ Ok
         tree) → P tree
     inner (inl f) =
         subst P (unless_ok _ (first (trees (map (λ p. pack p.trees) parts))) tree f) of_first
     inner (inr c) = of_component
-        (behind_ok (nested_refused parts) (component_verdict strict h (row_of strict h.name)) tree
+        (after_ok (nested_refused parts) (component_verdict strict h (row_of strict h.name)) tree
         c)
 
     outer : (optional_verdict strict h parts close ≡ Ok tree)
         ⊎ (cond (same strict (codes "first") h.name) (first_verdict strict h parts close)
-        (behind (nested_refused parts) (component_verdict strict h (row_of strict h.name))) ≡ Ok
+        (after (nested_refused parts) (component_verdict strict h (row_of strict h.name))) ≡ Ok
         tree)
         → P tree
     outer (inl o) =
@@ -336,10 +336,10 @@ verdict_has P strict h parts close tree of_optional of_first of_component e =
         of_optional
     outer (inr r) =
         inner (either (same strict (codes "first") h.name) (first_verdict strict h parts close)
-        (behind (nested_refused parts) (component_verdict strict h (row_of strict h.name)))
+        (after (nested_refused parts) (component_verdict strict h (row_of strict h.name)))
         (Ok tree) r)
 
--- the tree is a component that reserves at most so many bytes
+-- the tree is a component that reserves at most n bytes
 abbrev pub IsLeafWithin : Tree → ℕ → Type 0
 IsLeafWithin tree bytes = (c : Component) × (component c ≡ tree) × (reserved c ≤ bytes)
 
@@ -372,7 +372,7 @@ component-room h tree ih e = by (row_of true h.name) refl e
     by (Some row) r e =
         let found = named-found (λ x. x.name) IsRoomy h.name rows row all_roomy r in
         let leaf = made_ok true h (row.component (settings true row.keys (placed h))) tree
-        (behind_ok (bad_modifiers true row.keys [] (placed h)) _ tree e) in
+        (after_ok (bad_modifiers true row.keys [] (placed h)) _ tree e) in
         let room = all_room row.keys (defaults true) h.modifiers (name_index h + length h.name) 0
         found.0.keys (record {
           month = omega arith;

@@ -1,4 +1,4 @@
--- Lanes that are compared with three bytes, and the front before one of those.
+-- Lanes that are compared with three bytes, and the front before the first of those bytes.
 use Rattle.std.proofs.Common.{◌≡◌, ℕ, ◌+◌, ◌-◌, ◌%◌, ◌^◌, ◌≤◌, ◌<◌, Bool, true, false, ◌||◌, eqb, cond, List, length, get_or, map, replicate, nat_le, w8, refl, sym, ap, ◌∙◌, subst, arith, bit_or, min, inl, inr}
 use Rattle.std.proofs.lemmas.Bool.{cases_lt, true≢false}
 use Rattle.std.proofs.lemmas.List.{length-map}
@@ -15,7 +15,7 @@ is_one_of first second third b = (eqb b first || eqb b second) || eqb b third
 abbrev lane : Bool → ℕ
 lane b = cond b 255 0
 
--- the lanes that are this byte
+-- the lanes that are equal to this byte
 abbrev equal_to : List ℕ → ℕ → ℕ → List ℕ
 equal_to bytes n b = zip2 (λ x y. lane (eqb x y)) bytes (replicate n b)
 
@@ -52,16 +52,16 @@ marks_are bytes n a b c long small =
     compared : (y : ℕ) → equal_to bytes n y ≡ map (λ x. lane (eqb x y)) bytes
     compared y = zip2_splat (λ x z. lane (eqb x z)) bytes n y long
 
--- What a few bytes of a front show of the whole.
+-- What a few bytes of a front show about the whole front.
 module _ (p : ℕ → Bool) (bytes : List ℕ) (at n : ℕ) (from : at ≤ prefix_len p bytes)
     (within : at + n ≤ length bytes) where
   passes : (k : ℕ) → k < at + prefix_len p (chunk at n bytes) → p (get_or bytes k 0) ≡ true
   passes k below =
       elim (cases_lt k at) [
         | inl before ↦ prefix_len_passes p bytes k 0 (omega (arith, from))
-        | inr behind ↦
+        | inr after ↦
             let back : at + (k - at) ≡ k = omega arith in
-            let there : k - at < prefix_len p (chunk at n bytes) = omega (arith, behind, below) in
+            let there : k - at < prefix_len p (chunk at n bytes) = omega (arith, after, below) in
             subst (λ (b : ℕ). p b ≡ true)
             (get_or-chunk at n bytes (k - at) 0
             (omega (
@@ -78,28 +78,28 @@ module _ (p : ℕ → Bool) (bytes : List ℕ) (at n : ℕ) (from : at ≤ prefi
       let long = length-chunk at n bytes within in
       elim (cases_lt (prefix_len p (chunk at n bytes)) n) [
         | inl stops ↦
-            let place = prefix_len_is p bytes (at + prefix_len p (chunk at n bytes)) 0
+            let position = prefix_len_is p bytes (at + prefix_len p (chunk at n bytes)) 0
             (omega (arith, stops)) passes (λ inside.
             subst (λ (b : ℕ). p b ≡ false)
             (get_or-chunk at n bytes (prefix_len p (chunk at n bytes)) 0 stops)
             (prefix_len_stops p (chunk at n bytes) 0 (omega (arith, stops, long)))) in
-            omega (arith, stops, place)
+            omega (arith, stops, position)
         | inr through ↦
             elim (cases_lt (prefix_len p bytes) (at + n)) [
               | inl before ↦ absurd
                   (true≢false (sym (passes (prefix_len p bytes) (omega (arith, before, through))) ∙
                   prefix_len_stops p bytes 0 (omega (arith, before))))
-              | inr behind ↦ omega (
+              | inr after ↦ omega (
                 arith,
                 through,
-                behind,
+                after,
                 long,
                 prefix_len-le-length p (chunk at n bytes),
               )
             ]
       ]
 
--- The first lane that is marked stands where the bytes that are higher end, or before.
+-- The first marked lane is where the higher bytes end, or before that.
 pub high_front : (bytes : List ℕ) → 16 ≤ length bytes
     → 0 < mask_l (map (top 7) (zip2 (λ x y. lane (nat_le x y)) (chunk 0 16 bytes) (replicate 16 93)))
     % 2 ^ 64
@@ -108,8 +108,8 @@ pub high_front : (bytes : List ℕ) → 16 ≤ length bytes
 high_front bytes long some =
     let lanes : length (chunk 0 16 bytes) ≡ 16 = length-chunk 0 16 bytes long in
     let marks = bitmask_splat w8 (λ x y. nat_le x y) (chunk 0 16 bytes) 16 93 lanes (omega arith) in
-    let place = ap (count_trailing_zeros 64) marks ∙
+    let position = ap (count_trailing_zeros 64) marks ∙
     trailing_mask_l (λ x. nat_le x 93) 64 (chunk 0 16 bytes) (omega (arith, lanes))
     (subst (λ n. 0 < n) marks some) in
     let front = front_in_chunk is_high bytes 0 16 (omega arith) long in
-    subst (λ n. n ≤ prefix_len is_high bytes) (sym place) (omega (arith, front))
+    subst (λ n. n ≤ prefix_len is_high bytes) (sym position) (omega (arith, front))

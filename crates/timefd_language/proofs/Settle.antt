@@ -1,4 +1,4 @@
--- What a fault keeps where a text goes on.
+-- What stays the same about a fault when the text goes on.
 use Rattle.std.proofs.Common.{ℕ, suc, ◌≡◌, ◌≢◌, [], ◌∷◌, ◌++◌, length, refl, sym, ◌∙◌, ap, append_assoc}
 use Rattle.timefd_language.specs.declared.description_version.DescriptionVersion.{DescriptionVersion}
 use Rattle.timefd_language.specs.declared.description_version.DescriptionVersion.TheVariants.{One, Two, Three}
@@ -8,9 +8,9 @@ use Rattle.timefd_language.specs.Fault.{enclosed, raised}
 use Rattle.timefd_language.specs.Head.{head_text}
 use Rattle.timefd_language.specs.Grammar.{Nested, no_nested, nested, spelling, nested_text}
 use Rattle.timefd_language.specs.Broken.{Broken, bare_closing, half_escape, nameless, ill_modified, too_deep, broken_inside, cut_off, unclosed, refused, IsBroken, broken_text, broken_fault, misfit_text, before_inner, BeginsNoEscape, IsWholeBefore}
-use Rattle.timefd_language.specs.Settled.{behind_fault, Settled}
+use Rattle.timefd_language.specs.Settled.{after_fault, Settled}
 
--- the construct, with more text behind it
+-- the construct, with more text after it
 abbrev pub extended : Broken → Text → Broken
 extended (bare_closing rest) t = bare_closing (rest ++ t)
 extended (half_escape rest) t = half_escape (rest ++ t)
@@ -23,7 +23,7 @@ extended (cut_off h ns white front) t = cut_off h ns white front
 extended (unclosed h ns white rest) t = unclosed h ns white (rest ++ t)
 extended (refused h ns white f rest) t = refused h ns white f (rest ++ t)
 
-pub extended_text : (b : Broken) (t : Text) → behind_fault b ≢ []
+pub extended_text : (b : Broken) (t : Text) → after_fault b ≢ []
     → broken_text (extended b t) ≡ broken_text b ++ t
 extended_text (bare_closing rest) t some = refl
 extended_text (half_escape rest) t some = refl
@@ -41,7 +41,7 @@ extended_text (unclosed h ns white rest) t some =
 extended_text (refused h ns white f rest) t some =
     sym (append_assoc (head_text h ++ nested_text ns ++ white) (right ∷ rest) t)
 
-pub extended_fault : (b : Broken) (t : Text) → behind_fault b ≢ []
+pub extended_fault : (b : Broken) (t : Text) → after_fault b ≢ []
     → broken_fault (extended b t) ≡ broken_fault b
 extended_fault (bare_closing rest) t some = refl
 extended_fault (half_escape []) t some = absurd (some refl)
@@ -69,7 +69,7 @@ is_whole no_nested c rest t is = is
 is_whole (nested white ps ns) c rest t is = tt
 
 pub extended_broken : (b : Broken) (v : DescriptionVersion) (limit n : ℕ) (t : Text)
-    → behind_fault b ≢ [] → IsBroken v limit n b → IsBroken v limit n (extended b t)
+    → after_fault b ≢ [] → IsBroken v limit n b → IsBroken v limit n (extended b t)
 extended_broken (bare_closing rest) v limit n t some is = is
 extended_broken (half_escape []) v limit n t some is = absurd (some refl)
 extended_broken (half_escape (c ∷ rest)) v limit n t some is = is

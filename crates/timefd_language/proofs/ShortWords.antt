@@ -1,4 +1,4 @@
--- The faults of a text have short words, so that a `usize` counts their sentences.
+-- The faults of a text have short words, so the length of each sentence fits in a `usize`.
 use Rattle.std.proofs.Common.{ℕ, suc, ◌++◌, ◌+◌, ◌≤◌, ◌==◌, ◌&&◌, not, is_some, map, Bool, true, false, if◌then◌else◌, List, [], ◌∷◌, length, Option, Some, None, Result, Ok, Err, sym, subst, arith, codes}
 use Rattle.std.specs.Prelude.{⊤}
 use Rattle.std.specs.declared.num.NonZeroU16.{NonZeroU16}
@@ -20,9 +20,9 @@ use Rattle.timefd_language.specs.Grammar.{spelling, nested_text, parts_from}
 use Rattle.timefd_language.specs.Names.{Row, ignore, ignored, row_for, row_of, rows, component_names}
 use Rattle.timefd_language.specs.Strftime.{StrftimeFaultOf, IllDirective, cut_short, unknown, ill_fault, name_of}
 use Rattle.timefd_language.specs.Values.{Key, format, key_in, setting_in}
-use Rattle.timefd_language.specs.Verdict.{PlacedDescription, ◌or◌, refuse, unless, is_set, bad_value, bad_modifier, is_formatted, only, bad_modifiers, misplaced, combined, combination, made, behind, component_verdict, touching, too_many, nested_refused, nested_wanted, any_modifier, optional_verdict, first_verdict, settings, verdict}
+use Rattle.timefd_language.specs.Verdict.{PlacedDescription, ◌or◌, refuse, unless, is_set, bad_value, bad_modifier, is_formatted, only, bad_modifiers, misplaced, combined, combination, made, after, component_verdict, touching, too_many, nested_refused, nested_wanted, any_modifier, optional_verdict, first_verdict, settings, verdict}
 use Rattle.timefd_language.proofs.Lookup.{Each, each-map}
-use Rattle.timefd_fault.specs.BorrowedFaults.{HasShortWords, HasShortFault, IsLentOf, lent_fault}
+use Rattle.timefd_fault.specs.BorrowedFaults.{HasShortWords, HasShortFault, IsBorrowedOf, to_borrowed_fault}
 use Rattle.timefd_fault.specs.declared.borrowed_parse_error.BorrowedParseError.{BorrowedParseError}
 use Rattle.timefd_fault.specs.declared.borrowed_parse_error.BorrowedParseError.TheVariants.{Invalid, Memory}
 
@@ -50,10 +50,10 @@ short_unless : (o : Option Fault) (t : Tree) → Short o → ShortErr (unless o 
 short_unless None t short = tt
 short_unless (Some f) t short = short
 
-short_behind : (o : Option Fault) (r : Result Tree Fault) → Short o → ShortErr r
-    → ShortErr (behind o r)
-short_behind None r short next = next
-short_behind (Some f) r short next = short
+short_after : (o : Option Fault) (r : Result Tree Fault) → Short o → ShortErr r
+    → ShortErr (after o r)
+short_after None r short next = next
+short_after (Some f) r short next = short
 
 -- Modifiers.
 
@@ -154,7 +154,7 @@ short_made strict h (Ok c) short =
     (short_combination strict c (placed h))
 short_made strict h (Err k) short = short
 
--- What stands in the table.
+-- The words of the table.
 
 short_ignored : (n : Option NonZeroU16) → ShortKind (ignored n)
 short_ignored None = tt
@@ -210,7 +210,7 @@ short_component : (strict : Bool) (h : Head) (o : Option Row) → IfRow HasShort
 short_component strict h None short = tt
 short_component strict h (Some row) short =
     let c : Result Component Kind = row.component (settings strict row.keys (placed h)) in
-    short_behind (bad_modifiers strict row.keys [] (placed h)) (made strict h c)
+    short_after (bad_modifiers strict row.keys [] (placed h)) (made strict h c)
     (short_modifiers strict row.keys [] (placed h))
     (short_made strict h c (short (settings strict row.keys (placed h))))
 
@@ -277,16 +277,16 @@ short_verdict strict h parts close =
     let is_optional : Bool = same strict (codes "optional") h.name in
     let is_first : Bool = same strict (codes "first") h.name in
     let c : Result Tree Fault = component_verdict strict h (row_of strict h.name) in
-    let other : Result Tree Fault = behind (nested_refused parts) c in
+    let other : Result Tree Fault = after (nested_refused parts) c in
     let firsts : Result Tree Fault = first_verdict strict h parts close in
     let optionals : Result Tree Fault = optional_verdict strict h parts close in
-    short_behind (touching parts)
+    short_after (touching parts)
     (if is_optional then optionals else if is_first then firsts else other)
     (short_touching parts)
     (short_if is_optional optionals (if is_first then firsts else other)
     (short_optional strict h parts close)
     (short_if is_first firsts other (short_first strict h parts close)
-    (short_behind (nested_refused parts) c (short_nested parts)
+    (short_after (nested_refused parts) c (short_nested parts)
     (short_component strict h (row_of strict h.name) (short_named strict h.name)))))
 
 short_enclosed : (kind : Kind) (i k : ℕ) → HasShortWords kind
@@ -343,8 +343,8 @@ pub short_strftime_fault : (text : Text) (f : Fault) → StrftimeFaultOf text f
 short_strftime_fault text f is =
     subst (λ g. HasShortWords g.kind) (sym is.5) (short_ill is.1)
 
--- What is lent of them.
-pub short_lent : (P : Fault → Type 0) → ((f : Fault) → P f → HasShortWords f.kind)
-    → (e : BorrowedParseError) → IsLentOf P e → HasShortFault e
-short_lent P short (Invalid f) is = short (lent_fault f) is
-short_lent P short (Memory m) is = tt
+-- Borrowed faults.
+pub short_borrowed : (P : Fault → Type 0) → ((f : Fault) → P f → HasShortWords f.kind)
+    → (e : BorrowedParseError) → IsBorrowedOf P e → HasShortFault e
+short_borrowed P short (Invalid f) is = short (to_borrowed_fault f) is
+short_borrowed P short (Memory m) is = tt

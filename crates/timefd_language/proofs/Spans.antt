@@ -1,10 +1,10 @@
--- The longest front whose bytes pass: it is what any such front is.
+-- The longest front whose bytes pass: every such front is equal to it.
 use Rattle.std.proofs.Common.{ℕ, ◌≡◌, Bool, true, false, not, ◌||◌, [], ◌∷◌, ◌++◌, refl, ap, ◌==◌, ◌⊎◌, inl, inr, eqb-true}
 use Rattle.std.specs.List.{list_all}
 use Rattle.std.proofs.lemmas.Bool.{and_parts, and_from, and_left, and_right, or_cases, not-true, both_ways, false_from_ne_true}
 use Rattle.timefd_component.specs.Tree.{Text}
 use Rattle.timefd_language.specs.Bytes.{ZeroOrMore, OneOrMore, StopsBefore, left, right, backslash, is_white, is_special, is_word_byte, is_key_byte}
-use Rattle.timefd_language.proofs.Reader.{Cut, cut, span, behind_one}
+use Rattle.timefd_language.proofs.Reader.{Cut, cut, span, after_one}
 
 pub span-exact : (test : ℕ → Bool) (front rest : Text) → ZeroOrMore test front
     → StopsBefore test rest → span test (front ++ rest) ≡ cut front rest
@@ -13,14 +13,14 @@ span-exact test [] [] passes stops = refl
 span-exact test [] (b ∷ rest) passes stops = rw stops refl
 span-exact test (b ∷ front) rest passes stops =
     let p = and_parts (test b) (list_all test front) passes in
-    rw (p.0) (ap (behind_one b) (span-exact test front rest p.1 stops))
+    rw (p.0) (ap (after_one b) (span-exact test front rest p.1 stops))
 
 pub span-all : (test : ℕ → Bool) (text : Text) → ZeroOrMore test text → span test text ≡ cut text []
 unfolding span
 span-all test [] passes = refl
 span-all test (b ∷ text) passes =
     let p = and_parts (test b) (list_all test text) passes in
-    rw (p.0, span) (ap (behind_one b) (span-all test text p.1))
+    rw (p.0, span) (ap (after_one b) (span-all test text p.1))
 
 pub record IsSpan (test : ℕ → Bool) (text : Text) (c : Cut) : Type 0 where
   pub joined : text ≡ c.front ++ c.rest
@@ -34,7 +34,7 @@ span-is_span test (b ∷ text) = at_first (span-is_span test text) (test b) refl
   where
     at_first : IsSpan test text (span test text) → (t : Bool) → test b ≡ t
         → IsSpan test (b ∷ text) (elim t
-        [ true ↦ behind_one b (span test text) | false ↦ cut [] (b ∷ text) ])
+        [ true ↦ after_one b (span test text) | false ↦ cut [] (b ∷ text) ])
     at_first more true e = record {
       joined = ap (λ x. b ∷ x) more.joined;
       passes =
@@ -61,7 +61,7 @@ pub zero_from_one : (test : ℕ → Bool) (a : Text) → OneOrMore test a → Ze
 zero_from_one test [] h = absurd h
 zero_from_one test (b ∷ a) h = h
 
--- a stretch of at least one byte stops another kind of stretch
+-- a run of at least one byte stops a run of another class
 pub stops_one : (p q : ℕ → Bool) → ((b : ℕ) → p b ≡ true → q b ≡ false) → (a rest : Text)
     → OneOrMore p a → StopsBefore q (a ++ rest)
 stops_one p q f [] rest h = absurd h
@@ -72,7 +72,7 @@ pub stops_zero : (p q : ℕ → Bool) → ((b : ℕ) → p b ≡ true → q b �
 stops_zero p q f [] rest h s = s
 stops_zero p q f (b ∷ a) rest h s = f b (and_parts (p b) (list_all p a) h).0
 
--- Kinds of bytes.
+-- Classes of bytes.
 
 pub key-word : (b : ℕ) → is_key_byte b ≡ true → is_word_byte b ≡ true
 key-word b h = (and_parts _ (is_word_byte b) h).1

@@ -1,4 +1,4 @@
--- What a text begins with, where it is known.
+-- A text that begins with something known is read as that.
 use Rattle.std.proofs.Common.{ℕ, zero, suc, ◌≡◌, ◌<◌, ◌==◌, ◌||◌, false, [], ◌∷◌, ◌++◌, length, refl, sym, ◌∙◌, ap, arith, IsTrue, IsFalse, lt-ltb, le-ltb}
 use Rattle.std.specs.List.{list_all}
 use Rattle.std.proofs.lemmas.Bool.{and_parts, or_parts, false≢true}
@@ -12,7 +12,7 @@ use Rattle.timefd_language.specs.Broken.{Misfit, IsMisfit, bare_closing, half_es
 use Rattle.timefd_language.proofs.Reader.{cut, span, at_run, at_closing, at_escape, at_head, at_outer_closing, at_broken, start_of, run_start, left_start, left_start_one, backslash_start, right_start, head_start, no_more, at_limit, at_inner, nested_start_of, nested_at}
 use Rattle.timefd_language.proofs.Spans.{span-exact, stops_one, stops_zero, white-not_special, word-not_special}
 use Rattle.timefd_language.proofs.Before.{misfit_before, head_before, nested_before}
-use Rattle.timefd_language.proofs.HeadExact.{head_behind, head_start-nameless, head_start-misfit, head_start-whole}
+use Rattle.timefd_language.proofs.HeadExact.{head_after, head_start-nameless, head_start-misfit, head_start-whole}
 
 pub start-run : (k : ℕ) (v : DescriptionVersion) (n : ℕ) (bytes rest : Text)
     → OneOrMore (is_run_byte v) bytes → StopsBefore (is_run_byte v) rest
@@ -77,7 +77,7 @@ not_left b h =
     (or_parts (b == left) (b == right) (or_parts (b == left || b == right) (b == backslash) h).0).0
 
 pub head_begins_no_escape : (v : DescriptionVersion) (h : Head) (tail : Text) → IsHead h
-    → BeginsNoEscape v (head_behind h tail)
+    → BeginsNoEscape v (head_after h tail)
 head_begins_no_escape One h tail ih =
     stops_zero is_white (λ b. b == left) (λ b e. not_left b (white-not_special b e)) h.white _
     ih.white
@@ -99,7 +99,7 @@ pub start-misfit : (k : ℕ) (v : DescriptionVersion) (n : ℕ) (h : Head) (whit
     → start_of k v n (head_before h (white ++ misfit_before m rest)) ≡ at_broken
     (ill_modified h white m rest)
 start-misfit k v n h white m rest ih below w im s =
-    start-left k v n (head_behind h (white ++ misfit_before m rest))
+    start-left k v n (head_after h (white ++ misfit_before m rest))
     (head_begins_no_escape v h _ ih)
     ∙ head_start-misfit k h white m rest ih below w im s
 
@@ -110,10 +110,10 @@ pub start-head : (k : ℕ) (v : DescriptionVersion) (n : ℕ) (h : Head) (ns : N
     → start_of k v n (head_before h (nested_before ns (white ++ rest))) ≡ at_head h
     (nested_before ns (white ++ rest))
 start-head k v n h no_nested white rest limit ih below an w s t =
-    start-left k v n (head_behind h (white ++ rest)) (head_begins_no_escape v h _ ih) ∙
+    start-left k v n (head_after h (white ++ rest)) (head_begins_no_escape v h _ ih) ∙
     head_start-whole k h white rest ih below w s t
 start-head k v n h (nested white' ps ns) white rest limit ih below an w s t =
-    start-left k v n (head_behind h _) (head_begins_no_escape v h _ ih) ∙
+    start-left k v n (head_after h _) (head_begins_no_escape v h _ ih) ∙
     head_start-whole k h white' (left ∷ _) ih below an.0 refl refl
 
 -- Nested descriptions.

@@ -1,4 +1,4 @@
--- What a text is found to begin with is there.
+-- The text really begins with what reading finds at its start.
 use Rattle.std.proofs.Common.{ℕ, zero, suc, ◌≡◌, ◌<◌, ◌≤◌, ◌==◌, ◌||◌, ◌&&◌, ◌⊎◌, inl, inr, not, Bool, true, false, [], ◌∷◌, ◌++◌, length, length-append, refl, sym, ◌∙◌, ap, subst, arith, IsFalse, eqb-true, ltb-true, ltb-false, nat_lt}
 use Rattle.std.proofs.lemmas.Bool.{or_parts, or_cases, both_ways, not-false, and_from}
 use Rattle.timefd_language.specs.declared.description_version.DescriptionVersion.{DescriptionVersion}
@@ -24,28 +24,28 @@ StartIs v limit n text (at_outer_closing rest) = IsFalse (is_version_three v) ×
     × (text ≡ right ∷ rest)
 StartIs v limit n text (at_broken b) = IsBroken v limit n b × (text ≡ broken_before b)
 
--- Behind a `[` that is no escape.
+-- After a `[` that isn't an escape.
 
 head_continued_is : (v : DescriptionVersion) (limit n : ℕ) (white name rest : Text)
     (r : ModifiersRead) → ZeroOrMore is_white white → OneOrMore is_word_byte name
     → ModifiersAre rest r → StartIs v limit n (left ∷ (white ++ (name ++ rest)))
     (head_continued white name r)
-head_continued_is v limit n white name rest (all_fit ms behind) w nm h = (
+head_continued_is v limit n white name rest (all_fit ms after) w nm h = (
   record { white = w; name = nm; modifiers = h.0 },
   h.1,
   ap (λ x. left ∷ (white ++ (name ++ x))) h.2,
 )
-head_continued_is v limit n white name rest (one_misfits ms white' m behind) w nm h = (
+head_continued_is v limit n white name rest (one_misfits ms white' m after) w nm h = (
   (record { white = w; name = nm; modifiers = h.0 }, h.1, h.2, h.3),
   ap (λ x. left ∷ (white ++ (name ++ x))) h.4,
 )
 
-named_is : (k : ℕ) (v : DescriptionVersion) (limit n : ℕ) (text white behind name rest : Text)
+named_is : (k : ℕ) (v : DescriptionVersion) (limit n : ℕ) (text white after name rest : Text)
     → BeginsNoEscape v text
-    → IsSpan is_white text (cut white behind) → IsSpan is_word_byte behind (cut name rest)
+    → IsSpan is_white text (cut white after) → IsSpan is_word_byte after (cut name rest)
     → ModifiersAre rest (read_modifiers k rest)
     → StartIs v limit n (left ∷ text) (named k white name rest)
-named_is k v limit n text white behind [] rest e c d more = (
+named_is k v limit n text white after [] rest e c d more = (
   (
     c.passes,
     subst (StopsBefore is_white) d.joined c.stops,
@@ -57,7 +57,7 @@ named_is k v limit n text white behind [] rest e c d more = (
   where
     whole : text ≡ white ++ rest
     whole = c.joined ∙ ap (λ x. white ++ x) d.joined
-named_is k v limit n text white behind (b ∷ name) rest e c d more =
+named_is k v limit n text white after (b ∷ name) rest e c d more =
     subst (λ x. StartIs v limit n (left ∷ x)
     (head_continued white (b ∷ name) (read_modifiers k rest))) (sym whole)
     (head_continued_is v limit n white (b ∷ name) rest (read_modifiers k rest) c.passes d.passes
@@ -130,7 +130,7 @@ right_start_is One limit zero text = (refl, refl, refl)
 right_start_is Two limit zero text = (refl, refl, refl)
 right_start_is Three limit zero text = ((refl, refl), refl)
 
--- a byte that is no run byte is special; a backslash is one in version 1
+-- a byte that isn't a run byte is special; a backslash is a run byte in version 1
 no_run : (v : DescriptionVersion) (b : ℕ) → is_run_byte v b ≡ false → (is_special b ≡ true)
     × (((b == backslash) && is_version_one v) ≡ false)
 no_run v b h =

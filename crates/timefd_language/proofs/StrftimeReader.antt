@@ -7,7 +7,7 @@ use Rattle.timefd_component.specs.Tree.{Text, Tree, literal, joined, before_join
 use Rattle.timefd_language.specs.Bytes.{OneOrMore, StopsBefore}
 use Rattle.timefd_fault.specs.Faults.{Fault}
 use Rattle.timefd_language.specs.Fault.{raised}
-use Rattle.timefd_language.specs.Strftime.{percent, is_flag, is_plain, flag_text, IsFlag, Directives, no_directives, plain, directive, directives_text, directive_items, BeginsNoPlain, IsBehind, AreDirectives, SpellsStrftime, IllDirective, cut_short, unknown, ill_text, ill_fault, IsIll, StrftimeFaultOf}
+use Rattle.timefd_language.specs.Strftime.{percent, is_flag, is_plain, flag_text, IsFlag, Directives, no_directives, plain, directive, directives_text, directive_items, BeginsNoPlain, IsAfter, AreDirectives, SpellsStrftime, IllDirective, cut_short, unknown, ill_text, ill_fault, IsIll, StrftimeFaultOf}
 use Rattle.timefd_language.specs.Letters.{Flag, unflagged, flagged, item_of}
 use Rattle.timefd_language.specs.Laws.{StrftimeIsAnswered, OneStrftimeAnswer, OneStrftimeCut, StrftimeJoining, StrftimeShift}
 use Rattle.timefd_language.proofs.Reader.{span}
@@ -26,20 +26,20 @@ abbrev lettered : Flag → ℕ → Text → Option Tree → DirectiveStart
 lettered f b rest (Some tree) = at_directive f b tree rest
 lettered f b rest None = at_ill (unknown f b rest)
 
-unfoldable behind_flag : Flag → Text → DirectiveStart
-behind_flag f [] = at_ill (cut_short f)
-behind_flag f (b ∷ rest) = lettered f b rest (item_of f b)
+unfoldable after_flag : Flag → Text → DirectiveStart
+after_flag f [] = at_ill (cut_short f)
+after_flag f (b ∷ rest) = lettered f b rest (item_of f b)
 
-unfoldable behind_percent : Text → DirectiveStart
-behind_percent [] = behind_flag unflagged []
-behind_percent (b ∷ text) = elim (is_flag b)
-    [ true ↦ behind_flag (flagged b) text | false ↦ behind_flag unflagged (b ∷ text) ]
+unfoldable after_percent : Text → DirectiveStart
+after_percent [] = after_flag unflagged []
+after_percent (b ∷ text) = elim (is_flag b)
+    [ true ↦ after_flag (flagged b) text | false ↦ after_flag unflagged (b ∷ text) ]
 
 unfoldable directive_start : Text → DirectiveStart
 directive_start [] = at_directives_end
 directive_start (b ∷ text) = elim (is_plain b) [
   | true ↦ (let c = span is_plain text in at_plain (b ∷ c.front) c.rest)
-  | false ↦ behind_percent
+  | false ↦ after_percent
       text
 ]
 
@@ -66,7 +66,7 @@ read_strftime-from : (k : ℕ) (text : Text) (s : DirectiveStart) → directive_
 unfolding read_strftime
 read_strftime-from k text s e = ap (continued_strftime (λ t. read_strftime k t)) e
 
--- What is put together is read.
+-- A text that is put together from pieces is read as those pieces.
 
 start-plain : (bytes rest : Text) → OneOrMore is_plain bytes → StopsBefore is_plain rest
     → directive_start (bytes ++ rest) ≡ at_plain bytes rest
@@ -77,16 +77,16 @@ start-plain (b ∷ bytes) rest h s =
     rw (p.0, directive_start) (ap (λ c. at_plain (b ∷ c.front) c.rest)
     (span-exact is_plain bytes rest p.1 s))
 
-start-percent : (f : Flag) (b : ℕ) (rest : Text) → IsFlag f → IsBehind f b
+start-percent : (f : Flag) (b : ℕ) (rest : Text) → IsFlag f → IsAfter f b
     → directive_start (percent ∷ (flag_text f ++ b ∷ rest)) ≡ lettered f b rest (item_of f b)
-unfolding directive_start behind_percent behind_flag
-start-percent unflagged b rest i h = rw (h, behind_percent) refl
-start-percent (flagged c) b rest i h = rw (i, behind_percent) refl
+unfolding directive_start after_percent after_flag
+start-percent unflagged b rest i h = rw (h, after_percent) refl
+start-percent (flagged c) b rest i h = rw (i, after_percent) refl
 
 start-cut : (f : Flag) → IsFlag f → directive_start (percent ∷ flag_text f) ≡ at_ill (cut_short f)
-unfolding directive_start behind_percent behind_flag
+unfolding directive_start after_percent after_flag
 start-cut unflagged i = refl
-start-cut (flagged c) i = rw (i, behind_percent) refl
+start-cut (flagged c) i = rw (i, after_percent) refl
 
 start-ill : (ill : IllDirective) → IsIll ill → directive_start (ill_text ill) ≡ at_ill ill
 start-ill (cut_short f) is = start-cut f is
@@ -105,11 +105,11 @@ stop_stops None = tt
 stop_stops (Some (cut_short f)) = refl
 stop_stops (Some (unknown f b rest)) = refl
 
-plain_stops_behind : (ds : Directives) (stop : Option IllDirective) → BeginsNoPlain ds
+plain_stops_after : (ds : Directives) (stop : Option IllDirective) → BeginsNoPlain ds
     → StopsBefore is_plain (directives_text ds ++ stop_text stop)
-plain_stops_behind no_directives stop h = stop_stops stop
-plain_stops_behind (plain bytes rest) stop h = absurd h
-plain_stops_behind (directive f b tree rest) stop h = refl
+plain_stops_after no_directives stop h = stop_stops stop
+plain_stops_after (plain bytes rest) stop h = absurd h
+plain_stops_after (directive f b tree rest) stop h = refl
 
 empty_start : directive_start [] ≡ at_directives_end
 unfolding directive_start
@@ -141,7 +141,7 @@ read_all (plain bytes rest) stop are is (suc k) enough =
     ∙ read_strftime-from k (bytes ++ (directives_text rest ++ stop_text stop))
     (at_plain bytes (directives_text rest ++ stop_text stop))
     (start-plain bytes (directives_text rest ++ stop_text stop) are.0
-    (plain_stops_behind rest stop are.1))
+    (plain_stops_after rest stop are.1))
     ∙ ap (λ r. strftime_reading (plain bytes r.front) r.stop) (read_all rest stop are.2 is k
     (omega (
       arith,
@@ -161,7 +161,7 @@ read_all (directive f b tree rest) stop are is (suc k) enough =
       directive_longer f b (directives_text rest ++ stop_text stop),
     )))
 
--- What is read is there.
+-- The text really consists of what reading finds.
 
 record ReadsStrftime (text : Text) (r : StrftimeReading) : Type 0 where
   front : AreDirectives r.front
@@ -179,28 +179,28 @@ abbrev DirectiveStartIs : Text → DirectiveStart → Type 0
 DirectiveStartIs text at_directives_end = text ≡ []
 DirectiveStartIs text (at_plain bytes rest) = OneOrMore is_plain bytes × StopsBefore is_plain rest
     × (text ≡ bytes ++ rest)
-DirectiveStartIs text (at_directive f b tree rest) = IsFlag f × IsBehind f b × (item_of f b ≡ Some tree)
+DirectiveStartIs text (at_directive f b tree rest) = IsFlag f × IsAfter f b × (item_of f b ≡ Some tree)
     × (text ≡ percent ∷ (flag_text f ++ b ∷ rest))
 DirectiveStartIs text (at_ill ill) = IsIll ill × (text ≡ ill_text ill)
 
-lettered_is : (f : Flag) (b : ℕ) (rest : Text) (o : Option Tree) → IsFlag f → IsBehind f b
+lettered_is : (f : Flag) (b : ℕ) (rest : Text) (o : Option Tree) → IsFlag f → IsAfter f b
     → item_of f b ≡ o → DirectiveStartIs (percent ∷ (flag_text f ++ b ∷ rest)) (lettered f b rest o)
 lettered_is f b rest (Some tree) i h e = (i, h, e, refl)
 lettered_is f b rest None i h e = ((i, h, e), refl)
 
-behind_percent_is : (text : Text) → DirectiveStartIs (percent ∷ text) (behind_percent text)
-unfolding behind_percent behind_flag
-behind_percent_is [] = (tt, refl)
-behind_percent_is (b ∷ text) = by (is_flag b) refl
+after_percent_is : (text : Text) → DirectiveStartIs (percent ∷ text) (after_percent text)
+unfolding after_percent after_flag
+after_percent_is [] = (tt, refl)
+after_percent_is (b ∷ text) = by (is_flag b) refl
   where
     second : (rest : Text) → is_flag b ≡ true
-        → DirectiveStartIs (percent ∷ b ∷ rest) (behind_flag (flagged b) rest)
+        → DirectiveStartIs (percent ∷ b ∷ rest) (after_flag (flagged b) rest)
     second [] e = (e, refl)
     second (c ∷ rest) e = lettered_is (flagged b) c rest (item_of (flagged b) c) e tt refl
 
     by : (t : Bool) → is_flag b ≡ t
         → DirectiveStartIs (percent ∷ b ∷ text)
-        (elim t [ true ↦ behind_flag (flagged b) text | false ↦ behind_flag unflagged (b ∷ text) ])
+        (elim t [ true ↦ after_flag (flagged b) text | false ↦ after_flag unflagged (b ∷ text) ])
     by true e = second text e
     by false e = lettered_is unflagged b text (item_of unflagged b) tt e refl
 
@@ -216,11 +216,11 @@ directive_start_is (b ∷ text) = by (is_plain b) refl
         → DirectiveStartIs (b ∷ text) (elim t [
           | true ↦ (let c = span is_plain text in at_plain (b ∷ c.front) c.rest)
           | false ↦
-              behind_percent text
+              after_percent text
         ])
     by true e = (and_from (is_plain b) _ e c.passes, c.stops, ap (λ x. b ∷ x) c.joined)
-    by false e = subst (λ x. DirectiveStartIs (x ∷ text) (behind_percent text))
-        (sym (eqb-true b percent (not-false (b == percent) e))) (behind_percent_is text)
+    by false e = subst (λ x. DirectiveStartIs (x ∷ text) (after_percent text))
+        (sym (eqb-true b percent (not-false (b == percent) e))) (after_percent_is text)
 
 pub begins_no_plain : (ds : Directives) (tail : Text) → AreDirectives ds
     → StopsBefore is_plain (directives_text ds ++ tail) → BeginsNoPlain ds
@@ -281,9 +281,9 @@ strftime_fault_reads : (text : Text) (f : Fault) (h : StrftimeFaultOf text f)
     → ReadsStrftime text (strftime_reading h.0 (Some h.1))
 strftime_fault_reads text f h = record { front = h.2; stop = h.3; whole = h.4 }
 
-ill_fault_behind : Directives → Option IllDirective → Fault → Fault
-ill_fault_behind front None f = f
-ill_fault_behind front (Some ill) f = raised (ill_fault ill) (length (directives_text front))
+ill_fault_after : Directives → Option IllDirective → Fault → Fault
+ill_fault_after front None f = f
+ill_fault_after front (Some ill) f = raised (ill_fault ill) (length (directives_text front))
 
 stops_ill : Option IllDirective → Type 0
 stops_ill None = ⊥
@@ -301,13 +301,13 @@ strftime_answered text front (Some ill) h = inr (
 )
 
 pub strftime_one_answer_law : OneStrftimeAnswer
-unfolding ill_fault_behind stops_ill
+unfolding ill_fault_after stops_ill
 strftime_one_answer_law text = (
   strftime_answered text _ _ (found_strftime (suc (length text)) text (omega arith)),
   record {
     one_list = λ a b h k. h.3 ∙ ap (λ r. directive_items r.front)
         (one_strftime_read text _ _ (strftime_spelled_reads text a h) (strftime_spelled_reads text b k)) ∙ sym k.3;
-    one_fault = λ f g h k. h.5 ∙ ap (λ r. ill_fault_behind r.front r.stop f)
+    one_fault = λ f g h k. h.5 ∙ ap (λ r. ill_fault_after r.front r.stop f)
         (one_strftime_read text _ _ (strftime_fault_reads text f h) (strftime_fault_reads text g k)) ∙ sym k.5;
     not_both = λ a f h k. subst (λ r. stops_ill r.stop)
         (one_strftime_read text _ _ (strftime_fault_reads text f k) (strftime_spelled_reads text a h)) tt;
@@ -417,5 +417,5 @@ strftime_answer_from front None = Ok (directive_items front)
 strftime_answer_from front (Some ill) = Err (raised (ill_fault ill) (length (directives_text front)))
 
 unfoldable pub strftime_answer_of : Text → Result (List Tree) Fault
-unfolding read_strftime directive_start behind_percent behind_flag span item_of
+unfolding read_strftime directive_start after_percent after_flag span item_of
 strftime_answer_of text = let r = read_strftime (suc (length text)) text in strftime_answer_from r.front r.stop

@@ -1,4 +1,4 @@
--- Items whose literals are strings, and one more.
+-- One more item after items whose literals are strings.
 use Rattle.std.proofs.Common.{true, List, [], ◌∷◌, ◌++◌, refl, IsTrue}
 use Rattle.std.proofs.lemmas.Bool.{and_from, and_parts}
 use Rattle.timefd_format_item.specs.declared.borrowed_format_item.BorrowedFormatItem.{BorrowedFormatItem}

@@ -1,4 +1,4 @@
--- Each name and each value once, in version 3.
+-- Examples with each name and each value, in version 3.
 use Rattle.std.proofs.Common.{◌≡◌, refl, codes, List, [], ◌∷◌, ◌++◌, map, Result, Ok, true, false}
 use Rattle.timefd_modifier.specs.declared.enums.Padding.{Padding}
 use Rattle.timefd_modifier.specs.declared.enums.SubsecondDigits.{SubsecondDigits}

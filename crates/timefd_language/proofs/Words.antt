@@ -1,4 +1,4 @@
--- Words that are compared.
+-- Comparing words.
 use Rattle.std.proofs.Common.{ℕ, ◌≡◌, length, ◌==◌, Bool, true, false, [], ◌∷◌, map, IsTrue, ◌↔◌, refl, sym, ap, ap₂, ◌∙◌, arith, eq-eqb}
 use Rattle.std.specs.Char.{to_ascii_lowercase}
 use Rattle.std.proofs.lemmas.Bool.{and_from}
@@ -32,11 +32,11 @@ same_lowered r a b test =
           sym (all_lowered-is b)),
     )
 
--- what was compared as bytes
+-- words that were compared as bytes
 pub compared : (r : Bool) (a b x y : Text) → r ≡ equal x y → x ≡ a → y ≡ b → equal a b ≡ r
 compared r a b x y e p q = sym (e ∙ ap₂ equal p q)
 
--- words of two lengths
+-- words of different lengths
 pub not_same : (strict : Bool) (a b : Text) → (length a ≡ length b → ⊥) → false ≡ same strict a b
 not_same strict a b other = by (same strict a b) refl
   where
@@ -44,7 +44,7 @@ not_same strict a b other = by (same strict a b) refl
     by true e = absurd (other (same-length strict a b e))
     by false e = refl
 
--- a word that is found byte for byte is found without case too
+-- a word that is found byte for byte is also found if case is ignored
 pub same_at_once : (strict : Bool) (a b : Text) → equal a b ≡ true → same strict a b ≡ true
 same_at_once true a b e = e
 same_at_once false a b e = equal-from (map lowered a) (map lowered b)

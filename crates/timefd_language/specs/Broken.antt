@@ -1,4 +1,4 @@
--- The texts that begin as no piece does, and the fault of each.
+-- The texts that don't begin with a piece, and the fault of each.
 use Rattle.std.specs.Prelude.{ℕ, suc, ◌≡◌, ◌+◌, ◌<◌, Bool, [], ◌∷◌, ◌++◌, length, Err, IsTrue, IsFalse, ⊤, ◌==◌, ◌||◌}
 use Rattle.timefd_language.specs.declared.description_version.DescriptionVersion.{DescriptionVersion}
 use Rattle.timefd_language.specs.declared.description_version.DescriptionVersion.TheVariants.{One, Two, Three}
@@ -10,7 +10,7 @@ use Rattle.timefd_fault.specs.Words.{expected_escape, expected_closing_escape, t
 use Rattle.timefd_language.specs.Head.{Head, IsHead, head_text}
 use Rattle.timefd_language.specs.Grammar.{Pieces, Nested, no_nested, nested, spelling, nested_text, ArePieces, AreNested, bracket_verdict}
 
--- a word that is no modifier: it has no colon, nothing before its first colon, or nothing after it
+-- a word that isn't a modifier: it has no colon, nothing before its first colon, or nothing after it
 pub data Misfit : Type 0 where
   no_colon : Text → Misfit
   no_key : Text → Misfit
@@ -26,13 +26,13 @@ IsMisfit (no_colon word) = OneOrMore is_key_byte word
 IsMisfit (no_key value) = ZeroOrMore is_word_byte value
 IsMisfit (no_value key) = OneOrMore is_key_byte key
 
--- its fault, where the word begins at this place
+-- the fault of a misfit that begins at byte k
 abbrev pub misfit_fault : Misfit → ℕ → Fault
 misfit_fault (no_colon word) k = fault (invalid_modifier word) k
 misfit_fault (no_key value) k = fault (invalid_modifier []) k
 misfit_fault (no_value key) k = fault (invalid_modifier []) (k + length key)
 
--- A construct that no piece begins with, and the rest of the text.
+-- A construct that no piece begins with, and the text after it.
 pub data Broken : Type 0 where
   -- `]` where it has to be escaped
   bare_closing : Text → Broken
@@ -40,17 +40,17 @@ pub data Broken : Type 0 where
   half_escape : Text → Broken
   -- `[`, white bytes, and no name
   nameless : Text → Text → Broken
-  -- a head, white bytes and a word that is no modifier
+  -- a head, white bytes and a word that isn't a modifier
   ill_modified : Head → Text → Misfit → Text → Broken
   -- a head, nested descriptions, white bytes and a `[` at the limit
   too_deep : Head → Nested → Text → Text → Broken
   -- a nested description with a broken text in it
   broken_inside : Head → Nested → Text → Pieces → Broken → Broken
-  -- a nested description that the end cuts off
+  -- a nested description that the end of the text cuts off
   cut_off : Head → Nested → Text → Pieces → Broken
-  -- a bracket that goes on with neither `[` nor `]`
+  -- a bracket where neither `[` nor `]` follows
   unclosed : Head → Nested → Text → Text → Broken
-  -- a bracket with a fault
+  -- a closed bracket that breaks a rule
   refused : Head → Nested → Text → Fault → Text → Broken
 
 -- the bytes up to the nested description that is at fault, with its `[`
@@ -91,13 +91,13 @@ broken_fault (cut_off h ns white front) = fault unclosed_bracket 0
 broken_fault (unclosed h ns white rest) = fault unclosed_bracket 0
 broken_fault (refused h ns white f rest) = f
 
--- In version 1 `[[` is an escape.
+-- What follows a `[` doesn't make it an escape: in version 1 `[[` is one.
 abbrev pub BeginsNoEscape : DescriptionVersion → Text → Type 0
 BeginsNoEscape One bytes = StopsBefore (λ b. b == left) bytes
 BeginsNoEscape Two bytes = ⊤
 BeginsNoEscape Three bytes = ⊤
 
--- The head is whole before this: with no nested description, no word goes on.
+-- The head is complete before this rest: without nested descriptions, no word byte follows.
 abbrev pub IsWholeBefore : Nested → Text → Type 0
 IsWholeBefore no_nested rest = StopsBefore is_word_byte rest
 IsWholeBefore (nested white ps ns) rest = ⊤
@@ -128,12 +128,13 @@ IsBroken v limit n (refused h ns white f rest) =
     IsHead h × AreNested v limit n ns × ZeroOrMore is_white white
     × (bracket_verdict v h ns white ≡ Err f)
 
--- The text begins with a construct that no piece begins with, and has its fault.
+-- The text begins with a construct that no piece begins with, and has the fault of that construct.
 abbrev pub Bad : DescriptionVersion → ℕ → ℕ → Text → Fault → Type 0
 Bad v limit n text f =
     (b : Broken) × IsBroken v limit n b × (text ≡ broken_text b) × (f ≡ broken_fault b)
 
--- A spelled front, and then a broken text with a fault.
+-- The text is pieces and then a broken text. Its fault is that of the broken text, shifted by the
+-- length of the pieces.
 abbrev pub FaultOf : DescriptionVersion → ℕ → Text → Fault → Type 0
 FaultOf v limit text f =
     (front : Pieces) × (b : Broken) × ArePieces v limit 0 front × IsBroken v limit 0 b

@@ -1,4 +1,4 @@
--- Bytes, and stretches of them.
+-- Classes of bytes, and runs of them.
 use Rattle.std.specs.Prelude.{ℕ, ◌+◌, Bool, true, false, not, ◌&&◌, ◌||◌, ◌==◌, nat_le, if◌then◌else◌, List, [], ◌∷◌, map, Option, Some, None, IsTrue, IsFalse, ⊤}
 use Rattle.std.specs.List.{list_all}
 use Rattle.timefd_component.specs.Tree.{Text}
@@ -24,7 +24,7 @@ plus = 43
 abbrev pub is_white : ℕ → Bool
 is_white b = (b == 9) || (b == 10) || (b == 12) || (b == 13) || (b == 32)
 
--- what an escape may stand for
+-- a byte that can be escaped
 abbrev pub is_special : ℕ → Bool
 is_special b = (b == left) || (b == right) || (b == backslash)
 
@@ -45,7 +45,7 @@ is_version_three One = false
 is_version_three Two = false
 is_version_three Three = true
 
--- a byte of a literal; in version 1 a backslash is one
+-- a byte of a literal; a backslash is one in version 1 only
 abbrev pub is_run_byte : DescriptionVersion → ℕ → Bool
 is_run_byte v b = not (is_special b) || ((b == backslash) && is_version_one v)
 
@@ -57,12 +57,12 @@ abbrev pub OneOrMore : (ℕ → Bool) → Text → Type 0
 OneOrMore test [] = ⊥
 OneOrMore test (b ∷ bytes) = ZeroOrMore test (b ∷ bytes)
 
--- the text ends here, or goes on with a byte that doesn't pass
+-- the text is empty, or its first byte doesn't pass
 abbrev pub StopsBefore : (ℕ → Bool) → Text → Type 0
 StopsBefore test [] = ⊤
 StopsBefore test (b ∷ bytes) = IsFalse (test b)
 
--- A to Z as a to z
+-- turns A to Z into a to z
 abbrev pub lowered : ℕ → ℕ
 lowered b = if nat_le 65 b && nat_le b 90 then b + 32 else b
 
@@ -72,12 +72,12 @@ equal [] (_ ∷ _) = false
 equal (_ ∷ _) [] = false
 equal (a ∷ x) (b ∷ y) = (a == b) && equal x y
 
--- names, keys and values: strictly, as in version 3, or without ASCII case, as in versions 1 and 2
+-- how names, keys and values are compared: exactly in version 3, ignoring ASCII case in versions 1 and 2
 abbrev pub same : Bool → Text → Text → Bool
 same true a b = equal a b
 same false a b = equal (map lowered a) (map lowered b)
 
--- the first of a list that has a name
+-- the first of a list with this name
 abbrev pub named : {A : Type 0} → (A → Text) → Bool → Text → List A → Option A
 named name strict text [] = None
 named name strict text (x ∷ xs) = elim (same strict (name x) text)

@@ -1,4 +1,4 @@
--- Steps over a text.
+-- Steps through a text.
 use Rattle.std.specs.Prelude.{ℕ, ◌≡◌, Bool, not, nat_le, ◌==◌, ◌||◌, [], ◌∷◌, ◌++◌, IsTrue}
 use Rattle.timefd_language.specs.declared.description_version.DescriptionVersion.TheVariants.{One, Three}
 use Rattle.timefd_language.specs.declared.text.Class.{Class}
@@ -21,11 +21,11 @@ class_test Plain = is_plain
 abbrev pub is_none_of : ℕ → ℕ → ℕ → ℕ → Bool
 is_none_of first second third b = not (((b == first) || (b == second)) || (b == third))
 
--- the byte stands behind all that end a word
+-- the byte is greater than every byte that ends a word
 abbrev pub is_high : ℕ → Bool
 is_high b = not (nat_le b right)
 
--- the text is cut behind its longest front whose bytes pass
+-- the text is cut after its longest front whose bytes pass
 pub record IsCut (test : ℕ → Bool) (text front rest : Text) : Type 0 where
   pub whole : text ≡ front ++ rest
   pub passes : ZeroOrMore test front

@@ -1,4 +1,4 @@
--- Each word of the tables, and each letter of strftime, stands for one thing.
+-- Each word of the tables, and each letter of strftime, means one thing.
 use Rattle.std.specs.Prelude.{Bool, true, false, not, ◌&&◌, codes, List, [], ◌∷◌, ◌++◌, map, IsTrue}
 use Rattle.timefd_component.specs.Tree.{Text}
 use Rattle.timefd_language.specs.declared.key.Key.{Key}
@@ -9,12 +9,12 @@ use Rattle.timefd_language.specs.Lookup.{key_for, keys_for}
 use Rattle.timefd_language.specs.Names.{rows}
 use Rattle.timefd_language.specs.Values.{Values, words, numbers}
 
--- without regard to case the word is none of these
+-- the word is none of these, even if case is ignored
 abbrev pub is_another : Text → List Text → Bool
 is_another word [] = true
 is_another word (w ∷ ws) = not (same false word w) && is_another word ws
 
--- without regard to case no two words are the same
+-- no two words are the same, even if case is ignored
 abbrev pub are_distinct : List Text → Bool
 are_distinct [] = true
 are_distinct (w ∷ ws) = is_another w ws && are_distinct ws
@@ -38,7 +38,7 @@ abbrev pub letters_in : List Letter → Text
 letters_in [] = []
 letters_in (l ∷ ls) = l.letters ++ letters_in ls
 
--- no byte stands twice
+-- no byte occurs twice
 abbrev pub is_without_repeats : Text → Bool
 is_without_repeats [] = true
 is_without_repeats (b ∷ bytes) = not (is_one_of b bytes) && is_without_repeats bytes

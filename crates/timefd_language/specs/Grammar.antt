@@ -8,8 +8,8 @@ use Rattle.timefd_fault.specs.Faults.{Fault}
 use Rattle.timefd_language.specs.Head.{Head, IsHead, head_text}
 use Rattle.timefd_language.specs.Verdict.{PlacedDescription, verdict}
 
--- A text in pieces: a run of bytes, an escape of two bytes, a `]`, or a bracket. A bracket has a
--- head, nested descriptions, white bytes and `]`, and is one tree.
+-- A text in pieces. A piece is a run of bytes, an escape of two bytes, a `]`, or a bracket. A bracket
+-- has a head, nested descriptions, white bytes and `]`, and means one tree.
 mutual
   pub data Pieces : Type 0 where
     no_pieces : Pieces
@@ -23,7 +23,7 @@ mutual
     no_nested : Nested
     nested : Text → Pieces → Nested → Nested
 
--- the bytes
+-- the bytes of the pieces
 abbrev mutual
   pub spelling : Pieces → Text
   spelling no_pieces = []
@@ -37,7 +37,7 @@ abbrev mutual
   nested_text no_nested = []
   nested_text (nested white ps ns) = white ++ left ∷ spelling ps ++ right ∷ nested_text ns
 
--- the trees
+-- the trees that the pieces mean
 abbrev pub items : Pieces → List Tree
 items no_pieces = []
 items (run bytes rest) = literal bytes ∷ items rest
@@ -49,7 +49,7 @@ abbrev pub is_empty : Text → Bool
 is_empty [] = true
 is_empty (b ∷ bytes) = false
 
--- the nested descriptions from a place on, as the verdict sees them
+-- the nested descriptions, the first of them at byte k, as the verdict sees them
 abbrev pub parts_from : ℕ → Nested → List PlacedDescription
 parts_from k no_nested = []
 parts_from k (nested white ps ns) =
@@ -74,12 +74,12 @@ BeginsNoRun (escape a b rest) = ⊤
 BeginsNoRun (closing rest) = ⊤
 BeginsNoRun (bracket h ns white tree rest) = ⊤
 
--- how many nested descriptions may stand around one another, at most
+-- how deeply descriptions may be nested
 abbrev pub nesting_limit : ℕ
 nesting_limit = 127
 
--- Pieces of a version, with n nested descriptions around them, of which there may be at most limit
--- around one another.
+-- These are pieces of the version, inside of n nested descriptions. Descriptions may be nested at
+-- most limit deep.
 abbrev mutual
   pub ArePieces : DescriptionVersion → ℕ → ℕ → Pieces → Type 0
   ArePieces v limit n no_pieces = ⊤
@@ -98,7 +98,7 @@ abbrev mutual
       ZeroOrMore is_white white × (n < limit) × ArePieces v limit (suc n) ps
       × AreNested v limit n ns
 
--- The text, with n nested descriptions around it, spells the list.
+-- The text, inside of n nested descriptions, spells the list.
 abbrev pub Spells : DescriptionVersion → ℕ → ℕ → Text → List Tree → Type 0
 Spells v limit n text list =
     (ps : Pieces) × ArePieces v limit n ps × (text ≡ spelling ps) × (list ≡ items ps)

@@ -37,11 +37,11 @@ modifiers_text (m ∷ ms) = modifier_text m ++ modifiers_text ms
 abbrev pub head_text : Head → Text
 head_text h = left ∷ h.white ++ h.name ++ modifiers_text h.modifiers
 
--- where the name stands
+-- the index of the name, counted from the bracket's `[`
 abbrev pub name_index : Head → ℕ
 name_index h = 1 + length h.white
 
--- a modifier with the places of its key and its value
+-- a modifier with the indices of its key and its value
 pub record Placed : Type 0 where
   pub key : Text
   pub key_index : ℕ
@@ -56,7 +56,7 @@ placed_at k m = record {
   value_index = k + length m.white + length m.key + 1;
 }
 
--- the modifiers from a place on
+-- the modifiers, the first of them at byte k
 abbrev pub placed_from : ℕ → List Modifier → List Placed
 placed_from k [] = []
 placed_from k (m ∷ ms) = placed_at k m ∷ placed_from (k + length (modifier_text m)) ms

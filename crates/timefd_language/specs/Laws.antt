@@ -1,4 +1,4 @@
--- What holds of the languages.
+-- The laws of the languages.
 use Rattle.std.specs.Prelude.{ℕ, ◌≡◌, ◌≢◌, ◌+◌, ◌≤◌, ◌⊎◌, List, ◌++◌, length, IsFalse}
 use Rattle.timefd_language.specs.declared.description_version.DescriptionVersion.{DescriptionVersion}
 use Rattle.timefd_language.specs.declared.description_version.DescriptionVersion.TheVariants.{One, Two, Three}
@@ -17,12 +17,12 @@ use Rattle.timefd_component.specs.Reserved.{reserve, tree_count}
 use Rattle.timefd_language.specs.Front.{Reading, Reads}
 use Rattle.timefd_language.specs.Strftime.{Directives, AreDirectives, directives_text, SpellsStrftime, StrftimeFaultOf}
 
--- A text spells a list, or a fault is assigned to it.
+-- A text spells a list, or it has a fault.
 abbrev pub IsAnswered : DescriptionVersion → ℕ → Text → Type 0
 IsAnswered v limit text = ((list : List Tree) × Spells v limit 0 text list)
     ⊎ ((f : Fault) × FaultOf v limit text f)
 
--- A text has one answer.
+-- A text has at most one answer: at most one list, at most one fault, and not both.
 pub record HasOneAnswer (v : DescriptionVersion) (limit : ℕ) (text : Text) : Type 0 where
   pub one_list : (a b : List Tree) → Spells v limit 0 text a → Spells v limit 0 text b → a ≡ b
   pub one_fault : (f g : Fault) → FaultOf v limit text f → FaultOf v limit text g → f ≡ g
@@ -32,25 +32,26 @@ abbrev pub OneAnswer : Type 0
 OneAnswer = (v : DescriptionVersion) (limit : ℕ) (text : Text) → IsAnswered v limit text
     × HasOneAnswer v limit text
 
--- A spelled text is cut into pieces in one way.
+-- A text can be cut into pieces in at most one way.
 abbrev pub OneCut : Type 0
 OneCut = (v : DescriptionVersion) (limit n : ℕ) (ps qs : Pieces) → ArePieces v limit n ps
     → ArePieces v limit n qs
     → spelling ps ≡ spelling qs → ps ≡ qs
 
--- With any number of nested descriptions around it that the limit allows, each text is pieces, and
--- behind them the end, a `]` or a broken text, in one way.
+-- Inside of as many nested descriptions as the limit allows, each text is pieces and then what stops
+-- them (the end, a `]` or a broken text), in exactly one way.
 abbrev pub OneReading : Type 0
 OneReading = (v : DescriptionVersion) (limit n : ℕ) (text : Text) → n ≤ limit
     → (r : Reading) × Reads v limit n text r × ((s : Reading) → Reads v limit n text s → r ≡ s)
 
--- Texts that are spelled may be joined.
+-- Two texts that spell items spell, when joined, the items of the first and then those of the
+-- second. Literals that meet become one.
 abbrev pub Joining : Type 0
 Joining = (v : DescriptionVersion) (limit : ℕ) (s t : Text) (a b : List Tree) → Spells v limit 0 s a
     → Spells v limit 0 t b
     → (c : List Tree) × Spells v limit 0 (s ++ t) c × (joined c ≡ joined (a ++ b))
 
--- A fault behind a spelled text is shifted by its length.
+-- A fault in what follows a spelled text is shifted by the length of that text.
 abbrev pub Shift : Type 0
 Shift = (v : DescriptionVersion) (limit : ℕ) (s t : Text) (a : List Tree) (f : Fault)
     → Spells v limit 0 s a → FaultOf v limit t f
@@ -84,8 +85,8 @@ StrftimeShift = (s t : Text) (a : List Tree) (f : Fault) → SpellsStrftime s a 
 
 -- Limits.
 
--- What is spelled with a limit is spelled with every greater limit, with the same list, and a fault
--- other than the highly-nested one is the same fault with every greater limit.
+-- What a text spells with one limit, it spells with every greater limit. The same holds of every
+-- fault except that a description is nested too deeply.
 abbrev pub GreaterLimit : Type 0
 GreaterLimit = (v : DescriptionVersion) (low high : ℕ) (text : Text) → low ≤ high
     → ((list : List Tree) → Spells v low 0 text list → Spells v high 0 text list)
@@ -93,7 +94,8 @@ GreaterLimit = (v : DescriptionVersion) (low high : ℕ) (text : Text) → low �
 
 -- From version 1 to version 2.
 
--- What version 1 spells version 2 spells, once it is rewritten.
+-- A text of version 1, once it is rewritten, spells the same in version 2, up to how literals are
+-- split.
 abbrev pub Lifting : Type 0
 Lifting = (limit : ℕ) (ps : Pieces) → ArePieces One limit 0 ps
     → (list : List Tree) × Spells Two limit 0 (rewritten ps) list
@@ -101,8 +103,8 @@ Lifting = (limit : ℕ) (ps : Pieces) → ArePieces One limit 0 ps
 
 -- Reserved bytes.
 
--- A text of version 3 is at least as long as what it reserves, and has no more trees than bytes,
--- but one.
+-- A text of version 3 is at least as long as the bytes that it reserves, and has at most one tree
+-- more than it has bytes.
 abbrev pub ReservesWithin : Type 0
 ReservesWithin = (limit n : ℕ) (text : Text) (list : List Tree) → Spells Three limit n text list
     → (reserve (pack list) ≤ length text) × (tree_count (pack list) ≤ length text + 1)
@@ -117,7 +119,7 @@ Recasing = (v : DescriptionVersion) (limit n : ℕ) (ps qs : Pieces) → IsFalse
 
 -- From version 3 to version 2.
 
--- A text that version 3 spells without nested descriptions version 2 spells, piece by piece.
+-- A text of version 3 without nested descriptions is a text of version 2 too, piece by piece.
 abbrev pub Relaxing : Type 0
 Relaxing = (limit : ℕ) (ps : Pieces) → ArePieces Three limit 0 ps → IsFlat ps
     → ArePieces Two limit 0 (relaxed ps) × (spelling (relaxed ps) ≡ spelling ps) × AreStandard ps

@@ -22,5 +22,5 @@ pub mod Cut
 pub mod FaultMeaning
 pub mod Laws
 pub mod Settled
-pub mod Places
+pub mod Positions
 pub mod Distinct

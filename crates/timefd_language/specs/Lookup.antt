@@ -1,4 +1,4 @@
--- What the words of a head stand for.
+-- What the words of a head mean.
 use Rattle.std.specs.Prelude.{◌≡◌, Bool, true, false, codes, List, [], ◌∷◌, Option, Some, None}
 use Rattle.timefd_component.specs.Tree.{Text}
 use Rattle.timefd_language.specs.declared.combination.Refusal as code_refusal
@@ -10,7 +10,7 @@ use Rattle.timefd_language.specs.Values.{Key, padding, trailing_input, hour_repr
 use Rattle.timefd_language.specs.Names.{row_for, row_of}
 use Rattle.timefd_language.specs.Combinations.{Refusal, ◌refused◌}
 
--- what a word names: `optional` and `first` come before the names of components
+-- what a word names: `optional` and `first` are tried before the names of components
 abbrev pub IsNameOf : Bool → Text → Option Name → Type 0
 IsNameOf strict word (Some Name.Optional) = same strict (codes "optional") word ≡ true
 IsNameOf strict word (Some Name.First) =
@@ -22,7 +22,7 @@ IsNameOf strict word None =
     (same strict (codes "optional") word ≡ false) × (same strict (codes "first") word ≡ false)
     × (row_of strict word ≡ None)
 
--- the key that one of the code is
+-- the row of the table for each key of the code
 abbrev pub key_for : code_key.Key → Key
 key_for keys.Padding = padding
 key_for keys.TrailingInput = trailing_input
@@ -42,12 +42,12 @@ key_for keys.Range = range
 key_for keys.Base = base
 key_for keys.Format = format
 
--- the keys that a bracket of a name takes
+-- the keys that a bracket with this name takes
 abbrev pub keys_for : Name → List Key
 keys_for Name.Optional = format ∷ []
 keys_for Name.First = []
 keys_for (Name.Component name) = (row_for name).keys
 
--- the refusal that one of the code is
+-- the refusal of the rules for one of the code
 abbrev pub refusal_for : code_refusal.Refusal → Refusal
 refusal_for r = (key_for r.key).key refused r.context.now

@@ -1,4 +1,4 @@
--- The names of components, their keys, and the component that the settings give.
+-- The names of components, their keys, and the component that a name makes with its settings.
 use Rattle.std.specs.Prelude.{Bool, codes, List, [], ◌∷◌, Option, Some, None, Result, Ok, Err, map}
 use Rattle.std.specs.declared.num.NonZeroU16.{NonZeroU16}
 use Rattle.timefd_component.specs.Tree.{Text}
@@ -11,7 +11,7 @@ use Rattle.timefd_language.specs.Bytes.{named}
 use Rattle.timefd_language.specs.declared.setting.Settings.{Settings}
 use Rattle.timefd_language.specs.Values.{Key, padding, trailing_input, hour_repr, count, month_repr, case_sensitive, sign, case, digits, precision, weekday_repr, one_indexed, week_number_repr, year_repr, range, base}
 
--- The component of each name. One that has several forms is the modern one that its fields select.
+-- The component of each name. If there are several forms, it is the modern one that its fields select.
 
 abbrev pub day : Settings → Component
 day s = Day (record { padding = s.padding })
@@ -84,7 +84,7 @@ year s = modern (Year (record {
   sign_is_mandatory = s.sign_is_mandatory;
 }))
 
--- its count has to be set
+-- `ignore` needs a count: there is no default
 abbrev pub ignored : Option NonZeroU16 → Result Component Kind
 ignored None = Err (missing_modifier (codes "count"))
 ignored (Some n) = Ok (Ignore (record { count = n }))
@@ -92,13 +92,13 @@ ignored (Some n) = Ok (Ignore (record { count = n }))
 abbrev pub ignore : Settings → Result Component Kind
 ignore s = ignored s.count
 
--- a name, its keys, and its component
+-- a name, its keys, and the component that it makes with some settings
 pub record Row : Type 0 where
   pub name : Text
   pub keys : List Key
   pub component : Settings → Result Component Kind
 
--- one that may want a key
+-- a row whose component may lack a key that has to be set
 abbrev pub checked_row : Text → List Key → (Settings → Result Component Kind) → Row
 checked_row name keys component = record { name = name; keys = keys; component = component }
 

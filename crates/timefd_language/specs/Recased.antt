@@ -1,4 +1,4 @@
--- Pieces whose heads differ in the case of letters alone.
+-- Pieces that differ only in the case of letters in heads.
 use Rattle.std.specs.Prelude.{◌≡◌, List, [], ◌∷◌, map}
 use Rattle.timefd_component.specs.Tree.{Text}
 use Rattle.timefd_language.specs.Bytes.{lowered}

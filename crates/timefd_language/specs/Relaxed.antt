@@ -1,4 +1,4 @@
--- What version 3 spells, as version 2 does.
+-- What a text of version 3 means in version 2.
 use Rattle.std.specs.Prelude.{◌≡◌, true, false, codes, if◌then◌else◌, ⊤}
 use Rattle.timefd_component.specs.declared.component.Component.{Component}
 use Rattle.timefd_component.specs.declared.component.Component.TheVariants.{CalendarYearFullExtendedRange, CalendarYearFullStandardRange, CalendarYearCenturyExtendedRange, CalendarYearCenturyStandardRange, IsoYearFullExtendedRange, IsoYearFullStandardRange, IsoYearCenturyExtendedRange, IsoYearCenturyStandardRange}
@@ -19,7 +19,7 @@ IsFlat (escape a b rest) = IsFlat rest
 IsFlat (closing rest) = IsFlat rest
 IsFlat (bracket h ns white tree rest) = HasNone ns × IsFlat rest
 
--- a year of the standard range as one of the extended range
+-- turns a year of the standard range into one of the extended range
 abbrev pub widened : Component → Component
 widened (CalendarYearFullStandardRange y) =
     CalendarYearFullExtendedRange (record {
@@ -44,7 +44,7 @@ widened (IsoYearCenturyStandardRange y) =
     })
 widened c = c
 
--- no year of the extended range
+-- the component isn't a year of the extended range
 abbrev pub IsStandard : Component → Type 0
 IsStandard (CalendarYearFullExtendedRange y) = ⊥
 IsStandard (CalendarYearCenturyExtendedRange y) = ⊥
@@ -52,7 +52,7 @@ IsStandard (IsoYearFullExtendedRange y) = ⊥
 IsStandard (IsoYearCenturyExtendedRange y) = ⊥
 IsStandard c = ⊤
 
--- a year whose head has no range is of the standard one in version 3
+-- a year whose head sets no range has the standard range in version 3
 abbrev pub IsStandardIn : Head → Tree → Type 0
 IsStandardIn h (component c) = is_set true (codes "range") (placed h) ≡ false → IsStandard c
 IsStandardIn h t = ⊤
@@ -64,7 +64,7 @@ AreStandard (escape a b rest) = AreStandard rest
 AreStandard (closing rest) = AreStandard rest
 AreStandard (bracket h ns white tree rest) = IsStandardIn h tree × AreStandard rest
 
--- and of the extended one in version 2
+-- a year whose head sets no range has the extended range in version 2
 abbrev pub relaxed_tree : Head → Tree → Tree
 relaxed_tree h (component c) = component
     (if is_set true (codes "range") (placed h) then c else widened c)

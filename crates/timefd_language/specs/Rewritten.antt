@@ -1,17 +1,17 @@
--- A text of version 1 as one of version 2.
+-- A text of version 1, rewritten for version 2.
 use Rattle.std.specs.Prelude.{◌==◌, if◌then◌else◌, [], ◌∷◌, ◌++◌}
 use Rattle.timefd_component.specs.Tree.{Text}
 use Rattle.timefd_language.specs.Bytes.{left, right, backslash}
 use Rattle.timefd_language.specs.Head.{head_text}
 use Rattle.timefd_language.specs.Grammar.{Pieces, no_pieces, run, escape, closing, bracket, nested_text}
 
--- each `\` doubled
+-- the bytes with each `\` doubled
 abbrev pub doubled : Text → Text
 doubled [] = []
 doubled (b ∷ bytes) = if b == backslash then backslash ∷ backslash ∷ doubled bytes else b ∷ doubled
     bytes
 
--- brackets as they are, `[[` as `\[`, `]` as `\]`, and runs with each `\` doubled
+-- Brackets stay as they are, `[[` becomes `\[`, `]` becomes `\]`, and each `\` of a run is doubled.
 abbrev pub rewritten : Pieces → Text
 rewritten no_pieces = []
 rewritten (run bytes rest) = doubled bytes ++ rewritten rest

@@ -12,12 +12,12 @@ use Rattle.timefd_modifier.specs.declared.enums.TrailingInput.{TrailingInput}
 use Rattle.timefd_language.specs.declared.setting.Setting.{Setting}
 use Rattle.timefd_language.specs.declared.setting.Settings.{Settings}
 
--- years of version 3 have the standard range, those of versions 1 and 2 the extended one
+-- years have the standard range in version 3, and the extended range in versions 1 and 2
 abbrev pub default_range : Bool → YearRange
 default_range true = YearRange.Standard
 default_range false = YearRange.Extended
 
--- what holds where no modifier stands
+-- the settings of a head without modifiers
 abbrev pub defaults : Bool → Settings
 defaults strict = record {
   padding = Padding.Zero;
@@ -39,7 +39,7 @@ defaults strict = record {
   format = true;
 }
 
--- with one more setting, which replaces an earlier one
+-- the settings with one more, which replaces an earlier one of the same field
 abbrev pub with : Settings → Setting → Settings
 with s (Setting.Padding p) = record s { padding = p }
 with s (Setting.TrailingInput t) = record s { trailing_input = t }

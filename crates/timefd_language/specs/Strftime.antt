@@ -14,7 +14,7 @@ percent = 37
 abbrev pub is_flag : ℕ → Bool
 is_flag b = (b == 95) || (b == 45) || (b == 48)
 
--- bytes outside directives
+-- bytes outside of directives
 abbrev pub is_plain : ℕ → Bool
 is_plain b = not (b == percent)
 
@@ -28,7 +28,7 @@ IsFlag (flagged b) = IsTrue (is_flag b)
 
 -- Pieces.
 
--- a run of bytes other than `%`, or `%`, a flag and a letter
+-- a piece is a run of bytes other than `%`, or a directive: `%`, a flag and a letter
 pub data Directives : Type 0 where
   no_directives : Directives
   plain : Text → Directives → Directives
@@ -49,23 +49,23 @@ BeginsNoPlain no_directives = ⊤
 BeginsNoPlain (plain bytes rest) = ⊥
 BeginsNoPlain (directive f b tree rest) = ⊤
 
--- a `_`, `-` or `0` behind `%` is the flag
-abbrev pub IsBehind : Flag → ℕ → Type 0
-IsBehind unflagged b = IsFalse (is_flag b)
-IsBehind (flagged c) b = ⊤
+-- a `_`, `-` or `0` after `%` is the flag
+abbrev pub IsAfter : Flag → ℕ → Type 0
+IsAfter unflagged b = IsFalse (is_flag b)
+IsAfter (flagged c) b = ⊤
 
 abbrev pub AreDirectives : Directives → Type 0
 AreDirectives no_directives = ⊤
 AreDirectives (plain bytes rest) = OneOrMore is_plain bytes × BeginsNoPlain rest
     × AreDirectives rest
-AreDirectives (directive f b tree rest) = IsFlag f × IsBehind f b × (item_of f b ≡ Some tree)
+AreDirectives (directive f b tree rest) = IsFlag f × IsAfter f b × (item_of f b ≡ Some tree)
     × AreDirectives rest
 
 abbrev pub SpellsStrftime : Text → List Tree → Type 0
 SpellsStrftime bytes list = (ds : Directives) × AreDirectives ds × (bytes ≡ directives_text ds)
     × (list ≡ directive_items ds)
 
--- A directive that the end cuts off, or with another byte in the letter's place.
+-- A directive that the end of the text cuts off, or one with another byte instead of a letter.
 pub data IllDirective : Type 0 where
   cut_short : Flag → IllDirective
   unknown : Flag → ℕ → Text → IllDirective
@@ -78,7 +78,7 @@ abbrev pub cut_index : Flag → ℕ
 cut_index unflagged = 0
 cut_index (flagged b) = 2
 
--- the byte, or the replacement character where it isn't ASCII
+-- the byte, or the replacement character if it isn't ASCII
 abbrev pub name_of : ℕ → Text
 name_of b = if nat_lt b 128 then b ∷ [] else 0xef ∷ 0xbf ∷ 0xbd ∷ []
 
@@ -94,7 +94,7 @@ ill_fault (unknown f b rest) = fault (unknown_kind b) (1 + length (flag_text f))
 
 abbrev pub IsIll : IllDirective → Type 0
 IsIll (cut_short f) = IsFlag f
-IsIll (unknown f b rest) = IsFlag f × IsBehind f b × (item_of f b ≡ None)
+IsIll (unknown f b rest) = IsFlag f × IsAfter f b × (item_of f b ≡ None)
 
 abbrev pub StrftimeFaultOf : Text → Fault → Type 0
 StrftimeFaultOf bytes f =

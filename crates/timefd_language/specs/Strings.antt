@@ -14,7 +14,7 @@ use Rattle.timefd_language.specs.TreeLists.{lists_equal_once}
 abbrev pub all_true : List Bool → Bool
 all_true = list_all (λ b. b)
 
--- one item, with the answer for each inner item in its place
+-- one item, with the answer for each inner item instead of that item
 abbrev pub strings_step : BorrowedFormatItem-F Bool → Bool
 strings_step (item.Literal bytes) = false
 strings_step (item.StringLiteral text) = true

@@ -1,4 +1,4 @@
--- Lists of trees are equal in one way, so that a struct may keep an equation of them.
+-- Lists of trees are equal in at most one way, so a struct may keep an equation of them.
 use mathlib.Core.HLevel.{Discrete, hedberg}
 use mathlib.Core.List.{List-discrete}
 use Rattle.std.specs.Prelude.{◌≡◌, Bool, true, false, List}

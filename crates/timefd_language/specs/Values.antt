@@ -1,4 +1,4 @@
--- The keys of modifiers, their words, and what each word sets.
+-- The keys of modifiers, the words that they may be set to, and what each word means.
 use Rattle.std.specs.Prelude.{ℕ, suc, zero, ◌+◌, ◌*◌, ◌-◌, Bool, true, false, ◌&&◌, ◌==◌, nat_le, codes, List, [], ◌∷◌, Option, Some, None, map}
 use native.Mathlib.Nat.{zero-lt-suc}
 use Rattle.std.specs.declared.num.NonZeroU16.{NonZeroU16}
@@ -24,7 +24,7 @@ infix 80 ◌sets◌
 abbrev pub ◌sets◌ : {A : Type 0} → Text → A → Value A
 word sets a = record { word = word; sets = a }
 
--- what a key may be set to: one of some words, or a number
+-- what a key may be set to: one of these words, or a number
 pub data Values : Type 0 where
   words : List (Value Setting) → Values
   numbers : Values
@@ -33,7 +33,7 @@ pub record Key : Type 0 where
   pub key : Text
   pub values : Values
 
--- a key, what it sets, and its words with the values that they stand for
+-- a key, what it sets, and its words with the values that they mean
 abbrev pub key_of : {A : Type 0} → Text → (A → Setting) → List (Value A) → Key
 key_of key setting values = record {
   key = key;
@@ -41,7 +41,7 @@ key_of key setting values = record {
       words (map (λ v. v.word sets setting v.sets) values);
 }
 
--- The keys, each with its default first.
+-- The keys. The first word of each is its default.
 
 abbrev pub padding : Key
 padding = key_of (codes "padding") Setting.Padding
@@ -56,7 +56,7 @@ abbrev pub hour_repr : Key
 hour_repr = key_of (codes "repr") Setting.Is12HourClock
     (codes "24" sets false ∷ codes "12" sets true ∷ [])
 
--- no default
+-- this key has no default
 abbrev pub count : Key
 count = record { key = codes "count"; values = numbers }
 
@@ -118,7 +118,7 @@ year_repr = key_of (codes "repr") Setting.YearRepr
     (codes "full" sets YearRepr.Full ∷ codes "century" sets YearRepr.Century ∷ codes "last_two" sets
     YearRepr.LastTwo ∷ [])
 
--- in versions 1 and 2 the default is the second
+-- in versions 1 and 2 the second word is the default
 abbrev pub range : Key
 range = key_of (codes "range") Setting.Range
     (codes "standard" sets YearRange.Standard ∷ codes "extended" sets YearRange.Extended ∷ [])
@@ -154,7 +154,7 @@ counted (Some zero) = None
 counted (Some (suc n)) = elim (nat_le (suc n) 65535)
     [ true ↦ Some (Setting.Count (not_zero n)) | false ↦ None ]
 
--- one or more digits, behind an optional sign
+-- one or more digits, after an optional sign
 abbrev pub count_of : Text → Option Setting
 count_of [] = None
 count_of (b ∷ bytes) = elim (b == plus)

@@ -1,4 +1,4 @@
--- What a closed bracket is: a tree, or the fault of the first rule that it breaks.
+-- What a closed bracket means: a tree, or the fault of the first rule that it breaks.
 use Rattle.std.specs.Prelude.{ℕ, Bool, true, false, not, ◌&&◌, ◌||◌, codes, List, [], ◌∷◌, ◌++◌, map, Option, Some, None, is_some, Result, Ok, Err, if◌then◌else◌}
 use Rattle.timefd_component.specs.Tree.{Text, Tree, component, optional, first, trees, pack}
 use Rattle.timefd_fault.specs.Faults.{Kind, Fault, fault, invalid_name, invalid_modifier, duplicate_modifier, invalid_combination}
@@ -13,7 +13,7 @@ use Rattle.timefd_language.specs.Names.{Row, row_of}
 use Rattle.timefd_language.specs.Combinations.{Refusal, refusals}
 use Rattle.timefd_language.specs.Head.{Head, Placed, placed, name_index}
 
--- a nested description: whether white bytes stand before it, where its `[` stands, and its trees
+-- a nested description: whether white bytes come before it, the index of its `[`, and its trees
 pub record PlacedDescription : Type 0 where
   pub spaced : Bool
   pub index : ℕ
@@ -35,7 +35,7 @@ unless None t = Ok t
 
 -- Modifiers.
 
--- a modifier stands in a list
+-- some modifier of the list has this key
 abbrev pub is_set : Bool → Text → List Placed → Bool
 is_set strict key [] = false
 is_set strict key (m ∷ ms) = same strict key m.key || is_set strict key ms
@@ -50,14 +50,14 @@ bad_modifier strict (Some k) before m =
     refuse (strict && is_set strict k.key before) (duplicate_modifier k.key) m.key_index or
     bad_value strict k m
 
--- the first bad modifier, behind those that stand before
+-- the fault of the first bad modifier of a list, where other modifiers come before the list
 abbrev pub bad_modifiers : Bool → List Key → List Placed → List Placed → Option Fault
 bad_modifiers strict keys before [] = None
 bad_modifiers strict keys before (m ∷ ms) =
     bad_modifier strict (key_in strict m.key keys) before m or bad_modifiers strict keys
     (before ++ m ∷ []) ms
 
--- what a text sets a key to
+-- what a text sets a key to, if there is such a key
 abbrev pub setting_of : Bool → Option Key → Text → Option Setting
 setting_of strict None text = None
 setting_of strict (Some k) text = setting_in strict k.values text
@@ -66,7 +66,7 @@ abbrev pub with_option : Settings → Option Setting → Settings
 with_option s None = s
 with_option s (Some v) = with s v
 
--- what modifiers set in turn, so that the last of a key counts
+-- the modifiers set their keys in order, so that the last one of a key counts
 abbrev pub settings_from : Bool → List Key → Settings → List Placed → Settings
 settings_from strict keys s [] = s
 settings_from strict keys s (m ∷ ms) =
@@ -78,7 +78,7 @@ settings strict keys ms = settings_from strict keys (defaults strict) ms
 
 -- Components.
 
--- the place of a key's modifier
+-- the fault at the first modifier with the refused key
 abbrev pub misplaced : Refusal → List Placed → Option Fault
 misplaced r [] = None
 misplaced r (m ∷ ms) = refuse (equal r.key m.key) (invalid_combination r.key r.context) m.key_index
@@ -88,23 +88,23 @@ abbrev pub combined : List Refusal → List Placed → Option Fault
 combined [] ms = None
 combined (r ∷ rs) ms = misplaced r ms or combined rs ms
 
--- version 3 refuses some
+-- only version 3 refuses combinations
 abbrev pub combination : Bool → Component → List Placed → Option Fault
 combination strict c ms = if strict then combined (refusals c) ms else None
 
--- a component, or why there is none
+-- a component, or the fault that says why there is none
 abbrev pub made : Bool → Head → Result Component Kind → Result Tree Fault
 made strict h (Err kind) = Err (fault kind (name_index h))
 made strict h (Ok c) = unless (combination strict c (placed h)) (component c)
 
-abbrev pub behind : Option Fault → Result Tree Fault → Result Tree Fault
-behind (Some f) r = Err f
-behind None r = r
+abbrev pub after : Option Fault → Result Tree Fault → Result Tree Fault
+after (Some f) r = Err f
+after None r = r
 
 abbrev pub component_verdict : Bool → Head → Option Row → Result Tree Fault
 component_verdict strict h None = Err (fault (invalid_name h.name) (name_index h))
 component_verdict strict h (Some row) =
-    behind (bad_modifiers strict row.keys [] (placed h))
+    after (bad_modifiers strict row.keys [] (placed h))
     (made strict h (row.component (settings strict row.keys (placed h))))
 
 -- The rules.
@@ -133,7 +133,7 @@ any_modifier (m ∷ ms) = Some (fault (invalid_modifier m.key) m.key_index)
 abbrev pub is_formatted : Bool → List Placed → Bool
 is_formatted strict ms = (settings strict (format ∷ []) ms).format
 
--- the tree of the one list
+-- the tree of the only nested description
 abbrev pub only : List PlacedDescription → Tree
 only [] = pack []
 only (p ∷ ps) = pack p.trees
@@ -155,10 +155,10 @@ first_verdict strict h parts close =
     (fault first_item 0)))
     (first (trees (map (λ p. pack p.trees) parts)))
 
--- a bracket that begins at 0 and is closed at this place
+-- the verdict on a bracket that begins at 0 and whose `]` is at `close`
 abbrev pub verdict : Bool → Head → List PlacedDescription → ℕ → Result Tree Fault
 verdict strict h parts close =
-    behind (touching parts)
+    after (touching parts)
     (if same strict (codes "optional") h.name then optional_verdict strict h parts close
     else if same strict (codes "first") h.name then first_verdict strict h parts close
-    else behind (nested_refused parts) (component_verdict strict h (row_of strict h.name)))
+    else after (nested_refused parts) (component_verdict strict h (row_of strict h.name)))

@@ -1,4 +1,4 @@
-//! The modifiers that version 3 refuses: those that a component has no use for.
+//! The modifiers that version 3 refuses because the component has no use for them.
 
 ghost use Rattle.std.specs.Prelude.{◌≡◌, map};
 ghost use Rattle.timefd_language.specs.Combinations as spec;
@@ -7,7 +7,7 @@ ghost use Rattle.timefd_language.specs.Lookup.{refusal_for};
 use crate::key::Key;
 use timefd_component::Component;
 
-/// A key that is refused, and the words that say where.
+/// A key that is refused, and the words that say when.
 #[derive(Clone, Copy)]
 pub struct Refusal {
     pub key: Key,
@@ -25,7 +25,7 @@ static OF_LAST_TWO: [Refusal; 2] = [
     },
 ];
 
-/// The keys that are refused with a component, in the order in which they are looked at.
+/// The keys that are refused with a component, in the order in which they are checked.
 pub fn refusals(component: Component) -> &'static [Refusal]
     ensures { map refusal_for result.now ≡ spec.refusals component }
 {

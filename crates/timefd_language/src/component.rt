@@ -1,4 +1,4 @@
-//! The component that a name and its modifiers are.
+//! The component that a name and its modifiers make.
 
 ghost use Rattle.std.specs.Prelude.{◌≡◌, codes, MatchOption, Ok, Err};
 ghost use Rattle.timefd_fault.specs.Faults.{missing_modifier};
@@ -10,7 +10,7 @@ use crate::setting::Settings;
 use timefd_component::Component;
 use timefd_modifier as modifier;
 
-/// The component of a name with these settings; none only for `ignore` without a count.
+/// The component with this name and these settings. `None` only for `ignore` without a count.
 #[inline(always)]
 pub fn component_of(name: ComponentName, settings: Settings) -> Option<Component>
     ensures { MatchOption result ((row_for name).component settings ≡ Err

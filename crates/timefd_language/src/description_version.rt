@@ -2,14 +2,15 @@
 
 ghost use Rattle.std.specs.Prelude.{◌≡◌};
 
-/// A version of the language: the parameter of `time`'s `parse_borrowed`.
+/// A version of the language, like the parameter of `time`'s `parse_borrowed`.
 #[derive(Debug, Clone, Copy, PartialEq, Eq)]
 pub enum DescriptionVersion {
-    /// The first version, where a bracket is escaped by doubling it.
+    /// The first version, where `[[` is an escaped `[`.
     One,
-    /// The second version, where a backslash escapes.
+    /// The second version, where a backslash escapes the next byte.
     Two,
-    /// The third version, which tells letters' cases apart, refuses what is of no use, and nests.
+    /// The third version. It distinguishes upper and lower case, refuses modifiers without use, and
+    /// has nested descriptions.
     Three,
 }
 
@@ -17,7 +18,7 @@ impl DescriptionVersion {
     ghost use Rattle.timefd_language.specs.Versions.{version_of};
     ghost use Rattle.timefd_language.specs.Bytes.{is_version_three};
 
-    /// The version of a number: 1, 2 and 3 have one, and no other number has.
+    /// The version with this number: 1, 2 or 3. `None` for any other number.
     pub fn from_number(number: u8) -> Option<Self>
         ensures { result ≡ version_of number }
     {
@@ -29,7 +30,8 @@ impl DescriptionVersion {
         }
     }
 
-    /// Whether names are compared with their case, and what is of no use is refused.
+    /// Whether words are compared with their case, and modifiers without use are refused: in version
+    /// 3 only.
     pub fn is_strict(self) -> bool
         ensures { result ≡ is_version_three self }
     {

@@ -10,22 +10,23 @@ use crate::description_version::DescriptionVersion;
 use crate::name::{ComponentName, Name};
 use crate::same::same;
 
-/// The key of a modifier, with what it sets: several components have a key `repr`, each its own.
+/// The key of a modifier, by what it sets. Several components have a key `repr`, and each `repr` is
+/// a key of its own here.
 #[derive(Clone, Copy)]
 pub enum Key {
     /// How a number is filled on the left.
     Padding,
-    /// What becomes of input behind the description.
+    /// What happens to input after the end of the description.
     TrailingInput,
-    /// Whether hours are those of a clock of 24 or of 12 hours.
+    /// Whether the clock has 24 or 12 hours.
     HourRepr,
     /// How many bytes are ignored.
     Count,
     /// How a month is written.
     MonthRepr,
-    /// Whether names are read with their case.
+    /// Whether reading distinguishes capital and small letters of a name.
     CaseSensitive,
-    /// Whether a sign always stands.
+    /// Whether a sign is always written.
     Sign,
     /// Whether `AM` and `PM` are written in upper case.
     Case,
@@ -43,7 +44,7 @@ pub enum Key {
     YearRepr,
     /// Which years are meant.
     Range,
-    /// Whether years are those of the calendar or of ISO weeks.
+    /// Whether years are calendar years or ISO week-numbering years.
     Base,
     /// Whether an optional item is formatted.
     Format,
@@ -77,7 +78,7 @@ impl Key {
     }
 }
 
-/// The keys that a bracket of this name takes.
+/// The keys that a bracket with this name takes.
 #[inline]
 fn keys(name: Name) -> &'static [Key]
     ensures { map key_for result.now ≡ keys_for name }
@@ -120,7 +121,7 @@ fn component_keys(name: ComponentName) -> &'static [Key]
     }
 }
 
-/// The key that a word is, in a bracket of this name.
+/// The key that a word spells in a bracket with this name.
 #[inline(always)]
 pub fn key_of(name: Name, version: DescriptionVersion, word: &str) -> Option<Key>
     ensures { option_map key_for result ≡ key_in (is_version_three version) word.now (keys_for

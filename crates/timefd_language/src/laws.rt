@@ -1,67 +1,72 @@
-//! What holds of the languages: each law is the contract of a function with an empty body.
+//! The laws of the languages. Each law is the contract of a function with an empty body.
 
 ghost use Rattle.timefd_language.specs.Distinct.{DistinctLetters, DistinctWords};
 ghost use Rattle.timefd_language.specs.Settled.{Settled};
-ghost use Rattle.timefd_language.specs.Places.{PlacedWithin, PlacedBetween, StrftimePlacedBetween};
+ghost use Rattle.timefd_language.specs.Positions.{PlacedWithin, PlacedBetween, StrftimePlacedBetween};
 ghost use Rattle.timefd_language.specs.Laws.{OneAnswer, OneCut, OneReading, Joining, Shift, OneStrftimeAnswer, OneStrftimeCut, StrftimeJoining, StrftimeShift, GreaterLimit, Lifting, ReservesWithin, Recasing, Relaxing, Modernity, StrftimeModernity};
 
-/// A text has exactly one of a spelled list and an assigned fault, and one of it.
+/// A text either spells a list or has a fault, never both, and there is only one such list or fault.
 pub fn one_answer()
     ensures { OneAnswer }
 {}
 
-/// A spelled text is cut into pieces in one way.
+/// A text can be cut into pieces in at most one way.
 pub fn one_cut()
     ensures { OneCut }
 {}
 
-/// With nested descriptions around it, each text is pieces and what stands behind them, in one way.
+/// Inside of nested descriptions too, each text is pieces and then what stops them, in exactly one
+/// way.
 pub fn one_reading()
     ensures { OneReading }
 {}
 
-/// Spelled texts joined spell their items in turn.
+/// Two texts that spell items spell, when joined, the items of the first and then those of the
+/// second. Literals that meet become one.
 pub fn joining()
     ensures { Joining }
 {}
 
-/// A fault behind a spelled text is shifted by its length.
+/// A fault in what follows a spelled text is shifted by the length of that text.
 pub fn shift()
     ensures { Shift }
 {}
 
-/// A text of strftime has exactly one of a spelled list and an assigned fault, and one of it.
+/// A text of strftime either spells a list or has a fault, never both, and there is only one such
+/// list or fault.
 pub fn strftime_one_answer()
     ensures { OneStrftimeAnswer }
 {}
 
-/// A spelled text of strftime is cut into pieces in one way.
+/// A text of strftime can be cut into pieces in at most one way.
 pub fn strftime_one_cut()
     ensures { OneStrftimeCut }
 {}
 
-/// Spelled texts of strftime joined spell their items in turn.
+/// Two texts of strftime that spell items spell, when joined, the items of the first and then those
+/// of the second. Literals that meet become one.
 pub fn strftime_joining()
     ensures { StrftimeJoining }
 {}
 
-/// A fault behind a spelled text of strftime is shifted by its length.
+/// A fault in what follows a spelled text of strftime is shifted by the length of that text.
 pub fn strftime_shift()
     ensures { StrftimeShift }
 {}
 
-/// What a text spells with a limit it spells with every greater one, and so it has every fault but
-/// that of a too highly nested description.
+/// What a text spells with one limit, it spells with every greater limit. The same holds of every
+/// fault except that a description is nested too deeply.
 pub fn greater_limit()
     ensures { GreaterLimit }
 {}
 
-/// What version 1 spells version 2 spells, once it is rewritten.
+/// A text of version 1, once it is rewritten, spells the same in version 2, up to how literals are
+/// split.
 pub fn lifting()
     ensures { Lifting }
 {}
 
-/// A text of version 3 is at least as long as what it reserves.
+/// A text of version 3 is at least as long as the bytes that it reserves.
 pub fn reserves_within()
     ensures { ReservesWithin }
 {}
@@ -71,7 +76,7 @@ pub fn recasing()
     ensures { Recasing }
 {}
 
-/// A text that version 3 spells without nested descriptions version 2 spells, piece by piece.
+/// A text of version 3 without nested descriptions is a text of version 2 too, piece by piece.
 pub fn relaxing()
     ensures { Relaxing }
 {}
@@ -86,32 +91,32 @@ pub fn strftime_modernity()
     ensures { StrftimeModernity }
 {}
 
-/// A fault behind whose construct text stands is that of every text that goes on from there.
+/// If text follows the construct at fault, the fault stays the same however the text goes on.
 pub fn settled()
     ensures { Settled }
 {}
 
-/// A fault stands in its text, or at its end.
+/// The index of a fault is in its text, or at its end.
 pub fn placed_within()
     ensures { PlacedWithin }
 {}
 
-/// A fault stands between two characters of its text.
+/// The index of a fault is between two characters of its text.
 pub fn placed_between()
     ensures { PlacedBetween }
 {}
 
-/// A fault of strftime stands between two characters of its text.
+/// The index of a fault of strftime is between two characters of its text.
 pub fn strftime_placed_between()
     ensures { StrftimePlacedBetween }
 {}
 
-/// No two names, keys of a name or values of a key are the same, not even without regard to case.
+/// No two names, keys of a name or values of a key are the same, even if case is ignored.
 pub fn distinct_words()
     ensures { DistinctWords }
 {}
 
-/// Each letter of strftime stands for one item.
+/// No letter of strftime is listed twice, so each means one item.
 pub fn distinct_letters()
     ensures { DistinctLetters }
 {}

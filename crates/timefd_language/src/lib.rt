@@ -1,7 +1,7 @@
-//! The languages of format descriptions: what a text of each version and of strftime spells, which
-//! fault another has, the laws of both, and the tables of names, keys and values with the code that
-//! looks them up. The readers stand above, in `timefd_parse` and `timefd_strftime`, and users take
-//! what they need from `timefd_parse`.
+//! The languages of format descriptions: what a text of each version, or of strftime, spells, and
+//! which fault any other text has. The laws of both are here too, and the tables of names, keys and
+//! values with the code that looks them up. The readers are built on this crate, in `timefd_parse`
+//! and `timefd_strftime`; users take what they need from `timefd_parse`.
 #![tactic(auto)]
 
 pub mod combination;

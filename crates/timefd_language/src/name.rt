@@ -1,4 +1,4 @@
-//! The names that stand at the head of a bracket.
+//! The names at the head of a bracket.
 
 ghost use Rattle.std.specs.Prelude.{◌≡◌, option_map};
 ghost use Rattle.timefd_language.specs.Bytes.{is_version_three};
@@ -59,18 +59,18 @@ impl ComponentName {
     }
 }
 
-/// What a bracket is, by its name.
+/// What kind of bracket a name begins.
 #[derive(Clone, Copy)]
 pub enum Name {
     /// An optional item.
     Optional,
-    /// The first of several descriptions that fits.
+    /// The first of several descriptions that matches.
     First,
     /// A component.
     Component(ComponentName),
 }
 
-/// What a word names.
+/// The name that a word spells.
 pub fn name_of(version: DescriptionVersion, word: &str) -> Option<Name>
     ensures { IsNameOf (is_version_three version) word.now result }
 {
@@ -83,7 +83,7 @@ pub fn name_of(version: DescriptionVersion, word: &str) -> Option<Name>
     }
 }
 
-/// Of the names only those of the word's length are compared.
+/// The component that a word names. It is compared only with names of its own length.
 fn component_name_of(version: DescriptionVersion, word: &str) -> Option<ComponentName>
     ensures { option_map row_for result ≡ row_of (is_version_three version) word.now }
 {

@@ -1,4 +1,4 @@
-//! How far a text goes on before one of a few bytes, many bytes at a time.
+//! Searches a text for the first of a few bytes, many bytes at a time.
 
 ghost use Rattle.std.specs.Prelude.{◌≡◌, ◌≤◌, ◌+◌, ℕ, Bool, length, min};
 ghost use Rattle.std.specs.List.{prefix_len};
@@ -6,7 +6,7 @@ ghost use Rattle.timefd_language.specs.Cut.{is_high, is_none_of};
 
 use std::simd::prelude::*;
 
-/// How many bytes stand before the first of these three.
+/// How many bytes come before the first of these three, or all if there is none.
 #[inline(never)]
 pub fn len_before(bytes: &[u8], first: u8, second: u8, third: u8) -> usize
     ensures { result ≡ prefix_len (is_none_of first second third) bytes.now }
@@ -21,7 +21,8 @@ pub fn len_before(bytes: &[u8], first: u8, second: u8, third: u8) -> usize
     last + len_in::<16>(bytes, last, first, second, third)
 }
 
-/// Goes on while none of the next `N` bytes is one of the three, and more than those are left.
+/// Advances by `N` bytes while none of the next `N` is one of the three and more than `N` are left.
+/// Returns the index where it stops.
 #[inline(always)]
 fn skipped<const N: usize>(bytes: &[u8], from: usize, first: u8, second: u8, third: u8) -> usize
     requires lanes { N ≤ 64 }
@@ -40,7 +41,7 @@ fn skipped<const N: usize>(bytes: &[u8], from: usize, first: u8, second: u8, thi
     at
 }
 
-/// How many of the next `N` bytes stand before the first of the three.
+/// How many of the `N` bytes from `at` on come before the first of the three.
 #[inline(always)]
 fn len_in<const N: usize>(bytes: &[u8], at: usize, first: u8, second: u8, third: u8) -> usize
     requires lanes { N ≤ 64 }
@@ -60,7 +61,7 @@ fn len_in<const N: usize>(bytes: &[u8], at: usize, first: u8, second: u8, third:
     }
 }
 
-/// The same of bytes that are too few for a vector.
+/// Does what [`len_before`] does, for too few bytes to fill a vector.
 fn len_of_few(bytes: &[u8], first: u8, second: u8, third: u8) -> usize
     ensures { result ≡ prefix_len (is_none_of first second third) bytes.now }
 {
@@ -72,7 +73,8 @@ fn len_of_few(bytes: &[u8], first: u8, second: u8, third: u8) -> usize
     bytes.len()
 }
 
-/// How many of the first sixteen bytes stand before one that is `]` or less; none of fewer bytes.
+/// How many of the first sixteen bytes come before one that is `]` or less. 0 if there are fewer
+/// than sixteen.
 #[inline(always)]
 pub fn high_len(bytes: &[u8]) -> usize
     ensures front { result ≤ prefix_len is_high bytes.now }

@@ -33,13 +33,13 @@ pub enum Setting {
     Format(bool),
 }
 
-/// What all the modifiers of a bracket set; a component takes what it has a use for.
+/// What all the modifiers of a bracket set. A component takes the fields that it has a use for.
 #[derive(Clone, Copy)]
 pub struct Settings {
     pub padding: Padding,
     pub trailing_input: TrailingInput,
     pub is_12_hour_clock: bool,
-    /// How many bytes are ignored; there is no default.
+    /// How many bytes are ignored. There is no default.
     pub count: Option<NonZero<u16>>,
     pub month_repr: MonthRepr,
     pub case_sensitive: bool,
@@ -52,14 +52,14 @@ pub struct Settings {
     pub week_number_repr: WeekNumberRepr,
     pub year_repr: YearRepr,
     pub range: YearRange,
-    /// Whether years are those of ISO weeks.
+    /// Whether years are ISO week-numbering years.
     pub iso_week_based: bool,
     /// Whether an optional item is formatted.
     pub format: bool,
 }
 
 impl Settings {
-    /// What holds where no modifier stands. The range of years depends on the version.
+    /// The settings of a bracket without modifiers. The range of years depends on the version.
     #[inline(always)]
     pub fn new(version: DescriptionVersion) -> Self
         ensures { result ≡ spec.defaults (is_version_three version) }
@@ -85,7 +85,7 @@ impl Settings {
         }
     }
 
-    /// Sets one more, which replaces an earlier one.
+    /// Applies one more setting, which replaces an earlier one of the same field.
     #[inline(always)]
     pub fn set(&mut self, setting: Setting)
         ensures { self.new ≡ spec.with self.old setting }

@@ -1,4 +1,4 @@
-//! Steps over a text: the longest stretch of a class of bytes, and what a text begins with.
+//! Steps through a text: the longest run of bytes of one class, and what a text begins with.
 
 ghost use Rattle.std.specs.Prelude.{◌≡◌, ◌≤◌, ◌<◌, length, ◌==◌, ◌∷◌, MatchOption, slice_index, ℕ, IsTrue, [], true, ⊤};
 ghost use Rattle.std.specs.List.{prefix_len};
@@ -10,18 +10,18 @@ ghost use Rattle.timefd_language.specs.Cut.{class_test, is_high, IsCut, BeginsWi
 use crate::description_version::DescriptionVersion;
 use crate::search::{high_len, len_before};
 
-/// A set of bytes. Where a stretch of its bytes ends, a character ends.
+/// A class of bytes. A run of its bytes ends where a character ends.
 #[derive(Clone, Copy)]
 pub enum Class {
-    /// White bytes.
+    /// White space: tab, line feed, form feed, carriage return and space.
     White,
     /// Bytes of a name, or of a modifier.
     Word,
-    /// Bytes of a modifier's key: those of a word, without the colon.
+    /// Bytes of a modifier's key: the bytes of a word except the colon.
     Key,
     /// Bytes of a literal in versions 2 and 3.
     Run,
-    /// Bytes of a literal in version 1, where a backslash stands for itself.
+    /// Bytes of a literal in version 1, where a backslash is an ordinary byte.
     RunWithBackslash,
     /// Bytes of a literal of strftime.
     Plain,
@@ -55,7 +55,7 @@ fn is_special(byte: u8) -> bool
 fn is_in(class: Class, byte: u8) -> bool
     ensures { result ≡ class_test class byte }
 {
-    // Most bytes of a word stand behind all that end one.
+    // Most bytes of a word are greater than every byte that ends one, so this test comes first.
     match class {
         Class::White => is_white(byte),
         Class::Word => byte > b']' || !is_special(byte) && !is_white(byte),
@@ -66,10 +66,11 @@ fn is_in(class: Class, byte: u8) -> bool
     }
 }
 
-/// How many bytes are looked at one by one: a stretch that is longer is a literal.
+/// How many bytes are checked one by one. A longer run is most likely a literal, which is searched
+/// many bytes at a time.
 const NEAR: usize = 8;
 
-/// How many bytes at the front are in the class, if that is one of literals.
+/// How many bytes at the front are in the class, if it is a class of literals.
 #[inline(always)]
 fn literal_len(bytes: &[u8], class: Class) -> Option<usize>
     ensures { MatchOption result ⊤ (λ n. (n ≡ prefix_len (class_test class) bytes.now)
@@ -102,7 +103,8 @@ fn run_len(bytes: &[u8], class: Class) -> usize
     bytes.len()
 }
 
-/// The same of a class of words. The bytes behind all that end a word are passed over at once.
+/// How many bytes at the front are in a class of words. Bytes greater than every byte that ends a
+/// word are skipped together.
 #[inline(always)]
 fn word_len(bytes: &[u8], class: Class) -> usize
     requires { (b : ℕ) → is_high b ≡ true → class_test class b ≡ true }
@@ -113,7 +115,7 @@ fn word_len(bytes: &[u8], class: Class) -> usize
     high + run_len(&bytes[high..], class)
 }
 
-/// The same of any class.
+/// How many bytes at the front are in the class, whichever it is.
 #[inline(always)]
 fn class_len(bytes: &[u8], class: Class) -> usize
     ensures len { result ≡ prefix_len (class_test class) bytes.now }
@@ -126,7 +128,7 @@ fn class_len(bytes: &[u8], class: Class) -> usize
     }
 }
 
-/// The longest front of bytes of the class, and the rest.
+/// Splits a text after its longest front of bytes in the class.
 #[inline(always)]
 pub fn cut(text: &str, class: Class) -> (&str, &str)
     ensures parts { IsCut (class_test class) text.now result.0.now result.1.now }
@@ -135,7 +137,7 @@ pub fn cut(text: &str, class: Class) -> (&str, &str)
     text.split_at(class_len(text.as_bytes(), class))
 }
 
-/// The same of a class of literals, which needs no look at words.
+/// Does what [`cut`] does, for a class of literals only, without the check for words.
 #[inline(always)]
 fn cut_literal(text: &str, class: Class) -> (&str, &str)
     ensures parts { IsCut (class_test class) text.now result.0.now result.1.now }
@@ -144,7 +146,7 @@ fn cut_literal(text: &str, class: Class) -> (&str, &str)
     text.split_at(run_len(text.as_bytes(), class))
 }
 
-/// The longest front that is one literal of the version, and the rest.
+/// Splits a text after its longest front that is one literal of the version.
 #[inline(always)]
 pub fn cut_run(version: DescriptionVersion, text: &str) -> (&str, &str)
     ensures parts { IsCut (is_run_byte version) text.now result.0.now result.1.now }
@@ -156,7 +158,7 @@ pub fn cut_run(version: DescriptionVersion, text: &str) -> (&str, &str)
     }
 }
 
-/// What follows the first byte, which is ASCII.
+/// What follows the first byte, which has to be ASCII.
 #[inline(always)]
 pub fn tail(text: &str) -> &str
     requires there { 0 < length text.now }
@@ -183,7 +185,7 @@ pub fn start_of(text: &str) -> Start<'_>
 
 /// What follows a colon, if the text begins with one.
 #[inline(always)]
-pub fn behind_colon(text: &str) -> Option<&str>
+pub fn after_colon(text: &str) -> Option<&str>
     ensures { MatchOption result (StopsBefore (λ b. b == 58) text.now)
         (λ rest. text.now ≡ 58 ∷ rest.now) }
 {
@@ -193,7 +195,8 @@ pub fn behind_colon(text: &str) -> Option<&str>
     }
 }
 
-/// The first byte and the rest, if the first is an ASCII byte that the escapes of versions 2 and 3 stand for.
+/// The first byte and the rest, if the first is a byte that can be escaped in versions 2 and 3:
+/// `[`, `]` or `\`.
 #[inline(always)]
 pub fn escaped(text: &str) -> Option<(&str, &str)>
     ensures { MatchOption result (StopsBefore spec.is_special text.now) (λ x. (b : ℕ)

@@ -1,4 +1,4 @@
-//! The words of modifiers, and what they set.
+//! The words that modifiers are set to, and what they mean.
 
 ghost use Rattle.std.specs.Prelude.{◌≡◌, Bool, option_map, map};
 ghost use Rattle.timefd_language.specs.Bytes.{is_version_three, named};
@@ -44,7 +44,7 @@ pub fn setting_of(key: Key, version: DescriptionVersion, word: &str) -> Option<S
     Some(setting)
 }
 
-/// What a word stands for among these.
+/// What a word means, by this list of words and meanings.
 #[inline(always)]
 fn value_of<T: Copy>(version: DescriptionVersion, word: &str, values: &[(&str, T)]) -> Option<T>
     ensures { (set : T → Setting) → option_map set result ≡ sets_of (named (λ v. v.word)
@@ -226,7 +226,7 @@ fn precision_of(version: DescriptionVersion, word: &str) -> Option<UnixTimestamp
     )
 }
 
-/// Digits have no case.
+/// The version makes no difference here, as digits have no case.
 fn digits_of(word: &str) -> Option<SubsecondDigits>
     ensures { (strict : Bool) → option_map Setting.Digits result ≡ setting_in strict
         spec.digits.values word.now }
@@ -246,7 +246,7 @@ fn digits_of(word: &str) -> Option<SubsecondDigits>
     }
 }
 
-/// A number from 1 to 65535, which is written as Rust reads it.
+/// A number from 1 to 65535, written as Rust's `parse` accepts it.
 fn count_of(word: &str) -> Option<NonZero<u16>>
     ensures { option_map Setting.Count result ≡ spec.count_of word.now }
 {

@@ -1,4 +1,4 @@
--- Rules of brackets that go wrong before they are closed.
+-- Rules about brackets that go wrong before they are closed.
 use Rattle.std.proofs.Common.{ℕ, ◌≡◌, ◌≢◌, ◌+◌, [], ◌∷◌, ◌++◌, length, append_assoc, refl, sym, ap, ap₂, ◌∙◌}
 use Rattle.timefd_component.specs.Tree.{Text}
 use Rattle.timefd_fault.specs.Faults.{Kind, fault, unclosed_bracket}
@@ -6,15 +6,15 @@ use Rattle.timefd_language.specs.Bytes.{left}
 use Rattle.timefd_language.specs.Fault.{raised, enclosed}
 use Rattle.timefd_language.specs.Grammar.{spelling}
 use Rattle.timefd_language.specs.Broken.{nameless, ill_modified, no_colon, no_key, no_value, too_deep, broken_inside, cut_off, unclosed, refused, before_inner}
-use Rattle.timefd_laws.specs.Brackets.{begun_text, NameWanted, NameWantedBehindWhite, ColonWanted, KeyWanted, ValueWanted, Unclosed, TooDeep, CutOff, FaultInside, UnclosedInside, RefusedBracket, FaultBehindPieces}
+use Rattle.timefd_laws.specs.Brackets.{begun_text, NameWanted, NameWantedAfterWhite, ColonWanted, KeyWanted, ValueWanted, Unclosed, TooDeep, CutOff, FaultInside, UnclosedInside, RefusedBracket, FaultAfterPieces}
 
 pub name_wanted : NameWanted
 name_wanted v limit n rest white word single =
     (nameless [] rest, (refl, white, word, single), refl, refl)
 
-pub name_wanted_behind_white : NameWantedBehindWhite
-name_wanted_behind_white v limit n [] rest some white word single = absurd some
-name_wanted_behind_white v limit n (w ∷ ws) rest some white word single =
+pub name_wanted_after_white : NameWantedAfterWhite
+name_wanted_after_white v limit n [] rest some white word single = absurd some
+name_wanted_after_white v limit n (w ∷ ws) rest some white word single =
     (nameless (w ∷ ws) rest, (some, white, word, single), refl, refl)
 
 pub colon_wanted : ColonWanted
@@ -29,8 +29,8 @@ pub value_wanted : ValueWanted
 value_wanted v limit n h white key rest head some is stops =
     (ill_modified h white (no_value key) rest, (head, some, is, stops), refl, refl)
 
-pub unclosed_told : Unclosed
-unclosed_told v limit n h ns white rest begun w b whole =
+pub unclosed_reported : Unclosed
+unclosed_reported v limit n h ns white rest begun w b whole =
     (unclosed h ns white rest, (begun.0, begun.1, begun.2, w, b, whole), refl, refl)
 
 -- the `[` of a nested description, and what it holds
@@ -41,8 +41,8 @@ inner_text begun front inner = ap (λ x. x ++ inner) (sym (append_assoc begun (l
 inner_begun : (begun front : Text) → begun ++ left ∷ front ≡ begun ++ left ∷ [] ++ front
 inner_begun begun front = sym (append_assoc begun (left ∷ []) front)
 
-pub too_deep_told : TooDeep
-too_deep_told v limit h ns white rest begun = (
+pub too_deep_reported : TooDeep
+too_deep_reported v limit h ns white rest begun = (
   too_deep h ns white rest,
   (begun.0, begun.1, begun.2, refl),
   inner_begun (begun_text h ns white)
@@ -50,8 +50,8 @@ too_deep_told v limit h ns white rest begun = (
   refl,
 )
 
-pub cut_off_told : CutOff
-cut_off_told v limit n h ns white front begun less are = (
+pub cut_off_reported : CutOff
+cut_off_reported v limit n h ns white front begun less are = (
   cut_off h ns white front,
   (begun.0, begun.1, begun.2, less, are),
   inner_begun
@@ -92,8 +92,8 @@ refused_bracket v limit n h ns white rest kind index begun is = (
   refl,
 )
 
-pub fault_behind_pieces : FaultBehindPieces
-fault_behind_pieces v limit front text f are bad = (
+pub fault_after_pieces : FaultAfterPieces
+fault_after_pieces v limit front text f are bad = (
   front,
   bad.0,
   are,

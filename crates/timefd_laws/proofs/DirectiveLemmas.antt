@@ -1,4 +1,4 @@
--- Rules of strftime.
+-- Rules about strftime.
 use Rattle.std.proofs.Common.{ℕ, ◌≡◌, ◌≢◌, ◌==◌, ◌||◌, ◌+◌, Bool, true, false, codes, if◌then◌else◌, List, [], ◌∷◌, ◌++◌, length, append-nil, Some, None, eqb-true, refl, sym, ap, ◌∙◌}
 use Rattle.std.proofs.lemmas.Bool.{or_parts}
 use Rattle.timefd_component.specs.Tree.{Text}
@@ -6,22 +6,22 @@ use Rattle.timefd_fault.specs.Faults.{fault, not_supported, invalid_name}
 use Rattle.timefd_language.specs.Distinct.{letters_in}
 use Rattle.timefd_language.specs.Fault.{raised}
 use Rattle.timefd_language.specs.Letters.{Flag, unflagged, flagged, Letter, letters, is_one_of, item_in, item_of}
-use Rattle.timefd_language.specs.Strftime.{flag_text, name_of, unknown_kind, no_directives, plain, directive, directives_text, IsBehind, cut_short, unknown}
-use Rattle.timefd_laws.specs.Directives.{PlainIsLiteral, LetterIsItem, LetterWanted, LetterWantedBehindFlag, ModifierO, LetterZ, UnknownLetter}
+use Rattle.timefd_language.specs.Strftime.{flag_text, name_of, unknown_kind, no_directives, plain, directive, directives_text, IsAfter, cut_short, unknown}
+use Rattle.timefd_laws.specs.Directives.{PlainIsLiteral, LetterIsItem, LetterWanted, LetterWantedAfterFlag, ModifierO, LetterZ, UnknownLetter}
 
 pub plain_is_literal : PlainIsLiteral
 plain_is_literal bytes are =
     (plain bytes no_directives, (are, tt, tt), sym (append-nil bytes), refl)
 
 pub letter_is_item : LetterIsItem
-letter_is_item f b tree flag behind is =
-    (directive f b tree no_directives, (flag, behind, is, tt), refl, refl)
+letter_is_item f b tree flag after is =
+    (directive f b tree no_directives, (flag, after, is, tt), refl, refl)
 
 pub letter_wanted : LetterWanted
 letter_wanted front are = (front, cut_short unflagged, are, tt, refl, refl)
 
-pub letter_wanted_behind_flag : LetterWantedBehindFlag
-letter_wanted_behind_flag front b are flag = (front, cut_short (flagged b), are, flag, refl, refl)
+pub letter_wanted_after_flag : LetterWantedAfterFlag
+letter_wanted_after_flag front b are flag = (front, cut_short (flagged b), are, flag, refl, refl)
 
 no_item_O : (f : Flag) → item_of f 79 ≡ None
 unfolding item_of
@@ -31,21 +31,21 @@ no_item_Z : (f : Flag) → item_of f 90 ≡ None
 unfolding item_of
 no_item_Z f = refl
 
-behind_O : (f : Flag) → IsBehind f 79
-behind_O unflagged = refl
-behind_O (flagged b) = tt
+after_O : (f : Flag) → IsAfter f 79
+after_O unflagged = refl
+after_O (flagged b) = tt
 
-behind_Z : (f : Flag) → IsBehind f 90
-behind_Z unflagged = refl
-behind_Z (flagged b) = tt
+after_Z : (f : Flag) → IsAfter f 90
+after_Z unflagged = refl
+after_Z (flagged b) = tt
 
 pub modifier_O : ModifierO
 modifier_O front f rest are flag =
-    (front, unknown f 79 rest, are, (flag, behind_O f, no_item_O f), refl, refl)
+    (front, unknown f 79 rest, are, (flag, after_O f, no_item_O f), refl, refl)
 
 pub letter_Z : LetterZ
 letter_Z front f rest are flag =
-    (front, unknown f 90 rest, are, (flag, behind_Z f, no_item_Z f), refl, refl)
+    (front, unknown f 90 rest, are, (flag, after_Z f, no_item_Z f), refl, refl)
 
 -- Other letters.
 
@@ -85,11 +85,11 @@ other_kind b o z =
     (differ b 90 z))
 
 pub unknown_letter : UnknownLetter
-unknown_letter front f b rest are flag behind none o z = (
+unknown_letter front f b rest are flag after none o z = (
   front,
   unknown f b rest,
   are,
-  (flag, behind, no_item_of f b none),
+  (flag, after, no_item_of f b none),
   refl,
   ap (λ kind. raised (fault kind (1 + length (flag_text f))) (length (directives_text front)))
       (other_kind b o z),

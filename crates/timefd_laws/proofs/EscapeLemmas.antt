@@ -1,4 +1,4 @@
--- Rules of runs, escapes and closing brackets.
+-- Rules about runs, escapes and closing brackets.
 use Rattle.std.proofs.Common.{[], ◌∷◌, append-nil, refl, sym}
 use Rattle.timefd_language.specs.declared.description_version.DescriptionVersion.TheVariants.{One, Two, Three}
 use Rattle.timefd_language.specs.Bytes.{left, backslash}

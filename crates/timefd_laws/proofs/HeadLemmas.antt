@@ -1,4 +1,4 @@
--- The verdict on a bracket whose modifiers are good up to one.
+-- The verdict on a bracket whose modifiers before one are good.
 use Rattle.std.proofs.Common.{ℕ, ◌≡◌, ◌+◌, Bool, true, false, not, ◌&&◌, ◌||◌, codes, if◌then◌else◌, List, [], ◌∷◌, ◌++◌, length, length-append, append_assoc, append-nil, map, Option, Some, None, is_some, Result, Err, refl, sym, ap, ◌∙◌, arith}
 use Rattle.timefd_component.specs.Tree.{Text, Tree, optional, first, trees, pack}
 use Rattle.timefd_fault.specs.Faults.{Fault, fault, invalid_modifier, duplicate_modifier}
@@ -10,11 +10,11 @@ use Rattle.timefd_language.specs.Head.{Head, Modifier, Placed, placed_at, placed
 use Rattle.timefd_language.specs.Values.{Key, setting_in}
 use Rattle.timefd_language.specs.Names.{row_for, row_of}
 use Rattle.timefd_language.specs.Lookup.{keys_for}
-use Rattle.timefd_language.specs.Verdict.{PlacedDescription, ◌or◌, refuse, unless, behind, is_set, bad_value, bad_modifier, bad_modifiers, made, settings, component_verdict, touching, too_many, nested_refused, nested_wanted, is_formatted, only, optional_verdict, first_verdict, verdict}
+use Rattle.timefd_language.specs.Verdict.{PlacedDescription, ◌or◌, refuse, unless, after, is_set, bad_value, bad_modifier, bad_modifiers, made, settings, component_verdict, touching, too_many, nested_refused, nested_wanted, is_formatted, only, optional_verdict, first_verdict, verdict}
 use Rattle.timefd_language.specs.Grammar.{Nested, no_nested, nested, nested_text, parts_from, bracket_verdict}
-use Rattle.timefd_language.proofs.Recase.{none_behind}
+use Rattle.timefd_language.proofs.Recase.{none_after}
 use Rattle.timefd_parse.proofs.VerdictLemmas.{any_is_bad}
-use Rattle.timefd_laws.specs.Heads.{IsNamed, IsSpaced, MayNest, AreGoodBehind, AreGood, IsReached, has_key, key_named}
+use Rattle.timefd_laws.specs.Heads.{IsNamed, IsSpaced, MayNest, AreGoodAfter, AreGood, IsReached, has_key, key_named}
 
 -- Choices.
 
@@ -31,7 +31,7 @@ or_none o r e = ap (λ x. x or r) e
 
 abbrev ordinary : Bool → Head → List PlacedDescription → Result Tree Fault
 ordinary strict h parts =
-    behind (nested_refused parts) (component_verdict strict h (row_of strict h.name))
+    after (nested_refused parts) (component_verdict strict h (row_of strict h.name))
 
 abbrev unless_first : Bool → Head → List PlacedDescription → ℕ → Result Tree Fault
 unless_first strict h parts close =
@@ -47,7 +47,7 @@ pub is_optional : (strict : Bool) (h : Head) (parts : List PlacedDescription) (c
     → touching parts ≡ None → same strict (codes "optional") h.name ≡ true
     → verdict strict h parts close ≡ optional_verdict strict h parts close
 is_optional strict h parts close white o =
-    none_behind (touching parts) (by_name strict h parts close) white
+    none_after (touching parts) (by_name strict h parts close) white
     ∙ if_true (same strict (codes "optional") h.name) (optional_verdict strict h parts close)
     (unless_first strict h parts close) o
 
@@ -56,7 +56,7 @@ pub is_first : (strict : Bool) (h : Head) (parts : List PlacedDescription) (clos
     → same strict (codes "first") h.name ≡ true
     → verdict strict h parts close ≡ first_verdict strict h parts close
 is_first strict h parts close white o f =
-    none_behind (touching parts) (by_name strict h parts close) white
+    none_after (touching parts) (by_name strict h parts close) white
     ∙ if_false (same strict (codes "optional") h.name) (optional_verdict strict h parts close)
     (unless_first strict h parts close) o
     ∙ if_true (same strict (codes "first") h.name) (first_verdict strict h parts close)
@@ -67,7 +67,7 @@ pub is_ordinary : (strict : Bool) (h : Head) (parts : List PlacedDescription) (c
     → same strict (codes "first") h.name ≡ false
     → verdict strict h parts close ≡ ordinary strict h parts
 is_ordinary strict h parts close white o f =
-    none_behind (touching parts) (by_name strict h parts close) white
+    none_after (touching parts) (by_name strict h parts close) white
     ∙ if_false (same strict (codes "optional") h.name) (optional_verdict strict h parts close)
     (unless_first strict h parts close) o
     ∙ if_false (same strict (codes "first") h.name) (first_verdict strict h parts close)
@@ -80,12 +80,12 @@ is_spaced k (nested white ps ns) s =
 
 -- Bad modifiers.
 
--- What is found of the modifiers is told, before nested descriptions are counted.
-pub bad_told : (v : DescriptionVersion) (h : Head) (ns : Nested) (white : Text) (name : Name)
+-- The fault of the modifiers is reported, before nested descriptions are counted.
+pub bad_reported : (v : DescriptionVersion) (h : Head) (ns : Nested) (white : Text) (name : Name)
     (f : Fault) → IsNamed v h (Some name) → MayNest name ns
     → bad_modifiers (is_version_three v) (keys_for name) [] (placed h) ≡ Some f
     → bracket_verdict v h ns white ≡ Err f
-bad_told v h ns white Name.Optional f named nests bad =
+bad_reported v h ns white Name.Optional f named nests bad =
     let strict : Bool = is_version_three v in
     let k : ℕ = length (head_text h) in
     let close : ℕ = length (head_text h ++ nested_text ns ++ white) in
@@ -94,7 +94,7 @@ bad_told v h ns white Name.Optional f named nests bad =
     ∙ ap (λ x. unless (x or too_many parts or nested_wanted expected_nested parts close
     or refuse (not strict) optional_item 0) (optional (is_formatted strict (placed h)) (only parts)))
     bad
-bad_told v h ns white Name.First f named nests bad =
+bad_reported v h ns white Name.First f named nests bad =
     let strict : Bool = is_version_three v in
     let k : ℕ = length (head_text h) in
     let close : ℕ = length (head_text h ++ nested_text ns ++ white) in
@@ -103,13 +103,13 @@ bad_told v h ns white Name.First f named nests bad =
     ∙ ap (λ x. unless (x or (if strict then nested_wanted expected_alternative parts close
     else Some (fault first_item 0))) (first (trees (map (λ p. pack p.trees) parts))))
     (any_is_bad strict (placed h) ∙ bad)
-bad_told v h ns white (Name.Component n) f named nests bad =
+bad_reported v h ns white (Name.Component n) f named nests bad =
     let strict : Bool = is_version_three v in
     ap (λ x. bracket_verdict v h x white) nests
     ∙ is_ordinary strict h [] (length (head_text h ++ nested_text no_nested ++ white)) refl named.0
     named.1
     ∙ ap (component_verdict strict h) named.2
-    ∙ ap (λ x. behind x (made strict h
+    ∙ ap (λ x. after x (made strict h
     ((row_for n).component (settings strict (row_for n).keys (placed h))))) bad
 
 -- Good modifiers.
@@ -132,7 +132,7 @@ has_key-append strict key (m ∷ a) b =
     ap (λ x. same strict key m.key || x) (has_key-append strict key a b)
     ∙ or_assoc (same strict key m.key) (has_key strict key a) (has_key strict key b)
 
--- the same keys stand in both
+-- both have the same keys
 abbrev pub SameKeys : Bool → List Placed → List Modifier → Type 0
 SameKeys strict ps ms = (key : Text) → is_set strict key ps ≡ has_key strict key ms
 
@@ -152,20 +152,20 @@ modifier_good strict found k ps m e fresh known =
     ∙ ap (λ b. refuse b (duplicate_modifier k.key) m.key_index or bad_value strict k m) fresh
     ∙ ap (λ b. refuse (not b) (invalid_modifier m.value) m.value_index) known
 
--- what is behind good modifiers is looked at, behind the same keys
+-- the check goes on with the rest after good modifiers, and the keys before the rest are the same
 pub record Skipped (v : DescriptionVersion) (name : Name) (ps : List Placed)
     (before good : List Modifier) (all rest : List Placed) : Type 0 where
-  pub behind : List Placed
+  pub after : List Placed
   pub bad : bad_modifiers (is_version_three v) (keys_for name) ps all
-      ≡ bad_modifiers (is_version_three v) (keys_for name) behind rest
-  pub keys : SameKeys (is_version_three v) behind (before ++ good)
+      ≡ bad_modifiers (is_version_three v) (keys_for name) after rest
+  pub keys : SameKeys (is_version_three v) after (before ++ good)
 
 pub skipped : (v : DescriptionVersion) (name : Name) (k : ℕ) (ps : List Placed)
     (before good : List Modifier) (rest : List Placed) → SameKeys (is_version_three v) ps before
-    → AreGoodBehind v name before good
+    → AreGoodAfter v name before good
     → Skipped v name ps before good (placed_from k good ++ rest) rest
 skipped v name k ps before [] rest agree good = record {
-  behind = ps;
+  after = ps;
   bad = refl;
   keys = λ key. agree key ∙ ap (has_key (is_version_three v) key) (sym (append-nil before));
 }
@@ -174,7 +174,7 @@ skipped v name k ps before (g ∷ gs) rest agree good =
     let next = skipped v name (k + length (modifier_text g)) (ps ++ placed_at k g ∷ [])
     (before ++ g ∷ []) gs rest (one_more strict k ps before g agree) good.1 in
     record {
-      behind = next.behind;
+      after = next.after;
       bad = or_none (bad_modifier strict (key_named v name g) ps (placed_at k g))
           (bad_modifiers strict (keys_for name) (ps ++ placed_at k g ∷ [])
           (placed_from (k + length (modifier_text g)) gs ++ rest))
@@ -200,7 +200,7 @@ all_good v name h good =
     ap (bad_modifiers (is_version_three v) (keys_for name) []) (sym (append-nil (placed h)))
     ∙ (skipped v name (name_index h + length h.name) [] [] h.modifiers [] (λ key. refl) good).bad
 
--- The modifiers are good up to one.
+-- The modifiers before one are good.
 pub reached : (v : DescriptionVersion) (h : Head) (ns : Nested) (name : Name)
     (before : List Modifier) (m : Modifier) (is : IsReached v h ns name before m)
     → Skipped v name [] [] before (placed h)
@@ -213,7 +213,7 @@ reached v h ns name before m is =
     let s = skipped v name k [] [] before
     (placed_at j m ∷ placed_from (j + length (modifier_text m)) is.rest) (λ key. refl) is.good in
     record {
-      behind = s.behind;
+      after = s.after;
       bad = ap (λ ms. bad_modifiers (is_version_three v) (keys_for name) [] (placed_from k ms))
           is.modifiers
           ∙ ap (bad_modifiers (is_version_three v) (keys_for name) [])

@@ -37,7 +37,7 @@ slot (Setting.Range x) = 14
 slot (Setting.IsoWeekBased x) = 15
 slot (Setting.Format x) = 16
 
--- Of two settings of one field the second counts.
+-- If two settings set the same field, the second one counts.
 replaced : (s : Settings) (x y : Setting) → (slot x == slot y) ≡ true
     → with (with s x) y ≡ with s y
 replaced s (Setting.Padding x) (Setting.Padding y) e = refl
@@ -75,7 +75,7 @@ replaced s (Setting.IsoWeekBased x) _ e = absurd (false≢true e)
 replaced s (Setting.Format x) (Setting.Format y) e = refl
 replaced s (Setting.Format x) _ e = absurd (false≢true e)
 
--- Settings of two fields may change places.
+-- Settings of different fields can be swapped.
 exchanged : (s : Settings) (x y : Setting) → (slot x == slot y) ≡ false
     → with (with s x) y ≡ with (with s y) x
 exchanged s (Setting.Padding x) (Setting.Padding y) other = absurd (false≢true (sym other))
@@ -149,7 +149,7 @@ all_keys Name.Optional = refl
 all_keys Name.First = refl
 all_keys (Name.Component n) = component_keys n
 
--- what is found is one of the list
+-- what is found is an element of the list
 pub found_in : {A : Type 0} (name : A → Text) (P : A → Type 0) (strict : Bool) (text : Text)
     (xs : List A) (x : A) → Each P xs → named name strict text xs ≡ Some x → P x
 found_in name P strict text [] x all e = absurd cc
@@ -171,7 +171,7 @@ field_of (words vs) text x one e =
     (λ v h. eqb-true (slot v.sets) (field (words vs)) h) vs one) f.1
 field_of numbers text x one e = ap slot (count_of-sets text x e).1
 
--- A setting counts for nothing where another of its field comes.
+-- A setting makes no difference if another setting of its field follows.
 abbrev set_by : List Key → Placed → Option Setting
 set_by keys m = setting_of false (key_in false m.key keys) m.value
 

@@ -1,4 +1,4 @@
--- Rules of names.
+-- Rules about names.
 use Rattle.std.proofs.Common.{◌≡◌, Bool, true, false, codes, List, [], ◌∷◌, ◌++◌, length, map, Option, Some, None, refl, sym, ap, ◌∙◌}
 use Rattle.std.proofs.lemmas.Bool.{false≢true}
 use Rattle.timefd_component.specs.Tree.{Text}
@@ -124,7 +124,7 @@ one_row : (a b : ComponentName) → row_for a ≡ row_for b → a ≡ b
 one_row a b e =
     distinct_rows a b (ap (λ r. equal (row_for a).name r.name) (sym e) ∙ equal-refl (row_for a).name)
 
--- what the word names, by what is found
+-- what the word names, given what the look-ups found
 abbrev found_name : Bool → Bool → Option ComponentName → Option Name
 found_name true f o = Some Name.Optional
 found_name false true o = Some Name.First

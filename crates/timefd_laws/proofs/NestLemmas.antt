@@ -1,4 +1,4 @@
--- Rules of nested descriptions.
+-- Rules about nested descriptions.
 use Rattle.std.proofs.Common.{ℕ, ◌≡◌, ◌+◌, Bool, not, if◌then◌else◌, List, [], ◌∷◌, ◌++◌, append-nil, length, map, Some, Ok, Err, refl, ap, ◌∙◌, arith}
 use Rattle.timefd_component.specs.Tree.{Text, optional, first, trees, pack}
 use Rattle.timefd_fault.specs.Faults.{fault}

@@ -1,4 +1,4 @@
--- An unclosed bracket is told at the outermost one: no rule of a closed bracket tells one.
+-- An unclosed bracket is reported at the outermost one: no rule about closed brackets reports one.
 use Rattle.std.proofs.Common.{ℕ, ◌≡◌, ◌≢◌, ◌+◌, Bool, true, false, not, ◌&&◌, is_some, if◌then◌else◌, codes, List, [], ◌∷◌, ◌++◌, length, map, Option, Some, None, Result, Ok, Err, refl, sym, ap, ◌∙◌, subst, arith}
 use Rattle.std.specs.Prelude.{⊤}
 use Rattle.std.specs.declared.num.NonZeroU16.{NonZeroU16}
@@ -15,7 +15,7 @@ use Rattle.timefd_language.specs.Head.{Head, Placed, placed, modifiers_text, hea
 use Rattle.timefd_language.specs.Values.{Key, key_in, setting_in, format}
 use Rattle.timefd_language.specs.Names.{Row, row_for, rows, row_of, component_names, ignored}
 use Rattle.timefd_language.specs.Combinations.{Refusal, refusals}
-use Rattle.timefd_language.specs.Verdict.{PlacedDescription, ◌or◌, refuse, unless, is_set, bad_value, bad_modifier, bad_modifiers, misplaced, combined, combination, made, behind, settings, component_verdict, touching, too_many, nested_refused, nested_wanted, any_modifier, is_formatted, only, optional_verdict, first_verdict, verdict}
+use Rattle.timefd_language.specs.Verdict.{PlacedDescription, ◌or◌, refuse, unless, is_set, bad_value, bad_modifier, bad_modifiers, misplaced, combined, combination, made, after, settings, component_verdict, touching, too_many, nested_refused, nested_wanted, any_modifier, is_formatted, only, optional_verdict, first_verdict, verdict}
 use Rattle.timefd_language.specs.Grammar.{spelling, nested_text, parts_from}
 use Rattle.timefd_language.specs.Broken.{no_colon, no_key, no_value, Broken, bare_closing, half_escape, nameless, ill_modified, too_deep, broken_inside, cut_off, unclosed, refused, IsBroken, broken_text, broken_fault}
 use Rattle.timefd_language.proofs.Lookup.{each-map}
@@ -51,7 +51,7 @@ duplicate_other t e = absurd cc
 combination_other : (t u : Text) → IsOther (invalid_combination t u)
 combination_other t u e = absurd cc
 
--- The fault of a rule, if there is one, is another.
+-- The fault of a rule, if there is one, is another kind.
 abbrev Other : Option Fault → Type 0
 Other None = ⊤
 Other (Some f) = IsOther f.kind
@@ -72,10 +72,10 @@ other_unless : (o : Option Fault) (t : Tree) → Other o → OtherAnswer (unless
 other_unless None t p = tt
 other_unless (Some f) t p = p
 
-other_behind : (o : Option Fault) (r : Result Tree Fault) → Other o → OtherAnswer r
-    → OtherAnswer (behind o r)
-other_behind None r p q = q
-other_behind (Some f) r p q = p
+other_after : (o : Option Fault) (r : Result Tree Fault) → Other o → OtherAnswer r
+    → OtherAnswer (after o r)
+other_after None r p q = q
+other_after (Some f) r p q = p
 
 other_if : (c : Bool) (a b : Result Tree Fault) → OtherAnswer a → OtherAnswer b
     → OtherAnswer (if c then a else b)
@@ -170,7 +170,7 @@ other_component : (strict : Bool) (h : Head) (o : Option Row)
 other_component strict h None all = name_other h.name
 other_component strict h (Some row) all =
     let found : Result Component Kind = row.component (settings strict row.keys (placed h)) in
-    other_behind (bad_modifiers strict row.keys [] (placed h)) (made strict h found)
+    other_after (bad_modifiers strict row.keys [] (placed h)) (made strict h found)
     (other_modifiers strict row.keys [] (placed h))
     (other_made strict h found (all row refl (settings strict row.keys (placed h))))
 
@@ -230,19 +230,19 @@ other_first strict h ps close =
 other_verdict : (strict : Bool) (h : Head) (ps : List PlacedDescription) (close : ℕ)
     → OtherAnswer (verdict strict h ps close)
 other_verdict strict h ps close =
-    other_behind (touching ps)
+    other_after (touching ps)
     (if same strict (codes "optional") h.name then optional_verdict strict h ps close
     else if same strict (codes "first") h.name then first_verdict strict h ps close
-    else behind (nested_refused ps) (component_verdict strict h (row_of strict h.name)))
+    else after (nested_refused ps) (component_verdict strict h (row_of strict h.name)))
     (other_touching ps)
     (other_if (same strict (codes "optional") h.name) (optional_verdict strict h ps close)
     (if same strict (codes "first") h.name then first_verdict strict h ps close
-    else behind (nested_refused ps) (component_verdict strict h (row_of strict h.name)))
+    else after (nested_refused ps) (component_verdict strict h (row_of strict h.name)))
     (other_optional strict h ps close)
     (other_if (same strict (codes "first") h.name) (first_verdict strict h ps close)
-    (behind (nested_refused ps) (component_verdict strict h (row_of strict h.name)))
+    (after (nested_refused ps) (component_verdict strict h (row_of strict h.name)))
     (other_first strict h ps close)
-    (other_behind (nested_refused ps) (component_verdict strict h (row_of strict h.name))
+    (other_after (nested_refused ps) (component_verdict strict h (row_of strict h.name))
     (other_nested ps)
     (other_component strict h (row_of strict h.name)
     (λ row e. found_in (λ r. r.name) OtherRow strict h.name rows row
@@ -262,7 +262,7 @@ enclosed_at (not_supported t u) i k e = absurd (not_supported_other t u e)
 enclosed_at (duplicate_modifier t) i k e = absurd (duplicate_other t e)
 enclosed_at (invalid_combination t u) i k e = absurd (combination_other t u e)
 
--- It begins with the bracket, where its fault stands.
+-- The broken text begins with the bracket, and its fault is reported there.
 abbrev BeginsThere : Broken → Type 0
 BeginsThere b = (rest : Text) × (broken_text b ≡ left ∷ rest) × ((broken_fault b).index ≡ 0)
 

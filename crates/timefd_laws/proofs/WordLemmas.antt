@@ -1,4 +1,4 @@
--- Words are told apart, and each stands once.
+-- All words of the tables are distinct.
 use Rattle.std.proofs.Common.{ℕ, ◌≡◌, ◌==◌, Bool, true, false, not, ◌||◌, List, [], ◌∷◌, ◌++◌, append_assoc, map, Option, Some, None, eq-eqb, refl, sym, ap, ◌∙◌}
 use Rattle.std.proofs.lemmas.Bool.{and_parts, false≢true}
 use Rattle.timefd_component.specs.Tree.{Text}

@@ -1,4 +1,4 @@
--- The language and the text determine one answer.
+-- The language, the limit and the text determine one answer.
 use Rattle.std.specs.Prelude.{ℕ, ◌≡◌, ◌⊎◌, List}
 use Rattle.timefd_component.specs.Tree.{Text, Tree}
 use Rattle.timefd_fault.specs.Faults.{Fault}
@@ -15,7 +15,8 @@ pub record HasOneAnswerIn (language : Language) (limit : ℕ) (text : Text) : Ty
   pub not_both : (a : List Tree) (f : Fault) → SpellsIn language limit text a
       → FaultIn language limit text f → ⊥
 
--- In each language, with each limit, a text spells a list or has a fault, never both, and one of it.
+-- In each language, with each limit, a text either spells a list or has a fault, never both, and there is
+-- only one such list or fault.
 abbrev pub OneAnswerInEach : Type 0
 OneAnswerInEach = (language : Language) (limit : ℕ) (text : Text)
     → HasOneAnswerIn language limit text

@@ -1,4 +1,4 @@
--- Rules of runs, escapes and closing brackets.
+-- Rules about runs, escapes and closing brackets.
 use Rattle.std.specs.Prelude.{ℕ, [], ◌∷◌, IsTrue, IsFalse}
 use Rattle.timefd_component.specs.Tree.{Text, literal}
 use Rattle.timefd_fault.specs.Faults.{fault}
@@ -9,7 +9,7 @@ use Rattle.timefd_fault.specs.Words.{expected_escape, expected_closing_escape}
 use Rattle.timefd_language.specs.Grammar.{Spells}
 use Rattle.timefd_language.specs.Broken.{Bad}
 
--- A run is the literal of its bytes.
+-- A run means the literal of its bytes.
 abbrev pub RunIsLiteral : Type 0
 RunIsLiteral = (v : DescriptionVersion) (limit n : ℕ) (bytes : Text)
     → OneOrMore (is_run_byte v) bytes → Spells v limit n bytes (literal bytes ∷ [])
@@ -19,34 +19,34 @@ abbrev pub BackslashInVersionOne : Type 0
 BackslashInVersionOne = (limit n : ℕ)
     → Spells One limit n (backslash ∷ []) (literal (backslash ∷ []) ∷ [])
 
--- In version 1 `[[` is the literal `[`, at each depth.
+-- In version 1 `[[` means the literal `[`, at any depth.
 abbrev pub DoubledBracket : Type 0
 DoubledBracket = (limit n : ℕ)
     → Spells One limit n (left ∷ left ∷ []) (literal (left ∷ []) ∷ [])
 
--- In versions 2 and 3 a backslash and `\`, `[` or `]` are the literal of the second byte.
+-- In versions 2 and 3 a backslash and then `\`, `[` or `]` mean the literal of the second byte.
 abbrev pub EscapedByte : Type 0
 EscapedByte = (v : DescriptionVersion) (limit n b : ℕ) → IsFalse (is_version_one v)
     → IsTrue (is_special b)
     → Spells v limit n (backslash ∷ b ∷ []) (literal (b ∷ []) ∷ [])
 
--- A backslash before another byte is told at that byte.
+-- A backslash before any other byte is reported at that byte.
 abbrev pub EscapeWanted : Type 0
 EscapeWanted = (v : DescriptionVersion) (limit n b : ℕ) (rest : Text)
     → IsFalse (is_version_one v) → IsFalse (is_special b)
     → Bad v limit n (backslash ∷ b ∷ rest) (fault expected_escape 1)
 
--- A backslash at the end is told where it stands.
+-- A backslash at the end is reported at the backslash.
 abbrev pub EscapeWantedAtTheEnd : Type 0
 EscapeWantedAtTheEnd = (v : DescriptionVersion) (limit n : ℕ) → IsFalse (is_version_one v)
     → Bad v limit n (backslash ∷ []) (fault expected_escape 0)
 
--- In versions 1 and 2 `]` with no nested description around it is the literal `]`.
+-- In versions 1 and 2 a `]` outside of brackets means the literal `]`.
 abbrev pub ClosingIsLiteral : Type 0
 ClosingIsLiteral = (v : DescriptionVersion) (limit : ℕ) → IsFalse (is_version_three v)
     → Spells v limit 0 (right ∷ []) (literal (right ∷ []) ∷ [])
 
--- In version 3 it has to be escaped.
+-- In version 3 a `]` outside of brackets has to be escaped.
 abbrev pub ClosingWantsEscape : Type 0
 ClosingWantsEscape = (limit : ℕ) (rest : Text)
     → Bad Three limit 0 (right ∷ rest) (fault expected_closing_escape 0)

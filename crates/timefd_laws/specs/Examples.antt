@@ -1,4 +1,4 @@
--- Worked texts: each row of the page on the languages is a law.
+-- Examples of texts: each row of the page on the languages is a law.
 use Rattle.std.specs.Prelude.{ℕ, true, false, codes, List, [], ◌∷◌}
 use Rattle.timefd_modifier.specs.declared.enums.Padding.{Padding}
 use Rattle.timefd_component.specs.declared.component.Component.TheVariants.{Day, Hour24, Ignore, MonthLong, MonthNumerical, CalendarYearFullStandardRange, CalendarYearFullExtendedRange}
@@ -11,78 +11,78 @@ use Rattle.timefd_language.specs.Values.{not_zero}
 use Rattle.timefd_language.specs.Grammar.{Spells, nesting_limit}
 use Rattle.timefd_language.specs.Broken.{FaultOf}
 
-abbrev pub IsTold : DescriptionVersion → Text → Kind → ℕ → Type 0
-IsTold v text kind index = FaultOf v nesting_limit text (fault kind index)
+abbrev pub IsReported : DescriptionVersion → Text → Kind → ℕ → Type 0
+IsReported v text kind index = FaultOf v nesting_limit text (fault kind index)
 
 abbrev pub IsSpelled : DescriptionVersion → Text → List Tree → Type 0
 IsSpelled v text list = Spells v nesting_limit 0 text list
 
 pub record RefusedTexts : Type 0 where
-  pub no_name : (v : DescriptionVersion) → IsTold v (codes "[]") missing_name 0
-  pub no_name_behind_white : (v : DescriptionVersion) → IsTold v (codes "[ ]") missing_name 1
-  pub no_name_behind_more_white : (v : DescriptionVersion) → IsTold v (codes "[  ]")
+  pub no_name : (v : DescriptionVersion) → IsReported v (codes "[]") missing_name 0
+  pub no_name_after_white : (v : DescriptionVersion) → IsReported v (codes "[ ]") missing_name 1
+  pub no_name_after_more_white : (v : DescriptionVersion) → IsReported v (codes "[  ]")
       missing_name 1
-  pub doubled_bracket_of_version_two : IsTold Two (codes "[[day]]") missing_name 0
-  pub doubled_bracket_of_version_three : IsTold Three (codes "[[day]]") missing_name 0
-  pub bare_closing_bracket : IsTold Three (92 ∷ 91 ∷ 91 ∷ 100 ∷ 97 ∷ 121 ∷ 93 ∷ 93 ∷ [])
+  pub doubled_bracket_of_version_two : IsReported Two (codes "[[day]]") missing_name 0
+  pub doubled_bracket_of_version_three : IsReported Three (codes "[[day]]") missing_name 0
+  pub bare_closing_bracket : IsReported Three (92 ∷ 91 ∷ 91 ∷ 100 ∷ 97 ∷ 121 ∷ 93 ∷ 93 ∷ [])
       expected_closing_escape 7
-  pub escaped_end : (v : DescriptionVersion) → IsTold v (91 ∷ 100 ∷ 97 ∷ 121 ∷ 32 ∷ 92 ∷ 93 ∷
+  pub escaped_end : (v : DescriptionVersion) → IsReported v (91 ∷ 100 ∷ 97 ∷ 121 ∷ 32 ∷ 92 ∷ 93 ∷
       []) unclosed_bracket 0
-  pub unclosed : (v : DescriptionVersion) → IsTold v (codes "[foo") unclosed_bracket 0
-  pub no_colon_before_the_end : (v : DescriptionVersion) → IsTold v (codes "[foo bar")
+  pub unclosed : (v : DescriptionVersion) → IsReported v (codes "[foo") unclosed_bracket 0
+  pub no_colon_before_the_end : (v : DescriptionVersion) → IsReported v (codes "[foo bar")
       (invalid_modifier (codes "bar")) 5
-  pub unknown_name : (v : DescriptionVersion) → IsTold v (codes "[foo]") (invalid_name (codes
+  pub unknown_name : (v : DescriptionVersion) → IsReported v (codes "[foo]") (invalid_name (codes
       "foo")) 1
-  pub no_value : (v : DescriptionVersion) → IsTold v (codes "[day padding:]") (invalid_modifier
+  pub no_value : (v : DescriptionVersion) → IsReported v (codes "[day padding:]") (invalid_modifier
       []) 12
-  pub no_key : (v : DescriptionVersion) → IsTold v (codes "[day :zero]") (invalid_modifier []) 5
-  pub colon_in_a_value : (v : DescriptionVersion) → IsTold v (codes "[day padding:zero:x]")
+  pub no_key : (v : DescriptionVersion) → IsReported v (codes "[day :zero]") (invalid_modifier []) 5
+  pub colon_in_a_value : (v : DescriptionVersion) → IsReported v (codes "[day padding:zero:x]")
       (invalid_modifier (codes "zero:x")) 13
-  pub no_white_before_nested : (v : DescriptionVersion) → IsTold v (codes "[day[x]]")
+  pub no_white_before_nested : (v : DescriptionVersion) → IsReported v (codes "[day[x]]")
       expected_white 4
-  pub nested_in_an_unknown_name : (v : DescriptionVersion) → IsTold v (codes "[foo [x]]")
+  pub nested_in_an_unknown_name : (v : DescriptionVersion) → IsReported v (codes "[foo [x]]")
       nested_here 0
-  pub fault_inside_first : (v : DescriptionVersion) → IsTold v (codes "[day [[foo]]]")
+  pub fault_inside_first : (v : DescriptionVersion) → IsReported v (codes "[day [[foo]]]")
       (invalid_name (codes "foo")) 7
-  pub unclosed_inside : (v : DescriptionVersion) → IsTold v (codes "[a[") unclosed_bracket 0
-  pub repeated_key : IsTold Three (codes "[hour repr:12 repr:24]") (duplicate_modifier (codes
+  pub unclosed_inside : (v : DescriptionVersion) → IsReported v (codes "[a[") unclosed_bracket 0
+  pub repeated_key : IsReported Three (codes "[hour repr:12 repr:24]") (duplicate_modifier (codes
       "repr")) 14
-  pub padding_of_a_long_month : IsTold Three (codes "[month repr:long padding:none]")
+  pub padding_of_a_long_month : IsReported Three (codes "[month repr:long padding:none]")
       (invalid_combination (codes "padding") (codes "for long month")) 17
-  pub case_of_a_numerical_month : IsTold Three (codes "[month case_sensitive:true]")
+  pub case_of_a_numerical_month : IsReported Three (codes "[month case_sensitive:true]")
       (invalid_combination (codes "case_sensitive") (codes "for numerical month")) 7
-  pub padding_of_a_short_month : IsTold Three (codes "[month repr:short padding:none]")
+  pub padding_of_a_short_month : IsReported Three (codes "[month repr:short padding:none]")
       (invalid_combination (codes "padding") (codes "for short month")) 18
-  pub index_of_a_short_weekday : IsTold Three (codes "[weekday repr:short one_indexed:true]")
+  pub index_of_a_short_weekday : IsReported Three (codes "[weekday repr:short one_indexed:true]")
       (invalid_combination (codes "one_indexed") (codes "for short weekday")) 20
-  pub index_of_a_long_weekday : IsTold Three (codes "[weekday one_indexed:true]")
+  pub index_of_a_long_weekday : IsReported Three (codes "[weekday one_indexed:true]")
       (invalid_combination (codes "one_indexed") (codes "for long weekday")) 9
-  pub case_of_a_weekday_from_sunday : IsTold Three (codes
+  pub case_of_a_weekday_from_sunday : IsReported Three (codes
       "[weekday repr:sunday case_sensitive:true]") (invalid_combination (codes "case_sensitive")
       (codes "for numerical weekday")) 21
-  pub case_of_a_weekday_from_monday : IsTold Three (codes
+  pub case_of_a_weekday_from_monday : IsReported Three (codes
       "[weekday repr:monday case_sensitive:true]") (invalid_combination (codes "case_sensitive")
       (codes "for numerical weekday")) 21
-  pub range_of_two_digits : IsTold Three (codes "[year repr:last_two range:standard]")
+  pub range_of_two_digits : IsReported Three (codes "[year repr:last_two range:standard]")
       (invalid_combination (codes "range") (codes "when `repr:last_two` is used")) 20
-  pub sign_of_two_digits : IsTold Three (codes "[year repr:last_two sign:mandatory]")
+  pub sign_of_two_digits : IsReported Three (codes "[year repr:last_two sign:mandatory]")
       (invalid_combination (codes "sign") (codes "when `repr:last_two` is used")) 20
-  pub range_of_two_digits_by_weeks : IsTold Three (codes
+  pub range_of_two_digits_by_weeks : IsReported Three (codes
       "[year base:iso_week repr:last_two range:standard]") (invalid_combination (codes "range")
       (codes "when `repr:last_two` is used")) 34
-  pub sign_of_two_digits_by_weeks : IsTold Three (codes
+  pub sign_of_two_digits_by_weeks : IsReported Three (codes
       "[year base:iso_week repr:last_two sign:mandatory]") (invalid_combination (codes "sign")
       (codes "when `repr:last_two` is used")) 34
-  pub no_count : (v : DescriptionVersion) → IsTold v (codes "[ignore]") (missing_modifier (codes
+  pub no_count : (v : DescriptionVersion) → IsReported v (codes "[ignore]") (missing_modifier (codes
       "count")) 1
-  pub count_of_nought : (v : DescriptionVersion) → IsTold v (codes "[ignore count:0]")
+  pub count_of_nought : (v : DescriptionVersion) → IsReported v (codes "[ignore count:0]")
       (invalid_modifier (codes "0")) 14
-  pub optional_item_of_version_one : IsTold One (codes "[optional [[day]]]") optional_item 0
-  pub optional_item_of_version_two : IsTold Two (codes "[optional [[day]]]") optional_item 0
-  pub word_behind_nested : (v : DescriptionVersion) → IsTold v (codes "[first [a]b]")
+  pub optional_item_of_version_one : IsReported One (codes "[optional [[day]]]") optional_item 0
+  pub optional_item_of_version_two : IsReported Two (codes "[optional [[day]]]") optional_item 0
+  pub word_after_nested : (v : DescriptionVersion) → IsReported v (codes "[first [a]b]")
       unclosed_bracket 0
-  pub no_escape_of_version_two : IsTold Two (195 ∷ 169 ∷ 92 ∷ 195 ∷ 169 ∷ []) expected_escape 3
-  pub no_escape_of_version_three : IsTold Three (195 ∷ 169 ∷ 92 ∷ 195 ∷ 169 ∷ [])
+  pub no_escape_of_version_two : IsReported Two (195 ∷ 169 ∷ 92 ∷ 195 ∷ 169 ∷ []) expected_escape 3
+  pub no_escape_of_version_three : IsReported Three (195 ∷ 169 ∷ 92 ∷ 195 ∷ 169 ∷ [])
       expected_escape 3
 
 pub record SpelledTexts : Type 0 where

@@ -1,4 +1,4 @@
--- Rules of nested descriptions.
+-- Rules about nested descriptions.
 use Rattle.std.specs.Prelude.{◌≡◌, ◌+◌, true, List, [], ◌∷◌, ◌++◌, length, Some, None, Ok, IsFalse}
 use Rattle.timefd_component.specs.Tree.{Text, Tree, optional, first, trees, pack}
 use Rattle.timefd_language.specs.declared.description_version.DescriptionVersion.{DescriptionVersion}
@@ -12,19 +12,19 @@ use Rattle.timefd_language.specs.Verdict.{is_formatted}
 use Rattle.timefd_language.specs.Grammar.{Pieces, Nested, no_nested, nested, items, is_empty, bracket_verdict}
 use Rattle.timefd_laws.specs.Heads.{IsRefused, IsNamed, IsSpaced, AreGood}
 
--- White bytes are wanted before the first nested description, before anything else is looked at.
+-- White bytes are needed before the first nested description. This is checked before anything else.
 abbrev pub WhiteWanted : Type 0
 WhiteWanted = (v : DescriptionVersion) (h : Head) (ps : Pieces) (ns : Nested) (white : Text)
     → IsRefused v h (nested [] ps ns) white expected_white (length (head_text h))
 
--- A component nests nothing, which is told before its modifiers are looked at.
+-- A component nests nothing. This is checked before its modifiers.
 abbrev pub ComponentsNestNothing : Type 0
 ComponentsNestNothing = (v : DescriptionVersion) (h : Head) (n : ComponentName) (space : Text)
     (ps : Pieces) (ns : Nested) (white : Text) → IsNamed v h (Some (Name.Component n))
     → IsFalse (is_empty space)
     → IsRefused v h (nested space ps ns) white nested_here 0
 
--- So is it under an unknown name, before the name is looked at.
+-- If the name is unknown, a nested description is also reported first.
 abbrev pub UnknownNamesNestNothing : Type 0
 UnknownNamesNestNothing = (v : DescriptionVersion) (h : Head) (space : Text) (ps : Pieces)
     (ns : Nested) (white : Text) → IsNamed v h None → IsFalse (is_empty space)
@@ -35,25 +35,25 @@ UnknownNamesNestNothing = (v : DescriptionVersion) (h : Head) (space : Text) (ps
 abbrev pub IsGoodOptional : DescriptionVersion → Head → Type 0
 IsGoodOptional v h = IsNamed v h (Some Name.Optional) × AreGood v Name.Optional h.modifiers
 
--- The second nested description is told at the first one.
+-- If `optional` nests more than one description, that is reported at the first one.
 abbrev pub OneOptionalAtMost : Type 0
 OneOptionalAtMost = (v : DescriptionVersion) (h : Head) (space gap : Text) (ps qs : Pieces)
     (ns : Nested) (white : Text) → IsGoodOptional v h → IsFalse (is_empty space)
     → IsRefused v h (nested space ps (nested gap qs ns)) white many_nested
     (length (head_text h) + length space)
 
--- That there is none is told at the closing bracket.
+-- If `optional` nests nothing, that is reported at the closing bracket.
 abbrev pub OneOptionalAtLeast : Type 0
 OneOptionalAtLeast = (v : DescriptionVersion) (h : Head) (white : Text) → IsGoodOptional v h
     → IsRefused v h no_nested white expected_nested (length (head_text h ++ white))
 
--- In versions 1 and 2 one is told at the bracket, and only once all else of it is good.
+-- In versions 1 and 2 an `optional` that breaks no other rule is refused, at the bracket.
 abbrev pub OptionalInVersionThreeAlone : Type 0
 OptionalInVersionThreeAlone = (v : DescriptionVersion) (h : Head) (space : Text) (ps : Pieces)
     (white : Text) → IsGoodOptional v h → IsFalse (is_empty space) → IsFalse (is_version_three v)
     → IsRefused v h (nested space ps no_nested) white optional_item 0
 
--- In version 3 it is the tree of its one nested description.
+-- In version 3 `optional` means an optional item: the tree of its only nested description.
 abbrev pub GoodOptional : Type 0
 GoodOptional = (h : Head) (space : Text) (ps : Pieces) (white : Text) → IsGoodOptional Three h
     → IsFalse (is_empty space)
@@ -62,25 +62,25 @@ GoodOptional = (h : Head) (space : Text) (ps : Pieces) (white : Text) → IsGood
 
 -- `first`
 
--- Without a modifier, `first` is told at the bracket in versions 1 and 2, whatever it nests.
+-- In versions 1 and 2 a `first` without modifiers is refused, at the bracket, whatever it nests.
 abbrev pub FirstInVersionThreeAlone : Type 0
 FirstInVersionThreeAlone = (v : DescriptionVersion) (h : Head) (ns : Nested) (white : Text)
     → IsNamed v h (Some Name.First) → h.modifiers ≡ [] → IsSpaced ns
     → IsFalse (is_version_three v)
     → IsRefused v h ns white first_item 0
 
--- In version 3 that it has no alternative is told at the closing bracket.
+-- In version 3, if `first` nests nothing, that is reported at the closing bracket.
 abbrev pub OneAlternativeAtLeast : Type 0
 OneAlternativeAtLeast = (h : Head) (white : Text) → IsNamed Three h (Some Name.First)
     → h.modifiers ≡ []
     → IsRefused Three h no_nested white expected_alternative (length (head_text h ++ white))
 
--- the trees of nested descriptions in turn
+-- the trees of nested descriptions, in order
 abbrev pub alternatives : Nested → List Tree
 alternatives no_nested = []
 alternatives (nested white ps ns) = pack (items ps) ∷ alternatives ns
 
--- In version 3 it is the first of the trees of its nested descriptions.
+-- In version 3 `first` means the trees of its nested descriptions, in order, as alternatives.
 abbrev pub GoodFirst : Type 0
 GoodFirst = (h : Head) (space : Text) (ps : Pieces) (ns : Nested) (white : Text)
     → IsNamed Three h (Some Name.First) → h.modifiers ≡ [] → IsFalse (is_empty space)

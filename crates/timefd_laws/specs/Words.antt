@@ -1,4 +1,4 @@
--- Words are told apart, and each stands once.
+-- All words of the tables are distinct.
 use Rattle.std.specs.Prelude.{ℕ, ◌≡◌, true, false, List, ◌∷◌, ◌++◌, Some, IsFalse}
 use Rattle.timefd_component.specs.Tree.{Text}
 use Rattle.timefd_language.specs.declared.key.Key as code_key
@@ -11,17 +11,17 @@ use Rattle.timefd_language.specs.Lookup.{key_for, keys_for}
 use Rattle.timefd_language.specs.Recased.{SameButCase}
 use Rattle.timefd_language.specs.Values.{Value, Key, words, key_in, setting_in}
 
--- Two names at two places aren't the same, not even without regard to case.
+-- No two names are the same, even if case is ignored.
 abbrev pub NoTwoNames : Type 0
 NoTwoNames = (a b : Text) (before between rest : List Text)
     → names ≡ before ++ a ∷ (between ++ b ∷ rest) → IsFalse (same false a b)
 
--- Nor are two keys of a name.
+-- No two keys of a name are the same, even if case is ignored.
 abbrev pub NoTwoKeys : Type 0
 NoTwoKeys = (name : Name) (a b : Key) (before between rest : List Key)
     → keys_for name ≡ before ++ a ∷ (between ++ b ∷ rest) → IsFalse (same false a.key b.key)
 
--- Nor are two values of a key.
+-- No two values of a key are the same, even if case is ignored.
 abbrev pub NoTwoValues : Type 0
 NoTwoValues = (key : code_key.Key) (a b : Value Setting)
     (before between rest : List (Value Setting))
@@ -35,18 +35,18 @@ WordsWithoutCase = (keys : List Key) (values : List (Value Setting)) (a b : Text
     → (key_in false a keys ≡ key_in false b keys)
     × (setting_in false (words values) a ≡ setting_in false (words values) b)
 
--- In version 3 a key is written as it stands in the table.
+-- In version 3 a key is written exactly as in the table.
 abbrev pub KeysWithCase : Type 0
 KeysWithCase = (keys : List Key) (word : Text) (k : Key) → key_in true word keys ≡ Some k
     → word ≡ k.key
 
--- And a value is one of the table's words.
+-- In version 3 a value is written exactly as in the table.
 abbrev pub ValuesWithCase : Type 0
 ValuesWithCase = (values : List (Value Setting)) (word : Text) (s : Setting)
     → setting_in true (words values) word ≡ Some s
     → (v : Value Setting) × (word ≡ v.word) × (s ≡ v.sets)
 
--- No byte is a letter at two places of the table.
+-- No byte is a letter of two rows of the table.
 abbrev pub NoTwoLetters : Type 0
 NoTwoLetters = (l m : Letter) (before between rest : List Letter) (b : ℕ) (c d : Text) (e f : Text)
     → letters ≡ before ++ l ∷ (between ++ m ∷ rest) → l.letters ≡ c ++ b ∷ d

@@ -1,6 +1,6 @@
 //! Laws of the languages, for a reader who wants to know what the definitions say without reading
-//! them: a law for each rule of a bracket, of an escape and of a directive, as the page on the
-//! languages tells them. Each law is the contract of a function with an empty body.
+//! them. There is a law for each rule about brackets, escapes and directives, as on the page on the
+//! languages. Each law is the contract of a function with an empty body.
 #![tactic(auto)]
 
 pub mod answers;

@@ -1,18 +1,18 @@
-//! Words are told apart, and each stands once.
+//! All words of the tables are distinct.
 
 ghost use Rattle.timefd_laws.specs.Words.{NoTwoNames, NoTwoKeys, NoTwoValues, WordsWithoutCase, KeysWithCase, ValuesWithCase, NoTwoLetters};
 
-/// Two names at two places aren't the same, not even without regard to case.
+/// No two names are the same, even if case is ignored.
 pub fn no_two_names_are_the_same_without_case()
     ensures { NoTwoNames }
 {}
 
-/// Nor are two keys of a name.
+/// No two keys of a name are the same, even if case is ignored.
 pub fn no_two_keys_of_a_name_are_the_same_without_case()
     ensures { NoTwoKeys }
 {}
 
-/// Nor are two values of a key.
+/// No two values of a key are the same, even if case is ignored.
 pub fn no_two_values_of_a_key_are_the_same_without_case()
     ensures { NoTwoValues }
 {}
@@ -22,17 +22,17 @@ pub fn case_makes_no_difference_to_keys_and_values_before_version_three()
     ensures { WordsWithoutCase }
 {}
 
-/// In version 3 a key is written as it stands in the table.
+/// In version 3 a key is written exactly as in the table.
 pub fn keys_are_written_as_in_the_table_in_version_three()
     ensures { KeysWithCase }
 {}
 
-/// In version 3 a value is written as it stands in the table.
+/// In version 3 a value is written exactly as in the table.
 pub fn values_are_written_as_in_the_table_in_version_three()
     ensures { ValuesWithCase }
 {}
 
-/// No byte is a letter at two places of the table.
+/// No byte is a letter of two rows of the table.
 pub fn each_letter_stands_once()
     ensures { NoTwoLetters }
 {}

@@ -1,5 +1,5 @@
--- What is said of a text that was written byte after byte, where version 1 spells the text that it
--- was made of.
+-- What the contracts say about a text that was written byte by byte, if version 1 spells the text
+-- that it was made from.
 use Rattle.std.proofs.Common.{◌≡◌, List, ap, sym, ◌∙◌}
 use Rattle.timefd_component.specs.Tree.{Text, Tree, joined}
 use Rattle.timefd_language.specs.declared.description_version.DescriptionVersion.TheVariants.{One}

@@ -33,7 +33,7 @@ numeral_word : (digits : Text) → IsNumeral 10 digits → OneOrMore is_word_byt
 numeral_word [] is = absurd (omega (arith, is.0))
 numeral_word (b ∷ digits) is = digits_word (b ∷ digits) is.1
 
--- what `parse` gives of a number in decimal
+-- what `parse` returns for a number in decimal
 parsed : (n : ℕ) → 0 < n → n < 2 ^ 16 → ParsesUnsigned {E = ⊤} 16 10 (decimal n) (Ok n)
 parsed n some small =
     let numeral = decimal_is_IsNumeral n (omega arith) in

@@ -1,4 +1,4 @@
--- A text as one bracket that versions 2 and 3 read as a component.
+-- Texts that are one bracket, which versions 2 and 3 read as a component.
 use Rattle.std.proofs.Common.{ℕ, ◌≡◌, ◌-◌, ◌==◌, ◌&&◌, Bool, true, false, List, [], ◌∷◌, ◌++◌, map, length, take, drop, Ok, codes}
 use Rattle.std.specs.List.{list_all, slice_split}
 use Rattle.std.proofs.lemmas.Bool.{and_parts, false≢true}
@@ -42,12 +42,12 @@ modifiers_are (m ∷ ms) e =
 abbrev pub plain_head : Text → List Modifier → Head
 plain_head name ms = record { white = []; name = name; modifiers = ms }
 
--- a modifier behind a space
+-- a modifier after a space
 infix 80 ◌set_to◌
 abbrev pub ◌set_to◌ : Text → Text → Modifier
 key set_to value = record { white = codes " "; key = key; value = value }
 
--- the modifier of a word, which its colon cuts into key and value
+-- the modifier in a word, which a colon cuts into key and value
 abbrev modifier_of : List Text → Modifier
 modifier_of (key ∷ value ∷ []) = key set_to value
 modifier_of parts = [] set_to []
@@ -87,7 +87,7 @@ pub record IsShown (text : Text) (c : Component) : Type 0 where
 abbrev pub IsShownAs : Component → Type 0
 IsShownAs c = IsShown (component_text c) c
 
--- where the modifiers have values, each of the four is computed
+-- if the modifiers have values, each of the four fields is proved by computing it
 pub shown : {c : Component} → is_head (head_in (component_text c)) ≡ true
     → component_text c ≡ head_text (head_in (component_text c)) ++ right ∷ []
     → ((close : ℕ) → verdict true (head_in (component_text c)) [] close ≡ Ok (component c))

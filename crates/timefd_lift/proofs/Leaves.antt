@@ -1,4 +1,4 @@
--- What a bracket is that version 2 accepts: a modern component with a count of 16 bits.
+-- A bracket that version 2 accepts is a modern component, with a count that fits into 16 bits.
 use Rattle.std.proofs.Common.{ℕ, suc, zero, ◌≡◌, ◌≤◌, ◌==◌, cond, Bool, true, false, List, [], ◌∷◌, Option, Some, None, Result, Ok, codes, nat_le, refl, sym, subst, leb-true}
 use Rattle.std.specs.Prelude.{⊤}
 use Rattle.std.specs.declared.num.NonZeroU16.{NonZeroU16}
@@ -18,7 +18,7 @@ use Rattle.timefd_language.specs.Values.{count, format, digits_of, counted, coun
 use Rattle.timefd_language.specs.Names.{Row, rows, row_for, row_of, component_names, ignored}
 use Rattle.timefd_language.specs.Verdict.{bad_modifiers, any_modifier, setting_of, with_option, settings_from, settings, made, optional_verdict, first_verdict, component_verdict, verdict}
 use Rattle.timefd_language.proofs.Lookup.{Each, each-map}
-use Rattle.timefd_language.proofs.Roomy.{behind_ok, made_ok}
+use Rattle.timefd_language.proofs.Roomy.{after_ok, made_ok}
 use Rattle.timefd_language.proofs.Recase.{unless_two}
 use Rattle.timefd_language.proofs.ModernPieces.{name_modern, row_has}
 use Rattle.timefd_lift.specs.Plain.{IsCounted}
@@ -140,26 +140,26 @@ name_good n strict ms c e = (
 rows_good : Each IsGoodRow rows
 rows_good = each-map row_for IsGoodRow component_names name_good
 
--- the tree is a modern component with a count of 16 bits
+-- the tree is a modern component, with a count that fits into 16 bits
 pub record IsLeaf (tree : Tree) : Type 0 where
   pub leaf : Component
   pub is : component leaf ≡ tree
   pub modern : modern leaf ≡ leaf
   pub counted : IsCounted leaf
 
--- the component of a name
+-- the component that a name selects
 pub component_leaf : (strict : Bool) (h : Head) (tree : Tree) (o : Option Row)
     → row_of strict h.name ≡ o → component_verdict strict h o ≡ Ok tree → IsLeaf tree
 component_leaf strict h tree None known e = absurd cc
 component_leaf strict h tree (Some r) known e =
     let leaf = made_ok strict h (r.component (settings strict r.keys (placed h))) tree
-    (behind_ok (bad_modifiers strict r.keys [] (placed h))
+    (after_ok (bad_modifiers strict r.keys [] (placed h))
     (made strict h (r.component (settings strict r.keys (placed h)))) tree e) in
     let good =
     row_has IsGoodRow strict h.name rows r rows_good known strict (placed h) leaf.0 leaf.2 in
     record { leaf = leaf.0; is = leaf.1; modern = good.0; counted = good.1 }
 
--- of three, neither of the first two
+-- the third of three answers, if it is neither of the first two
 pub third : (t : Tree) (a b : Bool) (x y z : Result Tree Fault) → (x ≡ Ok t → ⊥) → (y ≡ Ok t → ⊥)
     → cond a x (cond b y z) ≡ Ok t → z ≡ Ok t
 third t true b x y z no_x no_y e = absurd (no_x e)

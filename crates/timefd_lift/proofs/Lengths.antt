@@ -1,8 +1,8 @@
--- What is written of a text is at most twice as long.
+-- What is written for a text is at most twice as long as the text.
 use Rattle.std.proofs.Common.{ℕ, ◌≤◌, ◌+◌, ◌*◌, ◌==◌, cond, Bool, true, false, [], ◌∷◌, length, arith}
 use Rattle.timefd_component.specs.Tree.{Text}
 use Rattle.timefd_language.specs.Bytes.{left, right, backslash, is_special}
-use Rattle.timefd_lift.specs.Bytewise.{outside, behind_left, inside}
+use Rattle.timefd_lift.specs.Bytewise.{outside, after_left, inside}
 
 either : (test : Bool) (x y : Text) (n : ℕ) → length x ≤ n → length y ≤ n
     → length (cond test x y) ≤ n
@@ -14,16 +14,16 @@ mutual
   outside-length [] = omega arith
   outside-length (b ∷ bytes) =
       let more = outside-length bytes in
-      let begun = behind_left-length bytes in
-      either (b == left) (behind_left bytes)
+      let begun = after_left-length bytes in
+      either (b == left) (after_left bytes)
       (cond (is_special b) (backslash ∷ b ∷ outside bytes) (b ∷ outside bytes)) _
       (omega (arith, begun))
       (either (is_special b) (backslash ∷ b ∷ outside bytes) (b ∷ outside bytes) _
       (omega (arith, more)) (omega (arith, more)))
 
-  behind_left-length : (text : Text) → length (behind_left text) ≤ 2 * length text + 2
-  behind_left-length [] = omega arith
-  behind_left-length (b ∷ bytes) =
+  after_left-length : (text : Text) → length (after_left text) ≤ 2 * length text + 2
+  after_left-length [] = omega arith
+  after_left-length (b ∷ bytes) =
       let more = outside-length bytes in
       let kept = inside-length bytes in
       let rest = either (b == right) (outside bytes) (inside bytes) _ more kept in

@@ -9,6 +9,6 @@ pub mod TimeHeads
 pub mod CountText
 pub mod ComponentHeads
 pub mod Leaves
-pub mod Anew
+pub mod Rewritten
 pub mod PlainItems
 pub mod Appending

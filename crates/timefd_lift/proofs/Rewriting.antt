@@ -1,4 +1,4 @@
--- What is written byte after byte of a text that version 1 spells is the text rewritten.
+-- What is written byte by byte for a text that version 1 spells is the text rewritten.
 use Rattle.std.proofs.Common.{ℕ, ◌≡◌, ◌==◌, inl, inr, not, Bool, true, false, List, [], ◌∷◌, ◌++◌, refl, ◌∙◌, ap, eqb-true, arith}
 use Rattle.std.specs.List.{list_all}
 use Rattle.std.proofs.lemmas.Bool.{and_parts, and_from, cases_Bool}
@@ -15,7 +15,7 @@ use Rattle.timefd_language.proofs.Lift.{bracket_refuses}
 
 -- Runs.
 
--- a run byte of version 1 that is no backslash
+-- a run byte of version 1 that isn't a backslash
 is_plain : (b : ℕ) → is_run_byte One b ≡ true → (b == backslash) ≡ false → ((b == left) ≡ false)
     × ((b == right) ≡ false)
 is_plain b r e = grind (arith, nat_tests)
@@ -69,7 +69,7 @@ modifiers_inner [] are = refl
 modifiers_inner (m ∷ ms) are = all-append is_inner (modifier_text m) (modifiers_text ms)
     (modifier_inner m are.0) (modifiers_inner ms are.1)
 
--- what stands between the brackets of a component
+-- what is between the brackets of a component
 abbrev between : Head → Text → Text
 between h white = h.white ++ h.name ++ modifiers_text h.modifiers ++ [] ++ white
 

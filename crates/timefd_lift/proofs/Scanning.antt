@@ -1,4 +1,4 @@
--- Steps of the search for what is escaped.
+-- The steps of the search for what has to be escaped.
 use Rattle.std.proofs.Common.{ℕ, ◌≡◌, ◌+◌, ◌<◌, ◌==◌, ◌||◌, ◌&&◌, inl, inr, not, cond, Bool, true, false, [], ◌∷◌, ◌++◌, length, get_or, take, drop, refl, sym, ◌∙◌, ap, eqb-true, append_assoc, add-one, drop-cons, arith}
 use Rattle.std.proofs.lemmas.Bool.{cases_Bool}
 use Rattle.std.proofs.lemmas.Bool.Decides.{nat_tests}
@@ -7,7 +7,7 @@ use Rattle.timefd_component.specs.Tree.{Text}
 use Rattle.timefd_language.specs.Bytes.{left, right, backslash}
 use Rattle.timefd_lift.specs.Bytewise.{outside, inside, is_escaped}
 
--- what is written of the text, in a component or outside
+-- what is written for the text, in a component or outside
 abbrev pub scan : Bool → Text → Text
 scan true text = inside text
 scan false text = outside text
@@ -32,7 +32,7 @@ undoubled : (b c : ℕ) → ((b == right) || (b == backslash) || ((b == left) &&
     → (b == left) ≡ true → (c == left) ≡ false
 undoubled b c e l = grind (arith, nat_tests)
 
--- a byte for which no escape is written is kept, outside of components
+-- outside of components, a byte that isn't written with an escape is kept
 outside_step : (b : ℕ) (rest : Text) → is_escaped (b ∷ rest) ≡ false
     → outside (b ∷ rest) ≡ b ∷ scan (b == left) rest
 outside_step b [] e =
@@ -70,7 +70,7 @@ kept-step bytes n b s t below at next no_escape so_far =
     ∙ ap (λ x. x ++ scan t (drop (n + 1) bytes))
     (sym (take_more bytes n 0 below ∙ ap (λ x. take n bytes ++ x ∷ []) (sym at)))
 
--- the first byte for which an escape is written
+-- the first byte that is written with an escape
 pub kept-stopped : (bytes : Text) (n : ℕ) (s : Bool) → (not s && is_escaped (drop n bytes)) ≡ true
     → outside bytes ≡ take n bytes ++ scan s (drop n bytes)
     → outside bytes ≡ take n bytes ++ outside (drop n bytes)

@@ -1,11 +1,11 @@
--- How the text that is answered stands to the text of version 1 that it was made of.
+-- How the answer relates to the text of version 1 that it was made from.
 use Rattle.std.specs.Prelude.{◌≡◌, List, Result, Ok, Err, string_bytes}
 use Rattle.std.specs.declared.string.String.{String}
 use Rattle.std.specs.declared.alloc.Global.{Global}
 use Rattle.timefd_component.specs.Tree.{Text, Tree, joined}
 use Rattle.timefd_language.specs.declared.description_version.DescriptionVersion.TheVariants.{One, Two}
 use Rattle.timefd_fault.specs.declared.parse_error.ParseError.{ParseError}
-use Rattle.timefd_fault.specs.Told.{MemoryAlone}
+use Rattle.timefd_fault.specs.Reported.{MemoryAlone}
 use Rattle.timefd_language.specs.Grammar.{Pieces, ArePieces, spelling, Spells, nesting_limit}
 use Rattle.timefd_language.specs.Rewritten.{rewritten}
 
@@ -23,7 +23,7 @@ HasItemsOf text answer =
     (list : List Tree) → Spells One nesting_limit 0 text list
     → (other : List Tree) × Spells Two nesting_limit 0 answer other × (joined other ≡ joined list)
 
--- this text, or out of memory
+-- the result is this text, or memory ran out
 abbrev pub IsTextOrMemory : Text → Result (String Global) ParseError → Type 0
 IsTextOrMemory text (Ok answer) = string_bytes answer ≡ text
 IsTextOrMemory text (Err e) = MemoryAlone e

@@ -1,4 +1,4 @@
--- A text of version 1 rewritten byte after byte, as far as brackets end at their first `]`.
+-- A text of version 1 rewritten byte by byte. Brackets end at their first `]`.
 use Rattle.std.specs.Prelude.{◌≡◌, ◌<◌, Bool, false, ◌&&◌, ◌||◌, ◌==◌, ◌⊎◌, if◌then◌else◌, [], ◌∷◌, ◌++◌, length, IsTrue}
 use Rattle.std.specs.Str.{IsUtf8}
 use Rattle.timefd_component.specs.Tree.{Text}
@@ -9,14 +9,14 @@ abbrev mutual
   pub outside : Text → Text
   outside [] = []
   outside (b ∷ bytes) =
-      if b == left then behind_left bytes
+      if b == left then after_left bytes
       else if is_special b then backslash ∷ b ∷ outside bytes
       else b ∷ outside bytes
 
-  -- behind a `[`, which begins a component unless it is doubled
-  pub behind_left : Text → Text
-  behind_left [] = left ∷ []
-  behind_left (b ∷ bytes) =
+  -- after a `[`, which begins a component unless it is doubled
+  pub after_left : Text → Text
+  after_left [] = left ∷ []
+  after_left (b ∷ bytes) =
       if b == left then backslash ∷ left ∷ outside bytes
       else left ∷ b ∷ (if b == right then outside bytes else inside bytes)
 
@@ -25,7 +25,7 @@ abbrev mutual
   inside [] = []
   inside (b ∷ bytes) = b ∷ (if b == right then outside bytes else inside bytes)
 
--- outside of components, an escape is written for the front of the text
+-- the front of the text, outside of components, is written with an escape
 abbrev pub is_escaped : Text → Bool
 is_escaped [] = false
 is_escaped (b ∷ []) = (b == right) || (b == backslash)
@@ -34,7 +34,7 @@ is_escaped (b ∷ c ∷ bytes) = (b == right) || (b == backslash) || ((b == left
 abbrev pub EndsOrIsEscaped : Text → Type 0
 EndsOrIsEscaped text = (text ≡ []) ⊎ IsTrue (is_escaped text)
 
--- the escape is written for the front of the text, and the rest follows
+-- the front of the text is written as this escape, and the rest follows
 pub record IsEscape (text escape rest : Text) : Type 0 where
   pub written : outside text ≡ escape ++ outside rest
   pub utf8 : IsUtf8 rest

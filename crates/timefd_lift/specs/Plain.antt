@@ -20,7 +20,7 @@ abbrev pub ArePlainItems : List BorrowedFormatItem → Type 0
 ArePlainItems [] = ⊤
 ArePlainItems (item ∷ items) = IsPlainItem item × ArePlainItems items
 
--- a count is one of 16 bits
+-- a count fits into 16 bits
 abbrev pub IsCounted : Component → Type 0
 IsCounted (Ignore m) = m.count.value ≤ 65535
 IsCounted _ = ⊤

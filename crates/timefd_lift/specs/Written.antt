@@ -1,5 +1,6 @@
--- The text of version 3 of a list of literals and components. A modifier is written where it isn't
--- version 3's default, and the range of a year wherever there is one: version 2's default is another.
+-- The text of version 3 for a list of literals and components. A modifier is written if it isn't
+-- version 3's default. The range of a year is always written if there is one, since version 2 has
+-- another default.
 use Rattle.std.specs.Prelude.{if◌then◌else◌, List, [], ◌∷◌, ◌++◌}
 use Rattle.timefd_component.specs.declared.component.Component.{Component}
 use Rattle.timefd_component.specs.Modern.{modern}
@@ -8,8 +9,8 @@ use Rattle.timefd_words.specs.Words.{form, count_digits, first_modifier, second_
 use Rattle.timefd_words.specs.declared.defaults.Defaults.{Defaults}
 use Rattle.timefd_language.specs.Bytes.{left, right, backslash, is_special}
 
--- Components: what is version 3's default is omitted. A deprecated one isn't written: the one that it
--- stands for is.
+-- Components: version 3's defaults are omitted. Instead of a deprecated component, the one that it
+-- stands for is written.
 
 -- the form and two modifiers in brackets
 abbrev pub in_brackets : Text → Text → Text → Text
@@ -22,8 +23,8 @@ component_text c =
 
 -- Lists.
 
--- A `[`, a `]` or a backslash alone is escaped. Version 2 has each of these in a literal of its
--- own.
+-- A literal that is only `[`, `]` or a backslash is escaped. Version 2 has each of these in a literal
+-- of its own.
 abbrev pub escape_before : Text → Text
 escape_before [] = []
 escape_before (b ∷ []) = if is_special b then backslash ∷ [] else []

@@ -8,7 +8,8 @@ use std::alloc::{AllocError, Global};
 use timefd_items::Component;
 use timefd_words::{Defaults, push_words};
 
-/// Appends the text of a component: that of the one which it stands for, if it is deprecated.
+/// Appends the text of a component. For a deprecated one, this is the text of the component that it
+/// stands for. An `Err` says that memory ran out.
 #[tactic(auto, using(crate::proofs::Appending::bracket_appended))]
 pub fn push_component(
     alloc: Global,

@@ -7,7 +7,8 @@ ghost use Rattle.timefd_lift.specs.Bytewise.{outside, EndsOrIsEscaped, IsEscape}
 
 use timefd_language::text::tail;
 
-/// Whether an escape is written for the front of a text: outside of components for `[[`, `]` and `\`.
+/// Whether the front of a text is written with an escape: outside of components, `[[`, `]` and `\`
+/// are.
 #[inline(always)]
 fn is_escaped(in_component: bool, bytes: &[u8]) -> bool
     ensures { result ≡ (not in_component && spec.is_escaped bytes.now) }
@@ -21,7 +22,7 @@ fn is_escaped(in_component: bool, bytes: &[u8]) -> bool
     }
 }
 
-/// Whether a component goes on behind a byte that is kept.
+/// Whether what follows a byte that is kept is inside of a component.
 #[inline(always)]
 fn goes_on(in_component: bool, byte: u8) -> bool
     ensures { result ≡ (if in_component then not (byte == right) else byte == left) }
@@ -33,8 +34,8 @@ fn goes_on(in_component: bool, byte: u8) -> bool
     }
 }
 
-/// How many bytes at the front are kept: those of components, and those of literals up to the first
-/// for which an escape is written.
+/// The number of bytes at the front that are kept: components, and literals up to the first byte that
+/// is written with an escape.
 pub fn kept_len(bytes: &[u8]) -> usize
     ensures within { result ≤ length bytes.now }
     ensures kept { outside bytes.now ≡ take result bytes.now ++ outside (drop result bytes.now) }

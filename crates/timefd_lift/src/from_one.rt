@@ -7,10 +7,10 @@ ghost use Rattle.timefd_fault.specs.Faults as spec;
 ghost use Rattle.timefd_language.specs.declared.description_version.DescriptionVersion.TheVariants.{One};
 ghost use Rattle.timefd_language.specs.Grammar.{Pieces, nesting_limit};
 ghost use Rattle.timefd_language.specs.Broken.{FaultOf};
-ghost use Rattle.timefd_fault.specs.BorrowedFaults.{HasShortFault, IsLent, IsLentOf, IsMemory};
+ghost use Rattle.timefd_fault.specs.BorrowedFaults.{HasShortFault, IsBorrowed, IsBorrowedOf, IsMemory};
 ghost use Rattle.timefd_fault.specs.Placed.{HasPlacedFault, IsPlaced};
 ghost use Rattle.timefd_parse.specs.Answers.{IsAssigned};
-ghost use Rattle.timefd_fault.specs.Told.{IsFaultOrMemory};
+ghost use Rattle.timefd_fault.specs.Reported.{IsFaultOrMemory};
 ghost use Rattle.timefd_language.specs.Rewritten.{rewritten};
 ghost use Rattle.timefd_lift.specs.Bytewise.{outside};
 ghost use Rattle.timefd_lift.specs.Answers.{IsSpelledBy, IsRewritten, HasItemsOf, IsTextOrMemory};
@@ -23,31 +23,31 @@ use timefd_parse::{
     amount_all_borrowed,
 };
 
-/// The text of version 2 that means what a text of version 1 means: components as they are, and
-/// outside of them `[[` as `\[`, `]` as `\]`, `\` as `\\`, and all else as it is.
+/// The text of version 2 that means what a text of version 1 means: components stay as they are;
+/// outside of them `[[` becomes `\[`, `]` becomes `\]`, and `\` becomes `\\`; everything else stays.
 ///
-/// The error is the fault that version 1 finds in the text, or `Memory` where memory ran out. A fault
-/// that quotes nothing of the text is answered even then.
+/// The error is the fault that version 1 finds in the text, or `Memory` if memory ran out. A fault
+/// that quotes nothing of the text is returned even then.
 pub fn v1_to_v2(alloc: Global, s: &str) -> Result<String, ParseError>
-    // What is answered is the text rewritten, which has the same items. What is refused is refused
-    // for the fault that the rules of version 1 assign.
+    // The answer is the text rewritten, and has the same items. A text is refused for the fault that
+    // the rules of version 1 assign.
     ensures rewritten { IfOk result (λ answer. IsRewritten s.now (string_bytes answer)) }
     ensures same_items { IfOk result (λ answer. HasItemsOf s.now (string_bytes answer)) }
     ensures fault { IfErr result (IsAssigned One nesting_limit s.now) }
 
-    // What version 1 spells is rewritten, unless memory runs out. What has a fault is refused for it,
-    // unless the fault quotes the text and memory runs out for that.
+    // A text that version 1 spells is rewritten, unless memory runs out. A text with a fault is
+    // refused for it, unless the fault quotes the text and memory runs out for that.
     ensures spelled { (ps : Pieces) → IsSpelledBy ps s.now → IsTextOrMemory (rewritten ps) result }
     ensures refused { (f : spec.Fault) → FaultOf One nesting_limit s.now f
         → MatchResult result (λ _. ⊥) (IsFaultOrMemory f) }
 
-    // The fault's index lies in the text or at its end, between two characters.
-    ensures place { IfErr result (HasPlacedFault s.now) }
+    // The fault's index is in the text or at its end, on a character boundary.
+    ensures position { IfErr result (HasPlacedFault s.now) }
 
-    // It is at most twice as long.
+    // The answer is at most twice as long.
     ensures within { IfOk result (λ answer. length (string_bytes answer) ≤ 2 * length s.now) }
 
-    // The empty text takes no memory.
+    // The empty text allocates no memory.
     ensures empty { s.now ≡ [] → IsOk result }
 {
     match v1_to_v2_borrowed(alloc, s) {
@@ -59,36 +59,36 @@ pub fn v1_to_v2(alloc: Global, s: &str) -> Result<String, ParseError>
 /// Rewrites a text of version 1 as `v1_to_v2` does, with a fault that borrows what it quotes. This
 /// call is this port's own.
 ///
-/// The error is `Invalid` with the fault of the text, or `Memory` where memory ran out. A text that
-/// has a fault is refused for it even then.
+/// The error is `Invalid` with the fault of the text, or `Memory` if memory ran out. A text that has
+/// a fault is refused for it even then.
 pub fn v1_to_v2_borrowed(alloc: Global, s: &str) -> Result<String, BorrowedParseError<'_>>
-    // What is answered is the text rewritten, which has the same items. What is refused is refused
-    // for the fault that the rules of version 1 assign.
+    // The answer is the text rewritten, and has the same items. A text is refused for the fault that
+    // the rules of version 1 assign.
     ensures rewritten { IfOk result (λ answer. IsRewritten s.now (string_bytes answer)) }
     ensures same_items { IfOk result (λ answer. HasItemsOf s.now (string_bytes answer)) }
-    ensures fault { IfErr result (IsLentOf (FaultOf One nesting_limit s.now)) }
+    ensures fault { IfErr result (IsBorrowedOf (FaultOf One nesting_limit s.now)) }
 
-    // What version 1 spells is rewritten, unless memory runs out, and what has a fault is refused
-    // for it.
+    // A text that version 1 spells is rewritten, unless memory runs out. A text with a fault is
+    // refused for it.
     ensures spelled { (ps : Pieces) → IsSpelledBy ps s.now
         → MatchResult result (λ answer. string_bytes answer ≡ rewritten ps) IsMemory }
     ensures refused { (f : spec.Fault) → FaultOf One nesting_limit s.now f
-        → MatchResult result (λ _. ⊥) (IsLent f) }
+        → MatchResult result (λ _. ⊥) (IsBorrowed f) }
 
-    // The fault's index lies in the text or at its end, between two characters. Its words are short,
+    // The fault's index is in the text or at its end, on a character boundary. Its words are short,
     // so that its sentence can be written.
-    ensures place { IfErr result (IsLentOf (IsPlaced s.now)) }
+    ensures position { IfErr result (IsBorrowedOf (IsPlaced s.now)) }
     ensures words { IfErr result HasShortFault }
 
-    // It is at most twice as long.
+    // The answer is at most twice as long.
     ensures within { IfOk result (λ answer. length (string_bytes answer) ≤ 2 * length s.now) }
 
-    // The empty text takes no memory.
+    // The empty text allocates no memory.
     ensures empty { s.now ≡ [] → IsOk result }
 {
     // The law by which version 2 spells the same items.
     lifting();
-    // Version 1 is counted without memory.
+    // Checking a text of version 1 allocates no memory.
     let language = Language::Version(DescriptionVersion::One);
     match amount_all_borrowed(alloc, language, NESTING_LIMIT, s) {
         Ok(_) => match escaped(alloc, s) {
@@ -99,7 +99,8 @@ pub fn v1_to_v2_borrowed(alloc: Global, s: &str) -> Result<String, BorrowedParse
     }
 }
 
-/// The text with its literals escaped as in version 2. One that needs no escape is copied at once.
+/// The text with its literals escaped as in version 2. A text that needs no escape is copied in one
+/// go.
 fn escaped(alloc: Global, text: &str) -> Result<String, AllocError>
     ensures written { IfOk result (λ answer. string_bytes answer ≡ outside text.now) }
     ensures empty { text.now ≡ [] → IsOk result }
@@ -107,16 +108,16 @@ fn escaped(alloc: Global, text: &str) -> Result<String, AllocError>
     let mut answer = first_room(alloc, text)?;
     let (kept, mut rest) = text.split_at(kept_len(text.as_bytes()));
     answer.push_str(kept)?;
-    while let Some((escape, behind)) = escape_of(rest) {
+    while let Some((escape, after)) = escape_of(rest) {
         answer.push_str(escape)?;
-        let (kept, behind) = behind.split_at(kept_len(behind.as_bytes()));
+        let (kept, after) = after.split_at(kept_len(after.as_bytes()));
         answer.push_str(kept)?;
-        rest = behind;
+        rest = after;
     }
     Ok(answer)
 }
 
-/// The empty text with room for as many bytes as this one has, which is enough where nothing is
+/// An empty string with room for as many bytes as this text has, which is enough if nothing is
 /// escaped.
 fn first_room(alloc: Global, text: &str) -> Result<String, AllocError>
     ensures bytes { IfOk result (λ answer. string_bytes answer ≡ []) }

@@ -8,10 +8,10 @@ ghost use Rattle.timefd_component.specs.Tree.{Tree};
 ghost use Rattle.timefd_language.specs.declared.description_version.DescriptionVersion.TheVariants.{Two};
 ghost use Rattle.timefd_language.specs.Grammar.{Spells, nesting_limit};
 ghost use Rattle.timefd_language.specs.Broken.{FaultOf};
-ghost use Rattle.timefd_fault.specs.BorrowedFaults.{HasShortFault, IsLent, IsLentOf, IsMemory};
+ghost use Rattle.timefd_fault.specs.BorrowedFaults.{HasShortFault, IsBorrowed, IsBorrowedOf, IsMemory};
 ghost use Rattle.timefd_fault.specs.Placed.{HasPlacedFault, IsPlaced};
 ghost use Rattle.timefd_parse.specs.Answers.{IsAssigned};
-ghost use Rattle.timefd_fault.specs.Told.{IsFaultOrMemory};
+ghost use Rattle.timefd_fault.specs.Reported.{IsFaultOrMemory};
 ghost use Rattle.timefd_lift.specs.Answers.{IsTextOrMemory};
 ghost use Rattle.timefd_lift.specs.Modernized.{IsReadAlike, IsWrittenOf, KeepsItemsOf};
 ghost use Rattle.timefd_lift.specs.Plain.{ArePlainItems};
@@ -26,35 +26,35 @@ use timefd_parse::{
     parse_all_borrowed,
 };
 
-/// The text of version 3 that means what a text of version 2 means, written anew: each component in
-/// small letters with its modifiers in one order, those alone that aren't version 3's default and
-/// the range of each year that has one, and `[`, `]` and `\` of literals behind a `\`. Versions 2
-/// and 3 read the answer alike, and the answer written anew is the answer.
+/// The text of version 3 that means what a text of version 2 means, written from its items. Each
+/// component is in small letters, with its modifiers in a fixed order: only those that aren't version
+/// 3's default, and the range of each year that has one. In literals, `[`, `]` and `\` get a `\` before
+/// them. Versions 2 and 3 read the answer the same, and converting the answer again gives the answer.
 ///
-/// The error is the fault that version 2 finds in the text, or `Memory` where memory ran out. A fault
-/// that quotes nothing of the text is answered even then. This call is this port's own.
+/// The error is the fault that version 2 finds in the text, or `Memory` if memory ran out. A fault that
+/// quotes nothing of the text is returned even then. This call is this port's own.
 pub fn v2_to_v3(alloc: Global, s: &str) -> Result<String, ParseError>
-    // What is answered is the text written anew, which has the same items. What is refused is
-    // refused for the fault that the rules of version 2 assign.
+    // The answer is the text rewritten, and has the same items. A text is refused for the fault that the
+    // rules of version 2 assign.
     ensures rewritten { IfOk result (λ answer. IsWrittenOf s.now (string_bytes answer)) }
     ensures same_items { IfOk result (λ answer. KeepsItemsOf s.now (string_bytes answer)) }
-    // Version 2 reads the answer alike, and of the answer itself the answer is written.
+    // Version 2 reads the answer the same, and the answer is rewritten to itself.
     ensures alike { IfOk result (λ answer. IsReadAlike s.now (string_bytes answer)) }
     ensures again { IfOk result (λ answer.
         IsWrittenOf (string_bytes answer) (string_bytes answer)) }
     ensures fault { IfErr result (IsAssigned Two nesting_limit s.now) }
 
-    // What version 2 spells is written anew, unless memory runs out. What has a fault is refused for it,
-    // unless the fault quotes the text and memory runs out for that.
+    // A text that version 2 spells is rewritten, unless memory runs out. A text with a fault is refused
+    // for it, unless the fault quotes the text and memory runs out for that.
     ensures spelled { (list : List Tree) → Spells Two nesting_limit 0 s.now list
         → IsTextOrMemory (text.written list) result }
     ensures refused { (f : spec.Fault) → FaultOf Two nesting_limit s.now f
         → MatchResult result (λ _. ⊥) (IsFaultOrMemory f) }
 
-    // The fault's index lies in the text or at its end, between two characters.
-    ensures place { IfErr result (HasPlacedFault s.now) }
+    // The fault's index is in the text or at its end, on a character boundary.
+    ensures position { IfErr result (HasPlacedFault s.now) }
 
-    // The empty text takes no memory.
+    // The empty text allocates no memory.
     ensures empty { s.now ≡ [] → IsOk result }
 {
     match v2_to_v3_borrowed(alloc, s) {
@@ -63,38 +63,38 @@ pub fn v2_to_v3(alloc: Global, s: &str) -> Result<String, ParseError>
     }
 }
 
-/// Writes a text of version 2 anew as `v2_to_v3` does, with a fault that borrows what it quotes. This
-/// call is this port's own.
+/// Rewrites a text of version 2 as `v2_to_v3` does, with a fault that borrows what it quotes. This call
+/// is this port's own.
 ///
-/// The error is `Invalid` with the fault of the text, or `Memory` where memory ran out. A text that
-/// has a fault is refused for it even then.
+/// The error is `Invalid` with the fault of the text, or `Memory` if memory ran out. A text that has a
+/// fault is refused for it even then.
 pub fn v2_to_v3_borrowed(alloc: Global, s: &str) -> Result<String, BorrowedParseError<'_>>
-    // What is answered is the text written anew, which has the same items. What is refused is
-    // refused for the fault that the rules of version 2 assign.
+    // The answer is the text rewritten, and has the same items. A text is refused for the fault that the
+    // rules of version 2 assign.
     ensures rewritten { IfOk result (λ answer. IsWrittenOf s.now (string_bytes answer)) }
     ensures same_items { IfOk result (λ answer. KeepsItemsOf s.now (string_bytes answer)) }
-    // Version 2 reads the answer alike, and of the answer itself the answer is written.
+    // Version 2 reads the answer the same, and the answer is rewritten to itself.
     ensures alike { IfOk result (λ answer. IsReadAlike s.now (string_bytes answer)) }
     ensures again { IfOk result (λ answer.
         IsWrittenOf (string_bytes answer) (string_bytes answer)) }
-    ensures fault { IfErr result (IsLentOf (FaultOf Two nesting_limit s.now)) }
+    ensures fault { IfErr result (IsBorrowedOf (FaultOf Two nesting_limit s.now)) }
 
-    // What version 2 spells is written anew, unless memory runs out, and what has a fault is refused
+    // A text that version 2 spells is rewritten, unless memory runs out. A text with a fault is refused
     // for it.
     ensures spelled { (list : List Tree) → Spells Two nesting_limit 0 s.now list
         → MatchResult result (λ answer. string_bytes answer ≡ text.written list) IsMemory }
     ensures refused { (f : spec.Fault) → FaultOf Two nesting_limit s.now f
-        → MatchResult result (λ _. ⊥) (IsLent f) }
+        → MatchResult result (λ _. ⊥) (IsBorrowed f) }
 
-    // The fault's index lies in the text or at its end, between two characters. Its words are short,
-    // so that its sentence can be written.
-    ensures place { IfErr result (IsLentOf (IsPlaced s.now)) }
+    // The fault's index is in the text or at its end, on a character boundary. Its words are short, so
+    // that its sentence can be written.
+    ensures position { IfErr result (IsBorrowedOf (IsPlaced s.now)) }
     ensures words { IfErr result HasShortFault }
 
-    // The empty text takes no memory.
+    // The empty text allocates no memory.
     ensures empty { s.now ≡ [] → IsOk result }
 {
-    // The laws by which version 3 spells the same items, and version 2 too.
+    // The laws that version 3 spells the same items, and version 2 too.
     writing();
     read_alike();
     match parse_all_borrowed(alloc, DescriptionVersion::Two, NESTING_LIMIT, s) {
@@ -107,7 +107,7 @@ pub fn v2_to_v3_borrowed(alloc: Global, s: &str) -> Result<String, BorrowedParse
     }
 }
 
-/// The text of the items, with room for so many bytes at first.
+/// The text of the items, with room for `room` bytes at first.
 fn written(
     alloc: Global,
     room: usize,

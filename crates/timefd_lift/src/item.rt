@@ -9,7 +9,8 @@ use crate::component::push_component;
 use std::alloc::{AllocError, Global};
 use timefd_items::BorrowedFormatItem;
 
-/// Appends the text of a literal or a component, the only items of version 2.
+/// Appends the text of a literal or a component: version 2 has no other items. An `Err` says that
+/// memory ran out.
 pub fn push_item(
     alloc: Global,
     text: &mut String,
@@ -37,7 +38,7 @@ fn push_literal(text: &mut String, literal: &str) -> Result<(), AllocError>
     text.push_str(literal)
 }
 
-/// What escapes a literal of version 2: one that needs an escape is a single byte.
+/// The escape before a literal of version 2. A literal that needs one is always a single byte.
 fn escape_before(literal: &str) -> &'static str
     ensures { result.now ≡ spec.escape_before literal.now }
 {

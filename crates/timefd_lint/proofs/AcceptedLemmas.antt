@@ -1,4 +1,4 @@
--- What is told of a text that is accepted.
+-- What is reported about an accepted text.
 use Rattle.std.proofs.Common.{◌≡◌, true, false, List, [], ◌++◌, Option, ap, append-nil, refl, subst, sym, ◌∙◌}
 use Rattle.std.specs.Prelude.{IsUtf8}
 use Rattle.std.specs.Io.KnownBytes.{Appends}
@@ -14,53 +14,53 @@ use Rattle.timefd_warnings.specs.declared.levels.Levels.{Levels}
 use Rattle.timefd_warnings.specs.Levels.{all_at}
 use Rattle.timefd_lint_warnings.specs.Messages.{messages as warning_messages}
 use Rattle.timefd_lint.specs.declared.line.TextEnd.TheVariants.{Accepted}
-use Rattle.timefd_lint_sources.specs.declared.told.Telling.{Telling}
+use Rattle.timefd_lint_sources.specs.declared.reported.Reporting.{Reporting}
 use Rattle.timefd_lint_warnings.specs.Found.{found_by}
 use Rattle.timefd_lint.specs.Lines.{IsEndOf}
-use Rattle.timefd_lint.specs.Told.{Says, WritesTree}
+use Rattle.timefd_lint.specs.Reported.{Says, WritesTree}
 
-pub tree_written : (language : Language) (telling : Telling) (origin : Origin) (text : Text)
-    (before behind : Option Text) (tree : Text) → telling.explains ≡ true
-    → IsExplained language origin.file.now origin.line text tree → Appends before behind tree
-    → WritesTree language telling origin text before behind
-tree_written language telling origin text before behind tree is explained written =
+pub tree_written : (language : Language) (reporting : Reporting) (origin : Origin) (text : Text)
+    (before after : Option Text) (tree : Text) → reporting.explains ≡ true
+    → IsExplained language origin.file.now origin.line text tree → Appends before after tree
+    → WritesTree language reporting origin text before after
+tree_written language reporting origin text before after tree is explained written =
     (tree, subst (λ b. IsExplainedIf b language origin.file.now origin.line text tree) (sym is) explained, written)
 
-pub no_tree : (language : Language) (telling : Telling) (origin : Origin) (text : Text) (known : Option Text)
-    → telling.explains ≡ false → WritesTree language telling origin text known known
-no_tree language telling origin text known is = (
+pub no_tree : (language : Language) (reporting : Reporting) (origin : Origin) (text : Text) (known : Option Text)
+    → reporting.explains ≡ false → WritesTree language reporting origin text known known
+no_tree language reporting origin text known is = (
   [],
   subst (λ b. IsExplainedIf b language origin.file.now origin.line text []) (sym is) refl,
   Appends-nil known,
 )
 
--- Behind the tree stand the warnings.
-pub tree_and_warnings : (language : Language) (telling : Telling) (origin : Origin) (text : Text)
-    (found : Levels) (before between behind : Option Text) (told : Text)
-    → WritesTree language telling origin text before between
-    → told ≡ warning_messages telling.style origin found → Appends between behind told
-    → Says language telling origin text (Accepted found) before behind
-tree_and_warnings language telling origin text found before between behind told tree are written = (
-  tree.0 ++ told,
+-- The warnings follow the tree.
+pub tree_and_warnings : (language : Language) (reporting : Reporting) (origin : Origin) (text : Text)
+    (found : Levels) (before between after : Option Text) (reported : Text)
+    → WritesTree language reporting origin text before between
+    → reported ≡ warning_messages reporting.style origin found → Appends between after reported
+    → Says language reporting origin text (Accepted found) before after
+tree_and_warnings language reporting origin text found before between after reported tree are written = (
+  tree.0 ++ reported,
   (tree.0, ap (λ t. tree.0 ++ t) are, tree.1),
-  Appends-trans before between behind tree.0 told tree.2 written,
+  Appends-trans before between after tree.0 reported tree.2 written,
 )
 
--- It stands alone where each warning is allowed.
-pub tree_alone : (language : Language) (telling : Telling) (origin : Origin) (text : Text)
-    (found : Levels) (before behind : Option Text) → WritesTree language telling origin text before behind
-    → found ≡ all_at Allowed → Says language telling origin text (Accepted found) before behind
-tree_alone language telling origin text found before behind tree is =
-    let none : warning_messages telling.style origin found ≡ [] =
-    ap (warning_messages telling.style origin) is in (
+-- The tree is alone if all warnings are allowed.
+pub tree_alone : (language : Language) (reporting : Reporting) (origin : Origin) (text : Text)
+    (found : Levels) (before after : Option Text) → WritesTree language reporting origin text before after
+    → found ≡ all_at Allowed → Says language reporting origin text (Accepted found) before after
+tree_alone language reporting origin text found before after tree is =
+    let none : warning_messages reporting.style origin found ≡ [] =
+    ap (warning_messages reporting.style origin) is in (
       tree.0,
       (tree.0, sym (append-nil tree.0) ∙ ap (λ t. tree.0 ++ t) (sym none), tree.1),
       tree.2,
     )
 
 -- A text that spells a list is accepted with the warnings of that list.
-pub accepted_is : (language : Language) (telling : Telling) (text : Text) (list : List Tree)
+pub accepted_is : (language : Language) (reporting : Reporting) (text : Text) (list : List Tree)
     (found : Levels) → IsUtf8 text → SpellsIn language nesting_limit text list
-    → found ≡ found_by telling.levels language list
-    → IsEndOf language telling text (Accepted found)
-accepted_is language telling text list found utf8 spelled is = (utf8, (list, spelled, is))
+    → found ≡ found_by reporting.levels language list
+    → IsEndOf language reporting text (Accepted found)
+accepted_is language reporting text list found utf8 spelled is = (utf8, (list, spelled, is))

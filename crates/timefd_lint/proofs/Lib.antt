@@ -1,6 +1,6 @@
 pub mod FilesLemmas
 pub mod SourcesLemmas
-pub mod ToldLemmas
+pub mod ReportedLemmas
 pub mod AcceptedLemmas
 pub mod TextLemmas
 pub mod MarkLemmas

@@ -1,4 +1,4 @@
--- What is written back of a source.
+-- What is written back into a source.
 use Rattle.std.proofs.Common.{◌≡◌, subst}
 use Rattle.std.specs.Prelude.{IsUtf8}
 use Rattle.timefd_component.specs.Tree.{Text}

@@ -36,7 +36,7 @@ all_rules before first second last (f, are_f, at_f) (e, are_e, at_e) (w, are_w, 
       ∙ append_assoc (before ++ f) e w ∙ append_assoc before f (e ++ w),
 )
 
--- The same of lists that are these, where the last call has an answer.
+-- The rules of all lists, if the last call succeeds.
 pub rules_added : {T E : Type 0} (answer : Result T E) (before first second last : List ℕ)
     (fs : List Code) (es : List ErrorCode) (ws : List Warning)
     → fs ≡ faults.all → es ≡ others → ws ≡ warnings.all
@@ -50,7 +50,7 @@ rules_added (Ok v) before first second last fs es ws fs_are es_are ws_are of_fau
 rules_added (Err e) before first second last fs es ws fs_are es_are ws_are of_faults of_errors of_warnings =
     of_warnings
 
--- what stands in front of the results
+-- the part before the results
 pub head_joined : {E : Type 0} (answer : Result (Vec ℕ Global) E) (start front members rules : List ℕ)
     → start ≡ [] → front ≡ program → members ≡ rules → Adds AreRules start rules
     → IfOk answer (λ head. head.items ≡ joined front members (codes "]}},\"results\":[\n"))
@@ -77,7 +77,7 @@ log_written (Ok v) results head front log bytes old new is front_is log_is bytes
 )
 log_written (Err e) results head front log bytes old new is front_is log_is bytes_are appended = appended
 
--- A rule that is added is that of its code.
+-- An added rule is the rule of its code.
 
 pub error_rule : (code : ErrorCode) (name level summary explanation : Text) (before after : List ℕ)
     → name ≡ name_of code → level ≡ codes "error"

@@ -15,7 +15,7 @@ name_of Unwritable = codes "unwritable"
 name_of ByteOrderMark = codes "byte-order-mark"
 name_of UnknownLanguage = codes "unknown-language"
 
--- the code of a fault's name
+-- the code of the fault with this name
 abbrev pub fault_named : Text → Option Code
 fault_named name =
     if bytes_eq name (codes "unclosed-bracket") then Some faults.UnclosedBracket
@@ -43,7 +43,7 @@ abbrev pub of_fault : Option Code → Option ErrorCode
 of_fault None = None
 of_fault (Some code) = Some (Fault code)
 
--- the code of an error's name
+-- the code of the error with this name
 abbrev pub named : Text → Option ErrorCode
 named name =
     if bytes_eq name (codes "not-text") then Some NotText
@@ -53,6 +53,6 @@ named name =
     else if bytes_eq name (codes "unknown-language") then Some UnknownLanguage
     else of_fault (fault_named name)
 
--- Each name of an error is that of its code.
+-- Each name of an error is read back as its code.
 abbrev pub NamesAreRead : Type 0
 NamesAreRead = (code : ErrorCode) → named (name_of code) ≡ Some code

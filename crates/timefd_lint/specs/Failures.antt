@@ -1,4 +1,4 @@
--- What fails of a file, in words.
+-- Why a file can't be read or replaced, in words.
 use Rattle.std.specs.Prelude.{◌≡◌, codes}
 use denote.Ref.{Bor}
 use Rattle.std.specs.declared.io.ErrorKind.{ErrorKind}
@@ -34,18 +34,18 @@ sentence Occupied =
 sentence Changed = codes "the file can't be rewritten: it has changed meanwhile"
 sentence Unwritten = codes "the file can't be written back"
 
--- What fails of a file that can't be read, by what the system says.
+-- Why a file can't be read, by the system's kind of error.
 abbrev pub unread : ErrorKind → Failure
 unread NotFound = Absent
 unread IsADirectory = Folder
 unread PermissionDenied = Forbidden
 unread kind = Unread
 
--- What is written of a file that fails: its name, and the sentence.
+-- The note on a file that fails: its name, and the sentence.
 abbrev pub note_of : Style → Bor Text → Failure → Text
 note_of style name failure =
     note style (record { file = name; line = 1 }) (code failure) (sentence failure)
 
--- What is written of a file that can't be read says why, by what the system says.
+-- The note on a file that can't be read says why, by the system's kind of error.
 abbrev pub IsUnreadNote : Style → Bor Text → Text → Type 0
 IsUnreadNote style name message = (kind : ErrorKind) × (message ≡ note_of style name (unread kind))

@@ -1,5 +1,5 @@
 pub mod Lines
-pub mod Told
+pub mod Reported
 pub mod Failures
 pub mod Sources
 pub mod Files

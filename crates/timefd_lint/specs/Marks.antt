@@ -13,13 +13,13 @@ use Rattle.timefd_drawing.specs.Github.{annotation}
 use Rattle.timefd_drawing.specs.Json.{note_object}
 use Rattle.timefd_drawing.specs.Sarif.{note_result}
 use Rattle.timefd_warnings.specs.declared.levels.Level.TheVariants.{Warned}
-use Rattle.timefd_lint_warnings.specs.Messages.{head, place}
+use Rattle.timefd_lint_warnings.specs.Messages.{head, position}
 
 -- U+FEFF in UTF-8
 abbrev pub has_mark : Text → Bool
 has_mark text = starts_with nat_eq text (239 ∷ 187 ∷ 191 ∷ [])
 
--- what the mark is called, and what it does
+-- the code of the note
 abbrev pub code : Text
 code = codes "byte-order-mark"
 
@@ -29,9 +29,9 @@ sentence =
 
 abbrev pub human_note : Bool → Origin → Text
 human_note colored origin =
-    head colored Warned code sentence ++ (place colored origin.file.now origin.line 1 ++ codes "\n")
+    head colored Warned code sentence ++ (position colored origin.file.now origin.line 1 ++ codes "\n")
 
--- What is noted of it stands in its line and is a warning, which editors read as any note.
+-- The note is in the mark's line and is a warning, which editors read like any note.
 abbrev pub mark_note_in : Format → Style → Origin → Text
 mark_note_in Human style origin = human_note style.is_colored origin
 mark_note_in Json style origin =
@@ -49,7 +49,7 @@ abbrev pub IsNote : Bool → Style → Origin → Text → Type 0
 IsNote true style origin note = note ≡ mark_note style origin
 IsNote false style origin note = note ≡ []
 
--- A note is written where there is a mark to be noted, and nothing else is.
+-- A note is written if there is a mark to be noted, and nothing else is.
 abbrev pub Notes : Bool → Style → Origin → Option Text → Option Text → Type 0
-Notes is_marked style origin before behind =
-    (note : Text) × IsNote is_marked style origin note × Appends before behind note
+Notes is_marked style origin before after =
+    (note : Text) × IsNote is_marked style origin note × Appends before after note

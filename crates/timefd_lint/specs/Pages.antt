@@ -17,11 +17,11 @@ abbrev pub or_warning : Text → Option ErrorCode → Option Subject
 or_warning name (Some code) = Some (Error code)
 or_warning name None = of_warning (of_warnings.named name)
 
--- the error or the warning of a name
+-- the error or warning with this name
 abbrev pub subject_named : Text → Option Subject
 subject_named name = or_warning name (named name)
 
--- that of two words, the option and a name
+-- what these two words explain: the option, and a name
 abbrev pub explained_in : List (Bor Text) → Option Subject
 explained_in [] = None
 explained_in (option ∷ []) = None

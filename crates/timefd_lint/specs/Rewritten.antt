@@ -1,4 +1,4 @@
--- A source that is rewritten.
+-- Sources that are rewritten.
 use Rattle.std.specs.Prelude.{◌≡◌, List, [], count_by, length, IsUtf8}
 use Rattle.timefd_component.specs.Tree.{Text}
 use Rattle.timefd_rewrite.specs.declared.counts.Counts.{Counts}
@@ -7,7 +7,7 @@ use Rattle.timefd_rewrite_sources.specs.declared.outcome.Outcome.{Outcome}
 use Rattle.timefd_rewrite_sources.specs.declared.source.NewSource.{NewSource}
 use Rattle.timefd_rewrite_sources.specs.Written.{IsSourceRewritten, is_refusing, is_rewriting}
 
--- how many descriptions there are, how many are rewritten, and how many stay at fault
+-- how many descriptions there are, how many are rewritten, and how many stay with a fault
 pub record AreCounted (outcomes : List Outcome) (counts : Counts) : Type 0 where
   pub all : counts.lines ≡ length outcomes
   pub rewritten : counts.rewritten ≡ count_by is_rewriting outcomes
@@ -19,7 +19,7 @@ pub record IsRewrittenAs (change : Change) (source : Text) (counts : Counts) (ne
   pub counted : AreCounted all.outcomes.items counts
   pub written : new ≡ all.bytes.items
 
--- A source is mended or converted, and one that is no text is left alone.
+-- A source is mended or converted. One that isn't UTF-8 is left alone.
 pub record IsFileRewritten (change : Change) (source : Text) (counts : Counts) (new : Text) : Type 0 where
   pub text : IsUtf8 source → IsRewrittenAs change source counts new
   pub no_text : (¬ IsUtf8 source) → AreCounted [] counts

@@ -12,12 +12,12 @@ use Rattle.timefd_warnings.specs.declared.warning.Warning.{Warning}
 use Rattle.timefd_warnings.specs.Codes as warnings
 use Rattle.timefd_warnings.specs.Explanations.{explanation_of}
 
--- A rule behind a comma: its name, and how bad a result of it is,
+-- A rule begins with a comma, its name, and how bad a result of it is.
 abbrev pub rule_front : Text → Text → Text
 rule_front name level =
     (codes ",{\"id\":" ++ quoted name) ++ (codes ",\"defaultConfiguration\":{\"level\":" ++ quoted level)
 
--- what that is in a few words, and what it means.
+-- Then follow what it is in a few words, and what it means.
 abbrev pub rule_words : Text → Text → Text
 rule_words summary explanation =
     (codes "},\"shortDescription\":{\"text\":" ++ quoted summary)
@@ -26,7 +26,7 @@ rule_words summary explanation =
 abbrev pub rule : Text → Text → Text → Text → Text
 rule name level summary explanation = rule_front name level ++ rule_words summary explanation
 
--- that of an error, with some words on it
+-- the rule of an error, with some words on it
 abbrev pub IsErrorRule : ErrorCode → Text → Type 0
 IsErrorRule code text =
     (summary explanation : Text) × (text ≡ rule (name_of code) (codes "error") summary explanation)
@@ -38,7 +38,7 @@ abbrev pub IsWarningRule : Warning → Text → Type 0
 IsWarningRule w text =
     text ≡ rule (warnings.name_of w) (codes "warning") (warnings.sentence_of w) (explanation_of w)
 
--- the errors that are no fault of a description
+-- the errors that aren't faults of a description
 abbrev pub others : List ErrorCode
 others = NotText ∷ Unreadable ∷ Unwritable ∷ ByteOrderMark ∷ UnknownLanguage ∷ []
 

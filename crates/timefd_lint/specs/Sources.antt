@@ -1,4 +1,4 @@
--- What a run says of a source of Rust, or of a file with keys.
+-- What a run reports about a source of Rust, or a file with keys.
 use Rattle.std.specs.Prelude.{◌≡◌, ◌⊎◌, Bool, true, false, not, ◌&&◌, ◌||◌, ◌==◌, if◌then◌else◌, is_some, length, None, Some, List, [], ◌∷◌, ◌++◌, codes, nat_eq, Option, All, IfSome, IsFalse, IsUtf8}
 use Rattle.std.specs.List.{ends_with}
 use Rattle.std.specs.Io.KnownBytes.{Appends}
@@ -11,30 +11,30 @@ use Rattle.timefd_keys.specs.Formats.{format_named}
 use Rattle.timefd_lint_sources.specs.declared.remark.Remark.{Remark}
 use Rattle.timefd_lint_sources.specs.declared.source.Report.{Report}
 use Rattle.timefd_lint_sources.specs.Remarks.{end_of, message_of}
-use Rattle.timefd_lint_sources.specs.declared.told.End.{End}
-use Rattle.timefd_lint_sources.specs.declared.told.End.TheVariants as sources
-use Rattle.timefd_lint_sources.specs.declared.told.Finder.{Finder}
-use Rattle.timefd_lint_sources.specs.declared.told.Finder.TheVariants.{Rust, Keys}
-use Rattle.timefd_lint_sources.specs.declared.told.Source.{Source}
-use Rattle.timefd_lint_sources.specs.declared.told.Telling.{Telling}
+use Rattle.timefd_lint_sources.specs.declared.reported.End.{End}
+use Rattle.timefd_lint_sources.specs.declared.reported.End.TheVariants as sources
+use Rattle.timefd_lint_sources.specs.declared.reported.Finder.{Finder}
+use Rattle.timefd_lint_sources.specs.declared.reported.Finder.TheVariants.{Rust, Keys}
+use Rattle.timefd_lint_sources.specs.declared.reported.Source.{Source}
+use Rattle.timefd_lint_sources.specs.declared.reported.Reporting.{Reporting}
 use Rattle.timefd_lint_sources.specs.Judged.{text_of}
-use Rattle.timefd_lint_sources.specs.Told.{AreSeen, IsJudgedFound, IsSourceTold, no_text_note, origin_of}
-use Rattle.timefd_lint_sources.specs.Told as literal
+use Rattle.timefd_lint_sources.specs.Reported.{AreSeen, IsJudgedFound, IsSourceReported, no_text_note, origin_of}
+use Rattle.timefd_lint_sources.specs.Reported as literal
 use Rattle.timefd_lint.specs.declared.line.TextEnd.{TextEnd}
 use Rattle.timefd_lint.specs.declared.line.TextEnd.TheVariants.{PassedOver, Accepted, Refused, NotText, Failed, Unread}
 use Rattle.timefd_lint.specs.declared.options.Options.{Options}
 use Rattle.timefd_lint.specs.declared.tally.Tally.{Tally}
-use Rattle.timefd_lint.specs.Told.{IsReadUp, IsRun, IsTold, SaysUnread, Told, both, messages, place, tally_of, tally_of_one}
+use Rattle.timefd_lint.specs.Reported.{IsReadUp, IsRun, IsReportOn, SaysUnread, Reported, both, messages, position, tally_of, tally_of_one}
 
--- whether the file of a name is read as a source of Rust
+-- whether a file with this name is read as a source of Rust
 abbrev pub is_rust : Options → Text → Bool
 is_rust options name = options.is_source || ends_with nat_eq name (codes ".rs")
 
--- whether it is one with keys, where keys are looked for
+-- whether a file with this name is read for keys
 abbrev pub has_keys : Options → Text → Bool
 has_keys options name = is_some (format_named name) && not (length options.keys.now == 0)
 
--- whether the file of a name is read as a source
+-- whether a file with this name is read as a source
 abbrev pub is_source : Options → Text → Bool
 is_source options name = is_rust options name || has_keys options name
 
@@ -42,16 +42,16 @@ abbrev pub finder_by : Options → Option Format → Finder
 finder_by options None = Rust
 finder_by options (Some format) = Keys format options.keys
 
--- how the descriptions in the file of a name are found
+-- how the descriptions are found in a file with this name
 abbrev pub finder_of : Options → Text → Finder
 finder_of options name = if is_rust options name then Rust else finder_by options (format_named name)
 
--- whether one of these files is, or the input where there is none
+-- whether one of these files is read as a source; without files, whether the input is
 abbrev pub any_source : Options → List (Bor Text) → Bool
 any_source options [] = options.is_source
 any_source options (name ∷ names) = is_source options name.now || any_source options names
 
--- what came of a description of a source, as of one in a line
+-- how the check of a description in a source ended, in the terms of one in a line
 abbrev pub text_end : End → TextEnd
 text_end sources.PassedOver = PassedOver
 text_end (sources.Accepted found) = Accepted found
@@ -59,7 +59,7 @@ text_end sources.Refused = Refused
 text_end sources.NotText = NotText
 text_end sources.Unread = Unread
 
--- what is found in these besides what was found before
+-- the tally of these ends, added to an earlier tally
 abbrev pub tally_from : Tally → List End → Tally
 tally_from found [] = found
 tally_from found (e ∷ ends) = tally_from (both found (tally_of_one (text_end e))) ends
@@ -67,57 +67,57 @@ tally_from found (e ∷ ends) = tally_from (both found (tally_of_one (text_end e
 abbrev pub tally_of_ends : List End → Tally
 tally_of_ends ends = tally_from (tally_of []) ends
 
--- What is told of the descriptions of a source, which stand in it, is written, and nothing else.
-abbrev pub IsReported : Finder → Telling → Text → Text → Option Text → Option Text → Tally → Type 0
-IsReported finder telling name bytes before behind tally =
+-- The report on the descriptions of a source, in their order, is written, and nothing else.
+abbrev pub IsReported : Finder → Reporting → Text → Text → Option Text → Option Text → Tally → Type 0
+IsReported finder reporting name bytes before after tally =
     (s : Source) × (s.file.now ≡ name) × (s.finder ≡ finder) × (s.text.now ≡ bytes)
-    × ((r : Report) × IsSourceTold telling s r
-    × Appends before behind r.message.items × (tally ≡ tally_of_ends r.ends.items))
+    × ((r : Report) × IsSourceReported reporting s r
+    × Appends before after r.message.items × (tally ≡ tally_of_ends r.ends.items))
 
--- The note that a source is no UTF-8 is written, and nothing else.
-abbrev pub IsNotText : Telling → Text → Option Text → Option Text → Tally → Type 0
-IsNotText telling name before behind tally = (file : Bor Text) × (file.now ≡ name)
-    × Appends before behind (no_text_note telling.style (place file 1)) × (tally ≡ tally_of_one NotText)
+-- The note that a source isn't UTF-8 is written, and nothing else.
+abbrev pub IsNotText : Reporting → Text → Option Text → Option Text → Tally → Type 0
+IsNotText reporting name before after tally = (file : Bor Text) × (file.now ≡ name)
+    × Appends before after (no_text_note reporting.style (position file 1)) × (tally ≡ tally_of_one NotText)
 
-abbrev pub IsSaid : Finder → Telling → Text → Text → Option Text → Option Text → Tally → Type 0
-IsSaid finder telling name bytes before behind tally =
-    (IsUtf8 bytes × IsReported finder telling name bytes before behind tally)
-    ⊎ ((¬ IsUtf8 bytes) × IsNotText telling name before behind tally)
+abbrev pub IsSaid : Finder → Reporting → Text → Text → Option Text → Option Text → Tally → Type 0
+IsSaid finder reporting name bytes before after tally =
+    (IsUtf8 bytes × IsReported finder reporting name bytes before after tally)
+    ⊎ ((¬ IsUtf8 bytes) × IsNotText reporting name before after tally)
 
--- Of a source that can't be read the note on why is written.
-abbrev pub IsUnread : Telling → Text → Option Text → Option Text → Tally → Type 0
-IsUnread telling name before behind tally = (file : Bor Text) × (file.now ≡ name)
-    × SaysUnread telling.style file before behind × (tally ≡ tally_of_one Failed)
+-- For a source that can't be read, the note on why is written.
+abbrev pub IsUnread : Reporting → Text → Option Text → Option Text → Tally → Type 0
+IsUnread reporting name before after tally = (file : Bor Text) × (file.now ≡ name)
+    × SaysUnread reporting.style file before after × (tally ≡ tally_of_one Failed)
 
 -- All bytes of a reader are the source, unless they can't be read.
-abbrev pub IsRunOfSource : Finder → Telling → Text → Option Text → Option Text → Option Text → Option Text
+abbrev pub IsRunOfSource : Finder → Reporting → Text → Option Text → Option Text → Option Text → Option Text
     → Tally → Type 0
-IsRunOfSource finder telling name bytes rest before behind tally =
+IsRunOfSource finder reporting name bytes rest before after tally =
     ((source : Text) × IfSome bytes (λ all. source ≡ all) × IsReadUp bytes rest
-    × IsSaid finder telling name source before behind tally)
-    ⊎ IsUnread telling name before behind tally
+    × IsSaid finder reporting name source before after tally)
+    ⊎ IsUnread reporting name before after tally
 
--- What is told is told of a description in a source, in the line where that begins.
-pub record IsOfLiteral (telling : Telling) (t : Told) : Type 0 where
+-- The report is about a description in a source, in the line where it begins.
+pub record IsOfLiteral (reporting : Reporting) (t : Reported) : Type 0 where
   pub source : Source
   pub description : Description
   pub came : End
   pub stands : IsJudgedFound source description
-  pub told : literal.IsTold telling source description came t.message
+  pub reported : literal.IsReported reporting source description came t.message
   pub line : t.line ≡ text_of description
   pub origin : t.origin ≡ origin_of source description
   pub unmarked : IsFalse t.is_marked
   pub end : t.end ≡ text_end came
 
--- It is told of a source that is no UTF-8.
-pub record IsOfNoText (telling : Telling) (t : Told) : Type 0 where
+-- The report is about a source that isn't UTF-8.
+pub record IsOfNoText (reporting : Reporting) (t : Reported) : Type 0 where
   pub no_text : ¬ IsUtf8 t.line
   pub unmarked : IsFalse t.is_marked
   pub end : t.end ≡ NotText
-  pub message : t.message ≡ no_text_note telling.style t.origin
+  pub message : t.message ≡ no_text_note reporting.style t.origin
 
--- It is told of what a source has besides its descriptions: of a call, or of a comment.
-pub record IsOfRemark (telling : Telling) (t : Told) : Type 0 where
+-- The report is about something in a source besides its descriptions: a call, or a comment.
+pub record IsOfRemark (reporting : Reporting) (t : Reported) : Type 0 where
   pub source : Source
   pub found : List Description
   pub remarks : List Remark
@@ -128,27 +128,27 @@ pub record IsOfRemark (telling : Telling) (t : Told) : Type 0 where
   pub is : remarks ≡ front ++ remark ∷ rest
   pub unmarked : IsFalse t.is_marked
   pub end : t.end ≡ text_end (end_of remark)
-  pub message : t.message ≡ message_of telling.style source remark
+  pub message : t.message ≡ message_of reporting.style source remark
 
--- What is told is told of a text, of a literal of a source, of a source that is no UTF-8, or of what a source has
--- besides.
-abbrev pub IsToldOfAny : Bool → Language → Option (Bor Text) → Telling → Told → Type 0
-IsToldOfAny is_whole language comment telling t =
-    IsTold is_whole language comment telling t
-    ⊎ (IsOfLiteral telling t ⊎ (IsOfNoText telling t ⊎ IsOfRemark telling t))
+-- The report is about a text, a literal of a source, a source that isn't UTF-8, or something else in a
+-- source.
+abbrev pub IsReportedOfAny : Bool → Language → Option (Bor Text) → Reporting → Reported → Type 0
+IsReportedOfAny is_whole language comment reporting t =
+    IsReportOn is_whole language comment reporting t
+    ⊎ (IsOfLiteral reporting t ⊎ (IsOfNoText reporting t ⊎ IsOfRemark reporting t))
 
--- The same as `IsRun` of a run that also reads sources.
+-- The result of a run, like `IsRun`, that also reads sources.
 pub record IsRunOfAny (is_whole : Bool) (language : Language) (comment : Option (Bor Text))
-    (telling : Telling) (before behind : Option Text) (tally : Tally) : Type 0 where
-  pub told : List Told
-  pub each : All (IsToldOfAny is_whole language comment telling) told
-  pub found : tally ≡ tally_of told
-  pub written : Appends before behind (messages told)
+    (reporting : Reporting) (before after : Option Text) (tally : Tally) : Type 0 where
+  pub reported : List Reported
+  pub each : All (IsReportedOfAny is_whole language comment reporting) reported
+  pub found : tally ≡ tally_of reported
+  pub written : Appends before after (messages reported)
 
--- What a run has come to that reads sources, or none.
-abbrev pub IsRunWith : Bool → Bool → Language → Option (Bor Text) → Telling → Option Text → Option Text
+-- The result of a run that reads sources, or of one that doesn't.
+abbrev pub IsRunWith : Bool → Bool → Language → Option (Bor Text) → Reporting → Option Text → Option Text
     → Tally → Type 0
-IsRunWith true is_whole language comment telling before behind tally =
-    IsRunOfAny is_whole language comment telling before behind tally
-IsRunWith false is_whole language comment telling before behind tally =
-    IsRun is_whole language comment telling before behind tally
+IsRunWith true is_whole language comment reporting before after tally =
+    IsRunOfAny is_whole language comment reporting before after tally
+IsRunWith false is_whole language comment reporting before after tally =
+    IsRun is_whole language comment reporting before after tally

@@ -1,4 +1,4 @@
--- The line that tells how much was looked at.
+-- The line that says how much was checked.
 use Rattle.std.specs.Prelude.{ℕ, Bool, true, false, ◌++◌, codes, nat_eq, if◌then◌else◌}
 use Rattle.std.specs.Fmt.{decimal}
 use Rattle.timefd_component.specs.Tree.{Text}
@@ -41,18 +41,18 @@ with_warnings tally file_count =
     ++ (codes " " ++ (warnings tally.warnings
     ++ (codes ", " ++ (decimal file_count ++ (codes " " ++ files file_count)))))))
 
--- with the warnings, where they are told
+-- with the warnings, if they are reported
 abbrev pub counted : Bool → Tally → ℕ → Text
 counted true tally file_count = with_warnings tally file_count
 counted false tally file_count = without_warnings tally file_count
 
--- as `.., 2 files; 3 calls with a name in place of a text`
+-- as `.., 2 files; 3 calls with a name in position of a text`
 abbrev pub with_calls : Text → ℕ → Text
 with_calls line unread =
     line ++ (codes "; " ++ (decimal unread ++ (codes " " ++ (calls unread
     ++ codes " with a name in place of a text"))))
 
--- the same, where there are such calls
+-- with the calls, if there are any
 abbrev pub with_unread : Text → ℕ → Text
 with_unread line unread = if nat_eq unread 0 then line else with_calls line unread
 

@@ -1,4 +1,4 @@
-//! What is told of descriptions that would be converted, and want changing by hand.
+//! Notes on descriptions that would be converted but have to be changed manually.
 
 use std::alloc::{AllocError, Global};
 use std::str;
@@ -8,11 +8,13 @@ use timefd_lint_sources::FIRST_LINE;
 use timefd_parse::{DescriptionVersion, ParseError};
 use timefd_rewrite::lay_out;
 use timefd_rewrite_sources::{Change, Outcome, layout_of};
-use timefd_sources::{Description, VersionPlace, body_alike, body_end, descriptions_of, inside};
+use timefd_sources::{Description, VersionPosition, body_alike, body_end, descriptions_of, inside};
 
-/// A line for each description of a source that would be converted, and whose version no number says, whose
-/// literal can't hold what it would be, or which no conversion takes: where it stands, why it stays, and what it
-/// would be.
+/// One line for each description of a source that has to be changed manually: no number says its version, its
+/// literal can't hold the converted text, or no conversion takes it. The line says where the description is,
+/// why it stays, and what it would become.
+///
+/// An `Err` says that memory ran out.
 pub fn notes(
     alloc: Global,
     change: Change,
@@ -20,12 +22,12 @@ pub fn notes(
     source: &str,
     outcomes: &[Outcome],
 ) -> Result<String, AllocError> {
-    let mut told = String::new(alloc);
+    let mut reported = String::new(alloc);
     let Some(version) = version_of(change) else {
-        return Ok(told);
+        return Ok(reported);
     };
     if !outcomes.iter().any(|it| wants_hand(*it)) {
-        return Ok(told);
+        return Ok(reported);
     }
     let descriptions = descriptions_of(alloc, source)?;
     for (description, outcome) in descriptions.iter().zip(outcomes) {
@@ -33,13 +35,13 @@ pub fn notes(
             let Some(why) = why(alloc, change, version, source, description, *outcome)? else {
                 continue;
             };
-            push_note(alloc, name, source, description, &why, &mut told)?;
+            push_note(alloc, name, source, description, &why, &mut reported)?;
         }
     }
-    Ok(told)
+    Ok(reported)
 }
 
-// The version that descriptions are converted to, where they are.
+// The version that descriptions are converted to. `None` if the change converts nothing.
 fn version_of(change: Change) -> Option<&'static str> {
     match change {
         Change::Mended(_) => None,
@@ -60,7 +62,7 @@ fn wants_hand(outcome: Outcome) -> bool {
     }
 }
 
-// Why a description stays, where that is told.
+// Why a description stays. `None` if there is nothing to report.
 fn why(
     alloc: Global,
     change: Change,
@@ -87,16 +89,16 @@ fn push_note(
     source: &str,
     description: &Description,
     why: &str,
-    told: &mut String,
+    reported: &mut String,
 ) -> Result<(), AllocError> {
-    told.push_str(&place(alloc, name, source, description)?)?;
-    told.push_str(": change by hand: ")?;
-    told.push_str(why)?;
-    told.push_str("\n")
+    reported.push_str(&position(alloc, name, source, description)?)?;
+    reported.push_str(": change by hand: ")?;
+    reported.push_str(why)?;
+    reported.push_str("\n")
 }
 
 // Where a literal begins, as `FILE:LINE:COLUMN`.
-fn place(
+fn position(
     alloc: Global,
     name: &str,
     source: &str,
@@ -112,7 +114,7 @@ fn place(
     format!(in alloc; "{file}:{line}:{column}")
 }
 
-// Why a description stays that is this literal in another version.
+// Why a description stays, and its literal in another version.
 fn reason(
     alloc: Global,
     version: &str,
@@ -121,16 +123,16 @@ fn reason(
     new: &str,
 ) -> Result<String, AllocError> {
     match description.version {
-        VersionPlace::Call => match call_of(source, description) {
+        VersionPosition::Call => match call_of(source, description) {
             Some(call) => said_by_call(alloc, version, call, new),
             None => format!(in alloc;
                 "its call has no number for the version; in version {version} it is `{new}`"
             ),
         },
-        VersionPlace::Elsewhere => format!(in alloc;
+        VersionPosition::Elsewhere => format!(in alloc;
             "a comment says the version; in version {version} it is `{new}`"
         ),
-        VersionPlace::Digit(_) | VersionPlace::Unsaid => format!(in alloc;
+        VersionPosition::Digit(_) | VersionPosition::Unsaid => format!(in alloc;
             "in version {version} it is `{new}`, which has other lines or needs another literal"
         ),
     }
@@ -142,7 +144,7 @@ fn said_by_call(alloc: Global, version: &str, call: Call, new: &str) -> Result<S
     format!(in alloc; "`{name}` has no number for the version; {means}")
 }
 
-// The literal of what a description is converted to: of its own kind, or else with escapes.
+// The literal with the converted text: of the same kind as the old one, or else with escapes.
 fn new_literal(
     alloc: Global,
     change: Change,
@@ -168,7 +170,7 @@ fn new_literal(
     }
 }
 
-// A literal as it stands in a source, with another body.
+// The literal as it is spelled in the source, with another body.
 fn quoted(
     alloc: Global,
     source: &str,
@@ -189,14 +191,14 @@ fn quoted(
     format!(in alloc; "{opening}{body}{closing}")
 }
 
-// A call without a number for the version, and the one with a number that is otherwise the same.
+// A call without a number for the version, and the same call with one.
 #[derive(Clone, Copy)]
 struct Call {
     name: &'static str,
     numbered: &'static str,
 }
 
-// The call in front of the bracket that a literal stands in.
+// The call whose opening bracket comes right before the literal.
 fn call_of(source: &str, description: &Description) -> Option<Call> {
     let front = source.get(..description.piece.start)?;
     let front = front.trim_end().strip_suffix('(')?.trim_end();

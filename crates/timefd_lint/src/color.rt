@@ -1,10 +1,10 @@
-//! Whether what is drawn is coloured.
+//! Whether drawings are coloured.
 
 use std::io::IsTerminal;
 use timefd_lint_options::Color;
 use timefd_streams::shows_colors;
 
-/// Whether what is drawn is coloured: `auto` asks the terminal and the environment.
+/// Whether drawings are coloured. `auto` asks the terminal and the environment.
 pub fn is_colored(rt: &HostRuntime, color: Color) -> bool {
     match color {
         Color::Always => true,

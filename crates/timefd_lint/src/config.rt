@@ -11,12 +11,12 @@ use toml::de;
 
 const NAME: &str = ".timefd.toml";
 
-/// Why nothing is known of the file of settings.
+/// Why the file of settings can't be used.
 #[derive(Drop)]
 pub enum ConfigFailure {
     /// Memory ran out.
     Memory,
-    /// This is wrong with it, in a sentence that names it.
+    /// The file is wrong. The sentence names it and says why.
     Wrong(String),
 }
 
@@ -26,7 +26,7 @@ impl From<AllocError> for ConfigFailure {
     }
 }
 
-// What a file of settings says that is empty.
+// What an empty file of settings says.
 fn no_config(alloc: Global) -> Config {
     Config {
         keys: Vec::new(alloc),
@@ -34,7 +34,7 @@ fn no_config(alloc: Global) -> Config {
     }
 }
 
-/// What the file of settings in the working directory says: nothing, where there is no such file.
+/// Reads the file of settings in the working directory. A missing file says nothing.
 pub fn read_config(rt: &HostRuntime, alloc: Global) -> Result<Config, ConfigFailure> {
     match fs::read(rt, NAME) {
         Ok(bytes) => config_of_bytes(alloc, &bytes),
@@ -46,7 +46,7 @@ pub fn read_config(rt: &HostRuntime, alloc: Global) -> Result<Config, ConfigFail
     }
 }
 
-/// The keys of the file of settings that count in a run: none, where files are mended or rewritten.
+/// The keys of the file of settings that count in a run: none if files are mended or rewritten.
 pub fn counted_keys<'a>(settings: Settings<'_>, config: &'a Config) -> &'a [OwnedKey] {
     if rewriting_of(settings).is_some() {
         &[]
@@ -57,7 +57,7 @@ pub fn counted_keys<'a>(settings: Settings<'_>, config: &'a Config) -> &'a [Owne
 
 fn config_of_bytes(alloc: Global, bytes: &[u8]) -> Result<Config, ConfigFailure> {
     let Ok(text) = str::from_utf8(bytes) else {
-        return Err(wrong(alloc, "the bytes are no UTF-8"));
+        return Err(wrong(alloc, "the bytes aren't UTF-8"));
     };
     match config_of(alloc, text) {
         Ok(config) => Ok(config),
@@ -74,10 +74,10 @@ fn unreadable(kind: ErrorKind) -> &'static str {
 }
 
 fn wrong(alloc: Global, what: &str) -> ConfigFailure {
-    told(format!(in alloc; "`{NAME}`: {what}"))
+    reported(format!(in alloc; "`{NAME}`: {what}"))
 }
 
-fn told(sentence: Result<String, AllocError>) -> ConfigFailure {
+fn reported(sentence: Result<String, AllocError>) -> ConfigFailure {
     match sentence {
         Ok(sentence) => ConfigFailure::Wrong(sentence),
         Err(AllocError) => ConfigFailure::Memory,
@@ -92,7 +92,7 @@ fn failure(alloc: Global, text: &str, error: ConfigError) -> ConfigFailure {
             about(
                 alloc,
                 &name,
-                "stands for nothing here: there are `exclude` and `[keys]`",
+                "means nothing here: the settings are `exclude` and `[keys]`",
             )
         }
         ConfigError::NotATable => wrong(alloc, "`keys` is no table"),
@@ -116,19 +116,19 @@ fn failure(alloc: Global, text: &str, error: ConfigError) -> ConfigFailure {
     }
 }
 
-// What is wrong with what has this name.
+// What is wrong with the entry of this name.
 fn about(alloc: Global, name: &str, what: &str) -> ConfigFailure {
     match safe(alloc, name) {
-        Ok(name) => told(format!(in alloc; "`{NAME}`: `{name}` {what}")),
+        Ok(name) => reported(format!(in alloc; "`{NAME}`: `{name}` {what}")),
         Err(AllocError) => ConfigFailure::Memory,
     }
 }
 
-// Why the text is no TOML, and in which line, counted from 1.
+// Why the text isn't TOML, and in which line, counted from 1.
 fn not_toml(alloc: Global, text: &str, error: de::Error) -> ConfigFailure {
     let start = error.span().map_or(0, |span| span.start);
     let before = text.as_bytes().get(..start).unwrap_or(text.as_bytes());
     let line = 1 + before.iter().filter(|byte| **byte == b'\n').count();
     let reason = error.message();
-    told(format!(in alloc; "`{NAME}`: line {line} is no TOML: {reason}"))
+    reported(format!(in alloc; "`{NAME}`: line {line} isn't TOML: {reason}"))
 }

@@ -6,7 +6,7 @@ ghost use Rattle.timefd_lint.specs.Rules as rules;
 
 use timefd_diagnosis::Code;
 
-/// What an error is named for.
+/// What kind of error it is.
 #[derive(Clone, Copy)]
 pub enum ErrorCode {
     /// A fault of a description.
@@ -19,12 +19,12 @@ pub enum ErrorCode {
     Unwritable,
     /// A file begins with a byte-order mark.
     ByteOrderMark,
-    /// A comment is to name a language, and names none.
+    /// A comment should name a language, and names none.
     UnknownLanguage,
 }
 
 impl ErrorCode {
-    /// Its name.
+    /// The name that reports show, as `not-text`.
     pub fn name(self) -> &'static str
         ensures { result.now ≡ spec.name_of self }
     {
@@ -38,7 +38,7 @@ impl ErrorCode {
         }
     }
 
-    /// Those that are no fault of a description.
+    /// The codes that aren't faults of a description.
     pub fn others() -> &'static [ErrorCode]
         ensures { result.now ≡ rules.others }
     {
@@ -51,7 +51,7 @@ impl ErrorCode {
         ]
     }
 
-    /// That of a name.
+    /// The code with this name. `None` if there is none.
     pub fn named(name: &str) -> Option<ErrorCode>
         ensures { result ≡ spec.named name.now }
     {
@@ -69,7 +69,7 @@ impl ErrorCode {
     }
 }
 
-/// The code of a fault's name.
+/// The code of the fault with this name.
 fn fault_named(name: &str) -> Option<Code>
     ensures { result ≡ spec.fault_named name.now }
 {
@@ -97,7 +97,7 @@ fn fault_named(name: &str) -> Option<Code>
     }
 }
 
-/// Each name of an error is that of its code: so no two have one.
+/// Each name is read back as its code, so no two codes share a name.
 pub fn names_are_read()
     ensures { spec.NamesAreRead }
 {}

@@ -34,12 +34,12 @@ fn fault_summary(code: Code) -> &'static str {
         Code::UnsupportedFlag => "a flag that isn't read",
         Code::UnsupportedLetter => "a letter that isn't read",
         Code::NestedInComponent => "a description nested in a component",
-        Code::DuplicateModifier => "a key that stands twice",
+        Code::DuplicateModifier => "a key that is given twice",
         Code::RefusedModifier => "a modifier that another one refuses",
     }
 }
 
-/// What it means, with an example, and what to write instead.
+/// What the error means, with an example, and what to write instead.
 pub fn explanation(code: ErrorCode) -> &'static str {
     match code {
         ErrorCode::Fault(code) => fault_explanation(code),
@@ -77,7 +77,7 @@ fn fault_explanation(code: Code) -> &'static str {
             "`[ignore]` doesn't say how many bytes it passes over. Write `[ignore count:2]`."
         }
         Code::InvalidEscape => {
-            "`a\\b` has a backslash before a letter; versions 2 and 3 take it before a bracket or a backslash. Write `a\\\\b`. In strftime a percent sign stands alone: write `%%`."
+            "`a\\b` has a backslash before a letter; versions 2 and 3 take it before a bracket or a backslash. Write `a\\\\b`. In strftime write a percent sign as `%%`."
         }
         Code::UnescapedBracket => {
             "`[day]]` has one bracket too many. Leave it out, or write `[day]\\]` where it is text."
@@ -89,8 +89,7 @@ fn fault_explanation(code: Code) -> &'static str {
         Code::MissingAlternative => {
             "`[first]` has nothing to choose from. Put each alternative into brackets: `[first [[day]] [[month]]]`."
         }
-        Code::NestedTooDeep =>
-            "More descriptions stand in one another than version 3 takes. Nest fewer.",
+        Code::NestedTooDeep => "Descriptions are nested deeper than version 3 allows. Nest fewer.",
         Code::SeveralDescriptions => {
             "`[optional [a] [b]]` has two. Put all into one pair of brackets: `[optional [ab]]`."
         }
@@ -105,7 +104,7 @@ fn fault_explanation(code: Code) -> &'static str {
             "`%Z` is the name of a time zone. Write `%z`, the offset from UTC."
         }
         Code::NestedInComponent => {
-            "`[day [x]]` has text inside of a component. Leave it out, or write it behind: `[day]x`."
+            "`[day [x]]` has text inside of a component. Leave it out, or write it after the bracket: `[day]x`."
         }
         Code::DuplicateModifier => {
             "`[day padding:zero padding:none]` has `padding` twice. Leave one out. In versions 1 and 2 the last one counts."

@@ -1,30 +1,30 @@
-//! What fails of a file, in words.
+//! Why a file can't be read or replaced, in words.
 
 ghost use Rattle.std.specs.Prelude.{◌≡◌};
 ghost use Rattle.timefd_lint.specs.Failures as spec;
 
 use std::io::ErrorKind;
 
-/// What fails of a file.
+/// Why a file can't be read or replaced.
 #[derive(Clone, Copy)]
 pub enum Failure {
-    /// There is none of the name.
+    /// No file has this name.
     Absent,
-    /// It is a folder.
+    /// The name is a folder's.
     Folder,
-    /// The system doesn't permit that it is read.
+    /// The system doesn't permit to read it.
     Forbidden,
     /// It can't be read for another reason.
     Unread,
-    /// It is none that lines can be rewritten in: a device, or a pipe.
+    /// It isn't a regular file but a device or a pipe, and lines can't be rewritten in it.
     NotRegular,
-    /// It has setuid, setgid or sticky set, which a new file would not have.
+    /// It has setuid, setgid or sticky set, and a new file wouldn't have them.
     Special,
-    /// A new file would be another user's or group's.
+    /// A new file would belong to another user or group.
     Foreign,
-    /// A file has the name that the new one would have until it is whole.
+    /// The name that the new file would have until it is complete is taken.
     Occupied,
-    /// It is no longer what was read.
+    /// The file has changed since it was read.
     Changed,
     /// It can't be written back for another reason.
     Unwritten,
@@ -35,11 +35,11 @@ pub enum Failure {
 pub enum OpenError {
     /// Memory ran out.
     Memory,
-    /// This fails of the file.
+    /// The file fails for this reason.
     Failed(Failure),
 }
 
-/// What fails where a file can't be read.
+/// The failure for an error of the system that occurred while reading.
 pub fn unread(kind: ErrorKind) -> Failure
     ensures { result ≡ spec.unread kind }
 {
@@ -52,7 +52,7 @@ pub fn unread(kind: ErrorKind) -> Failure
 }
 
 impl Failure {
-    /// Its name.
+    /// The failure's code, as reports show it.
     pub fn code(self) -> &'static str
         ensures { result.now ≡ spec.code self }
     {
@@ -69,7 +69,7 @@ impl Failure {
         }
     }
 
-    /// Its sentence.
+    /// The failure as a sentence.
     pub fn sentence(self) -> &'static str
         ensures { result.now ≡ spec.sentence self }
     {

@@ -1,4 +1,4 @@
-//! A file whose lines are rewritten: it is read whole, and a new one takes its place.
+//! Files whose lines are rewritten: the whole file is read, and a new one replaces it.
 
 ghost use Rattle.std.specs.Prelude.{IfOk};
 ghost use Rattle.std.specs.Io.KnownBytes.{Appends};
@@ -11,7 +11,7 @@ use std::io::{Error, ErrorKind, Read, Write};
 use std::os::unix::fs::{MetadataExt, OpenOptionsExt};
 use std::rt::Files;
 
-// What a new file is called behind the name of the one that it is to replace.
+// Appended to the old file's name to get the new file's.
 const BESIDE: &str = ".timefd_lint";
 
 /// Why a file is left as it was.
@@ -19,7 +19,7 @@ const BESIDE: &str = ".timefd_lint";
 pub enum FixError {
     /// Memory ran out.
     Memory,
-    /// This fails of the file.
+    /// The file fails for this reason.
     Failed(Failure),
     /// The standard output can't be written.
     Output,
@@ -31,7 +31,7 @@ impl From<AllocError> for FixError {
     }
 }
 
-// Why a file can't be read.
+// The error for a file that can't be read.
 fn unreadable(error: Error) -> FixError {
     match error.kind() {
         ErrorKind::OutOfMemory => FixError::Memory,
@@ -39,7 +39,7 @@ fn unreadable(error: Error) -> FixError {
     }
 }
 
-// Why a new one can't be written.
+// The error for a new file that can't be written.
 fn unwritable(error: Error) -> FixError {
     match error.kind() {
         ErrorKind::OutOfMemory => FixError::Memory,
@@ -51,7 +51,7 @@ fn changed() -> FixError {
     FixError::Failed(Failure::Changed)
 }
 
-/// A file that is read whole, and what the system knew of it then.
+/// A file that was read whole, and what the system knew about it at that time.
 #[derive(Drop)]
 pub struct Original<F: Drop> {
     pub bytes: Vec<u8>,
@@ -60,7 +60,7 @@ pub struct Original<F: Drop> {
 }
 
 impl<F: Read + OpenFile + Drop> Original<F> {
-    /// Reads a regular file.
+    /// Reads a regular file. An `Err` says why that failed.
     pub fn read<R: Files<File = F>>(
         rt: &R,
         alloc: Global,
@@ -72,9 +72,9 @@ impl<F: Read + OpenFile + Drop> Original<F> {
         Ok(Original { bytes, file, found })
     }
 
-    /// Puts a new file into the place of this one, which must still be as it was read. The new one
-    /// is written beside it, and takes its name once it is whole. Where the name is a link, the file
-    /// that it leads to is replaced. If anything fails, the old file is as it was.
+    /// Replaces this file with a new one. It must still be as it was read. The new file is written next to it
+    /// and takes its name once it is complete. If the name is a link, the file that it leads to is replaced.
+    /// If anything fails, the old file stays as it was.
     pub fn replace<R: Files<File = F>>(
         &self,
         rt: &R,
@@ -95,8 +95,8 @@ impl<F: Read + OpenFile + Drop> Original<F> {
     }
 }
 
-// A regular file that is opened. What isn't regular is refused before it is opened: a pipe that
-// nobody writes into would be waited for.
+// Opens a regular file. Anything else is refused before it is opened, as opening a pipe that nobody writes to
+// would block.
 fn opened<R: Files>(rt: &R, name: &str) -> Result<R::File, FixError> {
     let found = fs::metadata(rt, name).map_err(unreadable)?;
     if found.is_dir() {
@@ -108,7 +108,7 @@ fn opened<R: Files>(rt: &R, name: &str) -> Result<R::File, FixError> {
     File::open(rt, name).map_err(unreadable)
 }
 
-// All bytes of a file: as many as it had when it was found.
+// All bytes of a file. It must have as many as when it was found.
 fn read_all<F: Read>(alloc: Global, file: &mut F, found: &Metadata) -> Result<Vec<u8>, FixError> {
     let mut bytes = Vec::new(alloc);
     let most = found.size().saturating_add(1);
@@ -123,7 +123,7 @@ fn read_all<F: Read>(alloc: Global, file: &mut F, found: &Metadata) -> Result<Ve
     }
 }
 
-// Puts a new file into the place of an old one, under a name that is no link.
+// Replaces an old file with a new one, under a name that isn't a link.
 fn replace_at<R: Files>(
     rt: &R,
     alloc: Global,
@@ -139,13 +139,13 @@ fn replace_at<R: Files>(
         Err(error) => Err(error),
     };
     if replaced.is_err() {
-        // The first error is told, and this one is not.
+        // The first error is reported, this one is not.
         let _ = fs::remove_file(rt, beside.as_str());
     }
     replaced
 }
 
-// A new file, which nobody else may read while it is written.
+// Creates a new file that nobody else can read while it is written.
 fn created<R: Files>(rt: &R, name: &str) -> Result<R::File, FixError> {
     let mut options = OpenOptions::new();
     options.write(true);
@@ -170,8 +170,8 @@ fn written<F: Write + OpenFile + Drop>(
     fill(&mut new, found, bytes)
 }
 
-// Writes all bytes into a new file of the old one's owner and group, which is on the disk then and
-// has the old one's permissions.
+// Writes all bytes into a new file, gives it the old one's owner, group and permissions, and syncs it to the
+// disk.
 fn fill<F: Write + OpenFile>(new: &mut F, found: &Metadata, bytes: &[u8]) -> Result<(), FixError>
     ensures content { IfOk result (λ _. Appends (F.contents new.old) (F.contents new.new)
         bytes.now) }
@@ -187,8 +187,8 @@ fn fill<F: Write + OpenFile>(new: &mut F, found: &Metadata, bytes: &[u8]) -> Res
     new.sync_all().map_err(unwritable)
 }
 
-// Gives a new file the name of the old one, unless that has changed meanwhile or the name leads to
-// another, and has the folder written to the disk.
+// Renames the new file to the old one's name and syncs the folder to the disk. Fails if the old file has
+// changed in the meantime or its name leads to another file.
 fn renamed<R: Files>(
     rt: &R,
     name: &str,
@@ -208,8 +208,8 @@ fn renamed<R: Files>(
         Some((folder, _)) => folder,
         None => ".",
     };
-    // The new file stands already. Where the folder can't be written to the disk, either file is
-    // there after a crash, and whole.
+    // The new file already has its name. If the folder can't be synced, a crash leaves either the old or the
+    // new file, and either is complete.
     if let Ok(folder) = File::open(rt, folder) {
         let _ = folder.sync_all();
     }

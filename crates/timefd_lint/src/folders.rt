@@ -5,7 +5,8 @@ use std::io::ErrorKind;
 use timefd_drawing::shown::safe;
 use timefd_lint_files::Reason;
 
-/// Why the sources below a folder aren't known, in a sentence: of this folder, or this file in it.
+/// Why the sources below a folder aren't known, in a sentence that names this folder, or this file in it. An
+/// `Err` says that memory ran out.
 pub fn sentence(alloc: Global, path: &str, reason: Reason) -> Result<String, AllocError> {
     let path = safe(alloc, path)?;
     match reason {
@@ -13,7 +14,7 @@ pub fn sentence(alloc: Global, path: &str, reason: Reason) -> Result<String, All
             let cause = cause(kind);
             format!(in alloc; "`{path}` can't be read{cause}")
         }
-        Reason::TooDeep => format!(in alloc; "`{path}` stands in more than 255 folders"),
+        Reason::TooDeep => format!(in alloc; "`{path}` is more than 255 folders deep"),
     }
 }
 

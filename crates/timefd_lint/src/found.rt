@@ -1,10 +1,10 @@
-//! What is found in a file that is rewritten or mended, and what is to stand in its place.
+//! What is found in a file that is rewritten or mended, and its new bytes.
 
 ghost use Rattle.std.specs.Prelude.{Option, Some, [], IfOk};
 ghost use Rattle.timefd_component.specs.Tree.{Text};
 ghost use Rattle.timefd_lint.specs.Rewritten.{AreCounted, IsFileRewritten};
 ghost use Rattle.timefd_lint.specs.Sources.{IsRunOfSource, finder_of};
-ghost use Rattle.timefd_lint.specs.Told.{IsRunOver};
+ghost use Rattle.timefd_lint.specs.Reported.{IsRunOver};
 ghost use Rattle.timefd_rewrite.specs.Rewriting.{AreRewritten};
 
 use crate::by_hand::notes;
@@ -19,7 +19,7 @@ use std::str;
 use timefd_rewrite::{Counts, Layout, rewrite_lines};
 use timefd_rewrite_sources::{Change, Outcome, count_refused, count_rewritten, rewrite_source};
 
-/// What is counted in a file.
+/// What is counted in a file: lines or descriptions.
 #[derive(Clone, Copy)]
 pub enum Unit {
     /// The lines of a file.
@@ -28,20 +28,20 @@ pub enum Unit {
     Description,
 }
 
-/// What is found in a file that is to be rewritten.
+/// What is found in a file that may be rewritten.
 #[derive(Drop)]
 pub struct Found {
     pub tally: Tally,
     pub unit: Unit,
     /// How many lines or descriptions are rewritten, and how many are refused.
     pub counts: Counts,
-    /// The bytes that are to stand in place of the file's.
+    /// The bytes that replace the file's.
     pub bytes: Vec<u8>,
-    /// What is to be told of descriptions that want changing by hand.
+    /// The notes on descriptions that have to be changed manually, a line each.
     pub by_hand: String,
 }
 
-/// Looks at the lines of a file, and rewrites those that can be.
+/// Checks the lines of a file, and rewrites those that can be rewritten.
 pub fn looked_at<W: Write>(
     alloc: Global,
     options: Options<'_>,
@@ -50,8 +50,8 @@ pub fn looked_at<W: Write>(
     old: &[u8],
     writer: &mut W,
 ) -> Result<Found, RunError>
-    ensures told { IfOk result (λ found. (rest : Option Text) × IsRunOver options.entry.language
-        options.entry.comment options.entry.telling name.now (Some old.now) rest
+    ensures reported { IfOk result (λ found. (rest : Option Text) × IsRunOver options.entry.language
+        options.entry.comment options.entry.reporting name.now (Some old.now) rest
         (W.contents writer.old) (W.contents writer.new) found.tally) }
     ensures rewritten { IfOk result (λ found. AreRewritten layout options.entry.comment
         (Some old.now) (Some []) (Some found.bytes.items) found.counts) }
@@ -68,12 +68,13 @@ pub fn looked_at<W: Write>(
             bytes,
             by_hand: String::new(alloc),
         }),
-        // What is read stands in memory, and so does what is written.
+        // The reader and the writer are both in memory, so only memory can run out.
         Err(_) => Err(RunError::Memory),
     }
 }
 
-/// Looks at the descriptions of a source, and mends or converts those that can be; none where it is no text.
+/// Checks the descriptions of a source, and mends or converts those that can be changed. A source that isn't
+/// UTF-8 has none.
 pub fn source_looked_at<W: Write>(
     alloc: Global,
     options: Options<'_>,
@@ -82,8 +83,8 @@ pub fn source_looked_at<W: Write>(
     old: &[u8],
     writer: &mut W,
 ) -> Result<Found, RunError>
-    ensures told { IfOk result (λ found. (rest : Option Text)
-        × IsRunOfSource (finder_of options.entry name.now) options.entry.telling name.now
+    ensures reported { IfOk result (λ found. (rest : Option Text)
+        × IsRunOfSource (finder_of options.entry name.now) options.entry.reporting name.now
         (Some old.now) rest (W.contents writer.old) (W.contents writer.new) found.tally) }
     ensures rewritten { IfOk result (λ found. IsFileRewritten change old.now found.counts found.bytes.items) }
 {

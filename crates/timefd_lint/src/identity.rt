@@ -1,18 +1,18 @@
-//! Which file a name stands for.
+//! Which file a name leads to.
 
 use crate::line::RunError;
 use std::fs;
 use std::os::unix::fs::MetadataExt;
 use std::rt::Files;
 
-/// A file of the system, whatever its names.
+/// A file of the system, whatever its names are.
 #[derive(Clone, Copy)]
 pub struct Identity {
     device: u64,
     inode: u64,
 }
 
-/// The file of a name; `None` where there is none.
+/// The file that a name leads to. `None` if there is none.
 pub fn identity_of<R: Files>(rt: &R, name: &str) -> Option<Identity> {
     let metadata = fs::metadata(rt, name).ok()?;
     Some(Identity {
@@ -21,7 +21,7 @@ pub fn identity_of<R: Files>(rt: &R, name: &str) -> Option<Identity> {
     })
 }
 
-/// Whether a file is one of those that are met.
+/// Whether a file was met already.
 pub fn is_among(met: &[Identity], identity: Identity) -> bool {
     for other in met {
         if other.device == identity.device && other.inode == identity.inode {
@@ -31,7 +31,7 @@ pub fn is_among(met: &[Identity], identity: Identity) -> bool {
     false
 }
 
-/// Adds a file to those that are met.
+/// Adds a file to those that were met.
 pub fn meet(met: &mut Vec<Identity>, identity: Identity) -> Result<(), RunError> {
     match met.push(identity) {
         Ok(()) => Ok(()),

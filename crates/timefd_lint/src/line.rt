@@ -6,10 +6,10 @@ ghost use Rattle.timefd_component.specs.Tree.{Tree};
 ghost use Rattle.timefd_drawing.specs.Drawing as drawing;
 ghost use Rattle.timefd_language.specs.Grammar.{nesting_limit};
 ghost use Rattle.timefd_parse.specs.Language.{SpellsIn};
-ghost use Rattle.timefd_lint_sources.specs.Told.{no_text_note};
+ghost use Rattle.timefd_lint_sources.specs.Reported.{no_text_note};
 ghost use Rattle.timefd_lint.specs.declared.line.TextEnd.TheVariants as ends;
 ghost use Rattle.timefd_lint.specs.Lines.{IsEndOf, IsLineEnd};
-ghost use Rattle.timefd_lint.specs.Told.{Says, WritesTree};
+ghost use Rattle.timefd_lint.specs.Reported.{Says, WritesTree};
 
 use crate::options::Options;
 use std::alloc::{AllocError, Global};
@@ -37,25 +37,24 @@ impl From<AllocError> for RunError {
     }
 }
 
-/// What came of a text.
+/// How the check of a text ended.
 #[derive(Clone, Copy)]
 pub enum TextEnd {
-    /// A line that is passed over: it is empty, or begins with the mark of comments.
+    /// A line that is passed over: it is empty, or begins with the comment mark.
     PassedOver,
-    /// A description, with the warnings that are told of it; any other is allowed.
+    /// A description, with its warnings that are reported. All other warnings count as allowed.
     Accepted(Levels),
-    /// None, and a diagnostic is written.
+    /// Not a description. A diagnostic was written.
     Refused,
-    /// No UTF-8, and a note is written.
+    /// Not UTF-8. A note was written.
     NotText,
-    /// None could be had, as a file can't be read or not be written back, and a note is written.
+    /// No text: a file can't be read or can't be written back. A note was written.
     Failed,
-    /// None stands in a call, but a name for which no text is found.
+    /// No text: a call has a name instead of a literal, and no text is found for the name.
     Unread,
 }
 
-/// Looks at a line, without its newline, and writes what is wrong with it. An `Err` says why that
-/// wasn't done.
+/// Checks a line, without its newline, and writes what is wrong with it. An `Err` says why the run ends here.
 pub fn lint_line<W: Write>(
     alloc: Global,
     options: Options<'_>,
@@ -64,8 +63,8 @@ pub fn lint_line<W: Write>(
     writer: &mut W,
 ) -> Result<TextEnd, RunError>
     ensures end { IfOk result (IsLineEnd options.entry.language options.entry.comment
-        options.entry.telling line.now) }
-    ensures said { IfOk result (λ end. Says options.entry.language options.entry.telling origin.entry
+        options.entry.reporting line.now) }
+    ensures said { IfOk result (λ end. Says options.entry.language options.entry.reporting origin.entry
         line.now end (W.contents writer.old) (W.contents writer.new)) }
 {
     if is_passed_over(options.comment, line) {
@@ -74,7 +73,7 @@ pub fn lint_line<W: Write>(
     lint_text(alloc, options, origin, line, writer)
 }
 
-/// Looks at a text, and writes what is wrong with it. An `Err` says why that wasn't done.
+/// Checks a text, and writes what is wrong with it. An `Err` says why the run ends here.
 #[tactic(auto, using(crate::proofs::TextLemmas::end_of_bytes, crate::proofs::TextLemmas::said_of_bytes, crate::proofs::TextLemmas::no_text_is, crate::proofs::TextLemmas::no_text_said))]
 pub fn lint_text<W: Write>(
     alloc: Global,
@@ -83,8 +82,8 @@ pub fn lint_text<W: Write>(
     bytes: &[u8],
     writer: &mut W,
 ) -> Result<TextEnd, RunError>
-    ensures end { IfOk result (IsEndOf options.entry.language options.entry.telling bytes.now) }
-    ensures said { IfOk result (λ end. Says options.entry.language options.entry.telling origin.entry
+    ensures end { IfOk result (IsEndOf options.entry.language options.entry.reporting bytes.now) }
+    ensures said { IfOk result (λ end. Says options.entry.language options.entry.reporting origin.entry
         bytes.now end (W.contents writer.old) (W.contents writer.new)) }
 {
     match str::from_utf8(bytes) {
@@ -93,7 +92,7 @@ pub fn lint_text<W: Write>(
     }
 }
 
-// Looks at a text that is UTF-8.
+// Checks a text that is UTF-8.
 #[tactic(auto, using(crate::proofs::TextLemmas::with_list, crate::proofs::TextLemmas::with_fault, crate::proofs::TextLemmas::fault_said))]
 fn judged<W: Write>(
     alloc: Global,
@@ -102,8 +101,8 @@ fn judged<W: Write>(
     text: &str,
     writer: &mut W,
 ) -> Result<TextEnd, RunError>
-    ensures end { IfOk result (IsEndOf options.entry.language options.entry.telling text.now) }
-    ensures said { IfOk result (λ end. Says options.entry.language options.entry.telling origin.entry
+    ensures end { IfOk result (IsEndOf options.entry.language options.entry.reporting text.now) }
+    ensures said { IfOk result (λ end. Says options.entry.language options.entry.reporting origin.entry
         text.now end (W.contents writer.old) (W.contents writer.new)) }
 {
     match diagnose(alloc, options.language, text)? {
@@ -115,7 +114,7 @@ fn judged<W: Write>(
     }
 }
 
-// Writes all that is wrong with a text that is refused.
+// Writes all that is wrong with a refused text.
 fn refused<W: Write>(
     alloc: Global,
     options: Options<'_>,
@@ -127,16 +126,16 @@ fn refused<W: Write>(
 ) -> Result<TextEnd, RunError>
     ensures end { IfOk result (λ end. end ≡ ends.Refused) }
     ensures written { OnOk result (Appends (W.contents writer.old) (W.contents writer.new)
-        (drawing.drawn_all options.entry.telling.style origin.entry text.now diagnostic.now
+        (drawing.drawn_all options.entry.reporting.style origin.entry text.now diagnostic.now
         further.now)) }
 {
-    let style = options.telling.style;
+    let style = options.reporting.style;
     let message = drawn_all(alloc, style, origin, text, diagnostic, further)?;
     write(writer, &message)?;
     Ok(TextEnd::Refused)
 }
 
-// Notes that a text is no UTF-8.
+// Notes that a text isn't UTF-8.
 fn not_text<W: Write>(
     alloc: Global,
     options: Options<'_>,
@@ -145,20 +144,20 @@ fn not_text<W: Write>(
 ) -> Result<TextEnd, RunError>
     ensures end { IfOk result (λ end. end ≡ ends.NotText) }
     ensures written { OnOk result (Appends (W.contents writer.old) (W.contents writer.new)
-        (no_text_note options.entry.telling.style origin.entry)) }
+        (no_text_note options.entry.reporting.style origin.entry)) }
 {
     let message = note(
         alloc,
-        options.telling.style,
+        options.reporting.style,
         origin,
         "not-text",
-        "the bytes are no UTF-8",
+        "the bytes aren't UTF-8",
     )?;
     write(writer, &message)?;
     Ok(TextEnd::NotText)
 }
 
-// Writes of a text that is accepted its tree, if it is asked for, and the warnings that are told.
+// Writes the tree of an accepted text, if it is asked for, and then the warnings that are reported.
 fn accepted<W: Write>(
     alloc: Global,
     options: Options<'_>,
@@ -167,21 +166,21 @@ fn accepted<W: Write>(
     writer: &mut W,
 ) -> Result<TextEnd, RunError>
     ensures end { (list : List Tree) → SpellsIn options.entry.language nesting_limit text.now list
-        → IfOk result (IsEndOf options.entry.language options.entry.telling text.now) }
-    ensures said { IfOk result (λ end. Says options.entry.language options.entry.telling origin.entry
+        → IfOk result (IsEndOf options.entry.language options.entry.reporting text.now) }
+    ensures said { IfOk result (λ end. Says options.entry.language options.entry.reporting origin.entry
         text.now end (W.contents writer.old) (W.contents writer.new)) }
 {
     write_tree(alloc, options, origin, text, writer)?;
-    let Some(levels) = options.telling.levels else {
+    let Some(levels) = options.reporting.levels else {
         return Ok(TextEnd::Accepted(Levels::all_at(Level::Allowed)));
     };
     let found = found_in(alloc, options.language, text, levels)?;
-    let told = messages(alloc, options.telling.style, origin, found)?;
-    write(writer, &told)?;
+    let reported = messages(alloc, options.reporting.style, origin, found)?;
+    write(writer, &reported)?;
     Ok(TextEnd::Accepted(found))
 }
 
-// Writes the tree of a text that is accepted, if it is asked for.
+// Writes the tree of an accepted text, if it is asked for.
 #[tactic(auto, using(crate::proofs::AcceptedLemmas::tree_written, crate::proofs::AcceptedLemmas::no_tree))]
 fn write_tree<W: Write>(
     alloc: Global,
@@ -191,10 +190,10 @@ fn write_tree<W: Write>(
     writer: &mut W,
 ) -> Result<(), RunError>
     ensures { OnOk result
-        (WritesTree options.entry.language options.entry.telling origin.entry text.now
+        (WritesTree options.entry.language options.entry.reporting origin.entry text.now
         (W.contents writer.old) (W.contents writer.new)) }
 {
-    if options.telling.explains {
+    if options.reporting.explains {
         let tree = explained(alloc, options.language, origin, text)?;
         write(writer, tree.as_bytes())?;
     }

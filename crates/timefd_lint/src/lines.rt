@@ -5,7 +5,7 @@ ghost use Rattle.std.specs.Io.KnownBytes.{Appends};
 ghost use Rattle.std.specs.IoError.{error_kind};
 ghost use Rattle.timefd_lint.specs.Failures as failures;
 ghost use Rattle.timefd_lint.specs.Failures.{note_of};
-ghost use Rattle.timefd_lint.specs.Told.{IsNext, IsRunOfAll, IsRunOver, SaysUnread};
+ghost use Rattle.timefd_lint.specs.Reported.{IsNext, IsRunOfAll, IsRunOver, SaysUnread};
 ghost use Rattle.timefd_lint.specs.declared.line.TextEnd.TheVariants as ends;
 
 use crate::failure::{Failure, unread};
@@ -18,8 +18,8 @@ use std::io::{BufRead, Error, ErrorKind, Read, Write};
 use timefd_drawing::{Origin, note};
 use timefd_rewrite::without_newline;
 
-/// Looks at each line of a reader, in order, and writes what is wrong.
-#[tactic(auto, using(crate::proofs::ToldLemmas::no_lines))]
+/// Checks each line of a reader, in order, and writes what is wrong.
+#[tactic(auto, using(crate::proofs::ReportedLemmas::no_lines))]
 pub fn lint_lines<R: BufRead, W: Write>(
     alloc: Global,
     options: Options<'_>,
@@ -28,7 +28,7 @@ pub fn lint_lines<R: BufRead, W: Write>(
     writer: &mut W,
 ) -> Result<Tally, RunError>
     ensures { IfOk result (IsRunOver options.entry.language options.entry.comment
-        options.entry.telling name.now (R.remaining reader.old)
+        options.entry.reporting name.now (R.remaining reader.old)
         (R.remaining reader.new)
         (W.contents writer.old) (W.contents writer.new)) }
 {
@@ -50,8 +50,8 @@ pub fn lint_lines<R: BufRead, W: Write>(
     Ok(tally.and(Tally::of(end)))
 }
 
-// Looks at one more line, for which there is this room: `None` at the end.
-#[tactic(auto, using(crate::proofs::ToldLemmas::read_none))]
+// Checks the next line, with this buffer for it. `None` at the end of the input.
+#[tactic(auto, using(crate::proofs::ReportedLemmas::read_none))]
 fn lint_next<R: BufRead, W: Write>(
     alloc: Global,
     options: Options<'_>,
@@ -62,7 +62,7 @@ fn lint_next<R: BufRead, W: Write>(
     writer: &mut W,
 ) -> Result<Option<TextEnd>, RunError>
     ensures { IfOk result (IsNext is_first options.entry.language options.entry.comment
-        options.entry.telling origin.entry (R.remaining reader.old) (R.remaining reader.new)
+        options.entry.reporting origin.entry (R.remaining reader.old) (R.remaining reader.new)
         (W.contents writer.old) (W.contents writer.new)) }
 {
     bytes.clear();
@@ -79,7 +79,7 @@ fn lint_next<R: BufRead, W: Write>(
     }
 }
 
-/// Looks at all bytes of a reader as one text, and writes what is wrong.
+/// Checks all bytes of a reader as one text, and writes what is wrong.
 pub fn lint_whole<R: Read, W: Write>(
     alloc: Global,
     options: Options<'_>,
@@ -88,7 +88,7 @@ pub fn lint_whole<R: Read, W: Write>(
     writer: &mut W,
 ) -> Result<Tally, RunError>
     ensures { IfOk result (IsRunOfAll options.entry.language options.entry.comment
-        options.entry.telling name.now (R.remaining reader.old)
+        options.entry.reporting name.now (R.remaining reader.old)
         (R.remaining reader.new)
         (W.contents writer.old) (W.contents writer.new)) }
 {
@@ -110,8 +110,8 @@ pub fn lint_whole<R: Read, W: Write>(
     }
 }
 
-/// Memory that runs out in a read ends the run; any other error is noted.
-#[tactic(auto, using(crate::proofs::ToldLemmas::says_unread))]
+/// Notes that a file can't be read. If memory ran out during the read, the run ends instead.
+#[tactic(auto, using(crate::proofs::ReportedLemmas::says_unread))]
 pub fn read_error<W: Write>(
     alloc: Global,
     options: Options<'_>,
@@ -120,10 +120,10 @@ pub fn read_error<W: Write>(
     writer: &mut W,
 ) -> Result<TextEnd, RunError>
     ensures end { IfOk result (λ end. end ≡ ends.Failed) }
-    ensures said { OnOk result (SaysUnread options.entry.telling.style name.entry
+    ensures said { OnOk result (SaysUnread options.entry.reporting.style name.entry
         (W.contents writer.old) (W.contents writer.new)) }
     ensures noted { OnOk result (Appends (W.contents writer.old) (W.contents writer.new)
-        (note_of options.entry.telling.style name.entry (failures.unread (error_kind error)))) }
+        (note_of options.entry.reporting.style name.entry (failures.unread (error_kind error)))) }
 {
     if error.kind() == ErrorKind::OutOfMemory {
         return Err(RunError::Memory);
@@ -131,7 +131,7 @@ pub fn read_error<W: Write>(
     failed(alloc, options, name, unread(error.kind()), writer)
 }
 
-/// Notes what fails of a file.
+/// Notes why a file fails.
 pub fn failed<W: Write>(
     alloc: Global,
     options: Options<'_>,
@@ -141,7 +141,7 @@ pub fn failed<W: Write>(
 ) -> Result<TextEnd, RunError>
     ensures end { IfOk result (λ end. end ≡ ends.Failed) }
     ensures noted { OnOk result (Appends (W.contents writer.old) (W.contents writer.new)
-        (note_of options.entry.telling.style name.entry failure)) }
+        (note_of options.entry.reporting.style name.entry failure)) }
 {
     let origin = Origin {
         file: name,
@@ -149,7 +149,7 @@ pub fn failed<W: Write>(
     };
     let message = note(
         alloc,
-        options.telling.style,
+        options.reporting.style,
         origin,
         failure.code(),
         failure.sentence(),

@@ -8,31 +8,31 @@ use crate::rules::push_rules;
 use std::alloc::{AllocError, Global};
 use std::io::Write;
 
-/// What stands in front of the rules: the program.
+/// The part of the log before the rules: it names the program.
 const PROGRAM: &str =
     "{\"$schema\":\"https://json.schemastore.org/sarif-2.1.0.json\",\"version\":\"2.1.0\",\"runs\":[
 {\"columnKind\":\"unicodeCodePoints\",\"tool\":{\"driver\":{\"name\":\"timefd_lint\",\"version\":\"0.2.0\",\"rules\":[
 ";
 
-/// What stands between the rules and the results.
+/// The part between the rules and the results.
 const RESULTS: &str = "]}},\"results\":[
 ";
 
-/// What stands behind them.
+/// The part after the results.
 const END: &str = "]}]}\n";
 
-// Results without the comma in front of the first.
+// The results without the comma before the first one.
 fn without_comma(results: &[u8]) -> &[u8]
     ensures { result.now ≡ drop 1 results.now }
 {
     match results {
         [] => results,
-        [_, behind @ ..] => behind,
+        [_, after @ ..] => after,
     }
 }
 
-/// What stands in front of a list, its members, each behind a comma, without that of the first, and what
-/// stands behind them. An `Err` says that memory ran out.
+/// Joins `front`, the members and `end`. Each member begins with a comma, and the first one's is left out. An
+/// `Err` says that memory ran out.
 fn joined(alloc: Global, front: &[u8], members: &[u8], end: &str) -> Result<Vec<u8>, AllocError>
     ensures { IfOk result (λ log. log.items ≡ spec.joined front.now members.now end.now) }
 {
@@ -43,7 +43,7 @@ fn joined(alloc: Global, front: &[u8], members: &[u8], end: &str) -> Result<Vec<
     Ok(out)
 }
 
-/// What stands in front of the results: the program, and the rules, one for each code of a result. An
+/// The part of the log before the results: the program, and a rule for each code that a result may have. An
 /// `Err` says that memory ran out.
 fn head(alloc: Global) -> Result<Vec<u8>, AllocError>
     ensures { IfOk result (λ head. spec.IsHead head.items) }
@@ -53,7 +53,7 @@ fn head(alloc: Global) -> Result<Vec<u8>, AllocError>
     joined(alloc, PROGRAM.as_bytes(), &rules, RESULTS)
 }
 
-/// Writes the log of results, each of which stands behind a comma.
+/// Writes the log with these results, each of which begins with a comma. An `Err` says why the run ends here.
 pub fn write_log<W: Write>(alloc: Global, results: &[u8], writer: &mut W) -> Result<(), RunError>
     ensures { OnOk result (spec.WritesLog results.now (W.contents writer.old) (W.contents writer.new)) }
 {

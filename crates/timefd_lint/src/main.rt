@@ -1,6 +1,6 @@
-//! `timefd_lint [OPTION].. [FILE]..`: reads format descriptions, one a line, and shows which are
-//! none, where, why, and what to write in their place. A folder stands for the sources below it.
-//! `docs/LINTER.md` has the options and the names of the faults.
+//! `timefd_lint [OPTION].. [FILE]..`: reads format descriptions, one a line, and shows which of them aren't
+//! any, where, why, and what to write instead. A folder means all sources below it. `docs/LINTER.md` lists
+//! the options and the names of the faults.
 #![tactic(auto)]
 
 mod by_hand;
@@ -45,7 +45,8 @@ use rust::are_sources;
 use session::session_status;
 use sought::sought;
 use status::{
-    FAILED, NOT_TEXT, WRONG_ARGUMENTS, no_memory, told, walk_failed, write_failed, wrong_arguments,
+    FAILED, NOT_TEXT, WRONG_ARGUMENTS, no_memory, reported, walk_failed, write_failed,
+    wrong_arguments,
 };
 use std::alloc::{AllocError, Global};
 use std::io::{BufWriter, Write};
@@ -58,9 +59,9 @@ use timefd_lint_files::{WalkError, expanded};
 use timefd_lint_options::{
     Asked, OptionError, Settings, is_log, keys_of, lines_conflict, options_of,
 };
-use timefd_streams::{WordsError, all_words, lent};
+use timefd_streams::{WordsError, all_words, borrowed};
 
-// Writes a text to the standard output, and answers the status.
+// Writes a text to the standard output, and returns the status.
 fn written(rt: &HostRuntime, text: &str) -> u8 {
     match rt.stdout().write_all(text.as_bytes()) {
         Ok(()) => 0,
@@ -68,7 +69,7 @@ fn written(rt: &HostRuntime, text: &str) -> u8 {
     }
 }
 
-// Writes the page on an error or a warning, and answers the status.
+// Writes the page on an error or a warning, and returns the status.
 fn page_status(rt: &HostRuntime, subject: Subject) -> u8 {
     match page_on(rt.alloc(), subject) {
         Ok(page) => written(rt, &page),
@@ -76,7 +77,7 @@ fn page_status(rt: &HostRuntime, subject: Subject) -> u8 {
     }
 }
 
-// The status of what the words behind the program's name ask for.
+// Does what the arguments after the program's name ask for, and returns the status.
 fn words_status(rt: &HostRuntime, words: &[&str]) -> u8 {
     match explained_in(words) {
         Some(subject) => page_status(rt, subject),
@@ -97,12 +98,13 @@ fn options_status(rt: &HostRuntime, words: &[&str]) -> u8 {
     }
 }
 
-// The status of a run over what is named, with the keys of these words, and behind them those of the file of settings.
+// Runs over the named files and folders, and returns the status. The keys of the arguments come first, then
+// those of the file of settings.
 fn keys_status(rt: &HostRuntime, settings: Settings<'_>, words: &[&str], names: &[&str]) -> u8 {
     let config = match read_config(rt, rt.alloc()) {
         Ok(config) => config,
         Err(ConfigFailure::Memory) => return no_memory(rt),
-        Err(ConfigFailure::Wrong(sentence)) => return told(rt, WRONG_ARGUMENTS, &sentence),
+        Err(ConfigFailure::Wrong(sentence)) => return reported(rt, WRONG_ARGUMENTS, &sentence),
     };
     let Ok(keys) = keys_of(rt.alloc(), words) else {
         return no_memory(rt);
@@ -122,7 +124,8 @@ fn all_keys<'a>(
     with_keys(same_keys(alloc, keys)?, more)
 }
 
-// The status of a run over what is named. A folder stands for the sources below it, but for what is excluded.
+// Runs over the named files and folders, and returns the status. A folder means all sources below it, except
+// those that are excluded.
 fn names_status(
     rt: &HostRuntime,
     settings: Settings<'_>,
@@ -138,13 +141,13 @@ fn names_status(
     if files.is_empty() && !names.is_empty() {
         return nothing_status(rt, settings);
     }
-    match lent(rt.alloc(), &files) {
+    match borrowed(rt.alloc(), &files) {
         Ok(files) => files_status(rt, settings, keys, &files),
         Err(AllocError) => no_memory(rt),
     }
 }
 
-// The status of a run in which no file is looked at.
+// The status of a run that checks no file.
 fn nothing_status(rt: &HostRuntime, settings: Settings<'_>) -> u8 {
     if !is_log(settings.format) {
         return end_of(rt, settings, 0, Tally::new());
@@ -180,16 +183,16 @@ fn run_status(rt: &HostRuntime, settings: Settings<'_>, options: Options<'_>) ->
     }
 }
 
-// Says why the status of a run that came to its end is no verdict.
+// Reports why the status of a finished run is no verdict, and returns it.
 fn end_status(rt: &HostRuntime, status: u8) -> u8 {
     match status {
-        FAILED => told(rt, status, "a file can't be read, or not be written back"),
-        NOT_TEXT => told(rt, status, "a line is no UTF-8"),
+        FAILED => reported(rt, status, "a file can't be read, or not be written back"),
+        NOT_TEXT => reported(rt, status, "a line isn't UTF-8"),
         _ => status,
     }
 }
 
-// The same, and behind it how much was looked at, in so many files.
+// Reports what `end_status` does, then writes the summary line: how much was checked, in `file_count` files.
 fn end_of(rt: &HostRuntime, settings: Settings<'_>, file_count: usize, tally: Tally) -> u8 {
     let status = end_status(rt, tally.status());
     if settings.is_quiet {
@@ -208,7 +211,7 @@ fn args_status(rt: &HostRuntime, args: &[String]) -> u8 {
     let [_, words @ ..] = args else {
         return words_status(rt, &[]);
     };
-    match lent(rt.alloc(), words) {
+    match borrowed(rt.alloc(), words) {
         Ok(words) => words_status(rt, &words),
         Err(AllocError) => no_memory(rt),
     }
@@ -217,7 +220,7 @@ fn args_status(rt: &HostRuntime, args: &[String]) -> u8 {
 fn main(rt: HostRuntime) -> ExitCode {
     let status = match all_words(&rt) {
         Ok(words) => args_status(&rt, &words),
-        Err(WordsError::NotText) => told(&rt, WRONG_ARGUMENTS, "an argument is no UTF-8"),
+        Err(WordsError::NotText) => reported(&rt, WRONG_ARGUMENTS, "an argument isn't UTF-8"),
         Err(WordsError::Memory) => no_memory(&rt),
     };
     ExitCode::from(status)

@@ -12,10 +12,10 @@ use timefd_drawing::github::{Command, annotation};
 use timefd_drawing::json::{Entry, note_object};
 use timefd_drawing::sarif::note_result;
 use timefd_drawing::{Format, Origin, Style, note};
-use timefd_lint_warnings::{head, place};
+use timefd_lint_warnings::{head, position};
 use timefd_warnings::Level;
 
-// What the mark is called, and what it does.
+// The code of the note.
 const CODE: &str = "byte-order-mark";
 
 const SENTENCE: &str =
@@ -27,7 +27,7 @@ fn begins_with_mark(text: &[u8]) -> bool
     text.starts_with(b"\xef\xbb\xbf")
 }
 
-/// Notes the mark at the front of a text, if it is the first of its file.
+/// Notes a byte-order mark at the front of a text, if the text is the first of its file.
 #[tactic(auto, using(crate::proofs::MarkLemmas::noted, crate::proofs::MarkLemmas::not_noted))]
 pub fn note_mark<W: Write>(
     alloc: Global,
@@ -37,17 +37,17 @@ pub fn note_mark<W: Write>(
     text: &[u8],
     writer: &mut W,
 ) -> Result<(), RunError>
-    ensures { OnOk result (Notes (is_first && has_mark text.now) options.entry.telling.style
+    ensures { OnOk result (Notes (is_first && has_mark text.now) options.entry.reporting.style
         origin.entry (W.contents writer.old) (W.contents writer.new)) }
 {
     if is_first && begins_with_mark(text) {
-        let message = warning(alloc, options.telling.style, origin)?;
+        let message = warning(alloc, options.reporting.style, origin)?;
         write(writer, &message)?;
     }
     Ok(())
 }
 
-// The note in the form that is asked for.
+// The note, in the chosen format.
 fn warning(alloc: Global, style: Style, origin: Origin<'_>) -> Result<Vec<u8>, AllocError>
     ensures { IfOk result (λ message. message.items ≡ spec.mark_note style origin.entry) }
 {
@@ -75,6 +75,6 @@ fn human(alloc: Global, is_colored: bool, origin: Origin<'_>) -> Result<String, 
         ≡ spec.human_note is_colored origin.entry) }
 {
     let head = head(alloc, is_colored, Level::Warned, CODE, SENTENCE)?;
-    let place = place(alloc, is_colored, origin, 1)?;
-    format!(in alloc; "{head}{place}\n")
+    let position = position(alloc, is_colored, origin, 1)?;
+    format!(in alloc; "{head}{position}\n")
 }

@@ -5,7 +5,7 @@ ghost use Rattle.std.specs.Prelude.{◌≡◌, length, max, if◌then◌else◌,
 use timefd_drawing::Style;
 use timefd_keys::Key;
 use timefd_lint_options::Settings;
-use timefd_lint_sources::Telling;
+use timefd_lint_sources::Reporting;
 use timefd_parse::Language;
 use timefd_warnings::Levels;
 
@@ -14,22 +14,22 @@ use timefd_warnings::Levels;
 pub struct Options<'a> {
     /// The language of the texts.
     pub language: Language,
-    /// What is told of each, and how.
-    pub telling: Telling,
-    /// What lines begin with that are passed over.
+    /// What is reported about each text, and how.
+    pub reporting: Reporting,
+    /// Lines that begin with this are passed over.
     pub comment: Option<&'a str>,
-    /// Whether a file is one text.
+    /// Whether a whole file is one text.
     pub is_whole: bool,
-    /// Whether a file is a source of Rust, whatever its name.
+    /// Whether files are read as sources of Rust, whatever their names.
     pub is_source: bool,
-    /// The keys whose strings are looked at in files with keys.
+    /// The keys whose strings are checked in TOML, JSON and YAML.
     pub keys: &'a [Key<'a>],
-    /// The names of the files: none, where the standard input is read.
+    /// The names of the files. If there are none, the standard input is read.
     pub files: &'a [&'a str],
 }
 
 impl Options<'_> {
-    /// How many files are looked at: the standard input alone, where none is named.
+    /// How many files are checked. Without names it is one: the standard input.
     pub fn file_count(self) -> usize
         ensures { result ≡ max (length self.entry.files.now) 1 }
     {
@@ -37,7 +37,7 @@ impl Options<'_> {
     }
 }
 
-/// What a run does by its settings and keys, over these files.
+/// The options of a run, by its settings, its keys and its files.
 pub fn run_options<'a>(
     settings: Settings<'a>,
     is_colored: bool,
@@ -45,26 +45,26 @@ pub fn run_options<'a>(
     files: &'a [&'a str],
 ) -> Options<'a>
     ensures language { result.language ≡ settings.entry.language }
-    ensures format { result.telling.style.format ≡ settings.entry.format }
-    ensures color { result.telling.style.is_colored ≡ is_colored }
+    ensures format { result.reporting.style.format ≡ settings.entry.format }
+    ensures color { result.reporting.style.is_colored ≡ is_colored }
     ensures comment { result.comment ≡ settings.entry.comment }
     ensures whole { result.is_whole ≡ settings.entry.is_whole }
     ensures source { result.is_source ≡ settings.entry.is_source }
-    ensures explains { result.telling.explains ≡ settings.entry.explains }
-    ensures levels { result.telling.levels ≡ (if settings.entry.warns then Some settings.entry.levels
+    ensures explains { result.reporting.explains ≡ settings.entry.explains }
+    ensures levels { result.reporting.levels ≡ (if settings.entry.warns then Some settings.entry.levels
         else None) }
     ensures keys { result.keys.now ≡ keys.now }
     ensures files { result.files.now ≡ files.now }
 {
     Options {
         language: settings.language,
-        telling: Telling {
+        reporting: Reporting {
             style: Style {
                 format: settings.format,
                 is_colored,
             },
             explains: settings.explains,
-            levels: told_levels(settings),
+            levels: reported_levels(settings),
         },
         comment: settings.comment,
         is_whole: settings.is_whole,
@@ -74,8 +74,8 @@ pub fn run_options<'a>(
     }
 }
 
-/// What is made of each warning, if they are told.
-pub fn told_levels(settings: Settings<'_>) -> Option<Levels>
+/// The level of each warning, if warnings are reported.
+pub fn reported_levels(settings: Settings<'_>) -> Option<Levels>
     ensures { result ≡ (if settings.entry.warns then Some settings.entry.levels else None) }
 {
     if settings.warns {

@@ -8,14 +8,14 @@ use crate::error_page::{explanation, summary};
 use std::alloc::{AllocError, Global};
 use timefd_warnings::Warning;
 
-/// What has a page.
+/// What a page explains.
 #[derive(Clone, Copy)]
 pub enum Subject {
     Error(ErrorCode),
     Warning(Warning),
 }
 
-/// The error or the warning of a name.
+/// The error or warning with this name.
 fn subject_named(name: &str) -> Option<Subject>
     ensures { result ≡ spec.subject_named name.now }
 {
@@ -28,7 +28,7 @@ fn subject_named(name: &str) -> Option<Subject>
     }
 }
 
-/// What is to be explained, if these words are `--explain` and its code.
+/// What to explain, if the words are `--explain` and a code.
 pub fn explained_in(words: &[&str]) -> Option<Subject>
     ensures { result ≡ spec.explained_in words.now }
 {
@@ -41,7 +41,8 @@ pub fn explained_in(words: &[&str]) -> Option<Subject>
     }
 }
 
-/// What it is named for and says, what it means, and what to write instead. An `Err` says that memory ran out.
+/// The page: the name and a sentence, what it means, and what to write instead. An `Err` says that memory ran
+/// out.
 pub fn page_on(alloc: Global, subject: Subject) -> Result<String, AllocError> {
     let (name, sentence, explanation) = match subject {
         Subject::Error(code) => (code.name(), summary(code), explanation(code)),

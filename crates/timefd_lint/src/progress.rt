@@ -1,4 +1,4 @@
-//! How far a run over many files is, told at a terminal.
+//! The progress of a run over many files, shown at a terminal.
 
 ghost use Rattle.std.specs.Prelude.{⊤};
 
@@ -10,18 +10,18 @@ use std::io::{BufReader, IsTerminal};
 use std::rt::Files;
 use std::time::{Duration, Instant};
 
-/// After how many milliseconds a run is told of.
+/// The first line of progress comes after this many milliseconds.
 const FIRST: u64 = 1000;
 
-/// How many each line of progress stands at least.
+/// A line of progress stays for at least this many milliseconds.
 const BETWEEN: u64 = 100;
 
-/// What takes a line of progress away: the start of the line, and all behind it cleared.
+/// Removes the line of progress: back to the start of the line, then clears what follows.
 const CLEAR: &str = "\r\x1b[K";
 
-/// The files of the system, of which a run that takes more than a second tells how many it opened. It tells
-/// so on the standard error, where that is a terminal and the standard output, which has lines of its
-/// own, is none.
+/// The files of the system, with a line of progress: a run that takes more than a second shows how many files
+/// it has opened. The line is shown only if the standard error is a terminal and the standard output, which
+/// has lines of its own, isn't one.
 #[derive(Drop)]
 pub struct Watched<'a> {
     rt: &'a HostRuntime,
@@ -29,42 +29,42 @@ pub struct Watched<'a> {
     file_count: usize,
     opened: Cell<usize>,
     next: Cell<Option<Instant>>,
-    has_told: Cell<bool>,
+    has_reported: Cell<bool>,
 }
 
 impl<'a> Watched<'a> {
-    /// A run over so many files, which begins now.
+    /// A run over `file_count` files that begins at this call.
     pub fn new(rt: &'a HostRuntime, file_count: usize) -> Watched<'a> {
         Watched {
             rt,
             shows: rt.stderr().is_terminal() && !rt.stdout().is_terminal(),
             file_count,
             opened: Cell::new(0),
-            next: Cell::new(behind_now(rt, FIRST)),
-            has_told: Cell::new(false),
+            next: Cell::new(after_now(rt, FIRST)),
+            has_reported: Cell::new(false),
         }
     }
 
-    /// Takes the line of progress away, if one stands there.
+    /// Removes the line of progress, if one is shown.
     pub fn end(&self) {
-        if self.has_told.get() {
+        if self.has_reported.get() {
             let _ = eprint!(self.rt; "{CLEAR}");
         }
     }
 
-    // Counts a file that is to be opened, and tells of it where it is time to.
+    // Counts a file that is about to be opened, and shows the progress if that is due.
     fn pass(&self) {
         let opened = self.opened.get().saturating_add(1);
         self.opened.set(opened);
         if self.shows && self.is_time() {
             let file_count = self.file_count;
             let _ = eprint!(self.rt; "{CLEAR}{opened} of {file_count} files");
-            self.has_told.set(true);
-            self.next.set(behind_now(self.rt, BETWEEN));
+            self.has_reported.set(true);
+            self.next.set(after_now(self.rt, BETWEEN));
         }
     }
 
-    // Whether the next line of progress is due. Without a clock none is.
+    // Whether the next line of progress is due. Without a clock it never is.
     fn is_time(&self) -> bool {
         match (self.next.get(), Instant::now(self.rt)) {
             (Some(next), Ok(now)) => next <= now,
@@ -73,8 +73,8 @@ impl<'a> Watched<'a> {
     }
 }
 
-// So many milliseconds from now. `None` without a clock.
-fn behind_now(rt: &HostRuntime, milliseconds: u64) -> Option<Instant> {
+// The time in this many milliseconds. `None` without a clock.
+fn after_now(rt: &HostRuntime, milliseconds: u64) -> Option<Instant> {
     let now = Instant::now(rt).ok()?;
     now.checked_add(Duration::from_millis(milliseconds))
 }

@@ -1,5 +1,5 @@
-//! The named files in a later version of the language, in the normal form of version 3, or mended: shown
-//! as changes, or written back.
+//! Rewrites the named files: to a later version of the language, to the normal form of version 3, or mended.
+//! The result is shown as changes or written back.
 
 use crate::fix::{FixError, Original};
 use crate::found::{Found, Unit, looked_at, source_looked_at};
@@ -22,17 +22,17 @@ use timefd_rewrite_sources::Change;
 /// How files are rewritten.
 #[derive(Clone, Copy)]
 pub struct Rewriting {
-    /// How lines are laid out; none where no conversion leads from their language.
+    /// How lines are laid out. `None` if no conversion exists from their language.
     pub lines: Option<Layout>,
-    /// What is made of the descriptions of sources.
+    /// What happens to the descriptions of sources.
     pub sources: Change,
-    /// Whether they are written back, and not shown as changes.
+    /// Whether the files are written back, instead of shown as changes.
     pub writes: bool,
-    /// Whether a file is also rewritten where some of its lines or descriptions are refused.
+    /// Whether a file is rewritten even if some of its lines or descriptions are refused.
     pub is_partial: bool,
 }
 
-// What may be written against faults.
+// Which fixes may be made.
 fn fixes_of(settings: Settings<'_>) -> Fixes {
     if settings.is_unsafe {
         Fixes::All
@@ -41,7 +41,7 @@ fn fixes_of(settings: Settings<'_>) -> Fixes {
     }
 }
 
-// How lines are laid out in a version.
+// How lines are laid out in a version. `None` if no conversion leads to it.
 fn layout_in(settings: Settings<'_>, version: DescriptionVersion) -> Option<Layout> {
     let conversion = conversion_between(settings.language, Language::Version(version))?;
     if settings.is_normal {
@@ -51,7 +51,7 @@ fn layout_in(settings: Settings<'_>, version: DescriptionVersion) -> Option<Layo
     }
 }
 
-// How lines are laid out, and what is made of sources.
+// How lines are laid out, and what happens to sources. `None` if files aren't rewritten.
 fn changes_of(settings: Settings<'_>) -> Option<(Option<Layout>, Change)> {
     if settings.fixes {
         let fixes = fixes_of(settings);
@@ -67,7 +67,7 @@ fn changes_of(settings: Settings<'_>) -> Option<(Option<Layout>, Change)> {
     Some((layout_in(settings, version), change))
 }
 
-/// How files are rewritten, where they are.
+/// How files are rewritten. `None` if they aren't.
 pub fn rewriting_of(settings: Settings<'_>) -> Option<Rewriting> {
     let (lines, sources) = changes_of(settings)?;
     Some(Rewriting {
@@ -78,9 +78,9 @@ pub fn rewriting_of(settings: Settings<'_>) -> Option<Rewriting> {
     })
 }
 
-/// Looks at the lines of each file in turn, or at the descriptions of a source, and shows what changes
-/// in it or writes it back. One that several names stand for is taken once. A file that can't be read
-/// or not be written back is noted, and the others are still looked at.
+/// Checks each file in order, its lines or the descriptions of a source, and shows what changes in it or
+/// writes it back. A file with several names is taken once. A file that can't be read or written back is
+/// noted, and the others are still checked.
 pub fn rewrite_files<R: Files + Eprint, W: Write>(
     rt: &R,
     alloc: Global,
@@ -98,7 +98,7 @@ pub fn rewrite_files<R: Files + Eprint, W: Write>(
             meet(&mut met, identity)?;
         }
         tally = tally.and(rewrite_file(rt, alloc, options, rewriting, name, writer)?);
-        // What is written back is another file of the same name.
+        // Writing back creates another file with the same name.
         if let Some(identity) = identity_of(rt, name) {
             meet(&mut met, identity)?;
         }
@@ -106,7 +106,7 @@ pub fn rewrite_files<R: Files + Eprint, W: Write>(
     Ok(tally)
 }
 
-// Looks at a file, and shows what changes in it or writes it back.
+// Checks a file, and shows what changes in it or writes it back.
 fn rewrite_file<R: Files + Eprint, W: Write>(
     rt: &R,
     alloc: Global,
@@ -122,7 +122,7 @@ fn rewrite_file<R: Files + Eprint, W: Write>(
     let found = if is_source(options, name) {
         source_looked_at(alloc, options, rewriting.sources, name, &old.bytes, writer)?
     } else {
-        // Files of lines are refused before where no conversion leads from their language.
+        // Files of lines were refused earlier if no conversion exists from their language.
         let Some(layout) = rewriting.lines else {
             return Ok(Tally::new());
         };
@@ -135,7 +135,7 @@ fn rewrite_file<R: Files + Eprint, W: Write>(
     }
 }
 
-// Tells which descriptions want changing by hand.
+// Reports which descriptions have to be changed manually.
 fn by_hand<R: Eprint>(rt: &R, found: &Found) -> Tally {
     let _ = rt.eprint(format_args!("{}", found.by_hand));
     Tally {
@@ -162,7 +162,7 @@ fn noted<W: Write>(
     }
 }
 
-// Shows what changes in a file, or writes it back; neither where nothing changes.
+// Shows what changes in a file, or writes it back. Does nothing if nothing changes.
 fn shown_or_written<R: Files + Eprint, W: Write>(
     rt: &R,
     alloc: Global,
@@ -177,12 +177,12 @@ fn shown_or_written<R: Files + Eprint, W: Write>(
     }
     let file = safe(alloc, name)?;
     if found.counts.refused > 0 && !rewriting.is_partial {
-        tell_refused(rt, rewriting.writes, &file, found);
+        report_refused(rt, rewriting.writes, &file, found);
         return Ok(());
     }
     if rewriting.writes {
         old.replace(rt, alloc, name, &found.bytes)?;
-        tell_rewritten(rt, &file, found);
+        report_rewritten(rt, &file, found);
         return Ok(());
     }
     match write_diff(alloc, &file, &old.bytes, &found.bytes, writer) {
@@ -201,8 +201,8 @@ fn noun(unit: Unit, count: u64) -> &'static str {
     }
 }
 
-// Says why a file some of whose lines or descriptions are refused is left out.
-fn tell_refused<R: Eprint>(rt: &R, writes: bool, file: &str, found: &Found) {
+// Reports that a file is left out because some of its lines or descriptions are refused.
+fn report_refused<R: Eprint>(rt: &R, writes: bool, file: &str, found: &Found) {
     let Counts { lines, refused, .. } = found.counts;
     let noun = noun(found.unit, lines);
     let are = if refused == 1 { "is" } else { "are" };
@@ -216,8 +216,8 @@ fn tell_refused<R: Eprint>(rt: &R, writes: bool, file: &str, found: &Found) {
     ));
 }
 
-// Says that a file is written back.
-fn tell_rewritten<R: Eprint>(rt: &R, file: &str, found: &Found) {
+// Reports that a file was written back.
+fn report_rewritten<R: Eprint>(rt: &R, file: &str, found: &Found) {
     let Counts {
         lines,
         rewritten,

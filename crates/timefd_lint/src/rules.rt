@@ -17,16 +17,16 @@ use timefd_warnings::Warning;
 #[derive(Clone, Copy)]
 struct Rule<'a> {
     name: &'a str,
-    /// How bad a result of it is: `error` or `warning`.
+    /// How bad a result with this code is: `error` or `warning`.
     level: &'a str,
-    /// What it is, in a few words.
+    /// What the code is, in a few words.
     summary: &'a str,
-    /// What it means, with an example, and what to write instead.
+    /// What the code means, with an example, and what to write instead.
     explanation: &'a str,
 }
 
-/// Appends all rules, each behind a comma: those of faults, of other errors, and of warnings. An `Err`
-/// says that memory ran out.
+/// Appends all rules: those of faults, of other errors, and of warnings. A comma precedes each. An `Err` says
+/// that memory ran out.
 pub fn push_rules(out: &mut Vec<u8>) -> Result<(), AllocError>
     ensures { OnOk result (Adds AreRules out.old.items out.new.items) }
 {
@@ -96,7 +96,7 @@ fn push_warning(out: &mut Vec<u8>, warning: Warning) -> Result<(), AllocError>
     push_rule(out, rule)
 }
 
-// Appends a rule behind a comma.
+// Appends a comma and a rule.
 fn push_rule(out: &mut Vec<u8>, rule: Rule<'_>) -> Result<(), AllocError>
     ensures { OnOk result (out.new.items ≡ out.old.items ++ spec.rule rule.entry.name.now
         rule.entry.level.now rule.entry.summary.now rule.entry.explanation.now) }
@@ -121,7 +121,7 @@ fn push_words(out: &mut Vec<u8>, summary: &str, explanation: &str) -> Result<(),
     out.extend_from_slice(b"}}\n")
 }
 
-// Appends what stands in front of a text, and the text in quotes.
+// Appends `front`, and then the text in quotes.
 fn push_field(out: &mut Vec<u8>, front: &str, text: &str) -> Result<(), AllocError>
     ensures { OnOk result (out.new.items ≡ out.old.items ++ (front.now ++ quoted text.now)) }
 {

@@ -4,7 +4,7 @@ ghost use Rattle.std.specs.Prelude.{◌≡◌, ◌≢◌, [], IfOk};
 ghost use Rattle.timefd_lint.specs.Files.{IsNoted, IsRunIn, IsRunOfFile, IsRunOfName, IsRunOfNames, input_name};
 ghost use Rattle.timefd_lint.specs.Sources.{IsRunWith, any_source};
 ghost use Rattle.timefd_lint.specs.Sources as sources;
-ghost use Rattle.timefd_lint.specs.Told.{IsRun, tally_of};
+ghost use Rattle.timefd_lint.specs.Reported.{IsRun, tally_of};
 
 use crate::failure::OpenError;
 use crate::line::RunError;
@@ -17,12 +17,12 @@ use std::alloc::Global;
 use std::io::{BufRead, Write};
 use timefd_lint_options::is_input;
 
-/// What the standard input is shown as.
+/// The name that reports use for the standard input.
 const INPUT: &str = "<stdin>";
 
-/// Looks at each file, or at the input where there is none, in order, and writes what is wrong. A
-/// file that can't be read is noted, and the others are still looked at. The name `-` is that of the
-/// input, of which a second one finds what the first one left: nothing.
+/// Checks each file in order, or the standard input if no file is named, and writes what is wrong. A file
+/// that can't be read is noted, and the others are still checked. The name `-` means the standard input. A
+/// second `-` finds it already read to its end.
 #[tactic(auto, using(crate::proofs::FilesLemmas::input_alone))]
 pub fn run<S: Source, I: BufRead, W: Write>(
     source: &S,
@@ -31,16 +31,17 @@ pub fn run<S: Source, I: BufRead, W: Write>(
     input: &mut I,
     writer: &mut W,
 ) -> Result<Tally, RunError>
-    ensures told { IfOk result (IsRunWith (any_source options.entry options.entry.files.now)
+    ensures reported { IfOk result (IsRunWith (any_source options.entry options.entry.files.now)
         options.entry.is_whole options.entry.language options.entry.comment
-        options.entry.telling (W.contents writer.old) (W.contents writer.new)) }
+        options.entry.reporting (W.contents writer.old) (W.contents writer.new)) }
 
-    // Where no file is named, what is told is all that the input has.
+    // If no file is named, the report is about all that the input has.
     ensures input { options.entry.files.now ≡ [] → IfOk result (IsRunIn options.entry input_name
         (I.remaining input.old) (I.remaining input.new)
         (W.contents writer.old) (W.contents writer.new)) }
 
-    // Where some are, each is told of in turn: what it had when it was opened, or why it wasn't.
+    // If some are named, the report covers each of them in order: what it had when it was opened, or why it
+    // wasn't opened.
     ensures files { options.entry.files.now ≢ [] → IfOk result (IsRunOfNames
         (S.opens source.now) (S.fails source.now) options.entry options.entry.files.now
         (tally_of []) (I.remaining input.old) (I.remaining input.new)
@@ -53,7 +54,7 @@ pub fn run<S: Source, I: BufRead, W: Write>(
     }
 }
 
-// Looks at each file that is named, in order.
+// Checks each named file, in order.
 #[tactic(auto, using(crate::proofs::FilesLemmas::no_name, crate::proofs::FilesLemmas::one_name, crate::proofs::FilesLemmas::all_names, crate::proofs::FilesLemmas::run_of_all))]
 fn lint_files<S: Source, I: BufRead, W: Write>(
     source: &S,
@@ -62,9 +63,9 @@ fn lint_files<S: Source, I: BufRead, W: Write>(
     input: &mut I,
     writer: &mut W,
 ) -> Result<Tally, RunError>
-    ensures told { IfOk result (IsRunWith (any_source options.entry options.entry.files.now)
+    ensures reported { IfOk result (IsRunWith (any_source options.entry options.entry.files.now)
         options.entry.is_whole options.entry.language options.entry.comment
-        options.entry.telling (W.contents writer.old) (W.contents writer.new)) }
+        options.entry.reporting (W.contents writer.old) (W.contents writer.new)) }
     ensures files { IfOk result (IsRunOfNames (S.opens source.now) (S.fails source.now)
         options.entry options.entry.files.now (tally_of [])
         (I.remaining input.old) (I.remaining input.new)
@@ -72,14 +73,14 @@ fn lint_files<S: Source, I: BufRead, W: Write>(
 {
     let mut tally = Tally::new();
     let mut rest = options.files;
-    'names: while let [name, behind @ ..] = rest {
+    'names: while let [name, after @ ..] = rest {
         tally = tally.and(lint_named(source, alloc, options, name, input, writer)?);
-        rest = behind;
+        rest = after;
     }
     Ok(tally)
 }
 
-/// Looks at all texts of a file, or of the input: all that is left of it.
+/// Checks all texts of a file, or all that is left of the input.
 #[tactic(auto, using(crate::proofs::FilesLemmas::input_named))]
 pub fn lint_named<S: Source, I: BufRead, W: Write>(
     source: &S,
@@ -89,9 +90,9 @@ pub fn lint_named<S: Source, I: BufRead, W: Write>(
     input: &mut I,
     writer: &mut W,
 ) -> Result<Tally, RunError>
-    ensures told { IfOk result (IsRunWith (sources.is_source options.entry name.now)
+    ensures reported { IfOk result (IsRunWith (sources.is_source options.entry name.now)
         options.entry.is_whole options.entry.language options.entry.comment
-        options.entry.telling (W.contents writer.old) (W.contents writer.new)) }
+        options.entry.reporting (W.contents writer.old) (W.contents writer.new)) }
     ensures named { IfOk result (IsRunOfName (S.opens source.now) (S.fails source.now)
         options.entry name.entry (I.remaining input.old) (I.remaining input.new)
         (W.contents writer.old) (W.contents writer.new)) }
@@ -103,7 +104,7 @@ pub fn lint_named<S: Source, I: BufRead, W: Write>(
     }
 }
 
-// Looks at all texts of a file.
+// Checks all texts of a file.
 #[tactic(auto, using(crate::proofs::FilesLemmas::opened, crate::proofs::FilesLemmas::unopened, crate::proofs::SourcesLemmas::with_texts))]
 fn lint_file<S: Source, W: Write>(
     source: &S,
@@ -112,9 +113,9 @@ fn lint_file<S: Source, W: Write>(
     name: &str,
     writer: &mut W,
 ) -> Result<Tally, RunError>
-    ensures told { IfOk result (IsRunWith (sources.is_source options.entry name.now)
+    ensures reported { IfOk result (IsRunWith (sources.is_source options.entry name.now)
         options.entry.is_whole options.entry.language options.entry.comment
-        options.entry.telling (W.contents writer.old) (W.contents writer.new)) }
+        options.entry.reporting (W.contents writer.old) (W.contents writer.new)) }
     ensures file { IfOk result (IsRunOfFile (S.opens source.now name.now)
         (S.fails source.now name.now) options.entry name.entry
         (W.contents writer.old) (W.contents writer.new)) }
@@ -133,8 +134,8 @@ fn note_unopened<W: Write>(
     error: OpenError,
     writer: &mut W,
 ) -> Result<Tally, RunError>
-    ensures told { IfOk result (IsRun options.entry.is_whole options.entry.language
-        options.entry.comment options.entry.telling (W.contents writer.old)
+    ensures reported { IfOk result (IsRun options.entry.is_whole options.entry.language
+        options.entry.comment options.entry.reporting (W.contents writer.old)
         (W.contents writer.new)) }
     ensures noted { IfOk result (IsNoted options.entry name.entry error
         (W.contents writer.old) (W.contents writer.new)) }
@@ -148,7 +149,7 @@ fn note_unopened<W: Write>(
     }
 }
 
-// Looks at all texts of a reader.
+// Checks all texts of a reader.
 #[tactic(auto, using(crate::proofs::FilesLemmas::in_source, crate::proofs::FilesLemmas::in_whole, crate::proofs::FilesLemmas::in_lines, crate::proofs::SourcesLemmas::with_source, crate::proofs::SourcesLemmas::with_whole, crate::proofs::SourcesLemmas::with_lines))]
 fn lint_reader<R: BufRead, W: Write>(
     alloc: Global,
@@ -157,9 +158,9 @@ fn lint_reader<R: BufRead, W: Write>(
     reader: &mut R,
     writer: &mut W,
 ) -> Result<Tally, RunError>
-    ensures told { IfOk result (IsRunWith (sources.is_source options.entry name.now)
+    ensures reported { IfOk result (IsRunWith (sources.is_source options.entry name.now)
         options.entry.is_whole options.entry.language options.entry.comment
-        options.entry.telling (W.contents writer.old) (W.contents writer.new)) }
+        options.entry.reporting (W.contents writer.old) (W.contents writer.new)) }
     ensures all { IfOk result (IsRunIn options.entry name.now (R.remaining reader.old)
         (R.remaining reader.new) (W.contents writer.old) (W.contents writer.new)) }
 {

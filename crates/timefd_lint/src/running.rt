@@ -11,7 +11,7 @@ use crate::tally::Tally;
 use std::io::{BufReader, Write};
 use timefd_lint_options::{Settings, is_log};
 
-/// Looks at the files, or rewrites them, and writes what is told in the form that is asked for.
+/// Checks the files or rewrites them, and writes the report in the chosen format.
 pub fn run_in_form<W: Write>(
     rt: &HostRuntime,
     settings: Settings<'_>,
@@ -25,7 +25,7 @@ pub fn run_in_form<W: Write>(
     }
 }
 
-// A run whose results stand in a log.
+// A run whose results are collected in a log.
 fn run_logged<W: Write>(
     rt: &HostRuntime,
     settings: Settings<'_>,
@@ -38,7 +38,7 @@ fn run_logged<W: Write>(
             write_log(rt.alloc(), &results, writer)?;
             Ok(tally)
         }
-        // What is written stands in memory.
+        // The writer is in memory, so only memory can run out.
         Err(_) => Err(RunError::Memory),
     }
 }

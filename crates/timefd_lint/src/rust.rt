@@ -1,4 +1,4 @@
-//! A source of Rust, or a file with keys.
+//! Sources of Rust, and files with keys.
 
 ghost use Rattle.std.specs.Prelude.{◌≡◌, IfOk};
 ghost use Rattle.timefd_lint.specs.Sources.{IsNotText, IsReported, IsRunOfSource, IsSaid};
@@ -15,21 +15,21 @@ use timefd_drawing::{Origin, note};
 use timefd_keys::format_named;
 use timefd_lint_sources::{End, Finder, Source};
 
-/// Whether the file of a name is read as a source of Rust.
+/// Whether a file with this name is read as a source of Rust.
 fn is_rust(options: Options<'_>, name: &str) -> bool
     ensures { result ≡ spec.is_rust options.entry name.now }
 {
     options.is_source || name.as_bytes().ends_with(b".rs")
 }
 
-/// Whether it is one with keys, where keys are looked for.
+/// Whether a file with this name is read for keys.
 fn has_keys(options: Options<'_>, name: &str) -> bool
     ensures { result ≡ spec.has_keys options.entry name.now }
 {
     format_named(name).is_some() && !options.keys.is_empty()
 }
 
-/// Whether the file of a name is read as a source: of Rust, or with keys.
+/// Whether a file with this name is read as a source: of Rust, or with keys.
 pub fn is_source(options: Options<'_>, name: &str) -> bool
     ensures { result ≡ spec.is_source options.entry name.now }
 {
@@ -41,7 +41,7 @@ pub fn are_sources(options: Options<'_>) -> bool {
     options.files.iter().all(|name| is_source(options, name))
 }
 
-/// How the descriptions in the file of a name are found, which is read as a source.
+/// How the descriptions are found in a file with this name that is read as a source.
 fn finder_of<'a>(options: Options<'a>, name: &str) -> Finder<'a>
     ensures { result ≡ spec.finder_of options.entry name.now }
 {
@@ -54,7 +54,7 @@ fn finder_of<'a>(options: Options<'a>, name: &str) -> Finder<'a>
     }
 }
 
-/// Looks at all bytes of a reader as a source, and writes what is wrong in it.
+/// Checks all bytes of a reader as a source, and writes what is wrong in it.
 #[tactic(auto, using(crate::proofs::SourcesLemmas::source_read, crate::proofs::SourcesLemmas::source_unread))]
 pub fn lint_source<R: Read, W: Write>(
     alloc: Global,
@@ -63,7 +63,7 @@ pub fn lint_source<R: Read, W: Write>(
     reader: &mut R,
     writer: &mut W,
 ) -> Result<Tally, RunError>
-    ensures { IfOk result (IsRunOfSource (spec.finder_of options.entry name.now) options.entry.telling name.now
+    ensures { IfOk result (IsRunOfSource (spec.finder_of options.entry name.now) options.entry.reporting name.now
         (R.remaining reader.old) (R.remaining reader.new)
         (W.contents writer.old) (W.contents writer.new)) }
 {
@@ -77,7 +77,7 @@ pub fn lint_source<R: Read, W: Write>(
     }
 }
 
-// Looks at a source, and writes what is wrong in it.
+// Checks a source, and writes what is wrong in it.
 #[tactic(auto, using(crate::proofs::SourcesLemmas::said_of_text, crate::proofs::SourcesLemmas::said_of_no_text))]
 fn lint_bytes<W: Write>(
     alloc: Global,
@@ -86,7 +86,7 @@ fn lint_bytes<W: Write>(
     bytes: &[u8],
     writer: &mut W,
 ) -> Result<Tally, RunError>
-    ensures { IfOk result (IsSaid (spec.finder_of options.entry name.now) options.entry.telling name.now bytes.now
+    ensures { IfOk result (IsSaid (spec.finder_of options.entry name.now) options.entry.reporting name.now bytes.now
         (W.contents writer.old) (W.contents writer.new)) }
 {
     match str::from_utf8(bytes) {
@@ -102,30 +102,30 @@ fn lint_bytes<W: Write>(
     }
 }
 
-// Looks at a source that is UTF-8.
-#[tactic(auto, using(crate::proofs::SourcesLemmas::reported))]
+// Checks a source that is UTF-8.
+#[tactic(auto, using(crate::proofs::SourcesLemmas::reported_source))]
 fn lint_text<W: Write>(
     alloc: Global,
     options: Options<'_>,
     source: Source<'_>,
     writer: &mut W,
 ) -> Result<Tally, RunError>
-    ensures { IfOk result (IsReported source.entry.finder options.entry.telling source.entry.file.now
+    ensures { IfOk result (IsReported source.entry.finder options.entry.reporting source.entry.file.now
         source.entry.text.now (W.contents writer.old) (W.contents writer.new)) }
 {
-    let report = timefd_lint_sources::lint_source(alloc, options.telling, source)?;
+    let report = timefd_lint_sources::lint_source(alloc, options.reporting, source)?;
     write(writer, &report.message)?;
     Ok(tally_of(&report.ends))
 }
 
-// Notes that a source is no UTF-8.
+// Notes that a source isn't UTF-8.
 fn not_text<W: Write>(
     alloc: Global,
     options: Options<'_>,
     name: &str,
     writer: &mut W,
 ) -> Result<Tally, RunError>
-    ensures { IfOk result (IsNotText options.entry.telling name.now
+    ensures { IfOk result (IsNotText options.entry.reporting name.now
         (W.contents writer.old) (W.contents writer.new)) }
 {
     let origin = Origin {
@@ -134,10 +134,10 @@ fn not_text<W: Write>(
     };
     let message = note(
         alloc,
-        options.telling.style,
+        options.reporting.style,
         origin,
         "not-text",
-        "the bytes are no UTF-8",
+        "the bytes aren't UTF-8",
     )?;
     write(writer, &message)?;
     Ok(Tally::of(TextEnd::NotText))
@@ -155,7 +155,7 @@ fn tally_of(ends: &[End]) -> Tally
     tally
 }
 
-// What came of a description of a source, as of one in a line.
+// How the check of a description in a source ended, in the terms of one in a line.
 fn text_end(end: End) -> TextEnd
     ensures { result ≡ spec.text_end end }
 {

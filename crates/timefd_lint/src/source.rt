@@ -1,4 +1,4 @@
-//! Where a run has its files from.
+//! Where a run gets its files from.
 
 ghost use Rattle.std.specs.Prelude.{Option, IfOk, IfErr, ⊤};
 ghost use Rattle.timefd_component.specs.Tree.{Text};
@@ -13,25 +13,25 @@ use std::rt::Files;
 /// How many bytes are read at once.
 pub const BUFFER: usize = 65_536;
 
-/// What opens files by their names.
+/// Opens files by their names.
 pub trait Source {
-    /// A file that is opened.
+    /// An opened file.
     type Opened: BufRead + Drop;
 
-    // That these may be the bytes of the file of a name, as far as they are known.
+    // These may be the bytes of the file with this name, as far as they are known.
     ghost opens: { Self → Text → Option Text → Type 0 };
 
-    // That the file of a name may not be opened, for this reason.
+    // Opening the file with this name may fail for this reason.
     ghost fails: { Self → Text → OpenError → Type 0 };
 
-    /// Opens the file of a name.
+    /// Opens the file with this name. An `Err` says why it isn't opened.
     fn open(&self, alloc: Global, name: &str) -> Result<Self::Opened, OpenError>
         ensures opened { IfOk result (λ file.
             opens self.now name.now (Self.Opened.remaining file)) }
         ensures unopened { IfErr result (fails self.now name.now) };
 }
 
-// The files of the system. What they hold isn't known.
+// The files of the system. Nothing is known about what they hold.
 impl<R: Files> Source for R {
     type Opened = BufReader<R::File>;
 

@@ -1,4 +1,4 @@
-//! A file as the system knows it: whether it may be replaced, and whether it is still the same.
+//! A file as the system knows it: whether it may be replaced, and whether it has changed.
 
 ghost use Rattle.std.specs.Prelude.{◌≡◌, ◌↔◌, IsTrue, bit_and};
 ghost use Rattle.std.specs.Fs.{IsFile, file_type, metadata_len, metadata_mode};
@@ -6,22 +6,22 @@ ghost use Rattle.std.specs.Fs.{IsFile, file_type, metadata_len, metadata_mode};
 use std::fs::Metadata;
 use std::os::unix::fs::MetadataExt;
 
-// The bits of a mode that say setuid, setgid and sticky.
+// The bits of a mode for setuid, setgid and sticky.
 const SPECIAL: u32 = 0o7000;
 
-/// A file as it was at a time.
+/// A file at one point in time.
 #[derive(Clone, Copy)]
 pub struct Stamp {
     pub device: u64,
     pub inode: u64,
     pub size: u64,
-    /// When it changed last, its names and its mode included: seconds, and nanoseconds.
+    /// When it last changed, its names and its mode included: seconds, and nanoseconds.
     pub changed: i64,
     pub changed_nanoseconds: i64,
 }
 
 impl Stamp {
-    /// That of a file.
+    /// The stamp of a file with this metadata.
     pub fn of(metadata: &Metadata) -> Stamp
         ensures { result.size ≡ metadata_len metadata.now }
     {
@@ -34,7 +34,7 @@ impl Stamp {
         }
     }
 
-    /// Whether nothing has changed since.
+    /// Whether nothing has changed between the two.
     pub fn is(self, other: Stamp) -> bool
         ensures { IsTrue result ↔ self ≡ other }
     {
@@ -46,7 +46,7 @@ impl Stamp {
     }
 }
 
-/// Whether a file may be replaced by another: a regular one, and none with setuid, setgid or sticky.
+/// Whether a file may be replaced by another: it is regular, without setuid, setgid and sticky.
 pub fn may_be_replaced(metadata: &Metadata) -> bool
     ensures { IsTrue result ↔ (IsFile (file_type metadata.now)
         × (bit_and (metadata_mode metadata.now) 0o7000 ≡ 0)) }

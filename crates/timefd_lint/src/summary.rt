@@ -1,4 +1,4 @@
-//! The line that tells how much was looked at.
+//! The line that says how much was checked.
 
 ghost use Rattle.std.specs.Prelude.{◌≡◌, IfOk, string_bytes};
 ghost use Rattle.timefd_lint.specs.Summaries as spec;
@@ -6,9 +6,9 @@ ghost use Rattle.timefd_lint.specs.Summaries as spec;
 use crate::tally::Tally;
 use std::alloc::{AllocError, Global};
 
-/// How many descriptions were looked at, how many of them were refused, how many warnings were told
-/// if they are, how many files there were, and how many calls weren't looked at, as
-/// `8 descriptions, 6 refused, 1 warning, 2 files; 3 calls with a name in place of a text`.
+/// The summary, as `8 descriptions, 6 refused, 1 warning, 2 files; 3 calls with a name in position of a text`.
+/// It counts the checked descriptions, those that were refused, the reported warnings (if warnings are on),
+/// the files, and the calls that weren't checked. An `Err` says that memory ran out.
 pub fn summary(
     alloc: Global,
     warns: bool,

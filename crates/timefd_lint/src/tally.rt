@@ -1,7 +1,7 @@
-//! What a run came to, and the exit status that tells it.
+//! The counts of a run, and the exit status that follows from them.
 
 ghost use Rattle.std.specs.Prelude.{◌≡◌, ◌||◌, nat_lt, if◌then◌else◌, []};
-ghost use Rattle.timefd_lint.specs.Told as spec;
+ghost use Rattle.timefd_lint.specs.Reported as spec;
 
 use crate::line::TextEnd;
 use timefd_warnings::Level;
@@ -9,24 +9,24 @@ use timefd_warnings::Level;
 /// What was found in the texts so far.
 #[derive(Clone, Copy)]
 pub struct Tally {
-    /// How many texts were looked at; those that are passed over are not.
+    /// How many texts were checked. Texts that are passed over don't count.
     pub descriptions: u64,
-    /// How many of them were refused, or have a denied warning.
+    /// How many of them were refused or have a denied warning.
     pub refused: u64,
-    /// How many other warnings were told.
+    /// How many other warnings were reported.
     pub warnings: u64,
-    /// How many calls have a name in place of a text, and none is found for it.
+    /// How many calls have a name instead of a text, and no text is found for it.
     pub unread: u64,
-    /// A line was no UTF-8.
+    /// A line wasn't UTF-8.
     pub not_text: bool,
     /// A file was not read to its end, or not written back.
     pub failed: bool,
-    /// Something is left that wants changing by hand.
+    /// Something is left that has to be changed manually.
     pub is_left: bool,
 }
 
 impl Tally {
-    /// That of no text.
+    /// The tally without any text.
     pub fn new() -> Tally
         ensures { result ≡ spec.tally_of [] }
     {
@@ -41,7 +41,7 @@ impl Tally {
         }
     }
 
-    /// That of one text.
+    /// The tally of one text.
     pub fn of(end: TextEnd) -> Tally
         ensures { result ≡ spec.tally_of_one end }
     {
@@ -56,7 +56,7 @@ impl Tally {
         }
     }
 
-    /// With what was found in other texts.
+    /// The tally of these texts and others.
     pub fn and(self, other: Tally) -> Tally
         ensures { result ≡ spec.both self other }
     {
@@ -71,8 +71,8 @@ impl Tally {
         }
     }
 
-    /// The exit status: 1 where a text was refused or something is left, and all files were read and are
-    /// text.
+    /// The exit status: 4 if a file failed, else 5 if a line wasn't UTF-8, else 1 if a text was refused or
+    /// something is left to change, else 0.
     pub fn status(self) -> u8
         ensures { result ≡ (if self.failed then 4 else if self.not_text then 5
             else if nat_lt 0 self.refused || self.is_left then 1 else 0) }
@@ -89,7 +89,7 @@ impl Tally {
     }
 }
 
-// Whether a text was looked at.
+// Whether a text was checked.
 fn is_description(end: TextEnd) -> bool
     ensures { result ≡ spec.is_description end }
 {
@@ -99,7 +99,7 @@ fn is_description(end: TextEnd) -> bool
     }
 }
 
-// Whether it is a name in place of a text, for which none is found.
+// Whether it is a name instead of a text, and no text is found for it.
 fn is_unread(end: TextEnd) -> bool
     ensures { result ≡ spec.is_unread end }
 {
@@ -124,7 +124,7 @@ fn is_refused(end: TextEnd) -> bool
     }
 }
 
-// How many warnings of it were told, but those that are denied.
+// How many of its warnings were reported, without the denied ones.
 fn warnings_in(end: TextEnd) -> u64
     ensures { result ≡ spec.warnings_in end }
 {

@@ -1,4 +1,4 @@
-//! What the program says of itself, and of arguments that are none of its.
+//! The program's own texts, and sentences about wrong arguments.
 
 use std::alloc::{AllocError, Global};
 use timefd_drawing::shown::safe;
@@ -48,10 +48,10 @@ and those that .gitignore files name, or the list exclude in a file .timefd.toml
   --                           ends the options
 
 The status is 0 where all is accepted, 1 where a text is refused, 2 at wrong arguments, 3 where
-memory ran out, 4 where a file can't be read or written, 5 where a line is no UTF-8.
+memory ran out, 4 where a file can't be read or written, 5 where a line isn't UTF-8.
 ";
 
-/// What is wrong with the arguments, in a sentence.
+/// What is wrong with the arguments, in a sentence. An `Err` says that memory ran out.
 pub fn sentence(alloc: Global, error: OptionError<'_>) -> Result<String, AllocError> {
     match error {
         OptionError::Unknown(word) => unknown_sentence(alloc, word),
@@ -71,17 +71,17 @@ pub fn sentence(alloc: Global, error: OptionError<'_>) -> Result<String, AllocEr
             let fault = key_sentence(fault);
             format!(in alloc; "`{word}` is no value of `--key`: {fault}")
         }
-        OptionError::BehindFile(word) => {
+        OptionError::AfterFile(word) => {
             let word = safe(alloc, word)?;
             format!(in alloc;
-                "`{word}` stands behind a file: options stand before the names of files; `--` ends them"
+                "`{word}` comes after a file: options go before the names of files; `--` ends them"
             )
         }
         OptionError::Conflict(conflict) => String::from_str(alloc, conflict_sentence(conflict)),
     }
 }
 
-// A word that looks like an option and is none, with the option that may have been meant.
+// A word that looks like an option but isn't one, with the option that may have been meant.
 fn unknown_sentence(alloc: Global, word: &str) -> Result<String, AllocError> {
     let shown = safe(alloc, word)?;
     match nearest_option(alloc, word)? {
@@ -132,7 +132,8 @@ fn warning_names(alloc: Global) -> Result<String, AllocError> {
 
 fn key_sentence(fault: KeyFault) -> &'static str {
     match fault {
-        KeyFault::NoEqualsSign => "it wants `=` and a language behind the key, as `time_format=3`",
+        KeyFault::NoEqualsSign =>
+            "it wants `=` and a language after the key, as in `time_format=3`",
         KeyFault::EmptyName => "it wants a key in front of `=`, as `time_format=3`",
         KeyFault::UnknownLanguage => "the language is one of 1, 2, 3, strftime",
     }

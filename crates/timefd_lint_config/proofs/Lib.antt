@@ -1,2 +1,2 @@
 mod ConfigLemmas
-mod LentLemmas
+mod BorrowedLemmas

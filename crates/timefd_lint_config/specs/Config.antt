@@ -26,7 +26,7 @@ pub data Fault : Type 0 where
   NotAList : Fault
   NotAPattern : Fault
 
--- what an error says of the text: nothing, where memory ran out
+-- what an error says about the text: nothing if memory ran out
 abbrev pub fault : ConfigError → Option Fault
 fault error.Memory = None
 fault (error.NotToml why) = Some NotToml
@@ -72,7 +72,7 @@ key_by name (Ok dialect) = Ok (record { name = name; dialect = dialect })
 key_by name (Err no_language.WrongType) = Err (WrongType name)
 key_by name (Err no_language.UnknownLanguage) = Err (UnknownLanguage name)
 
--- the key of a name and a value
+-- the key with this name and value
 abbrev pub key_of : Text → Data → Result Named Fault
 key_of name value =
     if length name == 0 then Err EmptyName else key_by name (dialect_valued value)
@@ -82,10 +82,10 @@ in_front key (Ok keys) = Ok (key ∷ keys)
 in_front key (Err fault) = Err fault
 
 abbrev pub with_key : Result Named Fault → Result (List Named) Fault → Result (List Named) Fault
-with_key (Ok key) behind = in_front key behind
-with_key (Err fault) behind = Err fault
+with_key (Ok key) after = in_front key after
+with_key (Err fault) after = Err fault
 
--- the keys of a table, or what is wrong with the first that is none
+-- the keys of a table, or what is wrong with the first entry that isn't a key
 abbrev pub keys_in : Members → Result (List Named) Fault
 keys_in no_members = Ok []
 keys_in (member name value rest) = with_key (key_of name value) (keys_in rest)
@@ -93,7 +93,7 @@ keys_in (member name value rest) = with_key (key_of name value) (keys_in rest)
 abbrev pub is_known : Text → Bool
 is_known name = bytes_eq name (codes "keys") || bytes_eq name (codes "exclude")
 
--- the first name that stands for nothing
+-- the first name that has no meaning here
 abbrev pub unknown_name : Members → Option Text
 unknown_name no_members = None
 unknown_name (member name value rest) =
@@ -109,7 +109,7 @@ keys_at (Some (boolean value)) = Err NotATable
 keys_at (Some (datetime value)) = Err NotATable
 keys_at (Some (array items)) = Err NotATable
 
--- a pattern, and a line feed
+-- a pattern, followed by a line feed
 abbrev pub pattern_line : Data → Option Text
 pattern_line (string pattern) = Some (pattern ++ 10 ∷ [])
 pattern_line (integer number) = None
@@ -128,8 +128,8 @@ before line (Ok lines) = Ok (line ++ lines)
 before line (Err fault) = Err fault
 
 abbrev pub with_line : Option Text → Result Text Fault → Result Text Fault
-with_line (Some line) behind = before line behind
-with_line None behind = Err NotAPattern
+with_line (Some line) after = before line after
+with_line None after = Err NotAPattern
 
 -- the patterns of a list, a line each
 abbrev pub patterns_in : Items → Result Text Fault

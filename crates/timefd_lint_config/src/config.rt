@@ -20,9 +20,9 @@ const EXCLUDE: &str = "exclude";
 /// What a file of settings says.
 #[derive(Drop)]
 pub struct Config {
-    /// The keys of its table `keys`, by name.
+    /// The keys of its table `keys`, sorted by name.
     pub keys: Vec<OwnedKey>,
-    /// What is passed over below folders: the patterns of its list `exclude`, each with a line feed behind it.
+    /// What is passed over below folders: the patterns of its list `exclude`, each followed by a line feed.
     pub exclude: String,
 }
 
@@ -32,7 +32,7 @@ fn is_known(name: &str) -> bool
     name == KEYS || name == EXCLUDE
 }
 
-// The first name in a document that stands for nothing here.
+// The first name in a document that has no meaning here.
 fn unknown_name(document: &Table) -> Option<&String>
     ensures { option_map (λ name. string_bytes name.now) result ≡ spec.unknown_name (table_view document.now) }
 {
@@ -44,14 +44,14 @@ fn unknown_name(document: &Table) -> Option<&String>
     None
 }
 
-// What stands in a document as the table of keys.
+// The value of `keys` in a document.
 fn value_of_keys(document: &Table) -> Option<&Value>
     ensures { option_map (λ v. view v.now) result ≡ get_member (codes "keys") (table_view document.now) }
 {
     document.get(KEYS)
 }
 
-// The keys of what stands there.
+// The keys in that value, or none if there is no value.
 fn keys_at(alloc: Global, value: Option<&Value>) -> Result<Vec<OwnedKey>, ConfigError>
     ensures keys { IfOk result (λ keys.
         spec.keys_at (option_map (λ v. view v.now) value.entry) ≡ Ok (spec.named_all keys.items)) }
@@ -72,14 +72,14 @@ fn keys_at(alloc: Global, value: Option<&Value>) -> Result<Vec<OwnedKey>, Config
     }
 }
 
-// What stands in a document as the list of what is passed over.
+// The value of `exclude` in a document.
 fn value_of_exclude(document: &Table) -> Option<&Value>
     ensures { option_map (λ v. view v.now) result ≡ get_member (codes "exclude") (table_view document.now) }
 {
     document.get(EXCLUDE)
 }
 
-// The patterns of what stands there.
+// The patterns in that value, or none if there is no value.
 fn exclude_at(alloc: Global, value: Option<&Value>) -> Result<String, ConfigError>
     ensures patterns { IfOk result (λ text.
         spec.exclude_at (option_map (λ v. view v.now) value.entry) ≡ Ok (string_bytes text)) }
@@ -115,7 +115,7 @@ fn config_of_document(alloc: Global, document: &Table) -> Result<Config, ConfigE
     Ok(Config { keys, exclude })
 }
 
-/// What the text of a file of settings says, or what is wrong with it.
+/// What the text of a file of settings says. An `Err` says what is wrong with it, or that memory ran out.
 pub fn config_of(alloc: Global, text: &str) -> Result<Config, ConfigError>
     ensures config { IfOk result (λ config.
         spec.config_of text.now ≡ Ok (spec.said config)) }

@@ -1,4 +1,4 @@
-//! Why a text is no file of settings.
+//! Why a text isn't a file of settings.
 
 ghost use Rattle.std.specs.Prelude.{◌≡◌};
 ghost use Rattle.timefd_lint_config.specs.declared.error.ConfigError.TheVariants.{Memory};
@@ -6,26 +6,26 @@ ghost use Rattle.timefd_lint_config.specs.declared.error.ConfigError.TheVariants
 use std::alloc::AllocError;
 use toml::de;
 
-/// Why a text is no file of settings.
+/// Why a text isn't a file of settings.
 #[derive(Drop)]
 pub enum ConfigError {
     /// Memory ran out.
     Memory,
-    /// It is no TOML, for this reason.
+    /// It isn't TOML, for this reason.
     NotToml(de::Error),
-    /// A table or a key of this name stands for nothing.
+    /// A table or a key of this name has no meaning here.
     UnknownName(String),
-    /// `keys` is no table.
+    /// `keys` isn't a table.
     NotATable,
     /// A key has no name.
     EmptyName,
-    /// What stands behind the key of this name is neither a number nor a string.
+    /// The value of the key with this name is neither a number nor a string.
     WrongType(String),
-    /// The number or the string behind the key of this name is no language.
+    /// The value of the key with this name is a number or a string, but not a language.
     UnknownLanguage(String),
-    /// `exclude` is no list.
+    /// `exclude` isn't a list.
     NotAList,
-    /// What stands in the list `exclude` isn't all strings.
+    /// The list `exclude` has an item that isn't a string.
     NotAPattern,
 }
 

@@ -29,7 +29,8 @@ fn push_pattern(text: &mut String, value: &Value) -> Result<(), ConfigError>
     }
 }
 
-/// The patterns of a list, each with a line feed behind it; or that one of its values is no string.
+/// The patterns of a list, each followed by a line feed. An `Err` says that an item isn't a string, or that
+/// memory ran out.
 pub fn patterns_in(alloc: Global, values: &[Value]) -> Result<String, ConfigError>
     ensures patterns { IfOk result (λ text.
         spec.patterns_in (items_view values.now) ≡ Ok (string_bytes text)) }
@@ -38,9 +39,9 @@ pub fn patterns_in(alloc: Global, values: &[Value]) -> Result<String, ConfigErro
 {
     let mut text = String::new(alloc);
     let mut rest = values;
-    'values: while let [value, behind @ ..] = rest {
+    'values: while let [value, after @ ..] = rest {
         push_pattern(&mut text, value)?;
-        rest = behind;
+        rest = after;
     }
     Ok(text)
 }

@@ -10,14 +10,14 @@ use std::alloc::{AllocError, Global};
 use timefd_sources::Dialect;
 use toml::{Table, Value};
 
-/// A key whose strings are descriptions of a language.
+/// A key whose strings are descriptions in a language.
 #[derive(Drop)]
 pub struct OwnedKey {
     pub name: String,
     pub dialect: Dialect,
 }
 
-// The key of a name and a value.
+// The key with this name and value.
 fn key_of(name: &String, value: &Value) -> Result<OwnedKey, ConfigError>
     ensures key { IfOk result (λ key.
         spec.key_of (string_bytes name.now) (view value.now) ≡ Ok (spec.named key)) }
@@ -38,7 +38,8 @@ fn key_of(name: &String, value: &Value) -> Result<OwnedKey, ConfigError>
     }
 }
 
-/// The keys of a table by name, or what is wrong with the first that is none.
+/// The keys of a table, sorted by name. An `Err` says what is wrong with the first entry that isn't a key, or
+/// that memory ran out.
 pub fn keys_in(alloc: Global, table: &Table) -> Result<Vec<OwnedKey>, ConfigError>
     ensures keys { IfOk result (λ keys.
         spec.keys_in (table_view table.now) ≡ Ok (spec.named_all keys.items)) }

@@ -8,12 +8,12 @@ use timefd_sources::Dialect;
 use timefd_sources::dialect::dialect_named;
 use toml::Value;
 
-/// Why a value is no language.
+/// Why a value isn't a language.
 #[derive(Clone, Copy)]
 pub enum ValueFault {
     /// It is neither a number nor a string.
     WrongType,
-    /// It is another number or string.
+    /// It is a number or a string, but not a language.
     UnknownLanguage,
 }
 
@@ -29,7 +29,8 @@ fn dialect_numbered(number: i64) -> Option<Dialect>
     }
 }
 
-/// The language that a value names: `1`, `2`, `3` as a number or a string, or `"strftime"`; or why it names none.
+/// The language that a value names: `1`, `2`, `3` as a number or a string, or `"strftime"`. An `Err` says why
+/// it names none.
 pub fn dialect_valued(value: &Value) -> Result<Dialect, ValueFault>
     ensures { result ≡ spec.dialect_valued (view value.now) }
 {

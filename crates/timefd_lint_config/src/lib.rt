@@ -1,14 +1,14 @@
-//! What a file of settings says, in TOML: keys, and what is passed over.
+//! Reads a file of settings, in TOML: keys, and what is passed over.
 #![tactic(auto)]
 
+mod borrowed;
 mod config;
 mod error;
 mod exclude;
 mod keys;
 mod language;
-mod lent;
 
+pub use borrowed::{same_keys, with_keys};
 pub use config::{Config, config_of};
 pub use error::ConfigError;
 pub use keys::OwnedKey;
-pub use lent::{same_keys, with_keys};

@@ -16,7 +16,7 @@ alone true true = refl
 alone true false = refl
 alone false m = refl
 
--- A token of one byte, in front.
+-- A token of one byte, at the front.
 pub first_byte : (token : Token) (tokens : List Token) (byte : ℕ) (bytes : Text) → takes_none token ≡ false
     → matches (token ∷ tokens) (byte ∷ bytes) ≡ (takes token byte true false && matches tokens bytes)
 first_byte (Byte own) tokens byte bytes is = alone (byte == own) (matches tokens bytes)
@@ -51,7 +51,7 @@ some_both token a f g [] last both none = rw (none, nothing_on token last, and_f
 some_both token a f g (byte ∷ bytes) last both none =
     rw (both bytes, some_both token a f g bytes last both none) (takes_both token byte a (g bytes) (takes_some token g bytes))
 
--- A token of one byte, behind others.
+-- A token of one byte, after others.
 no_last : (tokens : List Token) (token : Token) → takes_none token ≡ false → matches (tokens ++ token ∷ []) [] ≡ false
 no_last [] token is = no_byte token [] is
 no_last (first ∷ tokens) token is = rw (no_last tokens token is) (and_false (takes_none first))
@@ -72,15 +72,15 @@ last_byte [] (first ∷ bytes) token byte is =
     more (b ∷ bytes) byte = refl
 last_byte (first ∷ tokens) path token byte is =
     let a = takes token byte true false in
-    let behind = matches (tokens ++ token ∷ []) in
-    let some : takes_some first behind (path ++ byte ∷ []) ≡ (a && takes_some first (matches tokens) path) =
-    some_both first a behind (matches tokens) path byte (λ front. last_byte tokens front token byte is)
+    let after = matches (tokens ++ token ∷ []) in
+    let some : takes_some first after (path ++ byte ∷ []) ≡ (a && takes_some first (matches tokens) path) =
+    some_both first a after (matches tokens) path byte (λ front. last_byte tokens front token byte is)
     (no_last tokens token is) in
     rw (some, last_byte tokens path token byte is) (or_both a (takes_none first) (takes_some first (matches tokens) path) (matches tokens path))
 
--- Behind: none yet, one more, another byte, the end of the path.
-pub none_behind : (tokens : List Token) (path : Text) → EndsAlike tokens path 0
-none_behind tokens path =
+-- At the end: nothing yet, one more byte, another byte, the end of the path.
+pub none_after : (tokens : List Token) (path : Text) → EndsAlike tokens path 0
+none_after tokens path =
     let all_tokens : take (length tokens - 0) tokens ≡ tokens = take_all (length tokens - 0) tokens (omega arith) in
     let all_path : take (length path - 0) path ≡ path = take_all (length path - 0) path (omega arith) in record {
       in_tokens = omega arith;
@@ -88,7 +88,7 @@ none_behind tokens path =
       same = rw (all_tokens, all_path) refl;
     }
 
--- what the last token that is left, and the last byte, say
+-- what the last remaining token and the last remaining byte say
 last_left : (tokens : List Token) (path : Text) (count : ℕ) (token : Token) (byte : ℕ) → count < length tokens
     → count < length path → token ≡ get_or tokens (length tokens - count - 1) token
     → byte ≡ get_or path (length path - count - 1) 0 → takes_none token ≡ false
@@ -110,11 +110,11 @@ last_left tokens path count token byte in_tokens in_path token_is byte_is is =
     take-suc path m 0 (omega arith) ∙ ap (λ (b : ℕ). take m path ++ b ∷ []) (sym the_byte) in
     rw (n_more, m_more, tokens_cut, path_cut) (last_byte (take n tokens) (take m path) token byte is)
 
-pub one_behind : (tokens : List Token) (path : Text) (count : ℕ) (token : Token) → EndsAlike tokens path count
+pub one_after : (tokens : List Token) (path : Text) (count : ℕ) (token : Token) → EndsAlike tokens path count
     → count < length tokens → count < length path → token ≡ get_or tokens (length tokens - count - 1) token
     → takes_none token ≡ false → takes token (get_or path (length path - count - 1) 0) true false ≡ true
     → EndsAlike tokens path (count + 1)
-one_behind tokens path count token so_far in_tokens in_path token_is is fits = record {
+one_after tokens path count token so_far in_tokens in_path token_is is fits = record {
   in_tokens = omega arith;
   in_path = omega arith;
   same = so_far.same
@@ -122,19 +122,19 @@ one_behind tokens path count token so_far in_tokens in_path token_is is fits = r
       ∙ rw fits refl;
 }
 
-pub other_behind : (tokens : List Token) (path : Text) (count : ℕ) (token : Token) → EndsAlike tokens path count
+pub other_after : (tokens : List Token) (path : Text) (count : ℕ) (token : Token) → EndsAlike tokens path count
     → count < length tokens → count < length path → token ≡ get_or tokens (length tokens - count - 1) token
     → takes_none token ≡ false → takes token (get_or path (length path - count - 1) 0) true false ≡ false
     → matches tokens path ≡ false
-other_behind tokens path count token so_far in_tokens in_path token_is is differs =
+other_after tokens path count token so_far in_tokens in_path token_is is differs =
     so_far.same
     ∙ last_left tokens path count token (get_or path (length path - count - 1) 0) in_tokens in_path token_is refl is
     ∙ rw differs refl
 
-pub end_of_path_behind : (tokens : List Token) (path : Text) (count : ℕ) (token : Token) → EndsAlike tokens path count
+pub end_of_path_after : (tokens : List Token) (path : Text) (count : ℕ) (token : Token) → EndsAlike tokens path count
     → count < length tokens → count ≡ length path → token ≡ get_or tokens (length tokens - count - 1) token
     → takes_none token ≡ false → matches tokens path ≡ false
-end_of_path_behind tokens path count token so_far in_tokens at_end token_is is =
+end_of_path_after tokens path count token so_far in_tokens at_end token_is is =
     let n = length tokens - (count + 1) in
     let n_more : length tokens - count ≡ suc n = omega arith in
     let n_at : length tokens - count - 1 ≡ n = omega arith in
@@ -144,13 +144,13 @@ end_of_path_behind tokens path count token so_far in_tokens at_end token_is is =
     take-suc tokens n token (omega arith) ∙ ap (λ (t : Token). take n tokens ++ t ∷ []) (sym the_token) in
     so_far.same ∙ rw (n_more, none, tokens_cut) (no_last (take n tokens) token is)
 
--- In front: the same.
+-- At the front: nothing yet, one more byte, another byte, the end of the path.
 pub none_before : (tokens : List Token) (path : Text) → BeginsAlike tokens path 0
 none_before tokens path = record { in_tokens = omega arith; in_path = omega arith; same = refl }
 
-tokens_behind : (tokens : List Token) (count : ℕ) (token : Token) → count < length tokens
+tokens_after : (tokens : List Token) (count : ℕ) (token : Token) → count < length tokens
     → token ≡ get_or tokens count token → drop count tokens ≡ token ∷ drop (count + 1) tokens
-tokens_behind tokens count token lt is =
+tokens_after tokens count token lt is =
     rw add-one (drop-cons tokens count token lt ∙ ap (λ (t : Token). t ∷ drop (suc count) tokens) (sym is))
 
 first_left : (tokens : List Token) (path : Text) (count : ℕ) (token : Token) → count < length tokens
@@ -160,7 +160,7 @@ first_left : (tokens : List Token) (path : Text) (count : ℕ) (token : Token) �
 first_left tokens path count token in_tokens in_path token_is is =
     let path_cut : drop count path ≡ get_or path count 0 ∷ drop (count + 1) path =
     rw add-one (drop-cons path count 0 in_path) in
-    rw (tokens_behind tokens count token in_tokens token_is, path_cut)
+    rw (tokens_after tokens count token in_tokens token_is, path_cut)
     (first_byte token (drop (count + 1) tokens) (get_or path count 0) (drop (count + 1) path) is)
 
 pub one_before : (tokens : List Token) (path : Text) (count : ℕ) (token : Token) → BeginsAlike tokens path count
@@ -184,5 +184,5 @@ pub end_of_path_before : (tokens : List Token) (path : Text) (count : ℕ) (toke
     → takes_none token ≡ false → matches tokens path ≡ false
 end_of_path_before tokens path count token so_far in_tokens at_end token_is is =
     let gone : drop count path ≡ [] = rw at_end (drop-length path) in
-    so_far.same ∙ rw (tokens_behind tokens count token in_tokens token_is, gone)
+    so_far.same ∙ rw (tokens_after tokens count token in_tokens token_is, gone)
     (no_byte token (drop (count + 1) tokens) is)

@@ -1,4 +1,4 @@
--- What stays within a name matches the last name of a path alone.
+-- Tokens that match within a name match the last name of a path alone.
 use Rattle.std.proofs.Common.{◌≡◌, ℕ, ◌+◌, ◌-◌, ◌<◌, ◌≤◌, ◌≢◌, Bool, true, false, List, [], ◌∷◌, length, get_or, take, drop, refl, ◌∙◌, sym, add-one, arith, zero, suc, inl, inr, take_all}
 use Rattle.std.specs.Prelude.{◌&&◌, ◌||◌, ◌==◌}
 use Rattle.std.proofs.Math.Seq.{drop-cons, drop-length}
@@ -11,7 +11,7 @@ use Rattle.timefd_lint_files.specs.Lines.{has_slash}
 use Rattle.timefd_lint_files.specs.Matching.{Text, slash, matches, takes, takes_none, takes_some}
 use Rattle.timefd_lint_files.proofs.EndLemmas.{and_false, nothing_on}
 
--- A slash isn't matched by what stays within a name.
+-- A token that matches within a name matches no slash.
 on_slash : (token : Token) (byte : ℕ) (fits on : Bool) → is_within_name token ≡ true → (byte == slash) ≡ true
     → takes token byte fits on ≡ false
 on_slash (Byte own) byte fits on within is =
@@ -31,8 +31,8 @@ some_with_slash token test [] within none slashes = absurd cc
 some_with_slash token test (byte ∷ bytes) within none slashes =
     elim (or_cases (byte == slash) (has_slash bytes) slashes) [
       | inl here ↦ on_slash token byte (test bytes) (takes_some token test bytes) within here
-      | inr behind ↦
-          rw (none bytes behind, some_with_slash token test bytes within none behind) (nothing_on token byte)
+      | inr after ↦
+          rw (none bytes after, some_with_slash token test bytes within none after) (nothing_on token byte)
     ]
 
 none_with_slash : (tokens : List Token) (path : Text) → are_within_name tokens ≡ true → has_slash path ≡ true
@@ -41,9 +41,9 @@ none_with_slash [] [] within slashes = absurd cc
 none_with_slash [] (byte ∷ bytes) within slashes = refl
 none_with_slash (token ∷ tokens) path within slashes =
     let parts = and_parts (is_within_name token) (are_within_name tokens) within in
-    let behind : (rest : Text) → has_slash rest ≡ true → matches tokens rest ≡ false =
+    let after : (rest : Text) → has_slash rest ≡ true → matches tokens rest ≡ false =
     λ rest is. none_with_slash tokens rest parts.1 is in
-    rw (some_with_slash token (matches tokens) path parts.0 behind slashes, behind path slashes)
+    rw (some_with_slash token (matches tokens) path parts.0 after slashes, after path slashes)
     (and_false (takes_none token))
 
 no_folders : (test : Text → Bool) (path : Text) → has_slash path ≡ false → takes_some Folders test path ≡ false
@@ -60,18 +60,18 @@ twice_false : (a x : Bool) → ((a || (x && false)) || false) ≡ (a || false)
 twice_false a true = or_false (a || false)
 twice_false a false = or_false (a || false)
 
--- Any folders, and behind them what stays within a name, match the last name.
+-- Any folders, and then tokens that match within a name, match the last name.
 last_alone : (tokens : List Token) (path : Text) → are_within_name tokens ≡ true
     → matches (Folders ∷ tokens) path ≡ matches tokens (file_name path)
 last_alone tokens [] within = refl
 last_alone tokens (byte ∷ bytes) within = elim (cases_Bool (has_slash bytes)) [
   | inl slashes ↦
-      let behind = none_with_slash tokens bytes within slashes in
+      let after = none_with_slash tokens bytes within slashes in
       let whole = none_with_slash tokens (byte ∷ bytes) within (or_right (byte == slash) (has_slash bytes) slashes) in
       let more : (takes_some Folders (matches tokens) bytes || matches tokens bytes) ≡ matches tokens (file_name bytes) =
       last_alone tokens bytes within in
-      rw (whole, slashes, behind) (twice_false (takes_some Folders (matches tokens) bytes) (byte == slash)
-      ∙ (rw behind at more))
+      rw (whole, slashes, after) (twice_false (takes_some Folders (matches tokens) bytes) (byte == slash)
+      ∙ (rw after at more))
   | inr none ↦ elim (cases_Bool (byte == slash)) [
     | inl here ↦
         let whole = none_with_slash tokens (byte ∷ bytes) within (or_left (byte == slash) (has_slash bytes) here) in
@@ -91,7 +91,7 @@ of_name (Folders ∷ tokens) path is = last_alone tokens path is
 of_name (Rest ∷ tokens) path is = absurd cc
 of_name (Nothing ∷ tokens) path is = absurd cc
 
--- the same with the tokens as a slice
+-- that for tokens as a slice
 pub name_alone : (tokens : List Token) (path name : Text) → are_of_name tokens ≡ true → name ≡ file_name path
     → matches (take (length tokens - 1) (drop 1 tokens)) name ≡ matches tokens path
 name_alone tokens path name is name_is =
@@ -106,21 +106,21 @@ slash_at (byte ∷ bytes) zero lt is = or_left (byte == slash) (has_slash bytes)
 slash_at (byte ∷ bytes) (suc at) lt is =
     or_right (byte == slash) (has_slash bytes) (slash_at bytes at (omega arith) is)
 
-behind_last : (path : Text) (at : ℕ) → at < length path → get_or path at 0 ≡ slash
+after_last : (path : Text) (at : ℕ) → at < length path → get_or path at 0 ≡ slash
     → has_slash (drop (suc at) path) ≡ false → file_name path ≡ drop (suc at) path
-behind_last [] at lt is none = absurd (omega arith)
-behind_last (byte ∷ bytes) zero lt is none = rw (none, eq-eqb byte slash is) refl
-behind_last (byte ∷ bytes) (suc at) lt is none =
-    rw (slash_at bytes at (omega arith) is) (behind_last bytes at (omega arith) is none)
+after_last [] at lt is none = absurd (omega arith)
+after_last (byte ∷ bytes) zero lt is none = rw (none, eq-eqb byte slash is) refl
+after_last (byte ∷ bytes) (suc at) lt is none =
+    rw (slash_at bytes at (omega arith) is) (after_last bytes at (omega arith) is none)
 
-pub behind_slash : (path : Text) (from : ℕ) → 0 < from → from ≤ length path → get_or path (from - 1) 0 ≡ slash
+pub after_slash : (path : Text) (from : ℕ) → 0 < from → from ≤ length path → get_or path (from - 1) 0 ≡ slash
     → has_slash (drop from path) ≡ false → take (length path - from) (drop from path) ≡ file_name path
-behind_slash path from some within is none =
+after_slash path from some within is none =
     let next : from ≡ suc (from - 1) = omega arith in
     let all : take (length path - from) (drop from path) ≡ drop from path =
     take_all (length path - from) (drop from path) (omega (arith, length-drop {A = ℕ})) in
     let cut : file_name path ≡ drop (suc (from - 1)) path =
-    behind_last path (from - 1) (omega arith) is (rw next at none) in
+    after_last path (from - 1) (omega arith) is (rw next at none) in
     all ∙ (rw next (sym cut))
 
 pub none_yet : (path : Text) → has_slash (drop (length path) path) ≡ false

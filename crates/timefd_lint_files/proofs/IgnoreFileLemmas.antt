@@ -4,7 +4,7 @@ use Rattle.std.specs.Prelude.{Option}
 use Rattle.timefd_lint_files.specs.declared.pattern.Pattern.{Pattern}
 use Rattle.timefd_lint_files.specs.Matching.{Text}
 use Rattle.timefd_lint_files.specs.Patterns.{IsRead}
-use Rattle.timefd_lint_files.specs.IgnoreFiles.{AreOfLines, AreRead, all_listed, behind_line, line_len, listed}
+use Rattle.timefd_lint_files.specs.IgnoreFiles.{AreOfLines, AreRead, all_listed, after_line, line_len, listed}
 
 -- Whatever the rest gives, the lines so far and it are the whole text.
 pub record GoesOn (text : Text) (patterns : List Pattern) (rest : Text) : Type 0 where
@@ -22,10 +22,10 @@ listed_more (first ∷ found) one =
     ap (λ (ps : List Pattern). listed first ++ ps) (listed_more found one) ∙
     sym (append_assoc (listed first) (all_listed found) (listed one))
 
-pub one_more : (text rest behind : Text) (patterns more : List Pattern) (one : Option Pattern)
+pub one_more : (text rest after : Text) (patterns more : List Pattern) (one : Option Pattern)
     → GoesOn text patterns rest → 0 < length rest → IsRead (take (line_len rest) rest) one
-    → more ≡ patterns ++ listed one → behind ≡ behind_line (line_len rest) rest → GoesOn text more behind
-one_more text rest behind patterns more one so_far some read pushed cut = record {
+    → more ≡ patterns ++ listed one → after ≡ after_line (line_len rest) rest → GoesOn text more after
+one_more text rest after patterns more one so_far some read pushed cut = record {
   found = so_far.found ++ one ∷ [];
   are = pushed ∙ ap (λ (ps : List Pattern). ps ++ listed one) so_far.are ∙ sym (listed_more so_far.found one);
   on = λ rests are. rw append_assoc (so_far.on (one ∷ rests) (not_empty rest some, read, rw (sym cut) are));

@@ -11,3 +11,4 @@ pub mod IgnoreFileLemmas
 pub mod WalkLemmas
 pub mod NameLemmas
 pub mod ErrorLemmas
+pub mod OutLemmas

@@ -6,11 +6,11 @@ use Rattle.std.proofs.lemmas.Bool.Decides.{nat_tests}
 use Rattle.timefd_lint_files.specs.Matching.{Text}
 use Rattle.timefd_lint_files.specs.Lines.{is_spare, kept_count, one_kept, quotes}
 
--- all that are kept, where so many of those in front are, and so many of the rest
+-- how many are kept in all, from the counts for the front and for the rest
 abbrev pub with_more : ℕ → ℕ → ℕ → ℕ
 with_more kept at more = if more == 0 then kept else at + more
 
--- What is left decides.
+-- The rest of the line decides.
 pub record IsLeft (line : Text) (kept : ℕ) (is_quoted : Bool) (at : ℕ) : Type 0 where
   pub left : with_more kept at (kept_count is_quoted (drop at line)) ≡ kept_count false line
   pub within : kept ≤ at

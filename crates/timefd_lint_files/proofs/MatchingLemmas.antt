@@ -14,12 +14,12 @@ not_slash byte e = eqb-false byte slash (not-true (byte == slash) e)
 is_no_slash : (byte : ℕ) → byte ≢ slash → not (byte == slash) ≡ true
 is_no_slash byte ne = ap not (ne_eqb byte slash ne)
 
--- what stands behind the first token, and its test
-record Behind (test : Text → Bool) (Rest : Text → Type 0) : Type 0 where
+-- what follows the first token, and its test
+record After (test : Text → Bool) (Rest : Text → Type 0) : Type 0 where
   to : (path : Text) → test path ≡ true → Rest path
   from : (path : Text) → Rest path → test path ≡ true
 
-byte_to : (own : ℕ) (test : Text → Bool) (B : Text → Type 0) → Behind test B → (path : Text)
+byte_to : (own : ℕ) (test : Text → Bool) (B : Text → Type 0) → After test B → (path : Text)
     → (takes_some (Byte own) test path || false) ≡ true → MatchesFirst (Byte own) B path
 byte_to own test B is [] h = absurd cc
 byte_to own test B is (b ∷ bytes) h = elim (or_cases ((b == own) && test bytes) false h) [
@@ -28,7 +28,7 @@ byte_to own test B is (b ∷ bytes) h = elim (or_cases ((b == own) && test bytes
   | inr none ↦ absurd cc
 ]
 
-any_to : (test : Text → Bool) (B : Text → Type 0) → Behind test B → (path : Text)
+any_to : (test : Text → Bool) (B : Text → Type 0) → After test B → (path : Text)
     → (takes_some Any test path || false) ≡ true → MatchesFirst Any B path
 any_to test B is [] h = absurd cc
 any_to test B is (b ∷ bytes) h = elim (or_cases (not (b == slash) && test bytes) false h) [
@@ -37,7 +37,7 @@ any_to test B is (b ∷ bytes) h = elim (or_cases (not (b == slash) && test byte
   | inr none ↦ absurd cc
 ]
 
-class_to : (class : Class) (test : Text → Bool) (B : Text → Type 0) → Behind test B → (path : Text)
+class_to : (class : Class) (test : Text → Bool) (B : Text → Type 0) → After test B → (path : Text)
     → (takes_some (OneOf class) test path || false) ≡ true → MatchesFirst (OneOf class) B path
 class_to class test B is [] h = absurd cc
 class_to class test B is (b ∷ bytes) h =
@@ -49,7 +49,7 @@ class_to class test B is (b ∷ bytes) h =
       | inr none ↦ absurd cc
     ]
 
-star_to : (test : Text → Bool) (B : Text → Type 0) → Behind test B → (path : Text)
+star_to : (test : Text → Bool) (B : Text → Type 0) → After test B → (path : Text)
     → (takes_some Star test path || test path) ≡ true → MatchesFirst Star B path
 star_to test B is [] h = ([], [], refl, tt, is.to [] h)
 star_to test B is (b ∷ bytes) h =
@@ -61,7 +61,7 @@ star_to test B is (b ∷ bytes) h =
       | inr here ↦ ([], b ∷ bytes, refl, tt, is.to (b ∷ bytes) here)
     ]
 
-rest_to : (test : Text → Bool) (B : Text → Type 0) → Behind test B → (path : Text)
+rest_to : (test : Text → Bool) (B : Text → Type 0) → After test B → (path : Text)
     → (takes_some Rest test path || test path) ≡ true → MatchesFirst Rest B path
 rest_to test B is [] h = ([], [], refl, is.to [] h)
 rest_to test B is (b ∷ bytes) h =
@@ -72,7 +72,7 @@ rest_to test B is (b ∷ bytes) h =
       | inr here ↦ ([], b ∷ bytes, refl, is.to (b ∷ bytes) here)
     ]
 
-some_folders : (test : Text → Bool) (B : Text → Type 0) → Behind test B → (path : Text)
+some_folders : (test : Text → Bool) (B : Text → Type 0) → After test B → (path : Text)
     → takes_some Folders test path ≡ true
     → (front : Text) × (rest : Text) × (path ≡ front ++ slash ∷ rest) × B rest
 some_folders test B is [] h = absurd cc
@@ -86,14 +86,14 @@ some_folders test B is (b ∷ bytes) h =
           ([], bytes, ap (λ (x : ℕ). x ∷ bytes) (eqb-true b slash parts.0), is.to bytes parts.1)
     ]
 
-folders_to : (test : Text → Bool) (B : Text → Type 0) → Behind test B → (path : Text)
+folders_to : (test : Text → Bool) (B : Text → Type 0) → After test B → (path : Text)
     → (takes_some Folders test path || test path) ≡ true → MatchesFirst Folders B path
 folders_to test B is path h = elim (or_cases (takes_some Folders test path) (test path) h) [
   | inl some ↦ inr (some_folders test B is path some)
   | inr here ↦ inl (is.to path here)
 ]
 
-star_from : (test : Text → Bool) (B : Text → Type 0) → Behind test B → (front rest : Text)
+star_from : (test : Text → Bool) (B : Text → Type 0) → After test B → (front rest : Text)
     → AllByRecursion (λ byte. byte ≢ slash) front → B rest
     → (takes_some Star test (front ++ rest) || test (front ++ rest)) ≡ true
 star_from test B is [] rest none here =
@@ -102,19 +102,19 @@ star_from test B is (b ∷ front) rest none here =
     or_left _ _ (and_from (not (b == slash)) (takes_some Star test (front ++ rest) || test (front ++ rest))
     (is_no_slash b none.0) (star_from test B is front rest none.1 here))
 
-rest_from : (test : Text → Bool) (B : Text → Type 0) → Behind test B → (front rest : Text) → B rest
+rest_from : (test : Text → Bool) (B : Text → Type 0) → After test B → (front rest : Text) → B rest
     → (takes_some Rest test (front ++ rest) || test (front ++ rest)) ≡ true
 rest_from test B is [] rest here =
     or_right (takes_some Rest test rest) (test rest) (is.from rest here)
 rest_from test B is (b ∷ front) rest here = or_left _ _ (rest_from test B is front rest here)
 
-folders_from : (test : Text → Bool) (B : Text → Type 0) → Behind test B → (front rest : Text) → B rest
+folders_from : (test : Text → Bool) (B : Text → Type 0) → After test B → (front rest : Text) → B rest
     → takes_some Folders test (front ++ slash ∷ rest) ≡ true
 folders_from test B is [] rest here =
     or_right (takes_some Folders test rest) (test rest) (is.from rest here)
 folders_from test B is (b ∷ front) rest here = or_left _ _ (folders_from test B is front rest here)
 
-first_to : (token : Token) (test : Text → Bool) (B : Text → Type 0) → Behind test B → (path : Text)
+first_to : (token : Token) (test : Text → Bool) (B : Text → Type 0) → After test B → (path : Text)
     → (takes_some token test path || (takes_none token && test path)) ≡ true → MatchesFirst token B path
 first_to (Byte own) test B is path h = byte_to own test B is path h
 first_to Any test B is path h = any_to test B is path h
@@ -125,7 +125,7 @@ first_to Rest test B is path h = rest_to test B is path h
 first_to Nothing test B is [] h = absurd cc
 first_to Nothing test B is (b ∷ bytes) h = absurd cc
 
-first_from : (token : Token) (test : Text → Bool) (B : Text → Type 0) → Behind test B → (path : Text)
+first_from : (token : Token) (test : Text → Bool) (B : Text → Type 0) → After test B → (path : Text)
     → MatchesFirst token B path → (takes_some token test path || (takes_none token && test path)) ≡ true
 first_from (Byte own) test B is path m =
     rw m.1 (or_left _ _ (and_from (own == own) (test m.0) (eq-eqb own own refl) (is.from m.0 m.2)))
@@ -147,22 +147,22 @@ empty_to : (path : Text) → matches [] path ≡ true → path ≡ []
 empty_to [] h = refl
 empty_to (b ∷ bytes) h = absurd cc
 
-all_behind : (tokens : List Token) → Behind (matches tokens) (Matches tokens)
-all_behind [] = record { to = empty_to; from = λ path e. rw e refl }
-all_behind (token ∷ tokens) = record {
-  to = first_to token (matches tokens) (Matches tokens) (all_behind tokens);
-  from = first_from token (matches tokens) (Matches tokens) (all_behind tokens);
+all_after : (tokens : List Token) → After (matches tokens) (Matches tokens)
+all_after [] = record { to = empty_to; from = λ path e. rw e refl }
+all_after (token ∷ tokens) = record {
+  to = first_to token (matches tokens) (Matches tokens) (all_after tokens);
+  from = first_from token (matches tokens) (Matches tokens) (all_after tokens);
 }
 
 pub decided : (tokens : List Token) (path : Text) → IsTrue (matches tokens path) ↔ Matches tokens path
-decided tokens path = let is = all_behind tokens in (is.to path, is.from path)
+decided tokens path = let is = all_after tokens in (is.to path, is.from path)
 
--- an answer that is that of the test
+-- an answer that equals the test's
 pub as_decided : (answer : Bool) (tokens : List Token) (path : Text) → answer ≡ matches tokens path
     → IsTrue answer ↔ Matches tokens path
 as_decided answer tokens path is = rw is (decided tokens path)
 
--- the first place of a row
-pub first_place : (tokens : List Token) (path : Text) (row : List Bool) → IsRow tokens path row
+-- the first position of a row
+pub first_position : (tokens : List Token) (path : Text) (row : List Bool) → IsRow tokens path row
     → get_or row 0 false ≡ matches tokens path
-first_place tokens path row is = is.each 0 (omega arith)
+first_position tokens path row is = is.each 0 (omega arith)

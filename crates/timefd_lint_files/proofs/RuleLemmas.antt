@@ -1,10 +1,10 @@
--- One pattern, or one file, more.
+-- One more pattern, or one more file.
 use Rattle.std.proofs.Common.{◌≡◌, refl}
 use Rattle.std.specs.Prelude.{Option, Some, None}
 use Rattle.timefd_lint_files.specs.declared.rules.Verdict.{Verdict}
 use Rattle.timefd_lint_files.specs.Rules.{later}
 
--- what is said first, then, and last
+-- the earliest verdict, a later one, and the last
 pub later_twice : (a b c : Option Verdict) → later (later a b) c ≡ later a (later b c)
 later_twice a b None = refl
 later_twice a b (Some own) = refl

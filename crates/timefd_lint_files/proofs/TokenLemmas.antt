@@ -6,7 +6,7 @@ use Rattle.timefd_lint_files.specs.declared.token.Token.{Token}
 use Rattle.timefd_lint_files.specs.Matching.{Text}
 use Rattle.timefd_lint_files.specs.Tokens.{AreTokens, BeginsAny, ends_name}
 
--- Whatever tokens the rest is, those so far and they are the whole text.
+-- Whatever tokens the rest is, the tokens so far and those together are the whole text.
 pub record GoesOn (text : Text) (before now : List Token) (begins_name : Bool) (rest : Text) : Type 0 where
   pub read : List Token
   pub pushed : now ≡ before ++ read

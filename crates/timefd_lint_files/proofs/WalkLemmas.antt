@@ -1,4 +1,4 @@
--- The items so far, and those that are left.
+-- The items so far, and the remaining ones.
 use Rattle.std.proofs.Common.{◌≡◌, ℕ, ◌+◌, ◌<◌, suc, List, [], ◌∷◌, ◌++◌, length, get_or, drop, refl, sym, ap, subst, ◌∙◌, append_assoc, append-nil, add-one}
 use Rattle.std.specs.Prelude.{Option, Some, None, Bool, true, codes}
 use Rattle.std.proofs.Math.Seq.{drop-cons, drop-length}
@@ -10,7 +10,7 @@ use Rattle.timefd_lint_files.specs.Entries.{has_entry}
 use Rattle.timefd_lint_files.specs.Matching.{Text}
 use Rattle.timefd_lint_files.specs.Walks.{AllGive, AreListed, AreOf, Found, Gives, HasExclude, HasOwn, HasOwnIf, IsLeft, IsLookedAt, IsOwn, IsWalk, entered, found, passed, taken}
 
--- Whatever names the items give that are left, those so far and they are the names of all.
+-- Whatever names the remaining items give, the names so far and those together are the names of all.
 pub record GoesOn {X : Type 0} (Give : X → List Text → Type 0) (items : List X) (at : ℕ) (before now : List Text) : Type 0 where
   pub own : List Text
   pub pushed : now ≡ before ++ own
@@ -25,10 +25,10 @@ at_first Give items before = record {
 }
 
 pub one_more : {X : Type 0} (Give : X → List Text → Type 0) (items : List X) (x : X) (at : ℕ)
-    (before now behind names : List Text) → at < length items → x ≡ get_or items at x
-    → GoesOn Give items at before now → Give x names → behind ≡ now ++ names
-    → GoesOn Give items (at + 1) before behind
-one_more {X} Give items x at before now behind names lt read so_far are more =
+    (before now after names : List Text) → at < length items → x ≡ get_or items at x
+    → GoesOn Give items at before now → Give x names → after ≡ now ++ names
+    → GoesOn Give items (at + 1) before after
+one_more {X} Give items x at before now after names lt read so_far are more =
     let cut : drop at items ≡ x ∷ drop (at + 1) items =
     rw add-one (drop-cons items at x lt ∙ ap (λ (y : X). y ∷ drop (suc at) items) (sym read)) in record {
       own = so_far.own ++ names;
@@ -42,48 +42,49 @@ pub at_last : {X : Type 0} (Give : X → List Text → Type 0) (items : List X) 
 at_last Give items at before now e so_far =
     (so_far.own, so_far.pushed, rw append-nil at (so_far.on [] (rw (e, drop-length) refl)))
 
-no_folder : (Below : Text → List Text → Type 0) (f : Found) (before behind : List Text) → IsLeft f before behind None
-    → (names : List Text) × AreOf Below f names × (behind ≡ before ++ names)
-no_folder Below passed before behind left = ([], refl, left.0 ∙ sym (append-nil before))
-no_folder Below (taken path) before behind left = (path ∷ [], refl, left.0)
-no_folder Below (entered path) before behind left = absurd cc
+no_folder : (Below : Text → List Text → Type 0) (f : Found) (before after : List Text) → IsLeft f before after None
+    → (names : List Text) × AreOf Below f names × (after ≡ before ++ names)
+no_folder Below passed before after left = ([], refl, left.0 ∙ sym (append-nil before))
+no_folder Below (taken path) before after left = (path ∷ [], refl, left.0)
+no_folder Below (entered path) before after left = absurd cc
 
 -- an entry that is passed over, or whose name is taken
 pub one_looked_at : (endings : List (Bor Text)) (excluded : List IgnoreFile)
     (Below : List IgnoreFile → Text → List Text → Type 0) (ignores held : List IgnoreFile) (folder : Text)
-    (entries : List Entry) (entry : Entry) (at : ℕ) (before now behind : List Text) (below : Option Text)
+    (entries : List Entry) (entry : Entry) (at : ℕ) (before now after : List Text) (below : Option Text)
     → at < length entries → entry ≡ get_or entries at entry
     → GoesOn (Gives endings excluded Below ignores folder) entries at before now → held ≡ ignores
-    → IsLookedAt endings excluded held folder entry now behind below → below ≡ None
-    → GoesOn (Gives endings excluded Below ignores folder) entries (at + 1) before behind
-one_looked_at endings excluded Below ignores held folder entries entry at before now behind below lt read so_far same left none =
-    let here : IsLookedAt endings excluded ignores folder entry now behind None =
-    subst (λ (b : Option Text). IsLookedAt endings excluded ignores folder entry now behind b) none
-    (subst (λ (files : List IgnoreFile). IsLookedAt endings excluded files folder entry now behind below) same left) in
-    let own = no_folder (Below ignores) (found endings excluded ignores folder entry) now behind here in
-    one_more (Gives endings excluded Below ignores folder) entries entry at before now behind own.0 lt read so_far own.1 own.2
+    → IsLookedAt endings excluded held folder entry now after below → below ≡ None
+    → GoesOn (Gives endings excluded Below ignores folder) entries (at + 1) before after
+one_looked_at endings excluded Below ignores held folder entries entry at before now after below lt read so_far same left none =
+    let here : IsLookedAt endings excluded ignores folder entry now after None =
+    subst (λ (b : Option Text). IsLookedAt endings excluded ignores folder entry now after b) none
+    (subst (λ (files : List IgnoreFile). IsLookedAt endings excluded files folder entry now after below) same left) in
+    let own = no_folder (Below ignores) (found endings excluded ignores folder entry) now after here in
+    one_more (Gives endings excluded Below ignores folder) entries entry at before now after own.0 lt read so_far own.1 own.2
 
-a_folder : (Below : Text → List Text → Type 0) (f : Found) (path : Text) (before behind names : List Text)
-    → IsLeft f before behind (Some path) → Below path names → AreOf Below f names × (behind ≡ before)
-a_folder Below passed path before behind names left is = absurd cc
-a_folder Below (taken own) path before behind names left is = absurd cc
-a_folder Below (entered own) path before behind names left is =
+a_folder : (Below : Text → List Text → Type 0) (f : Found) (path : Text) (before after names : List Text)
+    → IsLeft f before after (Some path) → Below path names → AreOf Below f names × (after ≡ before)
+a_folder Below passed path before after names left is = absurd cc
+a_folder Below (taken own) path before after names left is = absurd cc
+a_folder Below (entered own) path before after names left is =
     (subst (λ (p : Text). Below p names) (same left.1) is, left.0)
   where
     same : {own path : Text} → ◌≡◌ {A = Option Text} (Some path) (Some own) → path ≡ own
     same e = cc
 
--- a folder that is gone into
+-- a folder that the walk goes into
 pub one_walked : (endings : List (Bor Text)) (excluded : List IgnoreFile)
     (Below : List IgnoreFile → Text → List Text → Type 0) (ignores held inside : List IgnoreFile) (folder : Text)
-    (entries : List Entry) (entry : Entry) (at : ℕ) (path name : Text) (before now between behind names : List Text)
+    (entries : List Entry) (entry : Entry) (at : ℕ) (path name : Text) (before now between after names : List Text)
     (below : Option Text)
     → at < length entries → entry ≡ get_or entries at entry
     → GoesOn (Gives endings excluded Below ignores folder) entries at before now → held ≡ ignores → inside ≡ held
     → IsLookedAt endings excluded held folder entry now between below → below ≡ Some path → name ≡ path
-    → Below inside name names → behind ≡ between ++ names
-    → GoesOn (Gives endings excluded Below ignores folder) entries (at + 1) before behind
-one_walked endings excluded Below ignores held inside folder entries entry at path name before now between behind names below lt read so_far same kept left some named is more =
+    → Below inside name names → after ≡ between ++ names
+    → GoesOn (Gives endings excluded Below ignores folder) entries (at + 1) before after
+one_walked endings excluded Below ignores held inside folder entries entry at path name before now between after
+    names below lt read so_far same kept left some named is more =
     let here : IsLookedAt endings excluded ignores folder entry now between (Some path) =
     subst (λ (b : Option Text). IsLookedAt endings excluded ignores folder entry now between b) some
     (subst (λ (files : List IgnoreFile). IsLookedAt endings excluded files folder entry now between below) same left) in
@@ -91,17 +92,17 @@ one_walked endings excluded Below ignores held inside folder entries entry at pa
     subst (λ (files : List IgnoreFile). Below files path names) (kept ∙ same)
     (subst (λ (p : Text). Below inside p names) named is) in
     let own = a_folder (Below ignores) (found endings excluded ignores folder entry) path now between names here there in
-    one_more (Gives endings excluded Below ignores folder) entries entry at before now behind names lt read so_far own.0
+    one_more (Gives endings excluded Below ignores folder) entries entry at before now after names lt read so_far own.0
     (more ∙ ap (λ (ns : List Text). ns ++ names) own.1)
 
 -- all entries of a folder
 pub walked : (endings : List (Bor Text)) (excluded : List IgnoreFile) (lists : Text → List Entry → Type 0) (holds : Text → Text → Type 0) (depth below : ℕ)
-    (above ignores : List IgnoreFile) (folder : Text) (entries lent : List Entry) (names : List Text)
-    → depth ≡ suc below → AreListed (lists folder) entries → lent ≡ entries → HasOwn lists holds folder lent above ignores
+    (above ignores : List IgnoreFile) (folder : Text) (entries borrowed : List Entry) (names : List Text)
+    → depth ≡ suc below → AreListed (lists folder) entries → borrowed ≡ entries → HasOwn lists holds folder borrowed above ignores
     → AllGive (Gives endings excluded (IsWalk endings excluded lists holds below) ignores folder) entries names
     → IsWalk endings excluded lists holds depth above folder names
 unfolding IsWalk
-walked endings excluded lists holds depth below above ignores folder entries lent names deep listed same own are =
+walked endings excluded lists holds depth below above ignores folder entries borrowed names deep listed same own are =
     rw deep (
       entries,
       ignores,
@@ -122,5 +123,5 @@ pub with_both : (lists : Text → List Entry → Type 0) (holds : Text → Text 
     → HasOwnIf excludes holds folder (codes ".git/info/exclude") above between
     → is ≡ has_entry kinds.File (codes ".gitignore") entries
     → HasOwnIf is holds folder (codes ".gitignore") between all → HasOwn lists holds folder entries above all
-with_both lists holds folder entries above between all excludes is told added same own =
-    (excludes, between, told, added, subst (λ (b : Bool). HasOwnIf b holds folder (codes ".gitignore") between all) same own)
+with_both lists holds folder entries above between all excludes is reported added same own =
+    (excludes, between, reported, added, subst (λ (b : Bool). HasOwnIf b holds folder (codes ".gitignore") between all) same own)

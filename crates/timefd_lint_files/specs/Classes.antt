@@ -1,4 +1,4 @@
--- The classes of bytes that patterns have in brackets.
+-- The classes of bytes in the brackets of patterns.
 use Rattle.std.specs.Prelude.{ℕ, ◌≡◌, Bool, true, false, not, ◌&&◌, ◌||◌, ◌==◌, if◌then◌else◌, List, [], ◌∷◌, drop, Option, Some, None}
 use denote.Ref.{Bor}
 use Rattle.timefd_lint_files.specs.declared.class.ByteRange.{ByteRange}
@@ -25,12 +25,12 @@ colon = 58
 abbrev pub caret : ℕ
 caret = 94
 
--- a byte, and what stands behind it
+-- a byte, and what follows it
 pub record OneByte : Type 0 where
   pub byte : ℕ
   pub rest : Text
 
--- a range, and what stands behind it
+-- a range, and what follows it
 pub record OneRange : Type 0 where
   pub range : ByteRange
   pub rest : Text
@@ -51,7 +51,7 @@ abbrev pub bare : Text → Option OneByte
 bare [] = None
 bare (byte ∷ bytes) = Some (record { byte = byte; rest = bytes })
 
--- A backslash takes the byte behind it as it is.
+-- A backslash takes the next byte as it is.
 abbrev pub first_byte : Text → Option OneByte
 first_byte [] = None
 first_byte (byte ∷ bytes) = if byte == backslash then bare bytes else bare (byte ∷ bytes)
@@ -68,7 +68,7 @@ abbrev pub goes_on : Text → Bool
 goes_on [] = false
 goes_on (byte ∷ bytes) = not (byte == closing)
 
--- A minus goes up to the byte behind it, but at the end of the class it is a byte of its own.
+-- A minus makes a range up to the next byte. At the end of the class it is a byte of its own.
 abbrev pub range_from : ℕ → Text → Option OneRange
 range_from first [] = alone first []
 range_from first (byte ∷ bytes) =
@@ -79,41 +79,41 @@ abbrev pub range_of : Option OneByte → Option OneRange
 range_of None = None
 range_of (Some first) = range_from first.byte first.rest
 
--- whether a colon stands in front of the next closing bracket
+-- whether a colon comes right before the next closing bracket
 abbrev pub ends_in_colon : Bool → Text → Bool
 ends_in_colon is_colon [] = false
 ends_in_colon is_colon (byte ∷ bytes) = if byte == closing then is_colon else ends_in_colon (byte == colon) bytes
 
--- Behind a bracket: the name of a class between colons, as in `[:alpha:]`.
+-- After a bracket: the name of a class between colons, as in `[:alpha:]`.
 abbrev pub is_name : Text → Bool
 is_name [] = false
 is_name (byte ∷ bytes) = (byte == colon) && ends_in_colon false bytes
 
--- whether no range begins with this byte: a bracket that closes the class, or that a name stands behind
+-- whether no range begins with this byte: a bracket that closes the class, or one with a name after it
 abbrev pub begins_no_range : Bool → ℕ → Text → Bool
-begins_no_range is_first byte behind =
-    ((byte == closing) && not is_first) || ((byte == bracket) && is_name behind)
+begins_no_range is_first byte after =
+    ((byte == closing) && not is_first) || ((byte == bracket) && is_name after)
 
--- At the beginning of a class a closing bracket stands for itself.
+-- At the beginning of a class a closing bracket means itself.
 abbrev pub first_range : Bool → Text → Option OneRange
 first_range is_first [] = None
 first_range is_first (byte ∷ bytes) =
     if begins_no_range is_first byte bytes then None else range_of (first_byte (byte ∷ bytes))
 
--- behind the bracket that closes a class; none where there is no bracket
-abbrev pub behind_closing : Text → Option Text
-behind_closing [] = None
-behind_closing (byte ∷ bytes) = if byte == closing then Some bytes else None
+-- what follows the bracket that closes a class; none if there is no bracket
+abbrev pub after_closing : Text → Option Text
+after_closing [] = None
+after_closing (byte ∷ bytes) = if byte == closing then Some bytes else None
 
--- The text is these ranges, one behind another, and the bracket that closes the class, if there is one.
+-- The text is these ranges, one after another, and then the bracket that closes the class, if there is one.
 abbrev pub AreRanges : Bool → Text → List ByteRange → Option Text → Type 0
-AreRanges is_first text [] behind =
-    (first_range is_first text ≡ None) × (behind ≡ behind_closing text)
-AreRanges is_first text (range ∷ ranges) behind = (rest : Text)
+AreRanges is_first text [] after =
+    (first_range is_first text ≡ None) × (after ≡ after_closing text)
+AreRanges is_first text (range ∷ ranges) after = (rest : Text)
     × (first_range is_first text ≡ Some (record { range = range; rest = rest }))
-    × AreRanges false rest ranges behind
+    × AreRanges false rest ranges after
 
--- A class is negated by `!` or `^` in front.
+-- A class is negated by a leading `!` or `^`.
 abbrev pub is_negated : Text → Bool
 is_negated [] = false
 is_negated (byte ∷ bytes) = (byte == exclamation) || (byte == caret)
@@ -121,8 +121,7 @@ is_negated (byte ∷ bytes) = (byte == exclamation) || (byte == caret)
 abbrev pub unnegated : Text → Text
 unnegated text = if is_negated text then drop 1 text else text
 
--- What stands behind the opening bracket is this class. One that isn't closed, or has a named class in
--- it, matches nothing.
+-- The class after the opening bracket. One that isn't closed, or has a named class in it, matches nothing.
 abbrev pub IsClass : Bool → Text → Token → Text → Type 0
 IsClass negated text (Byte byte) rest = ⊥
 IsClass negated text Any rest = ⊥

@@ -1,4 +1,4 @@
--- What a walk makes of the entries of a folder.
+-- What a walk does with the entries of a folder.
 use Rattle.std.specs.Prelude.{Bool, true, false, not, ◌&&◌, ◌||◌, ◌==◌, if◌then◌else◌, List, [], ◌∷◌, nat_eq, string_bytes}
 use denote.Ref.{Bor}
 use Rattle.std.specs.Cmp.Lexicographic.{pointwise}
@@ -15,7 +15,7 @@ abbrev pub is_hidden : Text → Bool
 is_hidden [] = false
 is_hidden (byte ∷ bytes) = byte == 46
 
--- The names of sources end in one of these.
+-- The name of a source has one of these endings.
 abbrev pub is_source : List (Bor Text) → Text → Bool
 is_source [] name = false
 is_source (ending ∷ endings) name = ends_with nat_eq name ending.now || is_source endings name

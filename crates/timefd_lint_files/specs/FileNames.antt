@@ -5,7 +5,7 @@ use Rattle.timefd_lint_files.specs.declared.token.Token.TheVariants.{Byte, Any, 
 use Rattle.timefd_lint_files.specs.Lines.{has_slash}
 use Rattle.timefd_lint_files.specs.Matching.{Text, slash}
 
--- what stands behind the last slash; all of it if there is none
+-- what follows the last slash; the whole path if there is none
 abbrev pub file_name : Text → Text
 file_name [] = []
 file_name (byte ∷ bytes) =
@@ -34,7 +34,7 @@ is_folders Folders = true
 is_folders Rest = false
 is_folders Nothing = false
 
--- Any folders, and behind them what matches no slash.
+-- Any folders, and then what matches no slash.
 abbrev pub are_of_name : List Token → Bool
 are_of_name [] = false
-are_of_name (first ∷ behind) = is_folders first && are_within_name behind
+are_of_name (first ∷ after) = is_folders first && are_within_name after

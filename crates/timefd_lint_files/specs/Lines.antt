@@ -16,7 +16,7 @@ hash = 35
 abbrev pub backslash : ℕ
 backslash = 92
 
--- a line, without where it lies in memory
+-- a line, without its address in memory
 pub record Said : Type 0 where
   pub is_negated : Bool
   pub is_for_folders : Bool
@@ -35,14 +35,14 @@ abbrev pub seen_any : Option Line → Option Said
 seen_any None = None
 seen_any (Some line) = Some (seen line)
 
--- A backslash quotes the byte behind it.
+-- A backslash quotes the next byte.
 abbrev pub quotes : Bool → ℕ → Bool
 quotes is_quoted byte = not is_quoted && (byte == backslash)
 
 abbrev pub is_spare : Bool → ℕ → Bool
 is_spare is_quoted byte = not is_quoted && (byte == space)
 
--- one byte more in front of those that are kept
+-- one more byte before those that are kept
 abbrev pub one_kept : Bool → ℕ → ℕ
 one_kept is_spare n = if (n == 0) && is_spare then 0 else n + 1
 
@@ -55,7 +55,7 @@ kept_count is_quoted (byte ∷ bytes) =
 abbrev pub trimmed : Text → Text
 trimmed line = take (kept_count false line) line
 
--- the last byte; 0 where there is none
+-- the last byte; 0 if there is none
 abbrev pub last : Text → ℕ
 last text = slice_index text (length text - 1)
 
@@ -84,7 +84,7 @@ anchored is_negated is_for_folders line = record {
 abbrev pub unnegated : Bool → Text → Said
 unnegated is_negated line = anchored is_negated (last line == slash) (without_last slash line)
 
--- A line that begins with `#` is a comment. A `!` in front negates the pattern.
+-- A line that begins with `#` is a comment. A leading `!` negates the pattern.
 abbrev pub said : Text → Option Said
 said [] = None
 said (byte ∷ bytes) =

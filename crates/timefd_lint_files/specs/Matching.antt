@@ -13,7 +13,8 @@ Text = List ℕ
 abbrev pub slash : ℕ
 slash = 47
 
--- A range has its first byte, and those from it up to its last. One that goes back has the first alone.
+-- A range has its first byte, and those from it up to its last. A range that goes backwards has the first
+-- alone.
 abbrev pub is_within : ByteRange → ℕ → Bool
 is_within range byte = (byte == range.first) || (nat_le range.first byte && nat_le byte range.last)
 
@@ -27,29 +28,29 @@ has class byte =
     if class.is_negated then not (is_within_any class.ranges.items byte)
     else is_within_any class.ranges.items byte
 
--- The path is a front that the token matches, and a rest that what stands behind it does.
+-- The path is a prefix that the token matches, and a rest that the following tokens match.
 abbrev pub MatchesFirst : Token → (Text → Type 0) → Text → Type 0
-MatchesFirst (Byte own) Behind path = (rest : Text) × (path ≡ own ∷ rest) × Behind rest
-MatchesFirst Any Behind path =
-    (byte : ℕ) × (rest : Text) × (path ≡ byte ∷ rest) × (byte ≢ slash) × Behind rest
-MatchesFirst (OneOf class) Behind path =
+MatchesFirst (Byte own) After path = (rest : Text) × (path ≡ own ∷ rest) × After rest
+MatchesFirst Any After path =
+    (byte : ℕ) × (rest : Text) × (path ≡ byte ∷ rest) × (byte ≢ slash) × After rest
+MatchesFirst (OneOf class) After path =
     (byte : ℕ) × (rest : Text) × (path ≡ byte ∷ rest) × (byte ≢ slash) × IsTrue (has class byte)
-    × Behind rest
-MatchesFirst Star Behind path =
+    × After rest
+MatchesFirst Star After path =
     (front : Text) × (rest : Text) × (path ≡ front ++ rest) × AllByRecursion (λ byte. byte ≢ slash) front
-    × Behind rest
-MatchesFirst Folders Behind path =
-    Behind path ⊎ ((front : Text) × (rest : Text) × (path ≡ front ++ slash ∷ rest) × Behind rest)
-MatchesFirst Rest Behind path =
-    (front : Text) × (rest : Text) × (path ≡ front ++ rest) × Behind rest
-MatchesFirst Nothing Behind path = ⊥
+    × After rest
+MatchesFirst Folders After path =
+    After path ⊎ ((front : Text) × (rest : Text) × (path ≡ front ++ slash ∷ rest) × After rest)
+MatchesFirst Rest After path =
+    (front : Text) × (rest : Text) × (path ≡ front ++ rest) × After rest
+MatchesFirst Nothing After path = ⊥
 
--- The tokens match the whole path, one behind another.
+-- The tokens match the whole path, one after another.
 abbrev pub Matches : List Token → Text → Type 0
 Matches [] path = path ≡ []
 Matches (token ∷ tokens) path = MatchesFirst token (Matches tokens) path
 
--- whether the token matches no byte at all
+-- whether the token also matches no byte at all
 abbrev pub takes_none : Token → Bool
 takes_none (Byte own) = false
 takes_none Any = false
@@ -59,8 +60,8 @@ takes_none Folders = true
 takes_none Rest = true
 takes_none Nothing = false
 
--- Whether the token matches a front that begins with this byte, if behind the byte the tokens behind it
--- match the rest (`fits`), or it goes on.
+-- Whether the token matches a prefix that begins with this byte: the tokens after it match all bytes after
+-- `byte` (`fits`), or the token matches more of them (`goes_on`).
 abbrev pub takes : Token → ℕ → Bool → Bool → Bool
 takes (Byte own) byte fits goes_on = (byte == own) && fits
 takes Any byte fits goes_on = not (byte == slash) && fits
@@ -70,10 +71,10 @@ takes Folders byte fits goes_on = goes_on || ((byte == slash) && fits)
 takes Rest byte fits goes_on = goes_on || fits
 takes Nothing byte fits goes_on = false
 
--- whether the token matches at least one byte, and what stands behind it the rest
+-- whether the token matches at least one byte, and the following tokens match the rest
 abbrev pub takes_some : Token → (Text → Bool) → Text → Bool
-takes_some token behind [] = false
-takes_some token behind (byte ∷ bytes) = takes token byte (behind bytes) (takes_some token behind bytes)
+takes_some token after [] = false
+takes_some token after (byte ∷ bytes) = takes token byte (after bytes) (takes_some token after bytes)
 
 abbrev pub is_empty : Text → Bool
 is_empty [] = true
@@ -85,7 +86,7 @@ matches [] path = is_empty path
 matches (token ∷ tokens) path =
     takes_some token (matches tokens) path || (takes_none token && matches tokens path)
 
--- For each place of a path, and for its end, whether these match what stands there.
+-- For each position of a path, and for its end, whether the test holds of what follows it.
 pub record IsRowOf (test : Text → Bool) (path : Text) (row : List Bool) : Type 0 where
   pub len : length row ≡ length path + 1
   pub each : (k : ℕ) → k ≤ length path → slice_index_or row k false ≡ test (drop k path)
@@ -93,5 +94,5 @@ pub record IsRowOf (test : Text → Bool) (path : Text) (row : List Bool) : Type
 abbrev pub IsRow : List Token → Text → List Bool → Type 0
 IsRow tokens path row = IsRowOf (matches tokens) path row
 
-abbrev pub IsRowBehind : List Token → Text → List Bool → Type 0
-IsRowBehind tokens path row = IsRow (drop 1 tokens) path row
+abbrev pub IsRowAfter : List Token → Text → List Bool → Type 0
+IsRowAfter tokens path row = IsRow (drop 1 tokens) path row

@@ -8,7 +8,7 @@ use Rattle.timefd_lint_files.specs.Lines.{Said, line_of}
 use Rattle.timefd_lint_files.specs.Matching.{Text, Matches, matches}
 use Rattle.timefd_lint_files.specs.Tokens.{AreTokens}
 
--- A pattern that isn't anchored matches below any folder: its tokens are those of its text behind `**/`.
+-- A pattern that isn't anchored matches below any folder: its tokens are `**/` and then those of its text.
 abbrev pub AreTokensOf : Bool → Text → List Token → Type 0
 AreTokensOf true text tokens = AreTokens true text tokens
 AreTokensOf false text tokens =
@@ -34,7 +34,7 @@ abbrev pub Applies : Pattern → Text → Bool → Type 0
 Applies pattern path is_folder =
     (IsTrue pattern.is_for_folders → IsTrue is_folder) × Matches pattern.tokens.items path
 
--- the same as a test
+-- `Applies` as a test
 abbrev pub applies : Pattern → Text → Bool → Bool
 applies pattern path is_folder =
     not (pattern.is_for_folders && not is_folder) && matches pattern.tokens.items path

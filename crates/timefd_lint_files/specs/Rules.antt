@@ -1,4 +1,5 @@
--- What `.gitignore` files say of a path: the last pattern that matches it, of the deepest file that has one.
+-- What `.gitignore` files say about a path: the last matching pattern decides, in the deepest file that has
+-- one.
 use Rattle.std.specs.Prelude.{Bool, true, false, ◌||◌, if◌then◌else◌, List, [], ◌∷◌, drop, Option, Some, None}
 use Rattle.timefd_lint_files.specs.declared.pattern.Pattern.{Pattern}
 use Rattle.timefd_lint_files.specs.declared.ignore_file.IgnoreFile.{IgnoreFile}
@@ -7,29 +8,29 @@ use Rattle.timefd_lint_files.specs.declared.rules.Verdict.TheVariants.{Ignored, 
 use Rattle.timefd_lint_files.specs.Matching.{Text}
 use Rattle.timefd_lint_files.specs.Patterns.{applies}
 
--- A negated pattern has what it matches kept.
+-- A negated pattern keeps the paths that it matches.
 abbrev pub verdict : Pattern → Verdict
 verdict pattern = if pattern.is_negated then Kept else Ignored
 
 abbrev pub verdict_by : Pattern → Text → Bool → Option Verdict
 verdict_by pattern path is_folder = if applies pattern path is_folder then Some (verdict pattern) else None
 
--- what stands behind decides, if it says anything
+-- the later one decides, if it says anything
 abbrev pub later : Option Verdict → Option Verdict → Option Verdict
 later earlier None = earlier
 later earlier (Some own) = Some own
 
--- The last pattern that matches decides.
+-- The last matching pattern decides.
 abbrev pub last_verdict : List Pattern → Text → Bool → Option Verdict
 last_verdict [] path is_folder = None
 last_verdict (pattern ∷ patterns) path is_folder =
     later (verdict_by pattern path is_folder) (last_verdict patterns path is_folder)
 
--- A file's patterns match from its folder on.
+-- A file's patterns match paths relative to its folder.
 abbrev pub verdict_in : IgnoreFile → Text → Bool → Option Verdict
 verdict_in file path is_folder = last_verdict file.patterns.items (drop file.folder_len path) is_folder
 
--- The deepest file decides that has such a pattern. The deepest is the last.
+-- The deepest file with a matching pattern decides. The deepest is the last.
 abbrev pub deepest_verdict : List IgnoreFile → Text → Bool → Option Verdict
 deepest_verdict [] path is_folder = None
 deepest_verdict (file ∷ files) path is_folder =

@@ -14,7 +14,7 @@ star = 42
 abbrev pub question : ℕ
 question = 63
 
--- a token, and what stands behind it
+-- a token, and what follows it
 pub record Begin : Type 0 where
   pub token : Token
   pub rest : Text
@@ -22,11 +22,11 @@ pub record Begin : Type 0 where
 abbrev pub begun : Step → Begin
 begun step = record { token = step.token; rest = step.rest.now }
 
-abbrev pub behind_stars : Text → Text
-behind_stars [] = []
-behind_stars (byte ∷ bytes) = if byte == star then behind_stars bytes else byte ∷ bytes
+abbrev pub after_stars : Text → Text
+after_stars [] = []
+after_stars (byte ∷ bytes) = if byte == star then after_stars bytes else byte ∷ bytes
 
--- Behind two stars or more that begin a name: a slash makes any folders of them, and the end makes
+-- What follows two or more stars that begin a name: with a slash they mean any folders, at the end they mean
 -- everything below.
 abbrev pub doubled : Text → Begin
 doubled [] = record { token = Rest; rest = [] }
@@ -34,28 +34,28 @@ doubled (byte ∷ bytes) =
     if byte == slash then record { token = Folders; rest = bytes }
     else record { token = Star; rest = byte ∷ bytes }
 
--- Behind the first star. Other stars in a row are one.
+-- What follows the first star. Several stars in a row count as one.
 abbrev pub starred : Bool → Text → Begin
 starred begins_name text =
-    if begins_name && nat_lt (length (behind_stars text)) (length text) then doubled (behind_stars text)
-    else record { token = Star; rest = behind_stars text }
+    if begins_name && nat_lt (length (after_stars text)) (length text) then doubled (after_stars text)
+    else record { token = Star; rest = after_stars text }
 
--- A backslash takes the byte behind it as it is.
+-- A backslash takes the next byte as it is.
 abbrev pub escaped : Text → Begin
 escaped [] = record { token = Nothing; rest = [] }
 escaped (byte ∷ bytes) = record { token = Byte byte; rest = bytes }
 
 abbrev pub begun_by : Bool → ℕ → Text → Begin
-begun_by begins_name byte behind =
-    if byte == star then starred begins_name behind
-    else if byte == backslash then escaped behind
-    else if byte == question then record { token = Any; rest = behind }
-    else record { token = Byte byte; rest = behind }
+begun_by begins_name byte after =
+    if byte == star then starred begins_name after
+    else if byte == backslash then escaped after
+    else if byte == question then record { token = Any; rest = after }
+    else record { token = Byte byte; rest = after }
 
 abbrev pub BeginsBy : Bool → Bool → ℕ → Text → Token → Text → Type 0
-BeginsBy true begins_name byte behind token rest = BeginsClass behind token rest
-BeginsBy false begins_name byte behind token rest =
-    begun_by begins_name byte behind ≡ record { token = token; rest = rest }
+BeginsBy true begins_name byte after token rest = BeginsClass after token rest
+BeginsBy false begins_name byte after token rest =
+    begun_by begins_name byte after ≡ record { token = token; rest = rest }
 
 -- The text begins with this token. A bracket opens a class.
 abbrev pub Begins : Bool → Text → Token → Text → Type 0
@@ -68,7 +68,7 @@ abbrev pub BeginsAny : Bool → Text → Option Step → Type 0
 BeginsAny begins_name text None = text ≡ []
 BeginsAny begins_name text (Some step) = Begins begins_name text step.token step.rest.now
 
--- A name begins behind a slash.
+-- A name begins after a slash.
 abbrev pub ends_name : Token → Bool
 ends_name (Byte byte) = byte == slash
 ends_name Any = false
@@ -78,7 +78,7 @@ ends_name Folders = true
 ends_name Rest = false
 ends_name Nothing = false
 
--- The text is these tokens, one behind another, and nothing else.
+-- The text is these tokens, one after another, and nothing else.
 abbrev pub AreTokens : Bool → Text → List Token → Type 0
 AreTokens begins_name text [] = text ≡ []
 AreTokens begins_name text (token ∷ tokens) = (rest : Text)

@@ -1,5 +1,5 @@
--- Which sources stand below a folder.
-use Rattle.std.specs.Prelude.{ℕ, zero, suc, ◌≡◌, ◌==◌, nat_eq, Bool, true, false, ◌&&◌, if◌then◌else◌, List, [], ◌∷◌, ◌++◌, map, length, codes, Option, Some, None, String, string_bytes}
+-- Which sources are below a folder.
+use Rattle.std.specs.Prelude.{ℕ, zero, suc, ◌≡◌, ◌-◌, ◌==◌, nat_eq, Bool, true, false, not, ◌&&◌, if◌then◌else◌, List, [], ◌∷◌, ◌++◌, map, length, take, drop, codes, Option, Some, None, String, string_bytes}
 use denote.Ref.{Bor}
 use Rattle.std.specs.Cmp.Lexicographic.{pointwise}
 use Rattle.std.specs.List.Sorted.{IsPermutation, IsSortedByKey}
@@ -15,7 +15,7 @@ use Rattle.timefd_lint_files.specs.Entries.{has_entry, role}
 use Rattle.timefd_lint_files.specs.IgnoreFiles.{IsReadAs}
 use Rattle.timefd_lint_files.specs.Lines.{last}
 use Rattle.timefd_lint_files.specs.Matching.{Text, slash}
-use Rattle.timefd_lint_files.specs.Rules.{is_passed_over}
+use Rattle.timefd_lint_files.specs.Rules.{is_ignored, is_passed_over}
 
 abbrev pub texts : List (String Global) → List Text
 texts names = map string_bytes names
@@ -24,12 +24,12 @@ abbrev pub text_any : Option (String Global) → Option Text
 text_any None = None
 text_any (Some name) = Some (string_bytes name)
 
--- The entries are those of the folder, by name.
+-- The entries are those of the folder, sorted by name.
 abbrev pub AreListed : (List Entry → Type 0) → List Entry → Type 0
 AreListed lists entries = (listed : List Entry) × lists listed × IsPermutation listed entries
     × IsSortedByKey (λ (entry : Entry). entry.name) string_cmp entries
 
--- the file of this name, whose patterns hold in a folder
+-- the file of this name, whose patterns apply in a folder
 abbrev pub IsOwn : (Text → Text → Type 0) → Text → Text → IgnoreFile → Type 0
 IsOwn holds folder name file =
     (text : Text) × holds (folder ++ name) text × IsReadAs (length folder) text file
@@ -50,7 +50,7 @@ TellsExclude false lists folder has = has ≡ false
 TellsExclude true lists folder has =
     Tells lists (folder ++ codes ".git/info/") kinds.File (codes "exclude") has
 
--- the same, if there is a folder `.git/`
+-- whether that file exists, if there is a folder `.git/`
 abbrev pub TellsRepository : Bool → (Text → List Entry → Type 0) → Text → Bool → Type 0
 TellsRepository false lists folder has = has ≡ false
 TellsRepository true lists folder has = (has_info : Bool)
@@ -62,8 +62,8 @@ abbrev pub HasExclude : (Text → List Entry → Type 0) → Text → List Entry
 HasExclude lists folder entries has =
     TellsRepository (has_entry kinds.Folder (codes ".git") entries) lists folder has
 
--- In a folder the files above it hold, its exclude file, and its `.gitignore` file. Each is overruled by
--- those behind it.
+-- In a folder the files above it apply, then its exclude file, then its `.gitignore` file. Later ones
+-- overrule earlier ones.
 abbrev pub HasOwn : (Text → List Entry → Type 0) → (Text → Text → Type 0) → Text → List Entry
     → List IgnoreFile → List IgnoreFile → Type 0
 HasOwn lists holds folder entries above all = (has_exclude : Bool) × (between : List IgnoreFile)
@@ -71,13 +71,13 @@ HasOwn lists holds folder entries above all = (has_exclude : Bool) × (between :
     × HasOwnIf has_exclude holds folder (codes ".git/info/exclude") above between
     × HasOwnIf (has_entry kinds.File (codes ".gitignore") entries) holds folder (codes ".gitignore") between all
 
--- what a walk makes of an entry: it passes it over, takes its name, or goes into the folder of this name
+-- what a walk does with an entry: it passes over it, takes its name, or goes into the folder of this name
 pub data Found : Type 0 where
   passed : Found
   taken : Text → Found
   entered : Text → Found
 
--- What is excluded or ignored is passed over, and so all below it.
+-- What is excluded or ignored is passed over, with all that is below it.
 abbrev pub found_as : List IgnoreFile → List IgnoreFile → Text → Role → Found
 found_as excluded ignores path roles.None = passed
 found_as excluded ignores path roles.Source =
@@ -89,37 +89,37 @@ abbrev pub found : List (Bor Text) → List IgnoreFile → List IgnoreFile → T
 found endings excluded ignores folder entry =
     found_as excluded ignores (folder ++ string_bytes entry.name) (role endings entry)
 
--- One name more, or none, and the folder to go into.
+-- One more name, or none, and the folder to go into.
 abbrev pub IsLeft : Found → List Text → List Text → Option Text → Type 0
-IsLeft passed before behind below = (behind ≡ before) × (below ≡ None)
-IsLeft (taken path) before behind below = (behind ≡ before ++ path ∷ []) × (below ≡ None)
-IsLeft (entered path) before behind below = (behind ≡ before) × (below ≡ Some path)
+IsLeft passed before after below = (after ≡ before) × (below ≡ None)
+IsLeft (taken path) before after below = (after ≡ before ++ path ∷ []) × (below ≡ None)
+IsLeft (entered path) before after below = (after ≡ before) × (below ≡ Some path)
 
 abbrev pub IsLookedAt : List (Bor Text) → List IgnoreFile → List IgnoreFile → Text → Entry → List Text → List Text
     → Option Text → Type 0
-IsLookedAt endings excluded ignores folder entry before behind below =
-    IsLeft (found endings excluded ignores folder entry) before behind below
+IsLookedAt endings excluded ignores folder entry before after below =
+    IsLeft (found endings excluded ignores folder entry) before after below
 
--- the names that an entry gives, where folders give these
+-- the names that an entry gives, if folders give these
 abbrev pub AreOf : (Text → List Text → Type 0) → Found → List Text → Type 0
 AreOf Below passed names = names ≡ []
 AreOf Below (taken path) names = names ≡ path ∷ []
 AreOf Below (entered path) names = Below path names
 
--- Each of a list gives names, and these are all of them, in turn.
+-- Each item of a list gives names, and these are all of them, in order.
 abbrev pub AllGive : {X : Type 0} → (X → List Text → Type 0) → List X → List Text → Type 0
 AllGive Gives [] names = names ≡ []
 AllGive Gives (x ∷ xs) names = (own : List Text) × (more : List Text)
     × Gives x own × AllGive Gives xs more × (names ≡ own ++ more)
 
--- the names that an entry of a folder gives, under the files that hold in it
+-- the names that an entry of a folder gives, under the files that apply in it
 abbrev pub Gives : List (Bor Text) → List IgnoreFile → (List IgnoreFile → Text → List Text → Type 0) → List IgnoreFile
     → Text → Entry → List Text → Type 0
 Gives endings excluded Below ignores folder entry names =
     AreOf (Below ignores) (found endings excluded ignores folder entry) names
 
--- The names of the sources below a folder, which end in one of these, in the order of the names of its entries, if no
--- more than so many folders stand in one another. What is excluded is passed over.
+-- The names of the sources below a folder that have one of these endings, in the order of the entries' names,
+-- if no more than `depth` folders are nested in one another. What is excluded is passed over.
 unfoldable pub IsWalk : List (Bor Text) → List IgnoreFile → (Text → List Entry → Type 0) → (Text → Text → Type 0) → ℕ
     → List IgnoreFile → Text → List Text → Type 0
 IsWalk endings excluded lists holds zero above folder names = ⊥
@@ -131,17 +131,19 @@ abbrev pub begins_with : ℕ → Text → Bool
 begins_with byte [] = false
 begins_with byte (first ∷ bytes) = first == byte
 
--- How many bytes of a name only name the working directory: those of `./` in front.
+-- How many bytes of a name only name the working directory: those of a leading `./`.
 abbrev pub here_len : Text → ℕ
 here_len [] = 0
 here_len (byte ∷ bytes) = if (byte == 46) && begins_with slash bytes then 2 else 0
 
--- The one file of what is excluded has the patterns of this text, for paths from the working directory on.
+-- The single file of what is excluded has the patterns of this text, for paths relative to the working
+-- directory.
 abbrev pub AreExcluded : Text → Text → List IgnoreFile → Type 0
 AreExcluded text folder files =
     (file : IgnoreFile) × IsReadAs (here_len folder) text file × (files ≡ file ∷ [])
 
--- The same where a text says what is excluded, and up to 255 folders stand in one another.
+-- The names of the sources below a folder, where a text says what is excluded, and up to 255 folders are
+-- nested in one another.
 unfoldable pub IsWalkBut : List (Bor Text) → Text → (Text → List Entry → Type 0) → (Text → Text → Type 0) → Text
     → List Text → Type 0
 IsWalkBut endings text lists holds folder names = (excluded : List IgnoreFile) × AreExcluded text folder excluded
@@ -155,22 +157,51 @@ is_input name = pointwise nat_eq name (codes "-")
 abbrev pub as_folder : Text → Text
 as_folder name = if last name == slash then name else name ++ slash ∷ []
 
--- A name that isn't a folder's stays as it is.
-abbrev pub AreOfName : (Text → List Text → Type 0) → Text → Bool → List Text → Type 0
-AreOfName Below name false names = names ≡ name ∷ []
-AreOfName Below name true names = Below (as_folder name) names
+-- The bytes of a name before these, which are its last ones.
+abbrev pub front_of : Text → Text → Text
+front_of name rest = take (length name - length rest) name
 
--- So does the name of the standard input.
-abbrev pub AreOfNameOr : (Text → List Text → Type 0) → (Text → Bool → Type 0) → Text → Bool → List Text → Type 0
-AreOfNameOr Below tells name true names = names ≡ name ∷ []
-AreOfNameOr Below tells name false names =
-    (is_folder : Bool) × tells name is_folder × AreOfName Below name is_folder names
+-- Whether a folder ends here whose name is excluded: before a slash, unless the name begins with it.
+abbrev pub is_out_here : List IgnoreFile → Text → ℕ → Bool
+is_out_here excluded front byte =
+    (byte == slash) && (not (length front == 0) && is_ignored excluded front true)
+
+-- Whether a folder that ends in these last bytes of a name is excluded, or the file of this name.
+abbrev pub is_out_from : List IgnoreFile → Text → Text → Bool
+is_out_from excluded name [] = is_ignored excluded name false
+is_out_from excluded name (byte ∷ rest) =
+    if is_out_here excluded (front_of name (byte ∷ rest)) byte then true else is_out_from excluded name rest
+
+-- Whether a file is excluded, or a folder that it is in. What names the working directory is no folder.
+abbrev pub is_out : List IgnoreFile → Text → Bool
+is_out excluded name = is_out_from excluded name (drop (here_len name) name)
+
+abbrev pub unless_out : Bool → Text → List Text
+unless_out out name = if out then [] else name ∷ []
+
+-- A file that this text excludes gives no name. Any other gives its own.
+abbrev pub IsKept : Text → Text → List Text → Type 0
+IsKept text name names = (excluded : List IgnoreFile) × AreExcluded text name excluded
+    × (names ≡ unless_out (is_out excluded name) name)
+
+abbrev pub AreOfName : (Text → List Text → Type 0) → (Text → List Text → Type 0) → Text → Bool → List Text
+    → Type 0
+AreOfName Below Kept name false names = Kept name names
+AreOfName Below Kept name true names = Below (as_folder name) names
+
+-- The name of the standard input stays as it is.
+abbrev pub AreOfNameOr : (Text → List Text → Type 0) → (Text → List Text → Type 0) → (Text → Bool → Type 0)
+    → Text → Bool → List Text → Type 0
+AreOfNameOr Below Kept tells name true names = names ≡ name ∷ []
+AreOfNameOr Below Kept tells name false names =
+    (is_folder : Bool) × tells name is_folder × AreOfName Below Kept name is_folder names
 
 -- the names that a name of the command line gives
-abbrev pub IsExpanded : (Text → List Text → Type 0) → (Text → Bool → Type 0) → Bor Text → List Text → Type 0
-IsExpanded Below tells name names = AreOfNameOr Below tells name.now (is_input name.now) names
+abbrev pub IsExpanded : (Text → List Text → Type 0) → (Text → List Text → Type 0) → (Text → Bool → Type 0)
+    → Bor Text → List Text → Type 0
+IsExpanded Below Kept tells name names = AreOfNameOr Below Kept tells name.now (is_input name.now) names
 
--- those of all names
-abbrev pub AreExpanded : (Text → List Text → Type 0) → (Text → Bool → Type 0) → List (Bor Text) → List Text
-    → Type 0
-AreExpanded Below tells given names = AllGive (IsExpanded Below tells) given names
+-- the names that all names give
+abbrev pub AreExpanded : (Text → List Text → Type 0) → (Text → List Text → Type 0) → (Text → Bool → Type 0)
+    → List (Bor Text) → List Text → Type 0
+AreExpanded Below Kept tells given names = AllGive (IsExpanded Below Kept tells) given names

@@ -12,7 +12,7 @@ use crate::pattern::Pattern;
 use std::alloc::AllocError;
 
 impl Pattern {
-    /// Whether its tokens match a path whose last name this is.
+    /// Whether the pattern's tokens match a path with this last name.
     #[tactic(auto, using(crate::proofs::FileNameLemmas::name_alone))]
     fn matches(&self, path: &[u8], name: &[u8], row: &mut Vec<bool>) -> Result<bool, AllocError>
         requires { name.now ≡ file_name path.now }
@@ -24,7 +24,7 @@ impl Pattern {
         matching::matches(&self.tokens, path, row)
     }
 
-    /// Whether it matches a path whose last name this is.
+    /// Whether the pattern matches a path with this last name.
     pub fn applies_to(
         &self,
         path: &[u8],
@@ -41,8 +41,8 @@ impl Pattern {
         self.matches(path, name, row)
     }
 
-    /// Whether it matches a path: from its file's folder on, with a `/` between the names. The row is
-    /// room to work in.
+    /// Whether the pattern matches a path, given relative to its file's folder, with a `/` between the names.
+    /// The row is working space.
     pub fn applies(
         &self,
         path: &[u8],

@@ -3,24 +3,24 @@
 ghost use Rattle.std.specs.Prelude.{◌≡◌};
 ghost use Rattle.timefd_lint_files.specs.Matching as spec;
 
-/// A range of bytes; a byte alone is one from itself to itself.
+/// A range of bytes. A single byte is the range from itself to itself.
 #[derive(Clone, Copy, Debug, PartialEq, Eq)]
 pub struct ByteRange {
     pub first: u8,
-    /// Where it is less than the first, the range has the first alone.
+    /// If it is less than `first`, the range has `first` alone.
     pub last: u8,
 }
 
 /// A class of bytes, as `[a-z]`.
 #[derive(Debug, PartialEq, Eq, Drop)]
 pub struct Class {
-    /// Whether it has the bytes that aren't in its ranges.
+    /// Whether the class has the bytes outside its ranges instead.
     pub is_negated: bool,
     pub ranges: Vec<ByteRange>,
 }
 
 impl ByteRange {
-    /// Whether it has a byte.
+    /// Whether the range has a byte.
     fn has(self, byte: u8) -> bool
         ensures { result ≡ spec.is_within self byte }
     {
@@ -41,7 +41,7 @@ fn is_within_any(ranges: &[ByteRange], byte: u8) -> bool
 }
 
 impl Class {
-    /// Whether it has a byte.
+    /// Whether the class has a byte.
     pub fn has(&self, byte: u8) -> bool
         ensures { result ≡ spec.has self.now byte }
     {

@@ -1,4 +1,4 @@
-//! A pattern and a path without the bytes that their ends have in common.
+//! Strips from a pattern and a path the bytes that their fronts or ends have in common.
 
 ghost use Rattle.std.specs.Prelude.{◌≡◌};
 ghost use Rattle.timefd_lint_files.specs.Matching as spec;
@@ -6,16 +6,16 @@ ghost use Rattle.timefd_lint_files.specs.Ends.{BeginsAlikeIn, Decides, EndsAlike
 
 use crate::token::Token;
 
-/// What is left of a pattern and a path.
+/// What remains of a pattern and a path.
 #[derive(Clone, Copy)]
 pub struct Left<'a> {
     pub tokens: &'a [Token],
     pub path: &'a [u8],
 }
 
-/// How many tokens at the end match one byte each, those that the path ends with; none if one of them
+/// How many tokens at the end match one byte each, namely the last bytes of the path. `None` if one of them
 /// doesn't match its byte.
-#[tactic(auto, using(crate::proofs::EndLemmas::none_behind, crate::proofs::EndLemmas::one_behind, crate::proofs::EndLemmas::other_behind, crate::proofs::EndLemmas::end_of_path_behind))]
+#[tactic(auto, using(crate::proofs::EndLemmas::none_after, crate::proofs::EndLemmas::one_after, crate::proofs::EndLemmas::other_after, crate::proofs::EndLemmas::end_of_path_after))]
 fn end_len(tokens: &[Token], path: &[u8]) -> Option<usize>
     ensures { EndsAlikeIn tokens.now path.now result }
 {
@@ -36,8 +36,8 @@ fn end_len(tokens: &[Token], path: &[u8]) -> Option<usize>
     Some(count)
 }
 
-/// How many tokens in front match one byte each, those that the path begins with; none if one of them
-/// doesn't match its byte.
+/// How many tokens at the front match one byte each, namely the first bytes of the path. `None` if one of
+/// them doesn't match its byte.
 #[tactic(auto, using(crate::proofs::EndLemmas::none_before, crate::proofs::EndLemmas::one_before, crate::proofs::EndLemmas::other_before, crate::proofs::EndLemmas::end_of_path_before))]
 fn front_len(tokens: &[Token], path: &[u8]) -> Option<usize>
     ensures { BeginsAlikeIn tokens.now path.now result }
@@ -59,7 +59,7 @@ fn front_len(tokens: &[Token], path: &[u8]) -> Option<usize>
     Some(count)
 }
 
-/// What stands in front of the end that both have in common; none if their ends differ.
+/// What comes before the end that both have in common. `None` if their ends differ.
 pub fn without_end<'a>(tokens: &'a [Token], path: &'a [u8]) -> Option<Left<'a>>
     ensures { Decides (spec.matches tokens.now path.now) result }
 {
@@ -72,7 +72,7 @@ pub fn without_end<'a>(tokens: &'a [Token], path: &'a [u8]) -> Option<Left<'a>>
     })
 }
 
-/// What stands behind the front that both have in common; none if their fronts differ.
+/// What comes after the front that both have in common. `None` if their fronts differ.
 pub fn without_front<'a>(tokens: &'a [Token], path: &'a [u8]) -> Option<Left<'a>>
     ensures { Decides (spec.matches tokens.now path.now) result }
 {

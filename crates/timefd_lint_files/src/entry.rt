@@ -1,11 +1,11 @@
-//! What stands in a folder, and which of it is looked at.
+//! The entries of a folder, and which of them a walk takes.
 
 ghost use Rattle.std.specs.Prelude.{◌≡◌, ◌++◌, string_bytes, IfOk};
 ghost use Rattle.timefd_lint_files.specs.Entries as spec;
 
 use std::alloc::{AllocError, Global};
 
-/// What a name stands for.
+/// What kind of thing a name leads to.
 #[derive(Clone, Copy, Debug, PartialEq, Eq, PartialOrd, Ord)]
 pub enum Kind {
     /// A regular file.
@@ -19,25 +19,25 @@ pub enum Kind {
 /// An entry of a folder.
 #[derive(PartialEq, Eq, PartialOrd, Ord, Drop)]
 pub struct Entry {
-    /// Its name in its folder.
+    /// The entry's name in its folder.
     pub name: String,
     pub kind: Kind,
 }
 
-/// What a walk makes of an entry.
+/// What a walk does with an entry.
 #[derive(Clone, Copy, Debug, PartialEq, Eq)]
 pub enum Role {
-    /// It passes over it.
+    /// The walk passes over it.
     None,
-    /// It gives its name, unless it is ignored.
+    /// The walk takes its name, unless it is ignored.
     Source,
-    /// It goes into it, unless it is ignored.
+    /// The walk goes into it, unless it is ignored.
     Folder,
 }
 
 impl Entry {
-    /// What a walk makes of it: it passes over links, hidden entries, and files whose names don't end in
-    /// one of these.
+    /// What a walk does with the entry. It passes over links, hidden entries, and files whose names have none
+    /// of these endings.
     pub fn role(&self, endings: &[&str]) -> Role
         ensures { result ≡ spec.role endings.now self.now }
     {
@@ -49,7 +49,7 @@ impl Entry {
         }
     }
 
-    /// Whether it is of this kind, and has this name.
+    /// Whether the entry has this kind and this name.
     fn is(&self, kind: Kind, name: &str) -> bool
         ensures { result ≡ spec.is_entry kind name.now self.now }
     {
@@ -57,7 +57,7 @@ impl Entry {
     }
 }
 
-/// Whether one of the entries is of this kind, and has this name.
+/// Whether one of the entries has this kind and this name.
 pub fn has_entry(entries: &[Entry], kind: Kind, name: &str) -> bool
     ensures { result ≡ spec.has_entry kind name.now entries.now }
 {
@@ -69,7 +69,8 @@ pub fn has_entry(entries: &[Entry], kind: Kind, name: &str) -> bool
     false
 }
 
-/// The path of what has this name in a folder, whose name ends in a `/` or is empty.
+/// The path of the entry with this name in a folder, whose name ends in `/` or is empty. An `Err` says that
+/// memory ran out.
 pub fn joined(alloc: Global, folder: &str, name: &str) -> Result<String, AllocError>
     ensures { IfOk result (λ path. string_bytes path ≡ folder.now ++ name.now) }
 {
@@ -78,7 +79,7 @@ pub fn joined(alloc: Global, folder: &str, name: &str) -> Result<String, AllocEr
     Ok(path)
 }
 
-/// Whether a name ends in one of these.
+/// Whether a name has one of these endings.
 fn ends_in_any(name: &[u8], endings: &[&str]) -> bool
     ensures { result ≡ spec.is_source endings.now name.now }
 {

@@ -11,13 +11,13 @@ use std::alloc::{AllocError, Global};
 /// A `.gitignore` file.
 #[derive(Drop)]
 pub struct IgnoreFile {
-    /// How many bytes of a path name its folder: its patterns match what stands behind them.
+    /// How many bytes of a path name the file's folder. Its patterns match what follows them.
     pub folder_len: usize,
-    /// Its patterns, in turn.
+    /// The patterns, in the order of the lines.
     pub patterns: Vec<Pattern>,
 }
 
-/// How many bytes stand in front of the first line feed, or of the end.
+/// How many bytes come before the first line feed, or before the end.
 fn line_len(text: &[u8]) -> usize
     ensures len { result ≡ spec.line_len text.now }
     ensures within { result ≤ length text.now }
@@ -30,14 +30,14 @@ fn line_len(text: &[u8]) -> usize
     text.len()
 }
 
-/// What stands behind a line of this length, and behind its line feed.
-fn behind_line(text: &[u8], len: usize) -> &[u8]
+/// What follows a line of this length and its line feed.
+fn after_line(text: &[u8], len: usize) -> &[u8]
     requires { len ≤ length text.now }
-    ensures { result.now ≡ spec.behind_line len text.now }
+    ensures { result.now ≡ spec.after_line len text.now }
 {
     match &text[len..] {
         [] => &[],
-        [_, behind @ ..] => behind,
+        [_, after @ ..] => after,
     }
 }
 
@@ -64,17 +64,17 @@ fn patterns_of(alloc: Global, text: &[u8]) -> Result<Vec<Pattern>, AllocError>
         let len = line_len(rest);
         let found = pattern_of(alloc, &rest[..len])?;
         push_any(&mut patterns, found)?;
-        rest = behind_line(rest, len);
+        rest = after_line(rest, len);
     }
     Ok(patterns)
 }
 
 impl IgnoreFile {
-    /// The file of this text, in the folder that so many bytes of a path name.
+    /// Reads a file with this text, in the folder that the first `folder_len` bytes of a path name.
     ///
     /// # Errors
     ///
-    /// That memory ran out.
+    /// An `Err` says that memory ran out.
     pub fn of_text(alloc: Global, folder_len: usize, text: &[u8]) -> Result<IgnoreFile, AllocError>
         ensures { IfOk result (λ file. IsReadAs folder_len text.now file) }
     {

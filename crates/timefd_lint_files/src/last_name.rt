@@ -5,8 +5,8 @@ ghost use Rattle.timefd_lint_files.specs.FileNames as spec;
 
 use crate::token::Token;
 
-/// What stands behind the last `/`, or the whole path if it has none.
-#[tactic(auto, using(crate::proofs::FileNameLemmas::behind_slash, crate::proofs::FileNameLemmas::one_byte, crate::proofs::FileNameLemmas::no_slash, crate::proofs::FileNameLemmas::none_yet))]
+/// What follows the last `/`, or the whole path if it has none.
+#[tactic(auto, using(crate::proofs::FileNameLemmas::after_slash, crate::proofs::FileNameLemmas::one_byte, crate::proofs::FileNameLemmas::no_slash, crate::proofs::FileNameLemmas::none_yet))]
 pub fn file_name(path: &[u8]) -> &[u8]
     ensures { result.now ≡ spec.file_name path.now }
 {
@@ -21,7 +21,7 @@ pub fn file_name(path: &[u8]) -> &[u8]
 }
 
 impl Token {
-    /// Whether it matches within a name: no `/`.
+    /// Whether the token matches within a name: it never matches a `/`.
     fn is_within_name(&self) -> bool
         ensures { result ≡ spec.is_within_name self.now }
     {
@@ -47,7 +47,7 @@ impl Token {
     }
 }
 
-/// Whether each of these matches within a name.
+/// Whether each of these tokens matches within a name.
 fn are_within_name(tokens: &[Token]) -> bool
     ensures { result ≡ spec.are_within_name tokens.now }
 {
@@ -59,12 +59,12 @@ fn are_within_name(tokens: &[Token]) -> bool
     true
 }
 
-/// Whether tokens match a name in any folder: `**/`, and behind it what stays within the name.
+/// Whether the tokens match a name in any folder: `**/`, and then tokens that match within a name.
 pub fn are_of_name(tokens: &[Token]) -> bool
     ensures { result ≡ spec.are_of_name tokens.now }
 {
     match tokens {
         [] => false,
-        [first, behind @ ..] => first.is_folders() && are_within_name(behind),
+        [first, after @ ..] => first.is_folders() && are_within_name(after),
     }
 }

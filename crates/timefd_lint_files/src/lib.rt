@@ -1,4 +1,4 @@
-//! The sources below folders, but those that `.gitignore` files ignore, or that are excluded.
+//! Lists the sources below folders, except those that are excluded or that `.gitignore` files ignore.
 #![tactic(auto)]
 
 mod applying;

@@ -4,35 +4,35 @@ ghost use Rattle.std.specs.Prelude.{◌≡◌, ◌≤◌, false, length};
 ghost use Rattle.timefd_lint_files.specs.Lines as spec;
 ghost use Rattle.timefd_lint_files.specs.Lines.{seen, seen_any};
 
-/// What a line says, but for its tokens.
+/// What a line says, with its tokens still unread.
 #[derive(Clone, Copy)]
 pub struct Line<'a> {
-    /// Whether what it matches is to be kept: it begins with `!`.
+    /// Whether matching paths are kept instead of ignored: the line begins with `!`.
     pub is_negated: bool,
-    /// Whether it matches folders alone: it ends with `/`.
+    /// Whether it matches folders alone: the line ends with `/`.
     pub is_for_folders: bool,
-    /// Whether it matches paths from its file's folder on: a `/` stands in front of its end. Any other
+    /// Whether it matches paths relative to its file's folder: it has a `/` before its end. Without one it
     /// matches names in each folder below.
     pub is_anchored: bool,
-    /// What its tokens are read from.
+    /// The text that the tokens are read from.
     pub text: &'a [u8],
 }
 
-/// Whether a byte is a space that no backslash quotes.
+/// Whether a byte is a space without a backslash before it.
 fn is_spare(is_quoted: bool, byte: u8) -> bool
     ensures { result ≡ spec.is_spare is_quoted byte }
 {
     !is_quoted && byte == b' '
 }
 
-/// Whether it quotes the byte behind it.
+/// Whether a byte is a backslash that quotes the next one.
 fn quotes(is_quoted: bool, byte: u8) -> bool
     ensures { result ≡ spec.quotes is_quoted byte }
 {
     !is_quoted && byte == b'\\'
 }
 
-/// How many bytes of a line are left without the spaces at its end. A space behind a backslash stays.
+/// How many bytes of a line remain without the spaces at its end. A space after a backslash stays.
 #[tactic(auto, using(crate::proofs::LineLemmas::one_more, crate::proofs::LineLemmas::one_spare))]
 fn kept_count(line: &[u8]) -> usize
     ensures count { result ≡ spec.kept_count false line.now }
@@ -66,7 +66,7 @@ fn without_return(line: &[u8]) -> &[u8]
     }
 }
 
-/// What behind a `!` the line says.
+/// What the line says after an optional `!`.
 fn unnegated(is_negated: bool, line: &[u8]) -> Line<'_>
     ensures { seen result ≡ spec.unnegated is_negated line.now }
 {
@@ -76,12 +76,12 @@ fn unnegated(is_negated: bool, line: &[u8]) -> Line<'_>
     }
 }
 
-/// What it says, without the `/` at its end.
+/// What the line says, without a `/` at its end.
 fn anchored(is_negated: bool, is_for_folders: bool, line: &[u8]) -> Line<'_>
     ensures { seen result ≡ spec.anchored is_negated is_for_folders line.now }
 {
     let text = match line {
-        [b'/', behind @ ..] => behind,
+        [b'/', after @ ..] => after,
         _ => line,
     };
     Line {
@@ -92,14 +92,14 @@ fn anchored(is_negated: bool, is_for_folders: bool, line: &[u8]) -> Line<'_>
     }
 }
 
-/// What a line says; nothing if it is empty, or a comment.
+/// What a line says. `None` if it is empty or a comment.
 pub fn line_of(line: &[u8]) -> Option<Line<'_>>
     ensures { seen_any result ≡ spec.line_of line.now }
 {
     let line = trimmed(without_return(line));
     match line {
         [] | [b'#', ..] => None,
-        [b'!', behind @ ..] => Some(unnegated(true, behind)),
+        [b'!', after @ ..] => Some(unnegated(true, after)),
         _ => Some(unnegated(false, line)),
     }
 }

@@ -2,19 +2,20 @@
 
 ghost use Rattle.std.specs.Prelude.{◌≡◌, ◌<◌, ◌↔◌, [], length, IfOk, IsTrue};
 ghost use Rattle.timefd_lint_files.specs.Matching as spec;
-ghost use Rattle.timefd_lint_files.specs.Matching.{IsRow, IsRowBehind, Matches};
+ghost use Rattle.timefd_lint_files.specs.Matching.{IsRow, IsRowAfter, Matches};
 
 use crate::ends::{Left, without_end, without_front};
 use crate::token::Token;
 use std::alloc::AllocError;
 
-// A row has for each place in a path, and for its end, whether tokens match all bytes from there on.
+// A row has an entry for each position in a path, and for its end: whether the tokens match all bytes from
+// that position on.
 
-/// Turns the row of the tokens behind the first into that of all.
+/// Turns the row of the tokens after the first one into the row of all tokens.
 #[tactic(auto, using(crate::proofs::RowLemmas::at_end, crate::proofs::RowLemmas::one_more, crate::proofs::RowLemmas::whole))]
 fn add_first(tokens: &[Token], path: &[u8], row: &mut [bool])
     requires some { 0 < length tokens.now }
-    requires behind { IsRowBehind tokens.now path.now row.old }
+    requires after { IsRowAfter tokens.now path.now row.old }
     ensures { IsRow tokens.now path.now row.new }
 {
     let first = &tokens[0];
@@ -23,7 +24,7 @@ fn add_first(tokens: &[Token], path: &[u8], row: &mut [bool])
     let mut fits = row[at];
     let mut goes_on = false;
     row[at] = takes_none && fits;
-    'places: while at > 0 {
+    'positions: while at > 0 {
         at -= 1;
         goes_on = first.takes(path[at], fits, goes_on);
         fits = row[at];
@@ -31,8 +32,8 @@ fn add_first(tokens: &[Token], path: &[u8], row: &mut [bool])
     }
 }
 
-/// Makes the row of all tokens of that of none.
-#[tactic(auto, using(crate::proofs::RowLemmas::behind_first, crate::proofs::RowLemmas::as_slice))]
+/// Turns the row of no tokens into the row of all tokens.
+#[tactic(auto, using(crate::proofs::RowLemmas::after_first, crate::proofs::RowLemmas::as_slice))]
 fn add_all(tokens: &[Token], path: &[u8], row: &mut [bool])
     requires { IsRow [] path.now row.old }
     ensures { IsRow tokens.now path.now row.new }
@@ -44,9 +45,9 @@ fn add_all(tokens: &[Token], path: &[u8], row: &mut [bool])
     }
 }
 
-/// Whether the tokens match the path, by a row for each. It takes a step for each token, or range of a class,
-/// and byte.
-#[tactic(auto, using(crate::proofs::RowLemmas::none_first, crate::proofs::MatchingLemmas::first_place))]
+/// Whether the tokens match the path, computed row by row. Takes one step for each pair of a token (or a
+/// range of a class) and a byte.
+#[tactic(auto, using(crate::proofs::RowLemmas::none_first, crate::proofs::MatchingLemmas::first_position))]
 fn matches_by_rows(tokens: &[Token], path: &[u8], row: &mut Vec<bool>) -> Result<bool, AllocError>
     ensures { IfOk result (λ matches. matches ≡ spec.matches tokens.now path.now) }
 {
@@ -58,7 +59,7 @@ fn matches_by_rows(tokens: &[Token], path: &[u8], row: &mut Vec<bool>) -> Result
     Ok(answers[0])
 }
 
-/// Whether what is left of the tokens matches what is left of the path.
+/// Whether the remaining tokens match the rest of the path.
 fn matches_left(left: Left<'_>, row: &mut Vec<bool>) -> Result<bool, AllocError>
     ensures { IfOk result (λ matches. matches ≡ spec.matches left.entry.tokens.now left.entry.path.now) }
 {
@@ -68,13 +69,13 @@ fn matches_left(left: Left<'_>, row: &mut Vec<bool>) -> Result<bool, AllocError>
     matches_by_rows(left.tokens, left.path, row)
 }
 
-/// Whether the tokens match the path, whose names have a `/` between them. Most don't, which the bytes at
-/// their ends say: only what is left between two stars, or has one, takes a step for each token, or range of
-/// a class, and byte. The row is room to work in.
+/// Whether the tokens match the path, which has a `/` between its names. Most paths don't match, and the
+/// bytes at their ends already show it. Only what remains between two stars, or contains one, takes a step
+/// for each pair of a token (or a range of a class) and a byte. The row is working space.
 ///
 /// # Errors
 ///
-/// That memory ran out.
+/// An `Err` says that memory ran out.
 #[tactic(auto, using(crate::proofs::MatchingLemmas::as_decided))]
 pub fn matches(tokens: &[Token], path: &[u8], row: &mut Vec<bool>) -> Result<bool, AllocError>
     ensures exact { IfOk result (λ matches. IsTrue matches ↔ Matches tokens.now path.now) }

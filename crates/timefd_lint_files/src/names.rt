@@ -1,29 +1,30 @@
-//! The names of the command line, each folder by the sources below it.
+//! The names of the command line, with each folder replaced by the sources below it.
 
-ghost use Rattle.std.specs.Prelude.{◌≡◌, ◌++◌, ◌∷◌, [], List, string_bytes, IfOk, OnOk};
+ghost use Rattle.std.specs.Prelude.{◌≡◌, ◌≤◌, ◌++◌, ◌∷◌, [], length, List, string_bytes, IfOk, OnOk};
 ghost use Rattle.std.specs.Result.{IfErr};
 ghost use Rattle.timefd_lint_files.specs.Errors.{IsBelow, IsBelowAny, IsWalkError};
 ghost use Rattle.timefd_lint_files.specs.Matching.{Text};
 ghost use Rattle.timefd_lint_files.specs.Walks as spec;
 ghost use Rattle.timefd_lint_files.specs.declared.walk_error.WalkError.TheVariants as errors;
-ghost use Rattle.timefd_lint_files.specs.Walks.{AreExcluded, AreExpanded, IsExpanded, IsWalkBut, texts};
+ghost use Rattle.timefd_lint_files.specs.Walks.{AreExcluded, AreExpanded, IsExpanded, IsKept, IsWalkBut, texts};
 
 use crate::ignore_file::IgnoreFile;
+use crate::rules::is_ignored;
 use crate::system::FileSystem;
 use crate::walk::{Choice, DEPTH_LIMIT, Walk, walk_folder};
 use crate::walk_error::WalkError;
 use std::alloc::{AllocError, Global};
 
-/// Which files below a folder are looked at.
+/// Which files below a folder are taken.
 #[derive(Clone, Copy)]
 pub struct Sought<'a> {
-    /// How the names of sources end.
+    /// The endings of the names of sources, as `.rs`.
     pub endings: &'a [&'a str],
     /// What is passed over: patterns, one a line, as in a `.gitignore` file of the working directory.
     pub excluded: &'a str,
 }
 
-/// Whether a name is that of the standard input.
+/// Whether a name means the standard input.
 fn is_input(name: &str) -> bool
     ensures { result ≡ spec.is_input name.now }
 {
@@ -60,7 +61,8 @@ fn push_name(alloc: Global, walk: &mut Walk, name: &str) -> Result<(), WalkError
 
 /// How many bytes of a folder's name only name the working directory.
 fn here_len(folder: &[u8]) -> usize
-    ensures { result ≡ spec.here_len folder.now }
+    ensures value { result ≡ spec.here_len folder.now }
+    ensures bound { result ≤ length folder.now }
 {
     match folder {
         [b'.', b'/', ..] => 2,
@@ -68,7 +70,7 @@ fn here_len(folder: &[u8]) -> usize
     }
 }
 
-/// The file of what is excluded below a folder, alone.
+/// The single file that holds the patterns of what is excluded below a folder.
 fn excluded_below(alloc: Global, text: &str, folder: &str) -> Result<Vec<IgnoreFile>, AllocError>
     ensures { IfOk result (λ files. AreExcluded text.now folder.now files.items) }
 {
@@ -102,7 +104,59 @@ fn expand_folder<S: FileSystem>(
     walk_folder(system, alloc, choice, walk, folder, DEPTH_LIMIT)
 }
 
-/// Adds a name, or those of the sources below its folder.
+/// Whether a folder that ends before this byte of a name is excluded.
+fn is_out_here(
+    excluded: &[IgnoreFile],
+    front: &[u8],
+    byte: u8,
+    row: &mut Vec<bool>,
+) -> Result<bool, AllocError>
+    ensures { IfOk result (λ out. out ≡ spec.is_out_here excluded.now front.now byte) }
+{
+    if byte == b'/' && !front.is_empty() {
+        return is_ignored(excluded, front, true, row);
+    }
+    Ok(false)
+}
+
+/// Whether a file is excluded, or a folder that it is in.
+#[tactic(auto, using(crate::proofs::OutLemmas::goes_on, crate::proofs::OutLemmas::is_found, crate::proofs::OutLemmas::at_last))]
+fn is_out(excluded: &[IgnoreFile], name: &[u8], row: &mut Vec<bool>) -> Result<bool, AllocError>
+    ensures { IfOk result (λ out. out ≡ spec.is_out excluded.now name.now) }
+{
+    let mut rest = &name[here_len(name)..];
+    'bytes: while let [byte, after @ ..] = rest {
+        let front = &name[..name.len().saturating_sub(rest.len())];
+        if is_out_here(excluded, front, *byte, row)? {
+            return Ok(true);
+        }
+        rest = after;
+    }
+    is_ignored(excluded, name, false, row)
+}
+
+/// Adds the name of a file, unless it is excluded.
+#[tactic(auto, using(crate::proofs::OutLemmas::kept))]
+fn expand_file(
+    alloc: Global,
+    sought: Sought<'_>,
+    walk: &mut Walk,
+    name: &str,
+) -> Result<(), WalkError>
+    ensures names { OnOk result ((names : List Text)
+        × (texts walk.new.names.items ≡ texts walk.old.names.items ++ names)
+        × IsKept sought.entry.excluded.now name.now names) }
+    ensures ignores { walk.new.ignores.items ≡ walk.old.ignores.items }
+    ensures error { IfErr result (λ e. e ≡ errors.Memory) }
+{
+    let excluded = excluded_below(alloc, sought.excluded, name)?;
+    if is_out(&excluded, name.as_bytes(), &mut walk.row)? {
+        return Ok(());
+    }
+    push_name(alloc, walk, name)
+}
+
+/// Adds a name, or the names of the sources below it if it is a folder.
 #[tactic(auto, using(crate::proofs::NameLemmas::as_input, crate::proofs::NameLemmas::as_file, crate::proofs::NameLemmas::as_walked))]
 fn expand<S: FileSystem>(
     system: &S,
@@ -115,7 +169,7 @@ fn expand<S: FileSystem>(
     ensures names { OnOk result ((names : List Text)
         × (texts walk.new.names.items ≡ texts walk.old.names.items ++ names)
         × IsExpanded (IsWalkBut sought.entry.endings.now sought.entry.excluded.now (S.lists system.now)
-        (S.holds system.now)) (S.tells system.now) name.entry names) }
+        (S.holds system.now)) (IsKept sought.entry.excluded.now) (S.tells system.now) name.entry names) }
     ensures ignores { OnOk result (walk.new.ignores.items ≡ []) }
     ensures error { IfErr result
         (IsWalkError (S.fails system.now) (IsBelow (spec.as_folder name.entry.now)) 255) }
@@ -124,23 +178,25 @@ fn expand<S: FileSystem>(
         return push_name(alloc, walk, name);
     }
     if !system.is_folder(name) {
-        return push_name(alloc, walk, name);
+        return expand_file(alloc, sought, walk, name);
     }
     let folder = as_folder(alloc, name)?;
     expand_folder(system, alloc, sought, walk, &folder)
 }
 
-/// The names of the files to look at: each name that is a folder's is replaced by those of the sources
-/// below it, in the order of the bytes of the entries' names. Any other stays as it is, and so does `-`. A
-/// source is a regular file whose name ends in one of these. Hidden entries and links are passed over, and
-/// what is excluded, or what `.gitignore` files in these folders ignore, or the file `.git/info/exclude`.
-/// Those of folders above a named one aren't read, and a pattern with a named class, as `[[:alpha:]]`,
-/// ignores nothing.
+/// The names of the files to check. The name of a folder is replaced by the names of the sources below it, in
+/// the byte order of the entries' names. `-` stays as it is, and so does any other name, unless the file or a
+/// folder that it is in is excluded.
+///
+/// A source is a regular file whose name has one of the endings. Passed over are hidden entries, links, what
+/// is excluded, and what is ignored by `.gitignore` files in these folders or by `.git/info/exclude`. The
+/// `.gitignore` files of folders above a named one aren't read. A pattern with a named class, as
+/// `[[:alpha:]]`, ignores nothing.
 ///
 /// # Errors
 ///
-/// That memory ran out; or the name of a folder or a file with patterns that can't be read, or of a folder
-/// that more than 255 stand around.
+/// An `Err` says that memory ran out, or names a folder or a file with patterns that can't be read, or a
+/// folder inside more than 255 others.
 #[tactic(auto, using(crate::proofs::NameLemmas::at_first))]
 pub fn expanded<S: FileSystem>(
     system: &S,
@@ -149,10 +205,11 @@ pub fn expanded<S: FileSystem>(
     names: &[&str],
 ) -> Result<Vec<String>, WalkError>
     ensures all { IfOk result (λ all. AreExpanded (IsWalkBut sought.entry.endings.now sought.entry.excluded.now
-        (S.lists system.now) (S.holds system.now)) (S.tells system.now) names.now (texts all.items)) }
+        (S.lists system.now) (S.holds system.now)) (IsKept sought.entry.excluded.now) (S.tells system.now) names.now
+        (texts all.items)) }
 
-    // What isn't read begins with one of the names. Behind that stand 255 slashes and more where the depth is
-    // the reason.
+    // The path of what isn't read begins with one of the names. If the depth is the reason, at least 255
+    // slashes follow that name.
     ensures error { IfErr result (IsWalkError (S.fails system.now) (IsBelowAny names.now) 255) }
 {
     let mut walk = Walk::new(alloc);

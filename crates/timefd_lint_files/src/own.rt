@@ -20,7 +20,7 @@ fn tells<S: FileSystem>(
     kind: Kind,
     name: &str,
 ) -> Result<bool, WalkError>
-    ensures told { IfOk result (λ has. Tells (S.lists system.now) folder.now kind name.now has) }
+    ensures reported { IfOk result (λ has. Tells (S.lists system.now) folder.now kind name.now has) }
     ensures error { IfErr result (IsUnread (S.fails system.now) folder.now) }
 {
     match system.entries(alloc, folder) {
@@ -37,7 +37,7 @@ fn has_exclude<S: FileSystem>(
     folder: &str,
     entries: &[Entry],
 ) -> Result<bool, WalkError>
-    ensures told { IfOk result (λ has. HasExclude (S.lists system.now) folder.now entries.now has) }
+    ensures reported { IfOk result (λ has. HasExclude (S.lists system.now) folder.now entries.now has) }
     ensures error { IfErr result (IsUnread (S.fails system.now) folder.now) }
 {
     if !has_entry(entries, Kind::Folder, ".git") {
@@ -51,7 +51,7 @@ fn has_exclude<S: FileSystem>(
     tells(system, alloc, &info, Kind::File, "exclude")
 }
 
-/// The file of this name, whose patterns hold in a folder.
+/// Reads the file of this name, whose patterns apply in a folder.
 #[tactic(auto, using(crate::proofs::ErrorLemmas::unread_in))]
 fn file_of<S: FileSystem>(
     system: &S,
@@ -93,7 +93,8 @@ fn add_if<S: FileSystem>(
     }
 }
 
-/// Adds the files of a folder with these entries: first the exclude file, which `.gitignore` overrules.
+/// Adds the files with patterns of a folder with these entries: first the exclude file, then `.gitignore`,
+/// which overrules it.
 #[tactic(auto, using(crate::proofs::WalkLemmas::with_both))]
 pub fn add_own<S: FileSystem>(
     system: &S,

@@ -8,13 +8,13 @@ use crate::token::Token;
 /// A pattern of a `.gitignore` file.
 #[derive(Drop)]
 pub struct Pattern {
-    /// What a path is made of that it matches, from its file's folder on.
+    /// The tokens that match a path, relative to its file's folder.
     pub tokens: Vec<Token>,
-    /// Whether what it matches is to be kept.
+    /// Whether matching paths are kept instead of ignored.
     pub is_negated: bool,
     /// Whether it matches folders alone.
     pub is_for_folders: bool,
-    /// Whether it matches a name in any folder: the last name of a path alone says whether it does.
+    /// Whether it matches a name in any folder, so that the last name of a path alone decides.
     pub is_of_name: bool,
     ghost named: { is_of_name ≡ spec.are_of_name tokens.items },
 }

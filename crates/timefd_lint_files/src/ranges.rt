@@ -9,14 +9,14 @@ use crate::class::{ByteRange, Class};
 use crate::token::{Step, Token};
 use std::alloc::{AllocError, Global};
 
-/// A byte, and what stands behind it.
+/// A byte, and what follows it.
 #[derive(Clone, Copy)]
 pub struct ByteStep<'a> {
     pub byte: u8,
     pub rest: &'a [u8],
 }
 
-/// A range, and what stands behind it.
+/// A range, and what follows it.
 #[derive(Clone, Copy)]
 pub struct RangeStep<'a> {
     pub range: ByteRange,
@@ -34,7 +34,7 @@ fn bare(text: &[u8]) -> Option<ByteStep<'_>>
     }
 }
 
-/// The first byte, or the one behind a backslash.
+/// The first byte, or the one after it if it is a backslash.
 fn first_byte(text: &[u8]) -> Option<ByteStep<'_>>
     ensures read { read_byte result ≡ spec.first_byte text.now }
     ensures within { MatchOption result ⊤ (λ step. length step.rest.now < length text.now) }
@@ -45,7 +45,7 @@ fn first_byte(text: &[u8]) -> Option<ByteStep<'_>>
     }
 }
 
-/// Whether a byte comes that doesn't close the class.
+/// Whether the next byte exists and doesn't close the class.
 fn goes_on(text: &[u8]) -> bool
     ensures { result ≡ spec.goes_on text.now }
 {
@@ -55,7 +55,7 @@ fn goes_on(text: &[u8]) -> bool
     }
 }
 
-/// The range from a byte up to the first of a text.
+/// The range from a byte up to the first byte of a text.
 fn up_to(first: u8, text: &[u8]) -> Option<RangeStep<'_>>
     ensures read { read_range result ≡ spec.up_to first (spec.first_byte text.now) }
     ensures within { MatchOption result ⊤ (λ step. length step.rest.now ≤ length text.now) }
@@ -71,20 +71,20 @@ fn up_to(first: u8, text: &[u8]) -> Option<RangeStep<'_>>
 }
 
 /// The range that begins with this byte.
-fn range_from(first: u8, behind: &[u8]) -> Option<RangeStep<'_>>
-    ensures read { read_range result ≡ spec.range_from first behind.now }
-    ensures within { MatchOption result ⊤ (λ step. length step.rest.now ≤ length behind.now) }
+fn range_from(first: u8, after: &[u8]) -> Option<RangeStep<'_>>
+    ensures read { read_range result ≡ spec.range_from first after.now }
+    ensures within { MatchOption result ⊤ (λ step. length step.rest.now ≤ length after.now) }
 {
-    match behind {
+    match after {
         [b'-', text @ ..] if goes_on(text) => up_to(first, text),
         _ => Some(RangeStep {
             range: ByteRange { first, last: first },
-            rest: behind,
+            rest: after,
         }),
     }
 }
 
-/// Whether a colon stands in front of the next closing bracket.
+/// Whether a colon comes right before the next closing bracket.
 fn ends_in_colon(text: &[u8]) -> bool
     ensures { result ≡ spec.ends_in_colon false text.now }
 {
@@ -98,34 +98,34 @@ fn ends_in_colon(text: &[u8]) -> bool
     false
 }
 
-/// Whether behind a bracket the name of a class stands between colons.
+/// Whether the name of a class between colons follows a bracket.
 fn is_name(text: &[u8]) -> bool
     ensures { result ≡ spec.is_name text.now }
 {
     match text {
-        [b':', behind @ ..] => ends_in_colon(behind),
+        [b':', after @ ..] => ends_in_colon(after),
         _ => false,
     }
 }
 
 /// Whether no range begins with this byte.
-fn begins_no_range(is_first: bool, byte: u8, behind: &[u8]) -> bool
-    ensures { result ≡ spec.begins_no_range is_first byte behind.now }
+fn begins_no_range(is_first: bool, byte: u8, after: &[u8]) -> bool
+    ensures { result ≡ spec.begins_no_range is_first byte after.now }
 {
     match byte {
         b']' => !is_first,
-        b'[' => is_name(behind),
+        b'[' => is_name(after),
         _ => false,
     }
 }
 
-/// The range that a text begins with, at the beginning of a class or further on.
+/// The range that a text begins with. `is_first` says that it is the first of its class.
 fn first_range(is_first: bool, text: &[u8]) -> Option<RangeStep<'_>>
     ensures read { read_range result ≡ spec.first_range is_first text.now }
     ensures within { MatchOption result ⊤ (λ step. length step.rest.now < length text.now) }
 {
     match text {
-        [byte, behind @ ..] if !begins_no_range(is_first, *byte, behind) => {
+        [byte, after @ ..] if !begins_no_range(is_first, *byte, after) => {
             let first = first_byte(text)?;
             range_from(first.byte, first.rest)
         }
@@ -133,9 +133,9 @@ fn first_range(is_first: bool, text: &[u8]) -> Option<RangeStep<'_>>
     }
 }
 
-/// What stands behind the bracket that closes a class.
-fn behind_closing(text: &[u8]) -> Option<&[u8]>
-    ensures read { read_rest result ≡ spec.behind_closing text.now }
+/// What follows the bracket that closes a class. `None` if the next byte isn't that bracket.
+fn after_closing(text: &[u8]) -> Option<&[u8]>
+    ensures read { read_rest result ≡ spec.after_closing text.now }
     ensures within { MatchOption result ⊤ (λ rest. length rest.now ≤ length text.now) }
 {
     match text {
@@ -144,16 +144,16 @@ fn behind_closing(text: &[u8]) -> Option<&[u8]>
     }
 }
 
-/// Adds the ranges of a class, and answers what stands behind it; none if it isn't closed, or has a
-/// named class in it.
+/// Adds the ranges of a class, and returns what follows it. `None` if it isn't closed, or has a named class
+/// in it.
 #[tactic(auto, using(crate::proofs::ClassLemmas::at_first, crate::proofs::ClassLemmas::one_more, crate::proofs::ClassLemmas::at_last))]
 fn push_ranges<'a>(
     ranges: &mut Vec<ByteRange>,
     text: &'a [u8],
 ) -> Result<Option<&'a [u8]>, AllocError>
-    ensures ranges { IfOk result (λ behind. (more : List ByteRange)
-        × (ranges.new.items ≡ ranges.old.items ++ more) × AreRanges true text.now more (read_rest behind)) }
-    ensures within { IfOk result (λ behind. MatchOption behind ⊤ (λ rest. length rest.now ≤ length text.now)) }
+    ensures ranges { IfOk result (λ after. (more : List ByteRange)
+        × (ranges.new.items ≡ ranges.old.items ++ more) × AreRanges true text.now more (read_rest after)) }
+    ensures within { IfOk result (λ after. MatchOption after ⊤ (λ rest. length rest.now ≤ length text.now)) }
 {
     let mut is_first = true;
     let mut rest = text;
@@ -162,10 +162,10 @@ fn push_ranges<'a>(
         is_first = false;
         rest = step.rest;
     }
-    Ok(behind_closing(rest))
+    Ok(after_closing(rest))
 }
 
-/// The class with these ranges.
+/// The class with the ranges at the front of a text.
 fn class(alloc: Global, is_negated: bool, text: &[u8]) -> Result<Step<'_>, AllocError>
     ensures begin { IfOk result (λ step. IsClass is_negated text.now step.token step.rest.now) }
     ensures within { IfOk result (λ step. length step.rest.now ≤ length text.now) }
@@ -183,13 +183,13 @@ fn class(alloc: Global, is_negated: bool, text: &[u8]) -> Result<Step<'_>, Alloc
     }
 }
 
-/// The class behind an opening bracket.
+/// The class after an opening bracket. An `Err` says that memory ran out.
 pub fn begin_class(alloc: Global, text: &[u8]) -> Result<Step<'_>, AllocError>
     ensures begin { IfOk result (λ step. BeginsClass text.now step.token step.rest.now) }
     ensures within { IfOk result (λ step. length step.rest.now ≤ length text.now) }
 {
     match text {
-        [b'!' | b'^', behind @ ..] => class(alloc, true, behind),
+        [b'!' | b'^', after @ ..] => class(alloc, true, after),
         _ => class(alloc, false, text),
     }
 }

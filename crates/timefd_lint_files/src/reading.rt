@@ -10,7 +10,7 @@ use crate::token::Token;
 use crate::tokens::push_tokens;
 use std::alloc::{AllocError, Global};
 
-/// The tokens of a line. One that isn't anchored matches in any folder.
+/// The tokens of a line. A line that isn't anchored matches in any folder.
 fn tokens_of(alloc: Global, line: Line<'_>) -> Result<Vec<Token>, AllocError>
     ensures { IfOk result (λ tokens. HasTokens line.entry tokens.items) }
 {
@@ -22,11 +22,11 @@ fn tokens_of(alloc: Global, line: Line<'_>) -> Result<Vec<Token>, AllocError>
     Ok(tokens)
 }
 
-/// The pattern of a line, without its end; none if the line is empty or a comment.
+/// The pattern of a line, which is given without its line feed. `None` if the line is empty or a comment.
 ///
 /// # Errors
 ///
-/// That memory ran out.
+/// An `Err` says that memory ran out.
 pub fn pattern_of(alloc: Global, line: &[u8]) -> Result<Option<Pattern>, AllocError>
     ensures { IfOk result (λ found. IsRead line.now found) }
 {

@@ -1,4 +1,4 @@
-//! What `.gitignore` files say of a path.
+//! What `.gitignore` files say about a path.
 
 ghost use Rattle.std.specs.Prelude.{◌≡◌, IfOk};
 ghost use Rattle.timefd_lint_files.specs.FileNames.{file_name};
@@ -9,17 +9,17 @@ use crate::last_name::file_name;
 use crate::pattern::Pattern;
 use std::alloc::AllocError;
 
-/// What a pattern says of the paths that it matches.
+/// What a pattern says about the paths that it matches.
 #[derive(Clone, Copy, Debug, PartialEq, Eq)]
 pub enum Verdict {
     /// They are ignored.
     Ignored,
-    /// They are kept, whatever patterns in front of it say.
+    /// They are kept, whatever earlier patterns say.
     Kept,
 }
 
 impl Pattern {
-    /// What it says of the paths that it matches.
+    /// What the pattern says about the paths that it matches.
     pub fn verdict(&self) -> Verdict
         ensures { result ≡ spec.verdict self.now }
     {
@@ -32,7 +32,7 @@ impl Pattern {
 }
 
 impl IgnoreFile {
-    /// What its last pattern that matches a path says; nothing if none does.
+    /// What the file's last matching pattern says about a path. `None` if no pattern matches.
     fn verdict(
         &self,
         path: &[u8],
@@ -46,7 +46,7 @@ impl IgnoreFile {
     }
 }
 
-/// What the last pattern that matches a path says, whose last name this is; nothing if none does.
+/// What the last matching pattern says about a path with this last name. `None` if no pattern matches.
 #[tactic(auto, using(crate::proofs::RuleLemmas::later_twice, crate::proofs::RuleLemmas::from_none))]
 fn last_verdict(
     patterns: &[Pattern],
@@ -68,8 +68,8 @@ fn last_verdict(
     Ok(last)
 }
 
-/// What the deepest file says that says anything of a path. The files are those of the folders that the
-/// path leads through, from the top.
+/// What the deepest file that says anything about a path says. The files are those of the folders on the way
+/// to the path, from the top.
 #[tactic(auto, using(crate::proofs::RuleLemmas::later_twice, crate::proofs::RuleLemmas::from_none))]
 fn deepest_verdict(
     files: &[IgnoreFile],
@@ -89,13 +89,13 @@ fn deepest_verdict(
     Ok(deepest)
 }
 
-/// Whether a path is ignored: by the last pattern that matches it, of the deepest file that has one. The
-/// files are those of the folders that the path leads through, from the top. That no folder in front of
-/// it is ignored, the caller sees to. The row is room to work in.
+/// Whether a path is ignored: the last matching pattern decides, in the deepest file that has one. The files
+/// are those of the folders on the way to the path, from the top. The caller checks that no folder above the
+/// path is ignored. The row is working space.
 ///
 /// # Errors
 ///
-/// That memory ran out.
+/// An `Err` says that memory ran out.
 pub fn is_ignored(
     files: &[IgnoreFile],
     path: &[u8],
@@ -110,12 +110,12 @@ pub fn is_ignored(
     }
 }
 
-/// Whether a walk passes over a path: by these files, whatever those behind them say, or by those. The
-/// row is room to work in.
+/// Whether a walk passes over a path: the path is excluded, whatever `ignores` says, or it is ignored. The
+/// row is working space.
 ///
 /// # Errors
 ///
-/// That memory ran out.
+/// An `Err` says that memory ran out.
 pub fn is_passed_over(
     excluded: &[IgnoreFile],
     ignores: &[IgnoreFile],

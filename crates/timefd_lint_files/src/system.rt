@@ -1,4 +1,4 @@
-//! What has files and folders.
+//! Systems with files and folders.
 
 ghost use Rattle.std.specs.Fs.{IsDir, IsFile};
 ghost use Rattle.std.specs.Prelude.{◌≡◌, ◌↔◌, List, Bool, IfOk, ⊤};
@@ -20,35 +20,35 @@ use std::rt::Files;
 pub enum ReadError {
     /// Memory ran out.
     Memory,
-    /// The system says so.
+    /// The system reports this kind of error.
     Failed(ErrorKind),
 }
 
-/// What has files and folders.
+/// A system with files and folders.
 pub trait FileSystem {
-    // That these may be the entries of a folder.
+    // These may be the entries of a folder.
     ghost lists: { Self → Text → List Entry → Type 0 };
 
-    // That this may be the text of a file.
+    // This may be the text of a file.
     ghost holds: { Self → Text → Text → Type 0 };
 
-    // That a folder or a file may not be read, for this reason.
+    // Reading a folder or a file may fail for this reason.
     ghost fails: { Self → Text → ErrorKind → Type 0 };
 
-    // That a name may stand for a folder, or for none.
+    // A name may lead to a folder (`true`), or not.
     ghost tells: { Self → Text → Bool → Type 0 };
 
-    /// The entries of a folder, in any order.
+    /// The entries of a folder, in any order. An `Err` says why it can't be read.
     fn entries(&self, alloc: Global, folder: &str) -> Result<Vec<Entry>, ReadError>
         ensures listed { IfOk result (λ entries. lists self.now folder.now entries.items) }
         ensures error { IfErr result (IsReadError (fails self.now folder.now)) };
 
-    /// All bytes of a file.
+    /// All bytes of a file. An `Err` says why it can't be read.
     fn text(&self, alloc: Global, file: &str) -> Result<Vec<u8>, ReadError>
         ensures text { IfOk result (λ text. holds self.now file.now text.items) }
         ensures error { IfErr result (IsReadError (fails self.now file.now)) };
 
-    /// Whether a name stands for a folder, also through links.
+    /// Whether a name leads to a folder, also through links.
     fn is_folder(&self, name: &str) -> bool
         ensures { tells self.now name.now result };
 }
@@ -88,7 +88,7 @@ fn entry_of<R: Files>(alloc: Global, entry: &DirEntry<R, Global>) -> Result<Entr
     })
 }
 
-// What the system's files hold isn't known.
+// Nothing is known about what the system's files hold.
 impl<R: Files + AllocGlobal + Clone + Drop> FileSystem for R {
     ghost lists = { λ _ _ _. ⊤ };
 

@@ -1,4 +1,4 @@
-//! What a pattern of a `.gitignore` file is made of.
+//! The parts of a pattern of a `.gitignore` file.
 
 ghost use Rattle.std.specs.Prelude.{◌≡◌};
 ghost use Rattle.timefd_lint_files.specs.Matching as spec;
@@ -16,16 +16,16 @@ pub enum Token {
     OneOf(Class),
     /// `*`: any bytes but `/`, or none.
     Star,
-    /// `**/`: any folders, each with the `/` behind it, or none.
+    /// `**/`: any folders, each with the `/` after it, or none.
     Folders,
-    /// `**` behind a `/`, at the end: any bytes.
+    /// `**` after a `/`, at the end: any bytes.
     Rest,
-    /// What matches nothing: a backslash at the end, a class that isn't closed, or one with a named class
-    /// in it, as `[[:alpha:]]`: those aren't known here.
+    /// Matches nothing. It is a backslash at the end, a class that isn't closed, or one with a named class in
+    /// it, as `[[:alpha:]]`, which isn't supported here.
     Nothing,
 }
 
-/// A token, and what stands behind it.
+/// A token, and what follows it.
 #[derive(Drop)]
 pub struct Step<'a> {
     pub token: Token,
@@ -33,7 +33,7 @@ pub struct Step<'a> {
 }
 
 impl Token {
-    /// Whether it matches no byte at all.
+    /// Whether the token also matches no byte at all.
     pub fn takes_none(&self) -> bool
         ensures { result ≡ spec.takes_none self.now }
     {
@@ -43,9 +43,9 @@ impl Token {
         }
     }
 
-    /// Whether it matches a front that begins with this byte, and the tokens behind it match the rest.
-    /// Of the bytes behind this one the tokens behind it match all where `fits`, and it and they match
-    /// all, it at least one of them, where `goes_on`.
+    /// Whether this token matches a prefix that begins with `byte`, and the tokens after it match the rest.
+    /// `fits` says whether the tokens after it match all bytes after `byte`. `goes_on` says whether this
+    /// token matches at least one more of those bytes, and the tokens after it match the rest.
     pub fn takes(&self, byte: u8, fits: bool, goes_on: bool) -> bool
         ensures { result ≡ spec.takes self.now byte fits goes_on }
     {

@@ -8,27 +8,27 @@ use crate::ranges::begin_class;
 use crate::token::{Step, Token};
 use std::alloc::{AllocError, Global};
 
-/// What stands behind all stars in front.
-fn behind_stars(text: &[u8]) -> &[u8]
-    ensures rest { result.now ≡ spec.behind_stars text.now }
+/// What follows all stars at the front.
+fn after_stars(text: &[u8]) -> &[u8]
+    ensures rest { result.now ≡ spec.after_stars text.now }
     ensures within { length result.now ≤ length text.now }
 {
     let mut rest = text;
-    'stars: while let [b'*', behind @ ..] = rest {
-        rest = behind;
+    'stars: while let [b'*', after @ ..] = rest {
+        rest = after;
     }
     rest
 }
 
-/// Behind two stars or more that begin a name.
-fn doubled(behind: &[u8]) -> Step<'_>
-    ensures begin { begun result ≡ spec.doubled behind.now }
-    ensures within { length result.rest.now ≤ length behind.now }
+/// The token for two or more stars that begin a name. `after` is what follows them.
+fn doubled(after: &[u8]) -> Step<'_>
+    ensures begin { begun result ≡ spec.doubled after.now }
+    ensures within { length result.rest.now ≤ length after.now }
 {
-    match behind {
+    match after {
         [] => Step {
             token: Token::Rest,
-            rest: behind,
+            rest: after,
         },
         [b'/', rest @ ..] => Step {
             token: Token::Folders,
@@ -36,17 +36,17 @@ fn doubled(behind: &[u8]) -> Step<'_>
         },
         _ => Step {
             token: Token::Star,
-            rest: behind,
+            rest: after,
         },
     }
 }
 
-/// Behind the first star.
+/// The token for a first star, read from what follows it.
 fn starred(begins_name: bool, text: &[u8]) -> Step<'_>
     ensures begin { begun result ≡ spec.starred begins_name text.now }
     ensures within { length result.rest.now ≤ length text.now }
 {
-    let rest = behind_stars(text);
+    let rest = after_stars(text);
     if begins_name && rest.len() < text.len() {
         return doubled(rest);
     }
@@ -56,7 +56,7 @@ fn starred(begins_name: bool, text: &[u8]) -> Step<'_>
     }
 }
 
-/// Behind a backslash.
+/// The token for a backslash, read from what follows it.
 fn escaped(text: &[u8]) -> Step<'_>
     ensures begin { begun result ≡ spec.escaped text.now }
     ensures within { length result.rest.now ≤ length text.now }
@@ -73,27 +73,26 @@ fn escaped(text: &[u8]) -> Step<'_>
     }
 }
 
-/// The token that begins with this byte, which opens no class.
-fn begun_by(begins_name: bool, byte: u8, behind: &[u8]) -> Step<'_>
-    ensures begin { begun result ≡ spec.begun_by begins_name byte behind.now }
-    ensures within { length result.rest.now ≤ length behind.now }
+/// The token that begins with this byte, which doesn't open a class.
+fn begun_by(begins_name: bool, byte: u8, after: &[u8]) -> Step<'_>
+    ensures begin { begun result ≡ spec.begun_by begins_name byte after.now }
+    ensures within { length result.rest.now ≤ length after.now }
 {
     match byte {
-        b'*' => starred(begins_name, behind),
-        b'\\' => escaped(behind),
+        b'*' => starred(begins_name, after),
+        b'\\' => escaped(after),
         b'?' => Step {
             token: Token::Any,
-            rest: behind,
+            rest: after,
         },
         _ => Step {
             token: Token::Byte(byte),
-            rest: behind,
+            rest: after,
         },
     }
 }
 
-/// The token that a text begins with; none at its end. At the beginning of a name two stars mean
-/// folders.
+/// The token that a text begins with. `None` at its end. At the beginning of a name two stars mean folders.
 fn first(alloc: Global, begins_name: bool, text: &[u8]) -> Result<Option<Step<'_>>, AllocError>
     ensures begin { IfOk result (λ found. BeginsAny begins_name text.now found) }
     ensures within { IfOk result (λ found.
@@ -101,12 +100,12 @@ fn first(alloc: Global, begins_name: bool, text: &[u8]) -> Result<Option<Step<'_
 {
     match text {
         [] => Ok(None),
-        [b'[', behind @ ..] => Ok(Some(begin_class(alloc, behind)?)),
-        [byte, behind @ ..] => Ok(Some(begun_by(begins_name, *byte, behind))),
+        [b'[', after @ ..] => Ok(Some(begin_class(alloc, after)?)),
+        [byte, after @ ..] => Ok(Some(begun_by(begins_name, *byte, after))),
     }
 }
 
-/// Whether a name begins behind a token.
+/// Whether a name begins after a token.
 fn ends_name(token: &Token) -> bool
     ensures { result ≡ spec.ends_name token.now }
 {
@@ -117,7 +116,7 @@ fn ends_name(token: &Token) -> bool
     }
 }
 
-/// Adds the tokens of a text that begins a name.
+/// Adds the tokens of a text that begins a name. An `Err` says that memory ran out.
 #[tactic(auto, using(crate::proofs::TokenLemmas::at_first, crate::proofs::TokenLemmas::one_more, crate::proofs::TokenLemmas::at_last))]
 pub fn push_tokens(alloc: Global, tokens: &mut Vec<Token>, text: &[u8]) -> Result<(), AllocError>
     ensures { IfOk result (λ _. (more : List Token) × (tokens.new.items ≡ tokens.old.items ++ more)

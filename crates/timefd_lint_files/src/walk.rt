@@ -14,24 +14,24 @@ use crate::system::FileSystem;
 use crate::walk_error::{Reason, WalkError, failed, unread};
 use std::alloc::{AllocError, Global};
 
-/// How many folders may stand in one another.
+/// How many folders may be nested in one another.
 pub const DEPTH_LIMIT: usize = 255;
 
 /// What a walk takes.
 #[derive(Clone, Copy)]
 pub struct Choice<'a> {
-    /// How the names of sources end.
+    /// The endings of the names of sources.
     pub endings: &'a [&'a str],
     /// What is passed over, whatever other files with patterns say.
     pub excluded: &'a [IgnoreFile],
 }
 
-/// Where a walk is, and what it has found.
+/// Where a walk is, and what it has found so far.
 #[derive(Drop)]
 pub struct Walk {
-    /// The files with patterns of the folders that it is in, from the top.
+    /// The files with patterns of the folders around the current position, from the top.
     pub ignores: Vec<IgnoreFile>,
-    /// Room to work in.
+    /// Working space.
     pub row: Vec<bool>,
     /// The names of the sources so far.
     pub names: Vec<String>,
@@ -57,7 +57,7 @@ impl Walk {
     }
 }
 
-/// The entries of a folder, by name.
+/// The entries of a folder, sorted by name.
 #[tactic(auto, using(crate::proofs::ErrorLemmas::unread_at))]
 fn sorted_entries<S: FileSystem>(
     system: &S,
@@ -76,8 +76,8 @@ fn sorted_entries<S: FileSystem>(
     }
 }
 
-/// Adds the name of an entry that is a source, or answers the name of a folder to go into. What is
-/// excluded or ignored it passes over.
+/// Adds the name of an entry that is a source, or returns the name of a folder to go into. Passes over what
+/// is excluded or ignored.
 fn look_at(
     alloc: Global,
     choice: Choice<'_>,
@@ -114,8 +114,8 @@ fn look_at(
     Ok(None)
 }
 
-/// Adds the names of the sources below a folder, whose name ends in a `/` or is empty. Folders may stand
-/// in one another up to this depth.
+/// Adds the names of the sources below a folder, whose name ends in `/` or is empty. Folders may be nested in
+/// one another up to this depth. An `Err` says why the walk ends early.
 pub fn walk_folder<S: FileSystem>(
     system: &S,
     alloc: Global,

@@ -1,4 +1,4 @@
-//! Why a walk didn't come to its end.
+//! Why a walk ends early.
 
 ghost use Rattle.timefd_lint_files.specs.Errors.{IsFailureOf, IsUnreadOf};
 
@@ -9,18 +9,18 @@ use std::io::ErrorKind;
 /// Why the sources below a folder aren't known.
 #[derive(Clone, Copy, Debug, PartialEq, Eq)]
 pub enum Reason {
-    /// It, or a file with patterns in it, can't be read.
+    /// The folder, or a file with patterns in it, can't be read.
     Unread(ErrorKind),
-    /// It stands in too many others.
+    /// The folder is inside too many others.
     TooDeep,
 }
 
-/// Why a walk didn't come to its end.
+/// Why a walk ends early.
 #[derive(Debug, Drop)]
 pub enum WalkError {
     /// Memory ran out.
     Memory,
-    /// This fails of a folder or a file.
+    /// A folder or a file fails, for this reason.
     Failed { path: String, reason: Reason },
 }
 
@@ -35,7 +35,7 @@ impl From<AllocError> for WalkError {
     }
 }
 
-/// The error that this fails of a folder or a file; `Memory` where there is none for its name.
+/// The error that a folder or a file fails for this reason. `Memory` if there is no memory for its name.
 pub fn failed(alloc: Global, path: &str, reason: Reason) -> WalkError
     ensures { IsFailureOf path.now reason result }
 {
@@ -45,7 +45,7 @@ pub fn failed(alloc: Global, path: &str, reason: Reason) -> WalkError
     }
 }
 
-/// The error that a folder or a file can't be read.
+/// The error for a folder or a file that can't be read.
 pub fn unread(alloc: Global, path: &str, error: ReadError) -> WalkError
     ensures { IsUnreadOf path.now error result }
 {

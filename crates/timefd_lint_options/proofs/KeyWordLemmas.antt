@@ -1,4 +1,4 @@
--- One key more, and one word more.
+-- One more key, and one more word.
 use Rattle.std.proofs.Common.{◌≡◌, List, [], ◌∷◌, ◌++◌, sym, ap, ◌∙◌, append_assoc, append-nil}
 use Rattle.std.specs.Prelude.{Result, Ok, Err}
 use Rattle.std.proofs.lemmas.List.{map-append}
@@ -8,7 +8,7 @@ use Rattle.timefd_keys.specs.declared.key.Key.{Key}
 use Rattle.timefd_keys.specs.declared.key.KeyFault.{KeyFault}
 use Rattle.timefd_keys.specs.Keys.{Named, key_of, keys_in, listed, named, named_all, seen}
 use Rattle.timefd_lint_options.specs.declared.keys.Expected.{Expected}
-use Rattle.timefd_lint_options.specs.KeyWords.{behind, keys_at, keys_from}
+use Rattle.timefd_lint_options.specs.KeyWords.{after, keys_at, keys_from}
 
 pub is_key : (word : Text) (old new : List Key) (key : Key) (r : Result Key KeyFault)
     → seen r ≡ key_of word → r ≡ Ok key → new ≡ old ++ key ∷ []
@@ -27,12 +27,12 @@ no_key old = sym (append-nil (named_all old))
 
 pub one_more : (expected next : Expected) (word : Bor Text) (more rest : List (Bor Text))
     (old new all : List Named) → new ≡ old ++ keys_at expected word.now
-    → next ≡ behind expected word.now → rest ≡ word ∷ more
+    → next ≡ after expected word.now → rest ≡ word ∷ more
     → old ++ keys_from expected rest ≡ all → new ++ keys_from next more ≡ all
 one_more expected next word more rest old new all pushed is split so_far =
     ap (λ x. x ++ keys_from next more) pushed
     ∙ (ap (λ e. (old ++ keys_at expected word.now) ++ keys_from e more) is
-    ∙ (append_assoc old (keys_at expected word.now) (keys_from (behind expected word.now) more)
+    ∙ (append_assoc old (keys_at expected word.now) (keys_from (after expected word.now) more)
     ∙ (ap (λ ws. old ++ keys_from expected ws) (sym split) ∙ so_far)))
 
 pub at_last : (expected : Expected) (rest : List (Bor Text)) (old all : List Named) → rest ≡ []

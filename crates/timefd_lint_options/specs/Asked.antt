@@ -1,4 +1,4 @@
--- What words ask for, read from the first to the last.
+-- What the arguments ask for, read from the first to the last.
 use Rattle.std.specs.Prelude.{List, [], ◌∷◌, Option, Some, None, Result, Ok, Err, if◌then◌else◌}
 use denote.Ref.{Bor}
 use Rattle.timefd_component.specs.Tree.{Text}
@@ -33,27 +33,27 @@ run s names = unless (conflict s names) s names
 -- the first of the words that looks like an option
 abbrev pub first_option : List (Bor Text) → Option (Bor Text)
 first_option [] = None
-first_option (word ∷ behind) = if is_option word.now then Some word else first_option behind
+first_option (word ∷ after) = if is_option word.now then Some word else first_option after
 
 abbrev pub named_by : Option (Bor Text) → Settings → Names → Answer
-named_by (Some option) s names = Err (errors.BehindFile option)
+named_by (Some option) s names = Err (errors.AfterFile option)
 named_by None s names = run s names
 
--- Behind the name of a file no word may look like an option.
+-- After the name of a file no word may look like an option.
 abbrev pub named : Settings → Text → List (Bor Text) → Answer
-named s name behind = named_by (first_option behind) s (names_from name behind)
+named s name after = named_by (first_option after) s (names_from name after)
 
 abbrev pub first_by : Word → Settings → Bor Text → List (Bor Text) → Step
-first_by (Flag flag) s word behind = Next (record { settings = with_flag s flag; pending = None })
-first_by (HasValue option) s word behind = Next (record { settings = s; pending = Some option })
-first_by Help s word behind = Done (Ok asks.Help)
-first_by Version s word behind = Done (Ok asks.Version)
-first_by End s word behind = Done (run s (names_of behind))
-first_by Unknown s word behind = Done (Err (errors.Unknown word))
-first_by File s word behind = Done (named s word.now behind)
+first_by (Flag flag) s word after = Next (record { settings = with_flag s flag; pending = None })
+first_by (HasValue option) s word after = Next (record { settings = s; pending = Some option })
+first_by Help s word after = Done (Ok asks.Help)
+first_by Version s word after = Done (Ok asks.Version)
+first_by End s word after = Done (run s (names_of after))
+first_by Unknown s word after = Done (Err (errors.Unknown word))
+first_by File s word after = Done (named s word.now after)
 
 abbrev pub first : Settings → Bor Text → List (Bor Text) → Step
-first s word behind = first_by (word_of word.now) s word behind
+first s word after = first_by (word_of word.now) s word after
 
 abbrev pub valued_by : Result Settings OptionError → Step
 valued_by (Ok s) = Next (record { settings = s; pending = None })
@@ -63,12 +63,12 @@ abbrev pub valued : Settings → Valued → Bor Text → Step
 valued s option word = valued_by (with_value s option word)
 
 abbrev pub step_by : Option Valued → Settings → Bor Text → List (Bor Text) → Step
-step_by (Some option) s word behind = valued s option word
-step_by None s word behind = first s word behind
+step_by (Some option) s word after = valued s option word
+step_by None s word after = first s word after
 
--- What one more word comes to.
+-- What one more word leads to.
 abbrev pub one_more : State → Bor Text → List (Bor Text) → Step
-one_more state word behind = step_by state.pending state.settings word behind
+one_more state word after = step_by state.pending state.settings word after
 
 abbrev pub at_end_by : Option Valued → Settings → Answer
 at_end_by (Some option) s = Err (errors.MissingValue option)
@@ -83,7 +83,7 @@ go more (Done answer) = answer
 
 abbrev pub asked_from : State → List (Bor Text) → Answer
 asked_from state [] = at_end state
-asked_from state (word ∷ behind) = go (λ s. asked_from s behind) (one_more state word behind)
+asked_from state (word ∷ after) = go (λ s. asked_from s after) (one_more state word after)
 
 -- What all words ask for.
 abbrev pub options_of : List (Bor Text) → Answer

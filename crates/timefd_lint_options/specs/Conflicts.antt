@@ -1,4 +1,4 @@
--- What doesn't go together in settings, and with the names of files.
+-- Settings that conflict, with each other or with the names of files.
 use Rattle.std.specs.Prelude.{Bool, true, false, ◌&&◌, ◌||◌, ◌==◌, not, Option, Some, None, is_some, if◌then◌else◌}
 use Rattle.timefd_drawing.specs.declared.draw.Format.{Format}
 use Rattle.timefd_drawing.specs.declared.draw.Format.TheVariants.{Human, Json, Short, Github, Sarif}
@@ -26,7 +26,7 @@ is_log Short = false
 is_log Github = false
 is_log Sarif = true
 
--- from version 1 to 2, and from each other language to 3
+-- from version 1 to 2 or 3, and from each other language to 3
 abbrev pub is_rewritten : Language → DescriptionVersion → Bool
 is_rewritten (languages.Version One) One = false
 is_rewritten (languages.Version One) Two = true
@@ -63,7 +63,7 @@ lines_conflict_by None is_normal language = None
 lines_conflict_by (Some version) is_normal language =
     if is_normal then None else conversion_conflict language version
 
--- what is in the way of rewriting lines: no conversion leads from their language to the version
+-- why lines can't be rewritten: no conversion exists from their language to the version
 abbrev pub lines_conflict : Settings → Option Conflict
 lines_conflict s = lines_conflict_by (target s) s.is_normal s.language
 
@@ -79,16 +79,16 @@ abbrev pub version_conflict : Settings → Names → Option DescriptionVersion �
 version_conflict s names (Some version) = rewriting_conflict s version names
 version_conflict s names None = if s.writes then Some WriteWithoutVersion else None
 
--- whether it is set how files are looked at
+-- whether the settings say how files are checked
 abbrev pub looks_at_files : Settings → Bool
 looks_at_files s =
     s.is_whole || s.is_source || s.explains || is_some s.comment || not (is_drawn s.format)
 
--- whether it is set how they are rewritten
+-- whether the settings say how files are rewritten
 abbrev pub rewrites : Settings → Bool
 rewrites s = s.fixes || s.is_unsafe || s.writes || s.is_partial || is_some (target s)
 
--- An editor is served alone: no file is named, looked at or rewritten.
+-- An editor is served alone: no file is named, checked or rewritten.
 abbrev pub serving_conflict : Settings → Names → Option Conflict
 serving_conflict s names =
     if not (names.count == 0) then Some ServesFiles

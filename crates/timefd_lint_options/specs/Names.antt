@@ -5,16 +5,16 @@ use Rattle.timefd_component.specs.Tree.{Text}
 use Rattle.timefd_lint_options.specs.declared.names.Names.{Names}
 use Rattle.timefd_lint_options.specs.Words.{is_input}
 
--- whether one of the names is that of the standard input
+-- whether one of the names means the standard input
 abbrev pub has_input : List (Bor Text) → Bool
 has_input [] = false
-has_input (name ∷ behind) = if is_input name.now then true else has_input behind
+has_input (name ∷ after) = if is_input name.now then true else has_input after
 
 abbrev pub names_of : List (Bor Text) → Names
 names_of words = record { count = length words; has_input = has_input words }
 
 abbrev pub names_from : Text → List (Bor Text) → Names
-names_from name behind = record {
-  count = length behind + 1;
-  has_input = is_input name || has_input behind;
+names_from name after = record {
+  count = length after + 1;
+  has_input = is_input name || has_input after;
 }

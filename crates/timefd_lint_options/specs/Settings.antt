@@ -49,7 +49,7 @@ abbrev pub target_by : Option DescriptionVersion → Bool → Option Description
 target_by (Some version) is_normal = Some version
 target_by None is_normal = if is_normal then Some Three else None
 
--- the version that descriptions are rewritten in: version 3 where only their normal form is asked for
+-- the version that descriptions are rewritten in: version 3 if only the normal form is asked for
 abbrev pub target : Settings → Option DescriptionVersion
 target s = target_by s.to s.is_normal
 
@@ -75,7 +75,7 @@ with_format s word = option_map (λ f. record s { format = f }) (format_named wo
 abbrev pub with_color : Settings → Text → Option Settings
 with_color s word = option_map (λ c. record s { color = c }) (color_named word)
 
--- an empty mark is none
+-- An empty mark isn't taken.
 abbrev pub with_comment : Settings → Bor Text → Option Settings
 with_comment s word = if is_empty word.now then None else Some (record s { comment = Some word })
 
@@ -89,7 +89,7 @@ with_key s word = keyed_by s (key_fault word)
 abbrev pub with_version : Settings → Text → Option Settings
 with_version s word = option_map (λ v. record s { to = Some v }) (version_named word)
 
--- Whoever sets what is made of one warning has the others told.
+-- Setting the level of one warning also turns on the reports of all others.
 abbrev pub with_warning : Settings → Text → Level → Option Settings
 with_warning s word level =
     option_map (λ w. record s { warns = true; levels = with_level s.levels w level })

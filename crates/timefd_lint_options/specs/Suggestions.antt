@@ -1,4 +1,4 @@
--- The options that are named in place of a word that is none.
+-- The options that are suggested for a word that isn't one.
 use Rattle.std.specs.Prelude.{codes, List, [], ◌∷◌}
 use Rattle.timefd_component.specs.Tree.{Text}
 

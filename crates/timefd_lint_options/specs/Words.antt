@@ -1,4 +1,4 @@
--- What a word is where an option may stand.
+-- What a word is that may be an option.
 use Rattle.std.specs.Prelude.{Bool, true, false, codes, bytes_eq, nat_eq, if◌then◌else◌}
 use Rattle.std.specs.List.{starts_with}
 use Rattle.timefd_component.specs.Tree.{Text}
@@ -7,7 +7,7 @@ use Rattle.timefd_lint_options.specs.declared.word.Valued.TheVariants.{Language,
 use Rattle.timefd_lint_options.specs.declared.word.Word.{Word}
 use Rattle.timefd_lint_options.specs.declared.word.Word.TheVariants.{Flag, Valued, Help, Version, End, Unknown, File}
 
--- what begins with a dash looks like an option
+-- a word that begins with a dash looks like an option
 abbrev pub other_word : Text → Word
 other_word word = if starts_with nat_eq word (codes "-") then Unknown else File
 

@@ -1,4 +1,4 @@
-//! What the words behind the program's name ask for.
+//! What the arguments after the program's name ask for.
 
 ghost use Rattle.std.specs.Prelude.{◌≡◌, length};
 ghost use Rattle.timefd_lint_options.specs.Asked as spec;
@@ -15,14 +15,14 @@ use crate::word::{Valued, Word, is_option, word_of};
 #[derive(Clone, Copy)]
 pub struct Options<'a> {
     pub settings: Settings<'a>,
-    /// How many of the last words are names of files: none, where the standard input is read.
+    /// How many of the last arguments are names of files. With none, the standard input is read.
     pub file_count: usize,
 }
 
-/// What the words ask for.
+/// What the arguments ask for.
 #[derive(Clone, Copy)]
 pub enum Asked<'a> {
-    /// How the program is used.
+    /// The page on how to use the program.
     Help,
     /// The program's version.
     Version,
@@ -30,21 +30,21 @@ pub enum Asked<'a> {
     Run(Options<'a>),
 }
 
-// What is known in front of a word: the settings so far, and the option whose value it is.
+// What is known before an argument: the settings so far, and the option whose value it is, if any.
 #[derive(Clone, Copy)]
 struct State<'a> {
     settings: Settings<'a>,
     pending: Option<Valued>,
 }
 
-// What a word makes of that.
+// What an argument turns that into.
 #[derive(Clone, Copy)]
 enum Step<'a> {
     Next(State<'a>),
     Done(Result<Asked<'a>, OptionError<'a>>),
 }
 
-/// What the words behind the program's name ask for; or what is wrong with them.
+/// What the arguments after the program's name ask for. An `Err` says what is wrong with them.
 #[tactic(auto, using(crate::proofs::AskedLemmas::goes_on, crate::proofs::AskedLemmas::is_done))]
 pub fn options_of<'a>(words: &'a [&'a str]) -> Result<Asked<'a>, OptionError<'a>>
     ensures { result ≡ spec.options_of words.now }
@@ -54,17 +54,17 @@ pub fn options_of<'a>(words: &'a [&'a str]) -> Result<Asked<'a>, OptionError<'a>
         pending: None,
     };
     let mut rest = words;
-    'words: while let [word, behind @ ..] = rest {
-        match one_more(state, word, behind) {
+    'words: while let [word, after @ ..] = rest {
+        match one_more(state, word, after) {
             Step::Next(next) => state = next,
             Step::Done(asked) => return asked,
         }
-        rest = behind;
+        rest = after;
     }
     at_end(state)
 }
 
-// What is asked for where no word is left.
+// What is asked for when no argument is left.
 fn at_end<'a>(state: State<'a>) -> Result<Asked<'a>, OptionError<'a>>
     ensures { result ≡ spec.at_end state.entry }
 {
@@ -74,17 +74,17 @@ fn at_end<'a>(state: State<'a>) -> Result<Asked<'a>, OptionError<'a>>
     }
 }
 
-// What one more word comes to, with the words behind it.
-fn one_more<'a>(state: State<'a>, word: &'a str, behind: &'a [&'a str]) -> Step<'a>
-    ensures { result ≡ spec.one_more state.entry word.entry behind.now }
+// What one more argument leads to, given the arguments after it.
+fn one_more<'a>(state: State<'a>, word: &'a str, after: &'a [&'a str]) -> Step<'a>
+    ensures { result ≡ spec.one_more state.entry word.entry after.now }
 {
     match state.pending {
         Some(option) => valued(state.settings, option, word),
-        None => first(state.settings, word, behind),
+        None => first(state.settings, word, after),
     }
 }
 
-// A word that is the value of an option.
+// An argument that is the value of an option.
 fn valued<'a>(settings: Settings<'a>, option: Valued, word: &'a str) -> Step<'a>
     ensures { result ≡ spec.valued settings.entry option word.entry }
 {
@@ -97,9 +97,9 @@ fn valued<'a>(settings: Settings<'a>, option: Valued, word: &'a str) -> Step<'a>
     }
 }
 
-// A word that may be an option.
-fn first<'a>(settings: Settings<'a>, word: &'a str, behind: &'a [&'a str]) -> Step<'a>
-    ensures { result ≡ spec.first settings.entry word.entry behind.now }
+// An argument that may be an option.
+fn first<'a>(settings: Settings<'a>, word: &'a str, after: &'a [&'a str]) -> Step<'a>
+    ensures { result ≡ spec.first settings.entry word.entry after.now }
 {
     match word_of(word) {
         Word::Flag(flag) => Step::Next(State {
@@ -113,40 +113,40 @@ fn first<'a>(settings: Settings<'a>, word: &'a str, behind: &'a [&'a str]) -> St
         Word::Help => Step::Done(Ok(Asked::Help)),
         Word::Version => Step::Done(Ok(Asked::Version)),
         Word::Unknown => Step::Done(Err(OptionError::Unknown(word))),
-        Word::End => Step::Done(run(settings, names_of(behind))),
-        Word::File => Step::Done(named(settings, word, behind)),
+        Word::End => Step::Done(run(settings, names_of(after))),
+        Word::File => Step::Done(named(settings, word, after)),
     }
 }
 
-// A run over a file, and those that the words behind it name.
+// A run over this file, and over those that the following arguments name.
 fn named<'a>(
     settings: Settings<'a>,
     name: &str,
-    behind: &'a [&'a str],
+    after: &'a [&'a str],
 ) -> Result<Asked<'a>, OptionError<'a>>
-    ensures { result ≡ spec.named settings.entry name.now behind.now }
+    ensures { result ≡ spec.named settings.entry name.now after.now }
 {
-    match first_option(behind) {
-        Some(option) => Err(OptionError::BehindFile(option)),
-        None => run(settings, names_from(name, behind)),
+    match first_option(after) {
+        Some(option) => Err(OptionError::AfterFile(option)),
+        None => run(settings, names_from(name, after)),
     }
 }
 
-// The first of the words that looks like an option.
+// The first of the arguments that looks like an option.
 fn first_option<'a>(words: &'a [&'a str]) -> Option<&'a str>
     ensures { result ≡ spec.first_option words.now }
 {
     let mut rest = words;
-    'options: while let [word, behind @ ..] = rest {
+    'options: while let [word, after @ ..] = rest {
         if is_option(word) {
             return Some(word);
         }
-        rest = behind;
+        rest = after;
     }
     None
 }
 
-// A run with these settings, unless they don't go together.
+// A run with these settings, unless they conflict.
 fn run<'a>(settings: Settings<'a>, names: Names) -> Result<Asked<'a>, OptionError<'a>>
     ensures { result ≡ spec.run settings.entry names }
 {

@@ -1,4 +1,4 @@
-//! What doesn't go together.
+//! Settings that conflict.
 
 ghost use Rattle.std.specs.Prelude.{◌≡◌};
 ghost use Rattle.timefd_lint_options.specs.Conflicts as spec;
@@ -9,7 +9,7 @@ use crate::settings::{Settings, target};
 use timefd_drawing::Format;
 use timefd_parse::{DescriptionVersion, Language};
 
-/// What doesn't go together in the settings of a run over these files.
+/// The conflict between the settings of a run over these files, if there is one.
 pub fn conflict(settings: Settings<'_>, names: Names) -> Option<Conflict>
     ensures { result ≡ spec.conflict settings.entry names }
 {
@@ -41,7 +41,7 @@ pub fn conflict(settings: Settings<'_>, names: Names) -> Option<Conflict>
     }
 }
 
-// What is in the way of serving an editor.
+// Why an editor can't be served.
 fn serving_conflict(settings: Settings<'_>, names: Names) -> Option<Conflict>
     ensures { result ≡ spec.serving_conflict settings.entry names }
 {
@@ -54,7 +54,7 @@ fn serving_conflict(settings: Settings<'_>, names: Names) -> Option<Conflict>
     None
 }
 
-// Whether it is set how files are looked at.
+// Whether the settings say how files are checked.
 fn looks_at_files(settings: Settings<'_>) -> bool
     ensures { result ≡ spec.looks_at_files settings.entry }
 {
@@ -65,7 +65,7 @@ fn looks_at_files(settings: Settings<'_>) -> bool
         || !is_drawn(settings.format)
 }
 
-// Whether it is set how they are rewritten.
+// Whether the settings say how files are rewritten.
 fn rewrites(settings: Settings<'_>) -> bool
     ensures { result ≡ spec.rewrites settings.entry }
 {
@@ -76,7 +76,7 @@ fn rewrites(settings: Settings<'_>) -> bool
         || target(settings).is_some()
 }
 
-// What is in the way of mending files.
+// Why files can't be mended.
 fn fixing_conflict(settings: Settings<'_>, names: Names) -> Option<Conflict>
     ensures { result ≡ spec.fixing_conflict settings.entry names }
 {
@@ -93,7 +93,7 @@ fn fixing_conflict(settings: Settings<'_>, names: Names) -> Option<Conflict>
     }
 }
 
-// What is in the way of rewriting files in a version.
+// Why files can't be rewritten in a version.
 fn rewriting_conflict(
     settings: Settings<'_>,
     version: DescriptionVersion,
@@ -119,8 +119,8 @@ fn rewriting_conflict(
     None
 }
 
-/// What is in the way of rewriting lines, where there are files of them beside sources: no conversion
-/// leads from their language to the version.
+/// Why lines can't be rewritten, if some files aren't sources: no conversion exists from their language to
+/// the version.
 pub fn lines_conflict(settings: Settings<'_>) -> Option<Conflict>
     ensures { result ≡ spec.lines_conflict settings.entry }
 {
@@ -149,7 +149,7 @@ fn is_drawn(format: Format) -> bool
     }
 }
 
-/// Whether a form is one document, in which no changes are shown.
+/// Whether the output in a format is one document, which can't show changes.
 pub fn is_log(format: Format) -> bool
     ensures { result ≡ spec.is_log format }
 {
@@ -168,7 +168,7 @@ fn is_three(version: DescriptionVersion) -> bool
     }
 }
 
-// Whether descriptions of a language are rewritten in a version, with something to change.
+// Whether descriptions of a language are rewritten in a version, and something may change.
 fn is_rewritten(language: Language, version: DescriptionVersion) -> bool
     ensures { result ≡ spec.is_rewritten language version }
 {

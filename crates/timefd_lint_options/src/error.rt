@@ -1,62 +1,62 @@
-//! What is wrong with words that are no arguments of the program.
+//! What is wrong with the arguments of the program.
 
 use crate::word::Valued;
 use timefd_keys::KeyFault;
 
-/// Why words are no arguments of the program.
+/// What is wrong with the arguments of the program.
 #[derive(Clone, Copy)]
 pub enum OptionError<'a> {
-    /// The word looks like an option, and is none.
+    /// The word looks like an option but isn't one.
     Unknown(&'a str),
-    /// No word stands behind an option that has a value.
+    /// No word follows an option that needs a value.
     MissingValue(Valued),
     /// The option doesn't take the word as its value.
     NotAValue(Valued, &'a str),
-    /// The word is no `KEY=LANGUAGE`, for this reason.
+    /// The word isn't a `KEY=LANGUAGE`, for this reason.
     NotAKey(KeyFault, &'a str),
-    /// The option stands behind the name of a file.
-    BehindFile(&'a str),
-    /// Options that don't go together.
+    /// The option comes after the name of a file.
+    AfterFile(&'a str),
+    /// Some options conflict.
     Conflict(Conflict),
 }
 
-/// Options that don't go together, or want something that isn't there.
+/// Options that conflict, or that need something else.
 #[derive(Clone, Copy)]
 pub enum Conflict {
-    /// Trees are drawn, and have no other form.
+    /// Trees are only drawn, and have no other form.
     ExplainUndrawn,
-    /// An editor is served, and no file looked at.
+    /// An editor is served, so no file is checked.
     ServesFiles,
-    /// An editor is served, and nothing drawn or written.
+    /// An editor is served, so nothing is drawn or written.
     ServesAlone,
-    /// A log has no place for what is rewritten.
+    /// A log can't hold what is rewritten.
     LogRewritten,
-    /// `--write` with none of `--to`, `--normal` and `--fix`.
+    /// `--write` without `--to`, `--normal` or `--fix`.
     WriteWithoutVersion,
-    /// Strings of keys are looked at, and stay as they are.
+    /// Strings of keys are only checked, and stay as they are.
     KeysRewritten,
     /// `--partial` without `--write`.
     PartialWithoutWrite,
     /// `--unsafe` without `--fix`.
     UnsafeWithoutFix,
-    /// What is at fault is mended, or a good line converted: not both.
+    /// A run either fixes faults or converts correct lines, not both.
     FixesRewritten,
-    /// A file is mended line by line.
+    /// A file is mended line by line, not as a whole.
     FixesWhole,
-    /// No file is named that could be mended.
+    /// No file to mend is named.
     FixesNoFile,
-    /// The standard input is no file that could be mended.
+    /// The standard input isn't a file, and can't be mended.
     FixesInput,
-    /// The normal form is one of version 3, and another is asked for.
+    /// The normal form is one of version 3, but another version is asked for.
     NormalOfAnother,
-    /// No rewriting leads from the language of lines to the version.
+    /// No conversion exists from the language of the lines to the version.
     NoConversion,
-    /// Warnings are told of descriptions that stay as they are.
+    /// Warnings are only reported about descriptions that stay as they are.
     RewritesWarned,
-    /// A file is rewritten line by line.
+    /// A file is rewritten line by line, not as a whole.
     RewritesWhole,
-    /// No file is named that could be rewritten.
+    /// No file to rewrite is named.
     RewritesNoFile,
-    /// The standard input is no file that could be rewritten.
+    /// The standard input isn't a file, and can't be rewritten.
     RewritesInput,
 }

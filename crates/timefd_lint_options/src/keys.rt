@@ -1,4 +1,4 @@
-//! The keys that words name, one after another.
+//! The keys that the arguments name, one after another.
 
 ghost use Rattle.std.specs.Prelude.{◌≡◌, ◌++◌, IfOk, OnOk};
 ghost use Rattle.timefd_keys.specs.Keys.{keys_in, named_all};
@@ -8,7 +8,7 @@ use crate::word::{Valued, Word, word_of};
 use std::alloc::{AllocError, Global};
 use timefd_keys::{Key, key_of};
 
-/// What a word is behind the words in front of it.
+/// What kind of word is expected, by the words before it.
 #[derive(Clone, Copy)]
 enum Expected {
     /// One that may be an option.
@@ -17,12 +17,12 @@ enum Expected {
     Value,
     /// The value of `--key`.
     Key,
-    /// No option and no value any more.
+    /// Only names of files from here on.
     Name,
 }
 
-fn behind_option(option: Valued) -> Expected
-    ensures { result ≡ spec.behind_option option }
+fn after_option(option: Valued) -> Expected
+    ensures { result ≡ spec.after_option option }
 {
     match option {
         Valued::Key => Expected::Key,
@@ -36,28 +36,28 @@ fn behind_option(option: Valued) -> Expected
     }
 }
 
-// What is expected behind a word.
-fn behind(expected: Expected, word: &str) -> Expected
-    ensures { result ≡ spec.behind expected word.now }
+// What is expected after a word.
+fn after(expected: Expected, word: &str) -> Expected
+    ensures { result ≡ spec.after expected word.now }
 {
     match expected {
-        Expected::Any => behind_word(word_of(word)),
+        Expected::Any => after_word(word_of(word)),
         Expected::Value | Expected::Key => Expected::Any,
         Expected::Name => Expected::Name,
     }
 }
 
-fn behind_word(word: Word) -> Expected
-    ensures { result ≡ spec.behind_word word }
+fn after_word(word: Word) -> Expected
+    ensures { result ≡ spec.after_word word }
 {
     match word {
         Word::Flag(_) => Expected::Any,
-        Word::Valued(option) => behind_option(option),
+        Word::Valued(option) => after_option(option),
         Word::Help | Word::Version | Word::End | Word::Unknown | Word::File => Expected::Name,
     }
 }
 
-// Adds the key that a word is, if a key is expected.
+// Adds the key that a word names, if a key is expected.
 #[tactic(auto, using(crate::proofs::KeyWordLemmas::no_key))]
 fn push_key<'a>(
     keys: &mut Vec<Key<'a>>,
@@ -87,7 +87,7 @@ fn push_named<'a>(keys: &mut Vec<Key<'a>>, word: &'a str) -> Result<(), AllocErr
     }
 }
 
-/// The keys that words name by `--key`, in turn. An `Err` says that memory ran out.
+/// The keys that the arguments name by `--key`, in order. An `Err` says that memory ran out.
 #[tactic(auto, using(crate::proofs::KeyWordLemmas::one_more, crate::proofs::KeyWordLemmas::at_last))]
 pub fn keys_of<'a>(alloc: Global, words: &[&'a str]) -> Result<Vec<Key<'a>>, AllocError>
     ensures { IfOk result (λ keys. named_all keys.items ≡ spec.keys_of words.now) }
@@ -97,7 +97,7 @@ pub fn keys_of<'a>(alloc: Global, words: &[&'a str]) -> Result<Vec<Key<'a>>, All
     let mut rest = words;
     'words: while let [word, more @ ..] = rest {
         push_key(&mut keys, expected, word)?;
-        expected = behind(expected, word);
+        expected = after(expected, word);
         rest = more;
     }
     Ok(keys)

@@ -1,4 +1,4 @@
-//! The options of the linter: what the words behind the program's name ask for.
+//! The options of the linter: what the arguments after the program's name ask for.
 #![tactic(auto)]
 
 mod asked;

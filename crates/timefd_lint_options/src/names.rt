@@ -1,20 +1,20 @@
-//! The words that name files.
+//! The arguments that name files.
 
 ghost use Rattle.std.specs.Prelude.{◌≡◌};
 ghost use Rattle.timefd_lint_options.specs.Names as spec;
 
 use crate::word::is_input;
 
-/// The words that name files.
+/// The arguments that name files.
 #[derive(Clone, Copy)]
 pub struct Names {
-    /// How many they are.
+    /// How many there are.
     pub count: usize,
-    /// Whether one of them is that of the standard input.
+    /// Whether one of them means the standard input.
     pub has_input: bool,
 }
 
-/// These words.
+/// The names in these arguments.
 pub fn names_of(words: &[&str]) -> Names
     ensures { result ≡ spec.names_of words.now }
 {
@@ -24,26 +24,26 @@ pub fn names_of(words: &[&str]) -> Names
     }
 }
 
-/// A name, and those behind it.
-pub fn names_from(name: &str, behind: &[&str]) -> Names
-    ensures { result ≡ spec.names_from name.now behind.now }
+/// A name, and the names after it.
+pub fn names_from(name: &str, after: &[&str]) -> Names
+    ensures { result ≡ spec.names_from name.now after.now }
 {
     Names {
-        count: behind.len().saturating_add(1),
-        has_input: is_input(name) || has_input(behind),
+        count: after.len().saturating_add(1),
+        has_input: is_input(name) || has_input(after),
     }
 }
 
-// Whether one of the names is that of the standard input.
+// Whether one of the names means the standard input.
 fn has_input(words: &[&str]) -> bool
     ensures { result ≡ spec.has_input words.now }
 {
     let mut rest = words;
-    'names: while let [name, behind @ ..] = rest {
+    'names: while let [name, after @ ..] = rest {
         if is_input(name) {
             return true;
         }
-        rest = behind;
+        rest = after;
     }
     false
 }

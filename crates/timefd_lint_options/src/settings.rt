@@ -1,4 +1,4 @@
-//! What is set of a run.
+//! The settings of a run.
 
 ghost use Rattle.std.specs.Prelude.{◌≡◌};
 ghost use Rattle.timefd_lint_options.specs.Settings as spec;
@@ -7,58 +7,58 @@ use timefd_drawing::Format;
 use timefd_parse::{DescriptionVersion, Language};
 use timefd_warnings::{Level, Levels};
 
-/// Whether what is drawn is coloured.
+/// Whether drawings are coloured.
 #[derive(Clone, Copy)]
 pub enum Color {
     Always,
     Never,
-    /// Where the standard output is a terminal that shows colours.
+    /// If the standard output is a terminal that shows colours.
     Auto,
 }
 
-/// What a run does.
+/// The settings of a run.
 #[derive(Clone, Copy)]
 pub struct Settings<'a> {
     /// The language of the texts.
     pub language: Language,
     /// How diagnostics are written.
     pub format: Format,
-    /// Whether they are coloured.
+    /// Whether diagnostics are coloured.
     pub color: Color,
-    /// What lines begin with that are passed over.
+    /// Lines that begin with this are passed over.
     pub comment: Option<&'a str>,
-    /// Whether strings of keys are looked at.
+    /// Whether strings of keys are checked.
     pub has_keys: bool,
-    /// Whether a file is one text.
+    /// Whether a whole file is one text.
     pub is_whole: bool,
-    /// Whether a file is a source of Rust, whatever its name.
+    /// Whether files are read as sources of Rust, whatever their names.
     pub is_source: bool,
-    /// Whether what is accepted is shown as its tree.
+    /// Whether accepted texts are shown as trees.
     pub explains: bool,
     /// The version that descriptions are rewritten in.
     pub to: Option<DescriptionVersion>,
-    /// Whether they are laid out in the normal form of version 3.
+    /// Whether descriptions are laid out in the normal form of version 3.
     pub is_normal: bool,
-    /// Whether what is at fault is mended.
+    /// Whether faults are fixed.
     pub fixes: bool,
-    /// Whether that is also done by a guess.
+    /// Whether faults are also fixed by guesses.
     pub is_unsafe: bool,
     /// Whether files are written back.
     pub writes: bool,
-    /// Whether a file is also written back where some of its lines are refused.
+    /// Whether a file is written back even if some of its lines are refused.
     pub is_partial: bool,
-    /// Whether warnings are told.
+    /// Whether warnings are reported.
     pub warns: bool,
-    /// What is made of each warning, where they are.
+    /// The level of each warning, if warnings are reported.
     pub levels: Levels,
-    /// Whether an editor is served, in place of looking at files.
+    /// Whether an editor is served, instead of checking files.
     pub serves: bool,
-    /// Whether the line is left out that tells how much was looked at.
+    /// Whether the line that says how much was checked is left out.
     pub is_quiet: bool,
 }
 
 impl Settings<'_> {
-    /// Those of a run without options.
+    /// The settings of a run without options.
     pub fn initial() -> Settings<'static>
         ensures { result ≡ spec.initial }
     {
@@ -85,8 +85,8 @@ impl Settings<'_> {
     }
 }
 
-/// The version that descriptions are rewritten in: version 3 where only their normal form is asked
-/// for. `None` where none are rewritten.
+/// The version that descriptions are rewritten in. It is version 3 if only the normal form is asked for, and
+/// `None` if nothing is rewritten.
 pub fn target(settings: Settings<'_>) -> Option<DescriptionVersion>
     ensures { result ≡ spec.target settings.entry }
 {

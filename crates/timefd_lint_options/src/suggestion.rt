@@ -9,7 +9,7 @@ ghost use Rattle.timefd_lint_options.specs.Words.{is_option};
 use std::alloc::{AllocError, Global};
 use timefd_diagnosis::nearest::nearest;
 
-// The options by their long names.
+// The long names of the options.
 fn long_names() -> &'static [&'static str]
     ensures { texts result.now ≡ spec.long_names }
 {
@@ -38,8 +38,7 @@ fn long_names() -> &'static [&'static str]
     ]
 }
 
-/// The option whose long name is the nearest to a word, if one is near. An `Err` says that memory
-/// ran out.
+/// The option whose long name is nearest to a word, if one is near. An `Err` says that memory ran out.
 pub fn nearest_option(alloc: Global, word: &str) -> Result<Option<&'static str>, AllocError>
     ensures nearest { IfOk result (λ found.
         IsNearest spec.long_names word.now (option_map (λ w. w.now) found)) }

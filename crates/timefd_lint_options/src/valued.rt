@@ -10,7 +10,7 @@ use crate::word::Valued;
 use timefd_keys::key_fault;
 use timefd_warnings::{Level, Warning};
 
-/// The settings with the value of an option; `NotAValue` or `NotAKey` where the option doesn't take it.
+/// The settings with the value of an option. `NotAValue` or `NotAKey` if the option doesn't take the value.
 pub fn with_value<'a>(
     settings: Settings<'a>,
     option: Valued,
@@ -126,7 +126,7 @@ fn with_version<'a>(settings: Settings<'a>, value: &str) -> Option<Settings<'a>>
     }
 }
 
-// Whoever sets what is made of one warning has the others told.
+// Setting the level of one warning also turns on the reports of all others.
 fn with_warning<'a>(settings: Settings<'a>, value: &str, level: Level) -> Option<Settings<'a>>
     ensures { result ≡ spec.with_warning settings.entry value.now level }
 {

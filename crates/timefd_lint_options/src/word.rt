@@ -1,4 +1,4 @@
-//! What a word is where an option may stand.
+//! What a word is that may be an option.
 
 ghost use Rattle.std.specs.Prelude.{◌≡◌};
 ghost use Rattle.timefd_lint_options.specs.Words as spec;
@@ -19,7 +19,7 @@ pub enum Flag {
     Quiet,
 }
 
-/// An option whose value is the word behind it.
+/// An option whose value is the next word.
 #[derive(Clone, Copy)]
 pub enum Valued {
     Language,
@@ -32,7 +32,7 @@ pub enum Valued {
     Allow,
 }
 
-/// What a word is where an option may stand.
+/// What a word is that may be an option.
 #[derive(Clone, Copy)]
 pub enum Word {
     Flag(Flag),
@@ -41,15 +41,15 @@ pub enum Word {
     Help,
     /// `--version` or `-V`.
     Version,
-    /// `--`, behind which all words are names of files.
+    /// `--`: all words after it are names of files.
     End,
-    /// What looks like an option and is none.
+    /// A word that looks like an option but isn't one.
     Unknown,
     /// The name of a file.
     File,
 }
 
-/// What a word is where an option may stand.
+/// What a word is that may be an option.
 pub fn word_of(word: &str) -> Word
     ensures { result ≡ spec.word_of word.now }
 {
@@ -81,7 +81,7 @@ pub fn word_of(word: &str) -> Word
     }
 }
 
-// What a word is that is no option.
+// What a word is that isn't an option.
 fn other_word(word: &str) -> Word
     ensures { result ≡ spec.other_word word.now }
 {
@@ -92,7 +92,7 @@ fn other_word(word: &str) -> Word
     }
 }
 
-/// Whether the name of a file is that of the standard input.
+/// Whether the name of a file means the standard input.
 pub fn is_input(name: &str) -> bool
     ensures { result ≡ spec.is_input name.now }
 {

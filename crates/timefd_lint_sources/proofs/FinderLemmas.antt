@@ -7,9 +7,9 @@ use Rattle.timefd_keys.specs.declared.key.Key.{Key}
 use Rattle.timefd_keys.specs.Found as keyed
 use Rattle.timefd_sources.specs.declared.description.Description.{Description}
 use Rattle.timefd_sources.specs.Found.{AllStandIn, AreDescriptionsOf}
-use Rattle.timefd_lint_sources.specs.declared.told.Finder.TheVariants.{Rust, Keys}
-use Rattle.timefd_lint_sources.specs.declared.told.Source.{Source}
-use Rattle.timefd_lint_sources.specs.Told.{AllFound, AreAllBy, AreAllOf, IsFoundBy}
+use Rattle.timefd_lint_sources.specs.declared.reported.Finder.TheVariants.{Rust, Keys}
+use Rattle.timefd_lint_sources.specs.declared.reported.Source.{Source}
+use Rattle.timefd_lint_sources.specs.Reported.{AllFound, AreAllBy, AreAllOf, IsFoundBy}
 
 pub by_rust : (s : Source) (ds : List Description) → s.finder ≡ Rust → AllStandIn s.text.now ds
     → AllFound s ds

@@ -36,11 +36,11 @@ pub nested_found : (v : DescriptionVersion) (text : Text) (found : Option (Bor (
 nested_found v text found finds inner after begins =
     finds begins.white inner after begins.list begins.all_white begins.inside begins.whole
 
--- One more nested description.
+-- A nested description before the rest of a bracket leaves its end as it is.
 
-pub behind_one : (v : DescriptionVersion) (text inner after rest : Text) → BeginsNested v text inner after
+pub after_one : (v : DescriptionVersion) (text inner after rest : Text) → BeginsNested v text inner after
     → HasEnd v after rest → HasEnd v text rest
-behind_one v text inner after rest begins end =
+after_one v text inner after rest begins end =
     record { others = inner ∷ end.others; closes = (after, begins, end.closes) }
 
 closing_or_opening : (white white' rest rest' : Text) → ZeroOrMore is_white white → ZeroOrMore is_white white'
@@ -57,12 +57,12 @@ closing_or_opening white white' rest rest' all all' same =
     other : (a b : Text) → head a ≡ right → head b ≡ left → a ≡ b → ⊥
     other a b is is' e = omega (arith, is, is', ap head e)
 
--- What ends behind a nested description ends behind it alone.
-pub end_behind : (v : DescriptionVersion) (text rest : Text)
+-- If a bracket goes on with a nested description, what follows that has the same end.
+pub end_after : (v : DescriptionVersion) (text rest : Text)
     (found : Option (Bor (List ℕ) × Bor (List ℕ))) (parts : Bor (List ℕ) × Bor (List ℕ))
     → FindsNested v text found → found ≡ Some parts → BeginsNested v text parts.0.now parts.1.now
     → HasEnd v text rest → HasEnd v parts.1.now rest
-end_behind v text rest found parts finds is begins end = by end.others end.closes
+end_after v text rest found parts finds is begins end = by end.others end.closes
   where
     by : (others : List Text) → Closes v others text rest
         → HasEnd v parts.1.now rest
@@ -87,7 +87,7 @@ closed_here v text rest none end = by end.others end.closes
 pub ends_here : (v : DescriptionVersion) (text rest : Text) → IsClosing text rest → HasEnd v text rest
 ends_here v text rest closing = record { others = []; closes = closing }
 
--- The one rest behind `]`.
+-- Only one rest follows `]`.
 pub same_closing : (text white closing rest : Text) → IsCut is_white text white closing
     → IsClosing text rest → closing ≡ right ∷ rest
 same_closing text white closing rest parts (w, all, whole) =
@@ -105,7 +105,7 @@ first_byte (b ∷ bytes) = b
 no_run_byte : (b : ℕ) → is_run_byte Three b ≡ true → b ≡ right → ⊥
 no_run_byte b runs is = true≢false (sym (subst (λ x. is_run_byte Three x ≡ true) is runs))
 
--- A text that goes on otherwise doesn't close.
+-- A text that begins with something else doesn't close.
 pub never_closed : (s : Start) (text rest : Text) → BeginsWith s text
     → ((x : Bor (List ℕ)) → s ≡ starts.Closing x → ⊥) → text ≡ right ∷ rest → ⊥
 never_closed starts.End text rest is other e =
@@ -132,7 +132,7 @@ same_item v text first after rest names nests named nested heads is finds is' it
     (subst (λ t. BeginsNested v t first after) (sym name.1) item.begins)) in
     (parts.0, parts.1, subst (λ t. HasEnd v t rest) (sym parts.1) item.end)
 
--- Without its name, or a nested description behind that, there is no item.
+-- Without a name, or a nested description after it, there is no item.
 
 pub no_name : (v : DescriptionVersion) (text : Text) (names : Option (Bor (List ℕ) × Bor (List ℕ)))
     → NamesHeads text names → ((p : Bor (List ℕ) × Bor (List ℕ)) → names ≡ Some p → ⊥)
@@ -152,7 +152,7 @@ no_nested v text names None named heads is finds none first after rest item =
     nested_found v named.1.now None finds first after
     (subst (λ t. BeginsNested v t first after) (sym name.1) item.begins)
 
--- Nor where nothing closes it.
+-- If nothing closes it, there is no item either.
 pub no_end : (v : DescriptionVersion) (text : Text) (names nests : Option (Bor (List ℕ) × Bor (List ℕ)))
     (named nested : Bor (List ℕ) × Bor (List ℕ)) (ends : Option (Bor (List ℕ))) → NamesHeads text names
     → names ≡ Some named → FindsNested v named.1.now nests → nests ≡ Some nested

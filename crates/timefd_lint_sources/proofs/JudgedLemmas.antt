@@ -1,4 +1,4 @@
--- Descriptions as they are judged.
+-- Descriptions as they are checked.
 use Rattle.std.proofs.Common.{◌≡◌, List, [], ◌∷◌, ◌++◌, length, inl, inr, refl, sym, ap, subst}
 use Rattle.std.specs.Prelude.{Bool, false, IfOk, Option, None, Some, Result, Ok, Err, IsUtf8}
 use Rattle.timefd_component.specs.Tree.{Text}
@@ -14,7 +14,7 @@ as_it_is d none = record {
   items = refl;
   version = refl;
   call = refl;
-  places = refl;
+  positions = refl;
   text = subst (λ o. IsJudgedText o d.unescaped.text.items d.unescaped.text.items) (sym none) refl;
 }
 
@@ -27,7 +27,7 @@ no_text d v takes none = record {
   items = refl;
   version = refl;
   call = refl;
-  places = refl;
+  positions = refl;
   text = subst (λ o. IsJudgedText o d.unescaped.text.items d.unescaped.text.items) (sym takes)
       (inl (none, refl));
 }
@@ -40,7 +40,7 @@ is_text d v text judged takes same utf8 opened =
     subst (λ o. IsJudgedText o d.unescaped.text.items judged) (sym takes)
     (subst (λ t. IsJudgedText (Some v) t judged) same (inr (utf8, opened)))
 
--- One more is judged.
+-- One more is checked.
 pub one_more : (ds judged now : List Description) (d one : Description) → AreJudgedAs ds judged → IsJudgedAs d one
     → now ≡ judged ++ (one ∷ []) → AreJudgedAs (ds ++ (d ∷ [])) now
 one_more ds judged now d one are is pushed = subst (AreJudgedAs (ds ++ (d ∷ []))) (sym pushed) (more ds judged are)

@@ -1,7 +1,7 @@
 mod ItemLemmas
 mod OpeningLemmas
 mod JudgedLemmas
-mod ToldLemmas
+mod ReportedLemmas
 mod ReportLemmas
 pub mod FinderLemmas
 mod SeenLemmas

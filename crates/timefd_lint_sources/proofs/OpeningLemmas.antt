@@ -2,7 +2,7 @@
 use Rattle.std.proofs.Common.{ℕ, zero, suc, ◌≡◌, ◌+◌, ◌-◌, ◌<◌, ◌≤◌, true, false, List, [], ◌∷◌, ◌++◌, length, take, drop, inl, inr, refl, sym, ap, subst, ◌∙◌, arith}
 use Rattle.std.specs.Prelude.{Option, None, Some, MatchOption, ⊤}
 use Rattle.timefd_component.specs.Tree.{Text}
-use Rattle.timefd_fault.specs.BorrowedFaults.{IsLent, IsLentOf, lent_fault}
+use Rattle.timefd_fault.specs.BorrowedFaults.{IsBorrowed, IsBorrowedOf, to_borrowed_fault}
 use Rattle.timefd_fault.specs.declared.borrowed_fault.BorrowedFault.{BorrowedFault}
 use Rattle.timefd_fault.specs.declared.borrowed_parse_error.BorrowedParseError.{BorrowedParseError}
 use Rattle.timefd_fault.specs.declared.borrowed_parse_error.BorrowedParseError.TheVariants.{Invalid}
@@ -10,7 +10,7 @@ use Rattle.timefd_fault.specs.Faults.{Fault}
 use Rattle.timefd_language.specs.declared.description_version.DescriptionVersion.{DescriptionVersion}
 use Rattle.timefd_lint_sources.specs.Items.{IsAllOpened, IsItem, IsItemFault, IsOpened, opened}
 
--- What becomes of what is left, becomes of the text.
+-- What the rest becomes is what the text becomes.
 pub record IsOpenedTo (most count : ℕ) (v : DescriptionVersion) (text left : Text) : Type 0 where
   pub others : (n : ℕ) → n + count ≡ most → (all : Text) → IsAllOpened n v left all
       → IsAllOpened most v text all
@@ -58,26 +58,26 @@ enough most count v text left is so_far = so_far.others 0 (sum most count is) le
 
 -- The fault of a text, which is borrowed.
 
-pub lent_is : (e : BorrowedParseError) (g : BorrowedFault) (f : Fault) → e ≡ Invalid g → IsLent f e
-    → lent_fault g ≡ f
-lent_is e g f is lent = subst (IsLent f) is lent
+pub borrowed_is : (e : BorrowedParseError) (g : BorrowedFault) (f : Fault) → e ≡ Invalid g → IsBorrowed f e
+    → to_borrowed_fault g ≡ f
+borrowed_is e g f is borrowed = subst (IsBorrowed f) is borrowed
 
-pub lent_of : (P : Fault → Type 0) (e : BorrowedParseError) (g : BorrowedFault) → e ≡ Invalid g
-    → IsLentOf P e → P (lent_fault g)
-lent_of P e g is lent = subst (IsLentOf P) is lent
+pub borrowed_of : (P : Fault → Type 0) (e : BorrowedParseError) (g : BorrowedFault) → e ≡ Invalid g
+    → IsBorrowedOf P e → P (to_borrowed_fault g)
+borrowed_of P e g is borrowed = subst (IsBorrowedOf P) is borrowed
 
 -- One item.
 
-pub is_opened : (v : DescriptionVersion) (text front behind next first after rest : Text) (index : ℕ)
-    → ((f : Fault) × IsItemFault v text f × (index ≡ f.index)) → text ≡ front ++ behind
-    → length front ≡ index → IsItem v behind first after rest
-    → next ≡ front ++ opened behind first after rest → IsOpened v text next
-is_opened v text front behind next first after rest index (f, faulty, at) whole long is so = record {
+pub is_opened : (v : DescriptionVersion) (text front after next first later rest : Text) (index : ℕ)
+    → ((f : Fault) × IsItemFault v text f × (index ≡ f.index)) → text ≡ front ++ after
+    → length front ≡ index → IsItem v after first later rest
+    → next ≡ front ++ opened after first later rest → IsOpened v text next
+is_opened v text front after next first later rest index (f, faulty, at) whole long is so = record {
   fault = f;
   front = front;
-  item = behind;
+  item = after;
   first = first;
-  after = after;
+  after = later;
   rest = rest;
   faulty = faulty;
   at = long ∙ at;
@@ -86,33 +86,33 @@ is_opened v text front behind next first after rest index (f, faulty, at) whole 
   so = so;
 }
 
--- Without such a fault there is none to open,
+-- Without such a fault there is no item to open,
 
 pub no_fault : (v : DescriptionVersion) (text next : Text) (at : Option ℕ)
     → ((f : Fault) → IsItemFault v text f → at ≡ Some f.index) → at ≡ None → IsOpened v text next → ⊥
 no_fault v text next at all none is =
     subst (λ (o : Option ℕ). MatchOption o ⊤ (λ _. ⊥)) (sym none ∙ all is.fault is.faulty) tt
 
--- nor where no item stands at the fault.
+-- nor if no item is at the fault.
 
-same_cut : (front behind front' behind' : Text) (n : ℕ) → length front ≡ n → length front' ≡ n
-    → front ++ behind ≡ front' ++ behind' → behind ≡ behind'
-same_cut [] behind [] behind' n long long' e = e
-same_cut [] behind (b ∷ front') behind' n long long' e = absurd (omega (arith, long, long'))
-same_cut (a ∷ front) behind [] behind' n long long' e = absurd (omega (arith, long, long'))
-same_cut (a ∷ front) behind (b ∷ front') behind' n long long' e =
-    same_cut front behind front' behind' (n - 1) (omega (arith, long)) (omega (arith, long')) (ap (drop 1) e)
+same_cut : (front after front' after' : Text) (n : ℕ) → length front ≡ n → length front' ≡ n
+    → front ++ after ≡ front' ++ after' → after ≡ after'
+same_cut [] after [] after' n long long' e = e
+same_cut [] after (b ∷ front') after' n long long' e = absurd (omega (arith, long, long'))
+same_cut (a ∷ front) after [] after' n long long' e = absurd (omega (arith, long, long'))
+same_cut (a ∷ front) after (b ∷ front') after' n long long' e =
+    same_cut front after front' after' (n - 1) (omega (arith, long)) (omega (arith, long')) (ap (drop 1) e)
 
-pub no_item : (v : DescriptionVersion) (text front behind next : Text) (at : Option ℕ) (index : ℕ)
+pub no_item : (v : DescriptionVersion) (text front after next : Text) (at : Option ℕ) (index : ℕ)
     → ((f : Fault) → IsItemFault v text f → at ≡ Some f.index) → at ≡ Some index
-    → front ≡ take index text → behind ≡ drop index text → length front ≡ index
-    → ((first after rest : Text) → IsItem v behind first after rest → ⊥)
+    → front ≡ take index text → after ≡ drop index text → length front ≡ index
+    → ((first later rest : Text) → IsItem v after first later rest → ⊥)
     → IsOpened v text next → ⊥
-no_item v text front behind next at index all is front_is behind_is long none opened =
+no_item v text front after next at index all is front_is after_is long none opened =
     let same : index ≡ opened.fault.index = some (sym is ∙ all opened.fault opened.faulty) in
-    let item : behind ≡ opened.item =
-    same_cut front behind opened.front opened.item index long (opened.at ∙ sym same)
-    (ap (λ t. t ++ behind) front_is ∙ ap (λ t. take index text ++ t) behind_is ∙ take_and_drop index text
+    let item : after ≡ opened.item =
+    same_cut front after opened.front opened.item index long (opened.at ∙ sym same)
+    (ap (λ t. t ++ after) front_is ∙ ap (λ t. take index text ++ t) after_is ∙ take_and_drop index text
     ∙ opened.whole) in
     none opened.first opened.after opened.rest
     (subst (λ t. IsItem v t opened.first opened.after opened.rest) (sym item) opened.is)

@@ -1,4 +1,4 @@
--- A diagnostic whose bytes are those of the source.
+-- A diagnostic with its span in the source.
 use mathlib.Core.HLevel.{hedberg}
 use Rattle.std.proofs.Common.{ℕ, ◌≡◌, ◌∙◌, ◌==◌, if◌then◌else◌, refl, sym, ap}
 use Rattle.std.proofs.Math.Decide.{ℕ_discrete}
@@ -8,7 +8,7 @@ use Rattle.timefd_fault.specs.declared.code.Code.{Code}
 use Rattle.timefd_fault.specs.declared.code.Code.TheVariants.{UnclosedBracket, UnknownName, InvalidModifier, MissingName, MissingModifier, InvalidEscape, UnescapedBracket, MissingSpace, MissingDescription, MissingAlternative, NestedTooDeep, SeveralDescriptions, OptionalItem, FirstItem, UnsupportedFlag, UnsupportedLetter, NestedInComponent, DuplicateModifier, RefusedModifier}
 use Rattle.timefd_diagnosis.specs.declared.diagnostic.Diagnostic.{Diagnostic}
 
--- Codes can be told apart, by a number of each.
+-- Codes are distinguished by a number for each.
 
 abbrev number : Code → ℕ
 number UnclosedBracket = 0
@@ -78,7 +78,7 @@ same : (a b : Code) → Dec (number a ≡ number b) → Dec (a ≡ b)
 same a b (yes p) = yes (sym (back a) ∙ ap numbered p ∙ back b)
 same a b (no p) = no (λ q. p (ap number q))
 
--- So a code is that of a fault in one way alone.
+-- So a code belongs to a fault in only one way.
 one_name : (code : Code) (kind : Kind) (n m : code ≡ code_of kind) → n ≡ m
 one_name code kind = hedberg (λ a b. same a b (ℕ_discrete (number a) (number b))) code (code_of kind)
 

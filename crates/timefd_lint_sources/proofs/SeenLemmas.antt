@@ -12,13 +12,13 @@ use Rattle.timefd_sources.specs.Looks.{IsLook}
 use Rattle.timefd_sources.proofs.LookLemmas.{all_seen, seen_in_order, seen_stand}
 use Rattle.timefd_lint_sources.specs.declared.remark.Remark.{Remark}
 use Rattle.timefd_lint_sources.specs.declared.source.Report.{Report}
-use Rattle.timefd_lint_sources.specs.declared.told.End.{End}
-use Rattle.timefd_lint_sources.specs.declared.told.Finder.TheVariants.{Rust, Keys}
-use Rattle.timefd_lint_sources.specs.declared.told.Source.{Source}
-use Rattle.timefd_lint_sources.specs.declared.told.Telling.{Telling}
+use Rattle.timefd_lint_sources.specs.declared.reported.End.{End}
+use Rattle.timefd_lint_sources.specs.declared.reported.Finder.TheVariants.{Rust, Keys}
+use Rattle.timefd_lint_sources.specs.declared.reported.Source.{Source}
+use Rattle.timefd_lint_sources.specs.declared.reported.Reporting.{Reporting}
 use Rattle.timefd_lint_sources.specs.Items.{AreJudgedAs}
 use Rattle.timefd_lint_sources.specs.Remarks.{AreRemarksBy, AreSeenIn, ends_of, messages_of, remarks_on}
-use Rattle.timefd_lint_sources.specs.Told.{AreAllBy, AreSeen, AreTold, IsFoundBy, IsSourceTold}
+use Rattle.timefd_lint_sources.specs.Reported.{AreAllBy, AreSeen, AreReported, IsFoundBy, IsSourceReported}
 use Rattle.timefd_lint_sources.proofs.FinderLemmas.{all_by_keys, all_by_rust, by_keys, by_rust}
 
 pub of_look : (source : Text) (look : Look) (calls comments : List ℕ) (remarks : List Remark) → IsLook source look
@@ -52,11 +52,11 @@ of_keys s format keys ds remarks is values in_order none = record {
   remarked = subst (λ f. AreRemarksBy f s.text.now ds remarks) (sym is) none;
 }
 
-pub source_told : (telling : Telling) (s : Source) (found judged : List Description) (remarks : List Remark)
+pub source_reported : (reporting : Reporting) (s : Source) (found judged : List Description) (remarks : List Remark)
     (ends : List End) (message : Text) (r : Report) → AreSeen s found remarks → AreJudgedAs found judged
-    → AreTold telling s judged ends message → r.ends.items ≡ ends ++ ends_of remarks
-    → r.message.items ≡ message ++ messages_of telling.style s remarks → IsSourceTold telling s r
-source_told telling s found judged remarks ends message r seen are told all_ends all_messages = record {
+    → AreReported reporting s judged ends message → r.ends.items ≡ ends ++ ends_of remarks
+    → r.message.items ≡ message ++ messages_of reporting.style s remarks → IsSourceReported reporting s r
+source_reported reporting s found judged remarks ends message r seen are reported all_ends all_messages = record {
   found = found;
   remarks = remarks;
   seen = seen;
@@ -64,7 +64,7 @@ source_told telling s found judged remarks ends message r seen are told all_ends
   judged = are;
   ends = ends;
   message = message;
-  told = told;
+  reported = reported;
   all_ends = all_ends;
   all_messages = all_messages;
 }

@@ -1,4 +1,4 @@
--- The note at a call that takes a text by its name.
+-- The note at a call that takes a description by name.
 use Rattle.std.specs.Prelude.{ℕ, ◌++◌, codes, decimal, Option, Some, None, []}
 use Rattle.timefd_component.specs.Tree.{Text}
 use Rattle.timefd_drawing.specs.declared.draw.Format.{Format}
@@ -9,7 +9,7 @@ use Rattle.timefd_drawing.specs.Github.{annotation}
 use Rattle.timefd_drawing.specs.Positions.{column, line_number}
 use Rattle.timefd_drawing.specs.Shown.{safe}
 use Rattle.timefd_sources.specs.declared.description.Description.{Description}
-use Rattle.timefd_lint_sources.specs.declared.told.Source.{Source}
+use Rattle.timefd_lint_sources.specs.declared.reported.Source.{Source}
 
 abbrev pub code : Text
 code = codes "call"
@@ -18,16 +18,16 @@ abbrev pub message : Text
 message = codes "this call takes the text by its name"
 
 -- `FILE:LINE:COLUMN`
-abbrev pub place_text : Text → ℕ → ℕ → Text
-place_text file line column =
+abbrev pub position_text : Text → ℕ → ℕ → Text
+position_text file line column =
     safe file ++ (codes ":" ++ (decimal line ++ (codes ":" ++ decimal column)))
 
 abbrev pub human : Text → ℕ → ℕ → Text
 human file line column =
-    codes "note: " ++ (message ++ (codes "\n --> " ++ (place_text file line column ++ codes "\n\n")))
+    codes "note: " ++ (message ++ (codes "\n --> " ++ (position_text file line column ++ codes "\n\n")))
 
 abbrev pub short : Text → ℕ → ℕ → Text
-short file line column = place_text file line column ++ (codes ": note: " ++ (message ++ codes "\n"))
+short file line column = position_text file line column ++ (codes ": note: " ++ (message ++ codes "\n"))
 
 abbrev pub note_in : Format → Text → ℕ → ℕ → Text
 note_in Human file line column = human file line column
@@ -44,6 +44,6 @@ abbrev pub note_for : Style → Source → Option ℕ → Text
 note_for style s None = []
 note_for style s (Some at) = note_at style s at
 
--- It stands at the name; there is none where the text stands in the call itself.
+-- The note is at the name. There is none if the text is in the call itself.
 abbrev pub call_note : Style → Source → Description → Text
 call_note style s d = note_for style s d.call

@@ -1,6 +1,6 @@
 -- Brackets that `parse` refuses in versions 1 and 2, and that other places take: `[optional [..]]`,
--- `[first [..] [..]]`. A description of such a place is judged as it is written: with what is optional, and
--- with the first of its alternatives.
+-- `[first [..] [..]]`. A description in such a place is checked as it is written: with the optional part,
+-- and with the first of its alternatives.
 use Rattle.std.specs.Prelude.{ℕ, zero, suc, ◌≡◌, ◌+◌, ◌-◌, ◌⊎◌, Bool, true, false, not, ◌&&◌, List, [], ◌∷◌, ◌++◌, codes, length, Option, None, Some, if◌then◌else◌, IsUtf8, IsTrue}
 use Rattle.std.specs.List.{flat_map, repeat}
 use Rattle.timefd_component.specs.Tree.{Text}
@@ -21,14 +21,14 @@ use Rattle.timefd_parse.specs.Language.{FaultIn}
 use Rattle.timefd_sources.specs.declared.description.Description.{Description}
 use Rattle.timefd_sources.specs.declared.dialect.Dialect.{Dialect}
 use Rattle.timefd_sources.specs.declared.dialect.Dialect.TheVariants.{One, Two, Three, Strftime, Chrono, Jiff}
-use Rattle.timefd_sources.specs.declared.told.Items.{Items}
-use Rattle.timefd_sources.specs.declared.told.Items.TheVariants.{Taken, Refused}
+use Rattle.timefd_sources.specs.declared.known.Items.{Items}
+use Rattle.timefd_sources.specs.declared.known.Items.TheVariants.{Taken, Refused}
 
 -- A text goes on with white bytes and `]`, and then the rest.
 abbrev pub IsClosing : Text → Text → Type 0
 IsClosing text rest = (white : Text) × ZeroOrMore is_white white × (text ≡ white ++ right ∷ rest)
 
--- The same behind these nested descriptions.
+-- A text goes on with these nested descriptions, and then closes like that.
 abbrev pub Closes : DescriptionVersion → List Text → Text → Text → Type 0
 Closes v [] text rest = IsClosing text rest
 Closes v (inner ∷ others) text rest =
@@ -38,8 +38,8 @@ pub record HasEnd (v : DescriptionVersion) (text rest : Text) : Type 0 where
   pub others : List Text
   pub closes : Closes v others text rest
 
--- A text begins with a bracket that has a name and nested descriptions and nothing else. The first of them
--- stands there, `after` follows the `]` of that, and `rest` the bracket.
+-- A text begins with a bracket that has a name and nested descriptions and nothing else. `first` is the
+-- first of them, `after` follows its `]`, and `rest` follows the bracket.
 pub record IsItem (v : DescriptionVersion) (text first after rest : Text) : Type 0 where
   pub name : Text
   pub nested : Text
@@ -47,7 +47,7 @@ pub record IsItem (v : DescriptionVersion) (text first after rest : Text) : Type
   pub begins : BeginsNested v nested first after
   pub end : HasEnd v after rest
 
--- a fault that `parse` alone finds in a bracket
+-- a fault that only `parse` finds: `[optional ..]` or `[first ..]`
 abbrev pub is_of_item : Code → Bool
 is_of_item UnclosedBracket = false
 is_of_item UnknownName = false
@@ -72,13 +72,13 @@ is_of_item RefusedModifier = false
 abbrev pub spaces : ℕ → Text
 spaces n = repeat n (codes " ")
 
--- An item with spaces in the place of all but its first description, and the rest.
+-- An item with spaces instead of everything but its first description, and the rest.
 abbrev pub opened : Text → Text → Text → Text → Text
 opened text first after rest =
     spaces (length text - length first - length after - 1) ++ (first
     ++ (spaces (length after + 1 - length rest) ++ rest))
 
--- The rules assign a fault to the text that `parse` alone finds.
+-- By the rules the text has this fault, which only `parse` finds.
 pub record IsItemFault (v : DescriptionVersion) (text : Text) (fault : Fault) : Type 0 where
   pub faulty : FaultIn (languages.Version v) nesting_limit text fault
   pub of_item : is_of_item (code_of fault.kind) ≡ true
@@ -97,15 +97,15 @@ pub record IsOpened (v : DescriptionVersion) (text next : Text) : Type 0 where
   pub is : IsItem v item first after rest
   pub so : next ≡ front ++ opened item first after rest
 
--- What becomes of a text when its items are opened one after another, as long as it has one that is refused
--- by `parse` alone, and at most so many times.
+-- What becomes of a text when its items are opened one after another, as long as it has one that only
+-- `parse` refuses, and at most this many times.
 abbrev pub IsAllOpened : ℕ → DescriptionVersion → Text → Text → Type 0
 IsAllOpened zero v text all = all ≡ text
 IsAllOpened (suc n) v text all =
     (((next : Text) → IsOpened v text next → ⊥) × (all ≡ text))
     ⊎ ((next : Text) × IsOpened v text next × IsAllOpened n v next all)
 
--- the version by whose rules a place takes items that `parse` refuses
+-- the version in which a place takes items that `parse` refuses
 abbrev pub version_of : Dialect → Option DescriptionVersion
 version_of One = Some versions.One
 version_of Two = Some versions.Two
@@ -118,18 +118,18 @@ abbrev pub taking : Items → Dialect → Option DescriptionVersion
 taking Taken dialect = version_of dialect
 taking Refused dialect = None
 
--- The place takes an item for which `parse` refuses the text.
+-- The text has an item that `parse` refuses and that the place takes.
 abbrev pub HoldsItem : Option DescriptionVersion → Text → Type 0
 HoldsItem None text = ⊥
 HoldsItem (Some v) text = (next : Text) × IsOpened v text next
 
--- The text by which a description is judged: its own, or with its items opened where its place takes them.
+-- The text that is checked for a description: its own, with its items opened if its place takes items.
 abbrev pub IsJudgedText : Option DescriptionVersion → Text → Text → Type 0
 IsJudgedText None text judged = judged ≡ text
 IsJudgedText (Some v) text judged =
     ((¬ IsUtf8 text) × (judged ≡ text)) ⊎ (IsUtf8 text × IsAllOpened (length text) v text judged)
 
--- The same description with the text by which it is judged.
+-- The same description, with the text that is checked for it.
 pub record IsJudgedAs (d judged : Description) : Type 0 where
   pub piece : judged.piece ≡ d.piece
   pub kind : judged.kind ≡ d.kind
@@ -137,10 +137,10 @@ pub record IsJudgedAs (d judged : Description) : Type 0 where
   pub items : judged.items ≡ d.items
   pub version : judged.version ≡ d.version
   pub call : judged.call ≡ d.call
-  pub places : judged.unescaped.places.items ≡ d.unescaped.places.items
+  pub positions : judged.unescaped.positions.items ≡ d.unescaped.positions.items
   pub text : IsJudgedText (taking d.items d.dialect) d.unescaped.text.items judged.unescaped.text.items
 
--- each of these in turn
+-- each of these descriptions, in order
 abbrev pub AreJudgedAs : List Description → List Description → Type 0
 AreJudgedAs [] judged = judged ≡ []
 AreJudgedAs (d ∷ ds) judged = (one : Description) × (others : List Description)

@@ -1,4 +1,4 @@
--- What a description of a source is.
+-- Which outcome a description of a source has.
 use Rattle.std.specs.Prelude.{◌≡◌, Bool, false, List, [], ◌∷◌, if◌then◌else◌, Option, IsUtf8, IsTrue, IsFalse}
 use Rattle.std.specs.List.{flat_map}
 use Rattle.timefd_component.specs.Tree.{Text, Tree}
@@ -13,14 +13,14 @@ use Rattle.timefd_parse.specs.Language.{SpellsIn, FaultIn}
 use Rattle.timefd_sources.specs.declared.description.Description.{Description}
 use Rattle.timefd_sources.specs.declared.dialect.Dialect.{Dialect}
 use Rattle.timefd_sources.specs.declared.dialect.Dialect.TheVariants.{One, Two, Three, Strftime, Chrono, Jiff}
-use Rattle.timefd_sources.specs.declared.told.Items.{Items}
-use Rattle.timefd_sources.specs.declared.told.Items.TheVariants.{Taken, Refused as RefusedItems}
+use Rattle.timefd_sources.specs.declared.known.Items.{Items}
+use Rattle.timefd_sources.specs.declared.known.Items.TheVariants.{Taken, Refused as RefusedItems}
 use Rattle.timefd_sources.specs.Chrono.{is_of_chrono, is_of_jiff}
 use Rattle.timefd_warnings.specs.declared.levels.Levels.{Levels}
 use Rattle.timefd_lint_warnings.specs.Found.{found_by}
-use Rattle.timefd_lint_sources.specs.declared.told.End.{End}
+use Rattle.timefd_lint_sources.specs.declared.reported.End.{End}
 use Rattle.timefd_lint_sources.specs.Items.{is_of_item}
-use Rattle.timefd_lint_sources.specs.declared.told.End.TheVariants.{PassedOver, Accepted, Refused, NotText, Unread}
+use Rattle.timefd_lint_sources.specs.declared.reported.End.TheVariants.{PassedOver, Accepted, Refused, NotText, Unread}
 
 abbrev pub language_of : Dialect → Language
 language_of One = languages.Version versions.One
@@ -30,7 +30,7 @@ language_of Strftime = languages.Strftime
 language_of Chrono = languages.Strftime
 language_of Jiff = languages.Strftime
 
--- whether a text has directives that chrono or jiff alone knows
+-- whether a text has directives that only chrono or only jiff knows
 abbrev pub is_passed_over : Dialect → Text → Bool
 is_passed_over One text = false
 is_passed_over Two text = false
@@ -39,29 +39,29 @@ is_passed_over Strftime text = false
 is_passed_over Chrono text = is_of_chrono text
 is_passed_over Jiff text = is_of_jiff text
 
--- what the literal of a description stands for
+-- what the literal of a description denotes
 abbrev pub text_of : Description → Text
 text_of d = d.unescaped.text.items
 
 abbrev pub language_in : Description → Language
 language_in d = language_of d.dialect
 
--- Where items are taken, no fault is told that `parse` alone finds.
+-- If the place takes items, faults that only `parse` finds aren't reported.
 abbrev pub unless_item : Diagnostic → List Diagnostic
 unless_item g = if is_of_item g.code then [] else g ∷ []
 
-abbrev pub told_further : Items → List Diagnostic → List Diagnostic
-told_further RefusedItems further = further
-told_further Taken further = flat_map unless_item further
+abbrev pub reported_further : Items → List Diagnostic → List Diagnostic
+reported_further RefusedItems further = further
+reported_further Taken further = flat_map unless_item further
 
--- all that is told of a refused description: what is wrong with it, and what further
+-- all that is reported about a refused description: its first fault, and its further ones
 pub record AreDiagnosedOf (d : Description) (g : Diagnostic) (further : List Diagnostic) : Type 0 where
   pub found : List Diagnostic
   pub are : AreDiagnosed (language_in d) (text_of d) g found
-  pub told : further ≡ told_further d.items found
+  pub reported : further ≡ reported_further d.items found
 
--- Accepted where it spells a list, with the warnings of that, refused where it has a fault, and else
--- no UTF-8.
+-- A text is accepted if it spells a list, with the warnings of that list; refused if it has a fault;
+-- and otherwise it isn't UTF-8.
 abbrev pub IsJudged : Option Levels → Language → Text → End → Type 0
 IsJudged levels language text PassedOver = ⊥
 IsJudged levels language text (Accepted found) = IsUtf8 text
@@ -72,7 +72,7 @@ IsJudged levels language text Refused = IsUtf8 text
 IsJudged levels language text NotText = ¬ IsUtf8 text
 IsJudged levels language text Unread = ⊥
 
--- The same of a description that isn't passed over.
+-- The outcome of a description: it is passed over, or else judged by its text.
 abbrev pub IsEndOf : Option Levels → Description → End → Type 0
 IsEndOf levels d PassedOver = IsTrue (is_passed_over d.dialect (text_of d))
 IsEndOf levels d (Accepted found) = IsFalse (is_passed_over d.dialect (text_of d))

@@ -2,4 +2,4 @@ pub mod Items
 pub mod Judged
 pub mod Calls
 pub mod Remarks
-pub mod Told
+pub mod Reported

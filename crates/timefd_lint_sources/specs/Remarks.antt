@@ -1,4 +1,4 @@
--- What is told of a source besides its descriptions.
+-- What the linter reports about a source besides its descriptions.
 use Rattle.std.specs.Prelude.{ℕ, ◌≡◌, List, [], ◌∷◌, ◌++◌, codes}
 use Rattle.timefd_component.specs.Tree.{Text}
 use Rattle.timefd_drawing.specs.declared.draw.Style.{Style}
@@ -9,13 +9,13 @@ use Rattle.timefd_sources.specs.declared.look.Look.{Look}
 use Rattle.timefd_sources.specs.Looks.{IsLook}
 use Rattle.timefd_lint_sources.specs.declared.remark.Remark.{Remark}
 use Rattle.timefd_lint_sources.specs.declared.remark.Remark.TheVariants.{Call, Language}
-use Rattle.timefd_lint_sources.specs.declared.told.End.{End}
-use Rattle.timefd_lint_sources.specs.declared.told.End.TheVariants.{Refused, Unread}
-use Rattle.timefd_lint_sources.specs.declared.told.Finder.{Finder}
-use Rattle.timefd_lint_sources.specs.declared.told.Finder.TheVariants.{Rust, Keys}
-use Rattle.timefd_lint_sources.specs.declared.told.Source.{Source}
+use Rattle.timefd_lint_sources.specs.declared.reported.End.{End}
+use Rattle.timefd_lint_sources.specs.declared.reported.End.TheVariants.{Refused, Unread}
+use Rattle.timefd_lint_sources.specs.declared.reported.Finder.{Finder}
+use Rattle.timefd_lint_sources.specs.declared.reported.Finder.TheVariants.{Rust, Keys}
+use Rattle.timefd_lint_sources.specs.declared.reported.Source.{Source}
 
--- what came of it, as of a description
+-- the outcome of a remark, counted like that of a description
 abbrev pub end_of : Remark → End
 end_of (Call at) = Unread
 end_of (Language at) = Refused
@@ -27,13 +27,13 @@ abbrev pub ends_of : List Remark → List End
 ends_of [] = []
 ends_of (remark ∷ remarks) = one_end remark ++ ends_of remarks
 
--- The note stands in the line where the comment begins.
+-- The note is on the line where the comment begins.
 abbrev pub language_note : Style → Source → ℕ → Text
 language_note style s at =
     note style (record { file = s.file; line = line_number 1 s.text.now at }) (codes "unknown-language")
     (codes "this comment names no language: there are 1, 2, 3, strftime, chrono and jiff")
 
--- A call is counted, and nothing more is told of it.
+-- A call is counted, and nothing more is reported about it.
 abbrev pub message_of : Style → Source → Remark → Text
 message_of style s (Call at) = []
 message_of style s (Language at) = language_note style s at
@@ -44,17 +44,17 @@ messages_of style s (remark ∷ remarks) = message_of style s remark ++ messages
 
 abbrev pub on_calls : List ℕ → List Remark
 on_calls [] = []
-on_calls (at ∷ places) = Call at ∷ on_calls places
+on_calls (at ∷ positions) = Call at ∷ on_calls positions
 
 abbrev pub on_comments : List ℕ → List Remark
 on_comments [] = []
-on_comments (at ∷ places) = Language at ∷ on_comments places
+on_comments (at ∷ positions) = Language at ∷ on_comments positions
 
 abbrev pub remarks_on : List ℕ → List ℕ → List Remark
 remarks_on calls comments = on_calls calls ++ on_comments comments
 
--- The remarks on a source of Rust are those on the calls that a look at it leaves unread, and on comments; beside
--- keys there are none.
+-- The remarks on a Rust source are about the calls that are left unread, and about comments. A file with keys
+-- has none.
 pub record AreSeenIn (source : Text) (ds : List Description) (remarks : List Remark) : Type 0 where
   pub look : Look
   pub is : IsLook source look

@@ -1,18 +1,18 @@
-//! What is told of an accepted description.
+//! What the linter reports about an accepted description.
 
 ghost use Rattle.std.specs.Prelude.{◌≡◌, List, IfOk};
 ghost use Rattle.timefd_component.specs.Tree.{Tree};
 ghost use Rattle.timefd_drawing.specs.Counted.{IsCounted};
 ghost use Rattle.timefd_language.specs.Grammar.{nesting_limit};
 ghost use Rattle.timefd_parse.specs.Language.{SpellsIn};
-ghost use Rattle.timefd_lint_sources.specs.declared.told.End.TheVariants as ends;
+ghost use Rattle.timefd_lint_sources.specs.declared.reported.End.TheVariants as ends;
 ghost use Rattle.timefd_lint_warnings.specs.Found.{found_by};
 ghost use Rattle.timefd_explain.specs.Lines.{IsExplainedIf};
 ghost use Rattle.timefd_lint_sources.specs.Judged.{language_in, text_of};
-ghost use Rattle.timefd_lint_sources.specs.Told.{IsMessageOn};
+ghost use Rattle.timefd_lint_sources.specs.Reported.{IsMessageOn};
 
-use crate::position::told_position_of;
-use crate::told::{End, Source, Telling, Told};
+use crate::position::reported_position_of;
+use crate::reported::{End, Reported, Reporting, Source};
 use std::alloc::{AllocError, Global};
 use timefd_drawing::{Counter, Origin};
 use timefd_explain::explained;
@@ -21,64 +21,64 @@ use timefd_parse::Language;
 use timefd_sources::Description;
 use timefd_warnings::{Level, Levels};
 
-/// What is told of a description that its language accepts: its tree, if it is asked for, and its
+/// Reports on a description that its language accepts: its tree, if that is asked for, and its
 /// warnings. An `Err` says that memory ran out.
 pub fn accepted(
     alloc: Global,
-    telling: Telling,
+    reporting: Reporting,
     source: Source<'_>,
     from: Counter,
     description: &Description,
     language: Language,
     text: &str,
-) -> Result<Told, AllocError>
+) -> Result<Reported, AllocError>
     requires language { language ≡ language_in description.now }
     requires text { text.now ≡ text_of description.now }
     requires counted { IsCounted 1 source.text.now from }
     ensures end { (list : List Tree) → SpellsIn language nesting_limit text.now list
-        → IfOk result (λ told. told.end ≡ ends.Accepted (found_by telling.levels language list)) }
-    ensures message { IfOk result (λ told. IsMessageOn telling source.entry description.now
-        told.end told.message.items) }
+        → IfOk result (λ reported. reported.end ≡ ends.Accepted (found_by reporting.levels language list)) }
+    ensures message { IfOk result (λ reported. IsMessageOn reporting source.entry description.now
+        reported.end reported.message.items) }
 {
-    if telling.explains || telling.levels.is_some() {
-        explained_and_warned(alloc, telling, source, from, description, language, text)
+    if reporting.explains || reporting.levels.is_some() {
+        explained_and_warned(alloc, reporting, source, from, description, language, text)
     } else {
-        Ok(Told {
+        Ok(Reported {
             end: End::Accepted(Levels::all_at(Level::Allowed)),
             message: Vec::new(alloc),
         })
     }
 }
 
-// The same where there may be something to tell.
+// Reports on an accepted description if there may be something to report.
 fn explained_and_warned(
     alloc: Global,
-    telling: Telling,
+    reporting: Reporting,
     source: Source<'_>,
     from: Counter,
     description: &Description,
     language: Language,
     text: &str,
-) -> Result<Told, AllocError>
+) -> Result<Reported, AllocError>
     requires language { language ≡ language_in description.now }
     requires text { text.now ≡ text_of description.now }
     requires counted { IsCounted 1 source.text.now from }
     ensures end { (list : List Tree) → SpellsIn language nesting_limit text.now list
-        → IfOk result (λ told. told.end ≡ ends.Accepted (found_by telling.levels language list)) }
-    ensures message { IfOk result (λ told. IsMessageOn telling source.entry description.now
-        told.end told.message.items) }
+        → IfOk result (λ reported. reported.end ≡ ends.Accepted (found_by reporting.levels language list)) }
+    ensures message { IfOk result (λ reported. IsMessageOn reporting source.entry description.now
+        reported.end reported.message.items) }
 {
-    let format = telling.style.format;
-    let place = told_position_of(alloc, format, source.text, from, description.piece.start)?;
+    let format = reporting.style.format;
+    let position = reported_position_of(alloc, format, source.text, from, description.piece.start)?;
     let origin = Origin {
         file: source.file,
-        line: place.line,
+        line: position.line,
     };
-    let found = found_by(alloc, telling.levels, language, text)?;
-    let mut message = tree_of(alloc, telling.explains, language, origin, text)?;
-    let told = messages_at(alloc, telling.style, origin, place.column, found)?;
-    message.extend_from_slice(&told)?;
-    Ok(Told {
+    let found = found_by(alloc, reporting.levels, language, text)?;
+    let mut message = tree_of(alloc, reporting.explains, language, origin, text)?;
+    let reported = messages_at(alloc, reporting.style, origin, position.column, found)?;
+    message.extend_from_slice(&reported)?;
+    Ok(Reported {
         end: End::Accepted(found),
         message,
     })

@@ -1,11 +1,11 @@
-//! The note at a call that takes a text by its name.
+//! The note at a call that takes a description by name.
 
 ghost use Rattle.std.specs.Prelude.{◌≡◌, IfOk, string_bytes};
 ghost use Rattle.timefd_drawing.specs.Counted.{IsCounted};
 ghost use Rattle.timefd_lint_sources.specs.Calls as spec;
 
 use crate::position::FIRST_LINE;
-use crate::told::Source;
+use crate::reported::Source;
 use std::alloc::{AllocError, Global};
 use timefd_drawing::github::{Command, annotation};
 use timefd_drawing::json::Entry;
@@ -13,13 +13,14 @@ use timefd_drawing::shown::safe;
 use timefd_drawing::{Counter, Format, Position, Style, position_from};
 use timefd_sources::Description;
 
-/// The name of such a note.
+/// The code of such a note.
 const CODE: &str = "call";
 
 const MESSAGE: &str = "this call takes the text by its name";
 
-/// The note at the call that takes a description by its name; nothing where it stands in the call itself, nor in JSON
-/// and SARIF, where all that is told has the code of an error or a warning. An `Err` says that memory ran out.
+/// The note at the call that takes a description by name. It is empty if the description is in the call
+/// itself, and in JSON and SARIF, where everything that is reported has the code of an error or a warning. An
+/// `Err` says that memory ran out.
 pub fn call_note(
     alloc: Global,
     style: Style,
@@ -46,32 +47,32 @@ fn note_at(
     requires { IsCounted 1 source.text.now from }
     ensures { IfOk result (λ note. note.items ≡ spec.note_at style source.entry at) }
 {
-    let place = position_from(alloc, FIRST_LINE, source.text, from, at)?;
-    note_in(alloc, style.format, source.file, place)
+    let position = position_from(alloc, FIRST_LINE, source.text, from, at)?;
+    note_in(alloc, style.format, source.file, position)
 }
 
 fn note_in(
     alloc: Global,
     format: Format,
     file: &str,
-    place: Position,
+    position: Position,
 ) -> Result<Vec<u8>, AllocError>
-    ensures { IfOk result (λ note. note.items ≡ spec.note_in format file.now place.line place.column) }
+    ensures { IfOk result (λ note. note.items ≡ spec.note_in format file.now position.line position.column) }
 {
     let entry = Entry {
         code: CODE,
         file,
-        line: place.line,
-        column: place.column as u64,
+        line: position.line,
+        column: position.column as u64,
         message: MESSAGE,
     };
     match format {
         Format::Human => {
-            let drawing = human(alloc, file, place)?;
+            let drawing = human(alloc, file, position)?;
             Ok(drawing.into_bytes())
         }
         Format::Short => {
-            let line = short(alloc, file, place)?;
+            let line = short(alloc, file, position)?;
             Ok(line.into_bytes())
         }
         Format::Github => annotation(alloc, Command::Notice, entry),
@@ -80,24 +81,24 @@ fn note_in(
 }
 
 // `FILE:LINE:COLUMN`
-fn place_text(alloc: Global, file: &str, place: Position) -> Result<String, AllocError>
-    ensures { IfOk result (λ text. string_bytes text ≡ spec.place_text file.now place.line place.column) }
+fn position_text(alloc: Global, file: &str, position: Position) -> Result<String, AllocError>
+    ensures { IfOk result (λ text. string_bytes text ≡ spec.position_text file.now position.line position.column) }
 {
     let file = safe(alloc, file)?;
-    let Position { line, column } = place;
+    let Position { line, column } = position;
     format!(in alloc; "{file}:{line}:{column}")
 }
 
-fn human(alloc: Global, file: &str, place: Position) -> Result<String, AllocError>
-    ensures { IfOk result (λ text. string_bytes text ≡ spec.human file.now place.line place.column) }
+fn human(alloc: Global, file: &str, position: Position) -> Result<String, AllocError>
+    ensures { IfOk result (λ text. string_bytes text ≡ spec.human file.now position.line position.column) }
 {
-    let place = place_text(alloc, file, place)?;
-    format!(in alloc; "note: {MESSAGE}\n --> {place}\n\n")
+    let position = position_text(alloc, file, position)?;
+    format!(in alloc; "note: {MESSAGE}\n --> {position}\n\n")
 }
 
-fn short(alloc: Global, file: &str, place: Position) -> Result<String, AllocError>
-    ensures { IfOk result (λ text. string_bytes text ≡ spec.short file.now place.line place.column) }
+fn short(alloc: Global, file: &str, position: Position) -> Result<String, AllocError>
+    ensures { IfOk result (λ text. string_bytes text ≡ spec.short file.now position.line position.column) }
 {
-    let place = place_text(alloc, file, place)?;
-    format!(in alloc; "{place}: note: {MESSAGE}\n")
+    let position = position_text(alloc, file, position)?;
+    format!(in alloc; "{position}: note: {MESSAGE}\n")
 }

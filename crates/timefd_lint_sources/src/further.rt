@@ -1,4 +1,4 @@
-//! What is wrong with a description besides its first fault.
+//! The faults of a description after its first one.
 
 ghost use Rattle.std.specs.Prelude.{◌≡◌, ◌++◌, List, IfOk, OnOk};
 ghost use Rattle.timefd_fault.specs.Placed.{IsPlaced};
@@ -6,7 +6,7 @@ ghost use Rattle.timefd_diagnosis.specs.declared.diagnostic.Diagnostic as diagno
 ghost use Rattle.timefd_diagnosis.specs.Further.{AreFurther, most_further, without};
 ghost use Rattle.std.specs.List.{flat_map};
 ghost use Rattle.timefd_fault.specs.Faults.{fault_of};
-ghost use Rattle.timefd_lint_sources.specs.Judged.{language_in, told_further, unless_item};
+ghost use Rattle.timefd_lint_sources.specs.Judged.{language_in, reported_further, unless_item};
 
 use crate::language::language_of;
 use crate::opening::is_of_item;
@@ -14,8 +14,8 @@ use std::alloc::{AllocError, Global};
 use timefd_diagnosis::{Diagnostic, MOST_FURTHER, further_faults};
 use timefd_sources::{Description, Items};
 
-/// What is wrong with a description besides this first fault of its text: without what `parse` alone refuses,
-/// where its place takes that. An `Err` says that memory ran out.
+/// The faults of a description after this first one of its text. If its place takes `[optional ..]` and
+/// `[first ..]`, faults that only `parse` finds are left out. An `Err` says that memory ran out.
 pub fn further_of(
     alloc: Global,
     description: &Description,
@@ -26,7 +26,7 @@ pub fn further_of(
     ensures { IfOk result (λ further. (found : List diagnostics.Diagnostic)
         × AreFurther most_further (language_in description.now)
         (without (language_in description.now) text.now (fault_of first.now.fault)) found
-        × (further.items ≡ told_further description.now.items found)) }
+        × (further.items ≡ reported_further description.now.items found)) }
 {
     let language = language_of(description.dialect);
     let found = further_faults(alloc, language, text, first, MOST_FURTHER)?;

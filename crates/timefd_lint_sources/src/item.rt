@@ -13,13 +13,13 @@ use timefd_parse::{DescriptionVersion, bracket_name, first_nested};
 pub struct Item<'a> {
     /// The first of its descriptions.
     pub first: &'a str,
-    /// What follows the `]` of that.
+    /// What follows the `]` of the first description.
     pub after: &'a str,
     /// What follows the bracket.
     pub rest: &'a str,
 }
 
-/// The item that a text begins with, if it begins with one. No memory is taken.
+/// The item that a text begins with, if it begins with one. No memory is allocated.
 #[tactic(auto, using(crate::proofs::ItemLemmas::is_item))]
 pub fn item_of<'a>(alloc: Global, version: DescriptionVersion, text: &'a str) -> Option<Item<'a>>
     ensures found { IfSome result (λ item. IsItem version text.now item.first.now item.after.now item.rest.now) }
@@ -39,7 +39,7 @@ pub fn item_of<'a>(alloc: Global, version: DescriptionVersion, text: &'a str) ->
     }
 }
 
-// What follows the bracket that goes on with this: further nested descriptions, and its `]`.
+// What follows the rest of a bracket: more nested descriptions, and its `]`.
 fn after_bracket<'a>(alloc: Global, version: DescriptionVersion, text: &'a str) -> Option<&'a str>
     ensures found { IfSome result (λ rest. HasEnd version text.now rest.now) }
     ensures all { (rest : Text) → HasEnd version text.now rest

@@ -1,4 +1,4 @@
-//! Descriptions as they are judged: with their items opened, where their places take them.
+//! Descriptions as they are checked: with their items opened if their places take items.
 
 ghost use Rattle.std.specs.Prelude.{◌≡◌, IfOk, IfSome, IsUtf8, None, false, length, true};
 ghost use Rattle.timefd_component.specs.Tree.{Text};
@@ -11,7 +11,8 @@ use std::str;
 use timefd_parse::DescriptionVersion;
 use timefd_sources::{Description, Dialect, Items, Unescaped};
 
-/// Descriptions in turn, each with the text by which it is judged. An `Err` says that memory ran out.
+/// These descriptions in order, each with the text that is checked for it. An `Err` says that memory ran
+/// out.
 #[tactic(auto, using(crate::proofs::JudgedLemmas::one_more))]
 pub fn judged_all(
     alloc: Global,
@@ -26,7 +27,7 @@ pub fn judged_all(
     Ok(judged)
 }
 
-// A description with the text by which it is judged.
+// A description with the text that is checked for it.
 #[tactic(auto, using(crate::proofs::JudgedLemmas::as_it_is, crate::proofs::JudgedLemmas::no_text, crate::proofs::JudgedLemmas::is_text))]
 fn judged_as(alloc: Global, description: Description) -> Result<Description, AllocError>
     ensures { IfOk result (IsJudgedAs description) }
@@ -46,13 +47,13 @@ fn judged_as(alloc: Global, description: Description) -> Result<Description, All
         call: description.call,
         unescaped: Unescaped {
             text,
-            places: description.unescaped.places,
+            positions: description.unescaped.positions,
         },
     })
 }
 
-/// Whether the place of a description takes an item for which `parse` refuses its text. An `Err` says that
-/// memory ran out.
+/// Whether a text has an item that `parse` refuses and that the place of its description takes. An `Err`
+/// says that memory ran out.
 #[tactic(auto, using(crate::proofs::JudgedLemmas::holds_none))]
 pub fn holds_item(alloc: Global, description: &Description, text: &str) -> Result<bool, AllocError>
     ensures found { IfOk result (λ holds. holds ≡ true
@@ -78,7 +79,7 @@ fn has_item(alloc: Global, version: DescriptionVersion, text: &str) -> Result<bo
     }
 }
 
-// The text of these bytes with its items opened; none where they are no UTF-8.
+// The text of these bytes with its items opened; `None` if they aren't UTF-8.
 fn opened_bytes(
     alloc: Global,
     version: DescriptionVersion,
@@ -97,7 +98,8 @@ fn opened_bytes(
     }
 }
 
-// The version by whose rules the place of a description takes items that `parse` refuses.
+// The version in which a description's place takes items that `parse` refuses; `None` if it doesn't take
+// them.
 fn taking(items: Items, dialect: Dialect) -> Option<DescriptionVersion>
     ensures { result ≡ spec.taking items dialect }
 {

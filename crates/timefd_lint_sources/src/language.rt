@@ -1,4 +1,4 @@
-//! The languages by which descriptions of sources are judged, and mended.
+//! The languages that descriptions in sources are checked in, and fixed.
 
 ghost use Rattle.std.specs.Prelude.{◌≡◌};
 ghost use Rattle.timefd_lint_sources.specs.Judged as spec;
@@ -6,7 +6,8 @@ ghost use Rattle.timefd_lint_sources.specs.Judged as spec;
 use timefd_parse::{DescriptionVersion, Language};
 use timefd_sources::{Dialect, is_of_chrono, is_of_jiff};
 
-/// The language of a dialect. What chrono and jiff have in common with `time` is strftime.
+/// The language that a dialect is checked in. What chrono and jiff have in common with `time` is
+/// strftime.
 pub fn language_of(dialect: Dialect) -> Language
     ensures { result ≡ spec.language_of dialect }
 {
@@ -18,7 +19,8 @@ pub fn language_of(dialect: Dialect) -> Language
     }
 }
 
-/// Whether a text has directives that chrono or jiff alone knows, so that strftime is no judge of it.
+/// Whether a text has directives that only chrono or only jiff knows, so that it can't be checked as
+/// strftime.
 pub fn is_passed_over(dialect: Dialect, text: &[u8]) -> bool
     ensures { result ≡ spec.is_passed_over dialect text.now }
 {

@@ -1,4 +1,5 @@
-//! What the linter tells of a source of Rust or a file with keys: of each description in it, at its place.
+//! What the linter reports about a Rust source or a file with keys: about each description in it, at its
+//! position.
 #![tactic(auto)]
 
 mod accepted;
@@ -10,8 +11,8 @@ mod language;
 mod opening;
 mod position;
 mod remark;
+mod reported;
 mod source;
-mod told;
 
 pub use further::further_of;
 pub use judged::holds_item;
@@ -19,5 +20,5 @@ pub use language::{is_passed_over, language_of};
 pub use opening::is_of_item;
 pub use position::FIRST_LINE;
 pub use remark::Remark;
-pub use source::{Report, descriptions_in, judged_in, lint_source, tell_all};
-pub use told::{End, Finder, Source, Telling, Told};
+pub use reported::{End, Finder, Reported, Reporting, Source};
+pub use source::{Report, descriptions_in, judged_in, lint_source, report_all};

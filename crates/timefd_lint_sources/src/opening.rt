@@ -1,4 +1,4 @@
-//! Texts of versions 1 and 2 as they are judged where `[optional [..]]` and `[first [..] [..]]` are taken: with
+//! Texts of versions 1 and 2 as they are checked if `[optional [..]]` and `[first [..] [..]]` are taken: with
 //! these items opened.
 
 ghost use Rattle.std.specs.Prelude.{◌≡◌, ◌++◌, Bool, IfOk, IfSome, None, Some, length, string_bytes, true};
@@ -38,7 +38,7 @@ pub fn opened_all(
     Ok(left)
 }
 
-/// A text with one item opened, if it has one that `parse` alone refuses.
+/// A text with one item opened, if it has one that only `parse` refuses. An `Err` says that memory ran out.
 #[tactic(auto, using(crate::proofs::OpeningLemmas::is_opened, crate::proofs::OpeningLemmas::no_fault))]
 pub fn opened_once(
     alloc: Global,
@@ -53,14 +53,14 @@ pub fn opened_once(
     let Some(index) = item_index(alloc, version, text)? else {
         return Ok(None);
     };
-    let (front, behind) = text.split_at(index);
-    match item_of(alloc, version, behind) {
-        Some(item) => Ok(Some(with_spaces(alloc, front, behind, item)?)),
+    let (front, after) = text.split_at(index);
+    match item_of(alloc, version, after) {
+        Some(item) => Ok(Some(with_spaces(alloc, front, after, item)?)),
         None => Ok(None),
     }
 }
 
-// Where the bracket of a text stands that `parse` alone refuses, if that is its fault.
+// Where the bracket begins that only `parse` refuses, if the first fault of the text is such a bracket.
 fn item_index(
     alloc: Global,
     version: DescriptionVersion,
@@ -70,7 +70,7 @@ fn item_index(
         × IsItemFault version text.now f × (index ≡ f.index))) }
     ensures all { (f : Fault) → IsItemFault version text.now f
         → IfOk result (λ at. at ≡ Some f.index) }
-    ensures place { IfOk result (λ at. IfSome at (λ index. IsCharBoundary text.now index)) }
+    ensures position { IfOk result (λ at. IfSome at (λ index. IsCharBoundary text.now index)) }
 {
     match amount_all_borrowed(alloc, Language::Version(version), NESTING_LIMIT, text) {
         Ok(_) => Ok(None),
@@ -85,7 +85,7 @@ fn item_index(
     }
 }
 
-/// Whether a fault is one that `parse` alone finds in a bracket.
+/// Whether this is a fault that only `parse` finds: `[optional ..]` or `[first ..]`.
 pub fn is_of_item(code: Code) -> bool
     ensures { result ≡ spec.is_of_item code }
 {
@@ -111,7 +111,8 @@ pub fn is_of_item(code: Code) -> bool
     }
 }
 
-// What stands in front, and behind it an item with spaces in the place of all but its first description.
+// The text `front`, and after it the text of an item, with spaces instead of everything but the item's first
+// description.
 fn with_spaces(alloc: Global, front: &str, text: &str, item: Item<'_>) -> Result<String, AllocError>
     ensures { IfOk result (λ next. string_bytes next
         ≡ front.now ++ opened text.now item.entry.first.now item.entry.after.now item.entry.rest.now) }

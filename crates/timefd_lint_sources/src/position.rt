@@ -1,4 +1,4 @@
-//! The line and the column of a place in a source.
+//! The line and the column of a position in a source.
 
 ghost use Rattle.std.specs.Prelude.{◌≡◌, IfOk};
 ghost use Rattle.timefd_drawing.specs.Counted.{IsCounted};
@@ -10,10 +10,10 @@ use timefd_drawing::{Counter, Format, Position, char_position_from, position_fro
 /// The number of a source's first line.
 pub const FIRST_LINE: u64 = 1;
 
-/// The place of the byte at an index, with its line counted on from what is counted of the source, and its column
-/// as a form counts it: SARIF counts characters, and the others what a terminal shows. An `Err` says that memory
+/// The position of the byte at an index. The line is counted on from `from`, and the column depends on the
+/// output format: SARIF counts characters, and the others what a terminal shows. An `Err` says that memory
 /// ran out.
-pub fn told_position_of(
+pub fn reported_position_of(
     alloc: Global,
     format: Format,
     source: &str,
@@ -21,8 +21,8 @@ pub fn told_position_of(
     index: usize,
 ) -> Result<Position, AllocError>
     requires { IsCounted 1 source.now from }
-    ensures line { IfOk result (λ place. place.line ≡ spec.line_number 1 source.now index) }
-    ensures column { IfOk result (λ place. place.column ≡ spec.told_column format source.now index) }
+    ensures line { IfOk result (λ position. position.line ≡ spec.line_number 1 source.now index) }
+    ensures column { IfOk result (λ position. position.column ≡ spec.reported_column format source.now index) }
 {
     match format {
         Format::Human | Format::Json | Format::Short | Format::Github => position_from(

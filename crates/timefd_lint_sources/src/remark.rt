@@ -1,29 +1,29 @@
-//! What is told of a source besides its descriptions.
+//! What the linter reports about a source besides its descriptions.
 
 ghost use Rattle.std.specs.Prelude.{◌≡◌, ◌++◌, IfOk, OnOk, flat_map, map};
 ghost use Rattle.timefd_lint_sources.specs.Remarks as spec;
 
 use crate::position::FIRST_LINE;
-use crate::told::{End, Source};
+use crate::reported::{End, Source};
 use std::alloc::{AllocError, Global};
 use timefd_drawing::{Origin, Position, Style, note, position_of};
 
 /// What is seen in a source besides its descriptions.
 #[derive(Clone, Copy)]
 pub enum Remark {
-    /// A call takes the name at this place, and no text is found for it.
+    /// A call takes the name at this byte index, and no text is found for it.
     Call(usize),
-    /// The comment at this place is to name a language, and names none.
+    /// The comment at this byte index should name a language, but doesn't.
     Language(usize),
 }
 
-/// The name of what is wrong with a comment.
+/// The code of a fault in a comment.
 const CODE: &str = "unknown-language";
 
 const MESSAGE: &str =
     "this comment names no language: there are 1, 2, 3, strftime, chrono and jiff";
 
-/// What came of it, as of a description.
+/// The outcome of a remark, counted like that of a description.
 pub fn end_of(remark: Remark) -> End
     ensures { result ≡ spec.end_of remark }
 {
@@ -64,7 +64,7 @@ fn language_note(
     note(alloc, style, origin, CODE, MESSAGE)
 }
 
-// Tells of one more.
+// Reports one more remark.
 fn push_remark(
     alloc: Global,
     style: Style,
@@ -77,12 +77,13 @@ fn push_remark(
     ensures message { OnOk result (message.new.items
         ≡ message.old.items ++ spec.message_of style source.entry remark) }
 {
-    let told = message_of(alloc, style, source, remark)?;
+    let reported = message_of(alloc, style, source, remark)?;
     ends.push(end_of(remark))?;
-    message.extend_from_slice(&told)
+    message.extend_from_slice(&reported)
 }
 
-/// Tells of these in turn, behind what was told before. An `Err` says that memory ran out.
+/// Reports these remarks in order, after what was reported before. An `Err` says that memory ran
+/// out.
 pub fn push_remarks(
     alloc: Global,
     style: Style,
@@ -96,14 +97,15 @@ pub fn push_remarks(
         ≡ message.old.items ++ spec.messages_of style source.entry remarks.now) }
 {
     let mut rest = remarks;
-    'remarks: while let [remark, behind @ ..] = rest {
+    'remarks: while let [remark, after @ ..] = rest {
         push_remark(alloc, style, source, *remark, ends, message)?;
-        rest = behind;
+        rest = after;
     }
     Ok(())
 }
 
-/// The remarks on these calls, and on these comments behind them.
+/// The remarks on these calls, followed by those on these comments. An `Err` says that memory ran
+/// out.
 pub fn remarks_on(
     alloc: Global,
     calls: &[usize],
@@ -121,9 +123,9 @@ fn push_calls(remarks: &mut Vec<Remark>, calls: &[usize]) -> Result<(), AllocErr
     ensures { OnOk result (remarks.new.items ≡ remarks.old.items ++ spec.on_calls calls.now) }
 {
     let mut rest = calls;
-    'calls: while let [call, behind @ ..] = rest {
+    'calls: while let [call, after @ ..] = rest {
         remarks.push(Remark::Call(*call))?;
-        rest = behind;
+        rest = after;
     }
     Ok(())
 }
@@ -132,9 +134,9 @@ fn push_comments(remarks: &mut Vec<Remark>, comments: &[usize]) -> Result<(), Al
     ensures { OnOk result (remarks.new.items ≡ remarks.old.items ++ spec.on_comments comments.now) }
 {
     let mut rest = comments;
-    'comments: while let [comment, behind @ ..] = rest {
+    'comments: while let [comment, after @ ..] = rest {
         remarks.push(Remark::Language(*comment))?;
-        rest = behind;
+        rest = after;
     }
     Ok(())
 }

@@ -1,38 +1,38 @@
-//! What is told of all descriptions of a source.
+//! What the linter reports about all descriptions of a source.
 
 ghost use Rattle.std.specs.Prelude.{IfOk, OnOk};
 ghost use Rattle.timefd_drawing.specs.Counted.{IsCounted};
 ghost use Rattle.timefd_lint_sources.specs.Remarks.{AreSeenIn};
-ghost use Rattle.timefd_lint_sources.specs.Told.{AddsTold, AreSeen, AllFound, AreAllOf, AreJudgedIn, AreTold, IsSourceTold};
+ghost use Rattle.timefd_lint_sources.specs.Reported.{AddsReported, AreSeen, AllFound, AreAllOf, AreJudgedIn, AreReported, IsSourceReported};
 ghost use Rattle.timefd_sources.specs.Found.{AreInOrder};
 
 use crate::judged::judged_all;
 use crate::position::FIRST_LINE;
 use crate::remark::{Remark, push_remarks, remarks_on};
-use crate::told::{End, Finder, Source, Telling, Told, tell};
+use crate::reported::{End, Finder, Reported, Reporting, Source, report};
 use std::alloc::{AllocError, Global};
 use timefd_drawing::{Counter, counted, none_counted};
 use timefd_keys::descriptions_by;
 use timefd_sources::{Description, Look, descriptions_of, looked_at};
 
-/// What is told of the descriptions of a source.
+/// What the linter reports about the descriptions of a source.
 #[derive(Drop)]
 pub struct Report {
-    /// What came of each, in turn, and behind them what came of what is told besides.
+    /// The outcome of each description in order, followed by the outcomes of the remarks.
     pub ends: Vec<End>,
-    /// The messages on each, in turn.
+    /// The messages on all of them, in the same order.
     pub message: Vec<u8>,
 }
 
-/// Looks at the descriptions in a source, and tells what is wrong with each where that stands.
-/// An `Err` says that memory ran out.
-#[tactic(auto, using(crate::proofs::SeenLemmas::source_told))]
+/// Checks the descriptions in a source, and reports what is wrong with each at its position. An `Err` says
+/// that memory ran out.
+#[tactic(auto, using(crate::proofs::SeenLemmas::source_reported))]
 pub fn lint_source(
     alloc: Global,
-    telling: Telling,
+    reporting: Reporting,
     source: Source<'_>,
 ) -> Result<Report, AllocError>
-    ensures { IfOk result (IsSourceTold telling source.entry) }
+    ensures { IfOk result (IsSourceReported reporting source.entry) }
 {
     let Seen {
         descriptions,
@@ -42,10 +42,10 @@ pub fn lint_source(
     let Report {
         mut ends,
         mut message,
-    } = tell_all(alloc, telling, source, &descriptions)?;
+    } = report_all(alloc, reporting, source, &descriptions)?;
     push_remarks(
         alloc,
-        telling.style,
+        reporting.style,
         source,
         &remarks,
         &mut ends,
@@ -90,8 +90,8 @@ fn seen_in_rust(alloc: Global, source: &str) -> Result<Seen, AllocError>
     })
 }
 
-/// The descriptions in a source, one after another, each with the text by which it is judged. An `Err` says
-/// that memory ran out.
+/// The descriptions in a source, in order, each with the text that is checked for it. An `Err` says that
+/// memory ran out.
 pub fn judged_in(alloc: Global, source: Source<'_>) -> Result<Vec<Description>, AllocError>
     ensures { IfOk result (λ judged. AreJudgedIn source.entry judged.items) }
 {
@@ -99,7 +99,7 @@ pub fn judged_in(alloc: Global, source: Source<'_>) -> Result<Vec<Description>, 
     judged_all(alloc, found)
 }
 
-/// The descriptions in a source, one behind another. An `Err` says that memory ran out.
+/// The descriptions in a source, in order; they don't overlap. An `Err` says that memory ran out.
 #[tactic(auto, using(crate::proofs::FinderLemmas::by_rust, crate::proofs::FinderLemmas::all_by_rust, crate::proofs::FinderLemmas::all_by_keys))]
 pub fn descriptions_in(alloc: Global, source: Source<'_>) -> Result<Vec<Description>, AllocError>
     ensures all { IfOk result (λ found. AreAllOf source.entry found.items) }
@@ -112,15 +112,16 @@ pub fn descriptions_in(alloc: Global, source: Source<'_>) -> Result<Vec<Descript
     }
 }
 
-/// Looks at these descriptions of a source, one after another.
+/// Checks these descriptions of a source, one after another, and reports on them. An `Err` says that memory
+/// ran out.
 #[tactic(auto, using(crate::proofs::ReportLemmas::at_first, crate::proofs::ReportLemmas::one_more, crate::proofs::ReportLemmas::at_last))]
-pub fn tell_all(
+pub fn report_all(
     alloc: Global,
-    telling: Telling,
+    reporting: Reporting,
     source: Source<'_>,
     descriptions: &[Description],
 ) -> Result<Report, AllocError>
-    ensures { IfOk result (λ report. AreTold telling source.entry descriptions.now
+    ensures { IfOk result (λ report. AreReported reporting source.entry descriptions.now
         report.ends.items report.message.items) }
 {
     let mut ends = Vec::new(alloc);
@@ -128,9 +129,9 @@ pub fn tell_all(
     let mut from = none_counted(FIRST_LINE);
     for description in descriptions {
         from = counted(FIRST_LINE, source.text, from, description.piece.start);
-        push_told(
+        push_reported(
             alloc,
-            telling,
+            reporting,
             source,
             from,
             description,
@@ -141,11 +142,11 @@ pub fn tell_all(
     Ok(Report { ends, message })
 }
 
-// Looks at one more description.
+// Checks one more description.
 #[tactic(auto, using(crate::proofs::ReportLemmas::adds))]
-fn push_told(
+fn push_reported(
     alloc: Global,
-    telling: Telling,
+    reporting: Reporting,
     source: Source<'_>,
     from: Counter,
     description: &Description,
@@ -153,10 +154,10 @@ fn push_told(
     message: &mut Vec<u8>,
 ) -> Result<(), AllocError>
     requires { IsCounted 1 source.text.now from }
-    ensures { OnOk result (AddsTold telling source.entry description.now ends.old.items
+    ensures { OnOk result (AddsReported reporting source.entry description.now ends.old.items
         message.old.items ends.new.items message.new.items) }
 {
-    let told = tell(alloc, telling, source, from, description)?;
-    ends.push(told.end)?;
-    message.extend_from_slice(&told.message)
+    let reported = report(alloc, reporting, source, from, description)?;
+    ends.push(reported.end)?;
+    message.extend_from_slice(&reported.message)
 }

@@ -27,13 +27,13 @@ parts_of_output Two list (Description d) is = absurd is
 parts_of_output Three list (Description d) is = ap leaves is ∙ leaves_packed list
 
 pub found_as_spelled : (version : DescriptionVersion) (list : List Tree) (output : BorrowedOutput)
-    (levels told : Levels) → told ≡ found levels Style.Brackets (output_parts output)
-    → IsOutput version list output → told ≡ found levels Style.Brackets (leaves_in list)
-found_as_spelled version list output levels told are is =
+    (levels reported : Levels) → reported ≡ found levels Style.Brackets (output_parts output)
+    → IsOutput version list output → reported ≡ found levels Style.Brackets (leaves_in list)
+found_as_spelled version list output levels reported are is =
     are ∙ ap (found levels Style.Brackets) (parts_of_output version list output is)
 
-pub items_as_spelled : (items : List BorrowedFormatItem) (list : List Tree) (levels told : Levels)
-    → told ≡ found levels Style.Percents (leaves_all (trees (item_trees items)))
-    → item_trees items ≡ list → told ≡ found levels Style.Percents (leaves_in list)
-items_as_spelled items list levels told are is =
+pub items_as_spelled : (items : List BorrowedFormatItem) (list : List Tree) (levels reported : Levels)
+    → reported ≡ found levels Style.Percents (leaves_all (trees (item_trees items)))
+    → item_trees items ≡ list → reported ≡ found levels Style.Percents (leaves_in list)
+items_as_spelled items list levels reported are is =
     are ∙ ap (λ ts. found levels Style.Percents (leaves_in ts)) is

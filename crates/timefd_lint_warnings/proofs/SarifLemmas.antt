@@ -1,4 +1,4 @@
--- A warning as a result: its parts are those of the warning.
+-- A warning as a SARIF result: its parts are the warning's.
 use Rattle.std.proofs.Common.{ℕ, ◌≡◌, refl}
 use Rattle.timefd_component.specs.Tree.{Text}
 use Rattle.timefd_drawing.specs.declared.position.Origin.{Origin}

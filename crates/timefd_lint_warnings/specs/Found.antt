@@ -18,11 +18,11 @@ abbrev pub style_of : Language → Style
 style_of (Version version) = Style.Brackets
 style_of Strftime = Style.Percents
 
--- what is told of the parts of what a text spells
+-- the levels of the warnings about the parts of what a text spells
 abbrev pub found_in : Language → Levels → List Tree → Levels
 found_in language levels list = found levels (style_of language) (leaves_in list)
 
--- The same where warnings may not be asked for: then each is allowed.
+-- These levels if warnings are asked for; with `None` every warning is allowed.
 abbrev pub found_by : Option Levels → Language → List Tree → Levels
 found_by None language list = all_at Allowed
 found_by (Some levels) language list = found_in language levels list

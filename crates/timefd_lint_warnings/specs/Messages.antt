@@ -1,4 +1,4 @@
--- What is told of the warnings of a text.
+-- What the linter reports about the warnings of a text.
 use Rattle.std.specs.Prelude.{ℕ, Bool, true, false, List, [], ◌∷◌, ◌++◌, codes, decimal, flat_map}
 use Rattle.timefd_component.specs.Tree.{Text}
 use Rattle.timefd_drawing.specs.declared.draw.Format.{Format}
@@ -19,13 +19,13 @@ use Rattle.timefd_warnings.specs.Codes.{all, name_of, sentence_of}
 use Rattle.timefd_warnings.specs.Explanations.{explanation_of}
 use Rattle.timefd_warnings.specs.Levels.{level_of}
 
--- what a warning of the level counts as
+-- the severity of a warning with this level
 abbrev pub severity : Level → Text
 severity Allowed = codes "note"
 severity Warned = codes "warning"
 severity Denied = codes "error"
 
--- what is put in front of what is coloured, and behind it
+-- what is put before coloured text, and after it
 abbrev pub paint : Bool → Level → Text
 paint false level = []
 paint true Allowed = 27 ∷ codes "[1;36m"
@@ -47,8 +47,8 @@ head colored level code sentence =
     ++ (plain colored ++ (codes ": " ++ (sentence ++ codes "\n")))))))
 
 -- `--> FILE:LINE:COLUMN`
-abbrev pub place : Bool → Text → ℕ → ℕ → Text
-place colored file line column =
+abbrev pub position : Bool → Text → ℕ → ℕ → Text
+position colored file line column =
     codes " " ++ (blue colored ++ (codes "-->" ++ (plain colored ++ (codes " " ++ (safe file
     ++ (codes ":" ++ (decimal line ++ (codes ":" ++ (decimal column ++ codes "\n")))))))))
 
@@ -58,10 +58,10 @@ help colored w =
     codes "  " ++ (blue colored ++ (codes "=" ++ (plain colored ++ (codes " help: "
     ++ (explanation_of w ++ codes "\n")))))
 
--- The warning is one of the text as a whole, and so stands where that begins.
+-- A warning is about the whole text, and so it is at the start of the text.
 abbrev pub human : Bool → Origin → ℕ → Level → Warning → Text
 human colored origin column level w =
-    head colored level (name_of w) (sentence_of w) ++ (place colored origin.file.now origin.line column ++ (help colored w
+    head colored level (name_of w) (sentence_of w) ++ (position colored origin.file.now origin.line column ++ (help colored w
     ++ codes "\n"))
 
 -- `FILE:LINE:COLUMN: warning[CODE]: SENTENCE`
@@ -84,7 +84,7 @@ json origin column level w =
     object (name_of w) column origin.file.now (explanation_of w) origin.line (sentence_of w)
     (severity level)
 
--- the workflow command that makes an annotation of it
+-- the workflow command that annotates a warning with this level
 abbrev pub command : Level → Command
 command Allowed = commands.Notice
 command Warned = commands.Warning
@@ -111,18 +111,18 @@ abbrev pub message : Style → Origin → ℕ → Level → Warning → Text
 message style origin column level w =
     message_in style.format style.is_colored origin column level w
 
--- nothing of one that is allowed
-abbrev pub told_at : Style → Origin → ℕ → Level → Warning → Text
-told_at style origin column Allowed w = []
-told_at style origin column Warned w = message style origin column Warned w
-told_at style origin column Denied w = message style origin column Denied w
+-- the message about a warning; nothing if it is allowed
+abbrev pub reported_at : Style → Origin → ℕ → Level → Warning → Text
+reported_at style origin column Allowed w = []
+reported_at style origin column Warned w = message style origin column Warned w
+reported_at style origin column Denied w = message style origin column Denied w
 
 abbrev pub messages_on : Style → Origin → ℕ → Levels → List Warning → Text
 messages_on style origin column found ws =
-    flat_map (λ w. told_at style origin column (level_of found w) w) ws
+    flat_map (λ w. reported_at style origin column (level_of found w) w) ws
 
--- A message on each warning that isn't allowed, in the order of the codes: of a text that begins in
--- this column of its line, and of one that begins in the first.
+-- A message about each warning that isn't allowed, in the order of the codes: on a text that begins
+-- at this column of its line, and on one that begins at the first column.
 abbrev pub messages_at : Style → Origin → ℕ → Levels → Text
 messages_at style origin column found = messages_on style origin column found all
 

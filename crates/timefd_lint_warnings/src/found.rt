@@ -17,8 +17,8 @@ use timefd_parse::{
 };
 use timefd_warnings::{Description, Level, Levels, Style};
 
-/// What is told of a text that a language accepts: the levels of the warnings that it has; any other
-/// is allowed. An `Err` says that memory ran out.
+/// The levels of the warnings that a text has, if its language accepts it; every other warning is
+/// allowed. An `Err` says that memory ran out.
 pub fn found_in(
     alloc: Global,
     language: Language,
@@ -26,7 +26,7 @@ pub fn found_in(
     levels: Levels,
 ) -> Result<Levels, AllocError>
     ensures { (list : List Tree) → SpellsIn language nesting_limit text.now list
-        → IfOk result (λ told. told ≡ spec.found_in language levels list) }
+        → IfOk result (λ reported. reported ≡ spec.found_in language levels list) }
 {
     match language {
         Language::Version(version) => found_in_version(alloc, version, text, levels),
@@ -34,7 +34,8 @@ pub fn found_in(
     }
 }
 
-/// The same where warnings may not be asked for: then each is allowed.
+/// The levels of the warnings that a text has, if warnings are asked for. With `None` every warning
+/// is allowed. An `Err` says that memory ran out.
 pub fn found_by(
     alloc: Global,
     levels: Option<Levels>,
@@ -42,7 +43,7 @@ pub fn found_by(
     text: &str,
 ) -> Result<Levels, AllocError>
     ensures { (list : List Tree) → SpellsIn language nesting_limit text.now list
-        → IfOk result (λ told. told ≡ spec.found_by levels language list) }
+        → IfOk result (λ reported. reported ≡ spec.found_by levels language list) }
 {
     match levels {
         Some(levels) => found_in(alloc, language, text, levels),
@@ -57,7 +58,7 @@ fn found_in_version(
     levels: Levels,
 ) -> Result<Levels, AllocError>
     ensures { (list : List Tree) → Spells version nesting_limit 0 text.now list
-        → IfOk result (λ told. told ≡ found levels styles.Brackets (leaves_in list)) }
+        → IfOk result (λ reported. reported ≡ found levels styles.Brackets (leaves_in list)) }
 {
     match parse_all_borrowed(alloc, version, NESTING_LIMIT, text) {
         Ok(output) => Ok(found_of(&output, levels)),
@@ -78,7 +79,7 @@ fn found_of(output: &BorrowedOutput<'_>, levels: Levels) -> Levels
 
 fn found_in_strftime(alloc: Global, text: &str, levels: Levels) -> Result<Levels, AllocError>
     ensures { (list : List Tree) → SpellsStrftime text.now list
-        → IfOk result (λ told. told ≡ found levels styles.Percents (leaves_in list)) }
+        → IfOk result (λ reported. reported ≡ found levels styles.Percents (leaves_in list)) }
 {
     let tables = StrftimeTables::new();
     match parse_strftime_all_borrowed(alloc, &tables, text) {

@@ -1,10 +1,10 @@
-//! What the linter tells of accepted texts: the warnings of each, and a message for each of them.
+//! What the linter reports about accepted texts: their warnings, and a message for each warning.
 #![tactic(auto)]
 
 mod found;
 mod message;
-mod told;
+mod reported;
 
 pub use found::{found_by, found_in};
-pub use message::{head, place};
-pub use told::{messages, messages_at};
+pub use message::{head, position};
+pub use reported::{messages, messages_at};

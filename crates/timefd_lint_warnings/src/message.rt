@@ -1,4 +1,4 @@
-//! What is told of one warning.
+//! What the linter reports about one warning.
 
 ghost use Rattle.std.specs.Prelude.{◌≡◌, IfOk, string_bytes};
 ghost use Rattle.timefd_lint_warnings.specs.Messages as spec;
@@ -11,8 +11,8 @@ use timefd_drawing::shown::safe;
 use timefd_drawing::{Format, Origin, Style};
 use timefd_warnings::{Level, Warning};
 
-/// The message on a warning of a text that begins in this column, in the form that is asked for. An
-/// `Err` says that memory ran out.
+/// The message about a warning on a text that begins at this column of its line, in the requested
+/// format. An `Err` says that memory ran out.
 pub fn message(
     alloc: Global,
     style: Style,
@@ -21,7 +21,7 @@ pub fn message(
     level: Level,
     warning: Warning,
 ) -> Result<Vec<u8>, AllocError>
-    ensures { IfOk result (λ told. told.items ≡ spec.message style origin.entry column level warning) }
+    ensures { IfOk result (λ reported. reported.items ≡ spec.message style origin.entry column level warning) }
 {
     match style.format {
         Format::Human => {
@@ -38,7 +38,7 @@ pub fn message(
     }
 }
 
-// What it counts as.
+// The severity of a warning with this level.
 fn severity(level: Level) -> &'static str
     ensures { result.now ≡ spec.severity level }
 {
@@ -49,7 +49,7 @@ fn severity(level: Level) -> &'static str
     }
 }
 
-// What is put in front of what is coloured by that.
+// What is put before text in the colour of a level.
 fn paint(is_colored: bool, level: Level) -> &'static str
     ensures { result.now ≡ spec.paint is_colored level }
 {
@@ -63,14 +63,14 @@ fn paint(is_colored: bool, level: Level) -> &'static str
     }
 }
 
-// What is put in front of what is blue.
+// What is put before blue text.
 fn blue(is_colored: bool) -> &'static str
     ensures { result.now ≡ spec.blue is_colored }
 {
     if is_colored { "\u{1B}[1;36m" } else { "" }
 }
 
-// What is put behind what is coloured.
+// What is put after coloured text.
 fn plain(is_colored: bool) -> &'static str
     ensures { result.now ≡ spec.plain is_colored }
 {
@@ -88,12 +88,12 @@ fn human(
     ensures { IfOk result (λ drawing. string_bytes drawing
         ≡ spec.human is_colored origin.entry column level warning) }
 {
-    let (head, place, help) = (
+    let (head, position, help) = (
         head(alloc, is_colored, level, warning.name(), warning.sentence())?,
-        place(alloc, is_colored, origin, column)?,
+        position(alloc, is_colored, origin, column)?,
         help(alloc, is_colored, warning)?,
     );
-    format!(in alloc; "{head}{place}{help}\n")
+    format!(in alloc; "{head}{position}{help}\n")
 }
 
 /// The first line of a drawing: `warning[CODE]: SENTENCE`. An `Err` says that memory ran out.
@@ -112,15 +112,15 @@ pub fn head(
     format!(in alloc; "{paint}{severity}[{code}]{plain}: {sentence}\n")
 }
 
-/// Its second line: `--> FILE:LINE:COLUMN`. An `Err` says that memory ran out.
-pub fn place(
+/// The second line of a drawing: `--> FILE:LINE:COLUMN`. An `Err` says that memory ran out.
+pub fn position(
     alloc: Global,
     is_colored: bool,
     origin: Origin<'_>,
     column: usize,
 ) -> Result<String, AllocError>
     ensures { IfOk result (λ line. string_bytes line
-        ≡ spec.place is_colored origin.entry.file.now origin.entry.line column) }
+        ≡ spec.position is_colored origin.entry.file.now origin.entry.line column) }
 {
     let (blue, plain) = (blue(is_colored), plain(is_colored));
     let file = safe(alloc, origin.file)?;
@@ -153,7 +153,7 @@ fn short(
     format!(in alloc; "{file}:{line}:{column}: {severity}[{code}]: {sentence}\n")
 }
 
-// The workflow command that makes its annotation.
+// The workflow command that annotates a warning with this level.
 fn command(level: Level) -> Command
     ensures { result ≡ spec.command level }
 {
@@ -190,7 +190,7 @@ fn sarif(
     level: Level,
     warning: Warning,
 ) -> Result<Vec<u8>, AllocError>
-    ensures { IfOk result (λ told. told.items ≡ spec.sarif origin.entry column level warning) }
+    ensures { IfOk result (λ reported. reported.items ≡ spec.sarif origin.entry column level warning) }
 {
     let column = column as u64;
     let message = with_help(alloc, warning.sentence(), warning.explanation())?;
@@ -204,7 +204,7 @@ fn sarif(
     note_result(alloc, entry, severity(level))
 }
 
-// The texts of a warning that its object has.
+// The texts in the JSON object of a warning.
 #[derive(Clone, Copy)]
 struct Words<'a> {
     code: &'a str,

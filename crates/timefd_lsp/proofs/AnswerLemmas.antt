@@ -1,4 +1,4 @@
--- What is answered in a range of an open document.
+-- The answer for a range of an open document.
 use Rattle.std.proofs.Common.{◌≡◌, ℕ, Option, Some, String, refl, sym, subst}
 use Rattle.std.specs.Prelude.{string_bytes}
 use Rattle.std.specs.declared.alloc.Global.{Global}
@@ -7,7 +7,7 @@ use Rattle.timefd_editor.specs.Actions.{AreActionsOf}
 use Rattle.timefd_editor.specs.Positions.{index_of}
 use Rattle.timefd_editor.specs.declared.action.Action.{Action}
 use Rattle.timefd_editor.specs.declared.position.Range.{Range}
-use Rattle.timefd_lint_sources.specs.declared.told.Source.{Source}
+use Rattle.timefd_lint_sources.specs.declared.reported.Source.{Source}
 use Rattle.timefd_lsp.specs.Servers.{IsActionsAnswer, finder_of}
 use Rattle.timefd_lsp.specs.declared.documents.Document.{Document}
 use Rattle.timefd_lsp.specs.declared.reply.Answer.TheVariants as answers

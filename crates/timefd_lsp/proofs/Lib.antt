@@ -4,5 +4,5 @@ pub mod TextLemmas
 pub mod SessionLemmas
 pub mod ServedLemmas
 pub mod ClosedLemmas
-pub mod RetoldLemmas
+pub mod WithTextLemmas
 pub mod AnswerLemmas

@@ -1,4 +1,4 @@
--- Frames that are written one behind another.
+-- Frames that are written one after another.
 use Rattle.std.proofs.Common.{◌≡◌, ◌++◌, ◌∷◌, [], ℕ, List, refl, ap, sym, ◌∙◌, append_assoc}
 use Rattle.std.proofs.KnownBytes.{Appends-trans}
 use Rattle.std.specs.Prelude.{Option, Some, None}
@@ -43,14 +43,14 @@ more_written old mid new first second = record {
       (Appends-trans old mid new (frames first.written) (frames second.written) first.appended second.appended);
 }
 
--- A session ends behind whole frames as it ends by itself.
-pub ended_behind : (old mid new : Option (List ℕ)) (end : End) → WritesFrames old mid → IsSession mid new end
+-- A session that begins after whole frames ends as it does without them.
+pub ended_after : (old mid new : Option (List ℕ)) (end : End) → WritesFrames old mid → IsSession mid new end
     → IsSession old new end
-ended_behind old mid new Done first second = more_written old mid new first second
-ended_behind old mid new Left first second = more_written old mid new first second
-ended_behind old mid new InputEnded first second = more_written old mid new first second
-ended_behind old mid new Cut first second = more_written old mid new first second
-ended_behind old mid new NoFrame first second = more_written old mid new first second
-ended_behind old mid new Unread first second = more_written old mid new first second
-ended_behind old mid new Unwritten first second = tt
-ended_behind old mid new Memory first second = more_written old mid new first second
+ended_after old mid new Done first second = more_written old mid new first second
+ended_after old mid new Left first second = more_written old mid new first second
+ended_after old mid new InputEnded first second = more_written old mid new first second
+ended_after old mid new Cut first second = more_written old mid new first second
+ended_after old mid new NoFrame first second = more_written old mid new first second
+ended_after old mid new Unread first second = more_written old mid new first second
+ended_after old mid new Unwritten first second = tt
+ended_after old mid new Memory first second = more_written old mid new first second

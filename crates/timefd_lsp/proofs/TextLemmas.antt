@@ -1,4 +1,4 @@
--- No number that the server says has a fraction, so its texts are determined.
+-- The server's messages have no number with a fraction, so their texts are determined.
 use Rattle.std.proofs.Common.{ℕ, pos, negsuc, ◌≡◌, ◌∙◌, Bool, false, ◌||◌, List, [], ◌∷◌, Global, String, ap, map, refl}
 use Rattle.std.specs.declared.alloc.AllocError.{AllocError}
 use Rattle.std.specs.Prelude.{IfOk, Option, Some, None, Result, Ok, Err, string_bytes}

@@ -8,7 +8,7 @@ use Rattle.timefd_lsp.specs.declared.documents.Kind.{Kind}
 use Rattle.timefd_lsp.specs.declared.message.Message.{Message}
 use Rattle.timefd_lsp.specs.declared.message.Message.TheVariants as messages
 use Rattle.timefd_lsp.specs.declared.message.Notification.{Notification}
-use Rattle.timefd_lsp.specs.declared.message.Notification.TheVariants as told
+use Rattle.timefd_lsp.specs.declared.message.Notification.TheVariants as reported
 use Rattle.timefd_lsp.specs.declared.server.Phase.{Phase}
 use Rattle.timefd_lsp.specs.declared.server.Phase.TheVariants.{New, Running, ShutDown}
 
@@ -17,50 +17,50 @@ abbrev pub Open : Type 0
 Open = BTreeMap (String Global) Document
 
 -- the document with another text
-abbrev pub retold : String Global → Option Document → Option Document
-retold text (Some document) = Some (record { kind = document.kind; text = text })
-retold text None = None
+abbrev pub with_text : String Global → Option Document → Option Document
+with_text text (Some document) = Some (record { kind = document.kind; text = text })
+with_text text None = None
 
 -- No document is open.
 abbrev pub NoneOpen : Open → Type 0
 NoneOpen documents = (name : List ℕ) → get_by_text documents name ≡ None
 
--- At this name is this document, or none, and at each other name what was there.
+-- The document with this name is this one, or there is none. All other documents are unchanged.
 abbrev pub AreWith : List ℕ → Option Document → Open → Open → Type 0
 AreWith uri document old new = (name : List ℕ) → get_by_text new name
     ≡ (if bytes_eq name uri then document else get_by_text old name)
 
--- A document of this name, if there is one, has this text.
-abbrev pub AreRetold : List ℕ → String Global → Open → Open → Type 0
-AreRetold uri text old new = (name : List ℕ) → get_by_text new name
-    ≡ (if bytes_eq name uri then retold text (get_by_text old name) else get_by_text old name)
+-- The document with this name, if there is one, has this text.
+abbrev pub AreWithText : List ℕ → String Global → Open → Open → Type 0
+AreWithText uri text old new = (name : List ℕ) → get_by_text new name
+    ≡ (if bytes_eq name uri then with_text text (get_by_text old name) else get_by_text old name)
 
 abbrev pub AreOpenedAs : Option Kind → List ℕ → String Global → Open → Open → Type 0
 AreOpenedAs (Some kind) uri text old new = AreWith uri (Some (record { kind = kind; text = text })) old new
 AreOpenedAs None uri text old new = new ≡ old
 
--- A document that is looked at is opened with its text.
+-- A document that is checked is opened with its text.
 abbrev pub AreOpened : List ℕ → List ℕ → String Global → Open → Open → Type 0
 AreOpened uri language text old new = AreOpenedAs (kind_of language uri) uri text old new
 
--- which documents are open behind a notification
+-- which documents are open after a notification
 abbrev pub AreHeard : Notification → Open → Open → Type 0
-AreHeard (told.Opened uri language text) old new =
+AreHeard (reported.Opened uri language text) old new =
     AreOpened (string_bytes uri) (string_bytes language) text old new
-AreHeard (told.Changed uri text) old new = AreRetold (string_bytes uri) text old new
-AreHeard (told.Closed uri) old new = AreWith (string_bytes uri) None old new
-AreHeard told.Exit old new = new ≡ old
-AreHeard told.Other old new = new ≡ old
+AreHeard (reported.Changed uri text) old new = AreWithText (string_bytes uri) text old new
+AreHeard (reported.Closed uri) old new = AreWith (string_bytes uri) None old new
+AreHeard reported.Exit old new = new ≡ old
+AreHeard reported.Other old new = new ≡ old
 
--- Notifications count between `initialize` and `shutdown`.
-abbrev pub AreTold : Phase → Notification → Open → Open → Type 0
-AreTold New notification old new = new ≡ old
-AreTold Running notification old new = AreHeard notification old new
-AreTold ShutDown notification old new = new ≡ old
+-- Notifications only count between `initialize` and `shutdown`.
+abbrev pub AreReported : Phase → Notification → Open → Open → Type 0
+AreReported New notification old new = new ≡ old
+AreReported Running notification old new = AreHeard notification old new
+AreReported ShutDown notification old new = new ≡ old
 
--- and behind a message
-abbrev pub AreBehind : Phase → Message → Open → Open → Type 0
-AreBehind phase (messages.Request id request) old new = new ≡ old
-AreBehind phase (messages.Notification notification) old new = AreTold phase notification old new
-AreBehind phase messages.NotJson old new = new ≡ old
-AreBehind phase messages.NotMessage old new = new ≡ old
+-- which documents are open after a message
+abbrev pub AreAfter : Phase → Message → Open → Open → Type 0
+AreAfter phase (messages.Request id request) old new = new ≡ old
+AreAfter phase (messages.Notification notification) old new = AreReported phase notification old new
+AreAfter phase messages.NotJson old new = new ≡ old
+AreAfter phase messages.NotMessage old new = new ≡ old

@@ -1,4 +1,4 @@
--- What a value of JSON is as a message.
+-- The message that a value of JSON is.
 use Rattle.std.specs.Prelude.{ℕ, ℤ, List, Bool, false, ◌||◌, Option, Some, None, codes, bytes_eq, is_some, option_and_then, string_bytes, if◌then◌else◌}
 use Rattle.serde_json.specs.Data.{Data}
 use Rattle.serde_json.specs.Find.{get, as_str, as_number, as_i64}
@@ -7,7 +7,7 @@ use Rattle.timefd_lsp.specs.declared.envelope.Envelope.TheVariants as envelopes
 use Rattle.timefd_lsp.specs.declared.envelope.Id.{Id}
 use Rattle.timefd_lsp.specs.declared.envelope.Id.TheVariants as ids
 
--- an id, without where its text lies
+-- an id, without the address of its text in memory
 pub data IdValue : Type 0 where
   number_id : ℤ → IdValue
   text_id : List ℕ → IdValue
@@ -32,7 +32,7 @@ abbrev pub is_two : Option (List ℕ) → Bool
 is_two (Some version) = bytes_eq version (codes "2.0")
 is_two None = false
 
--- whether it says that it is a message of JSON-RPC 2.0
+-- whether the value says that it is a message of JSON-RPC 2.0
 abbrev pub is_message : Data → Bool
 is_message d = is_two (option_and_then as_str (get (codes "jsonrpc") d))
 

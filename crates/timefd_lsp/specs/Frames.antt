@@ -8,7 +8,7 @@ use Rattle.timefd_lsp.specs.declared.frame.Frame.TheVariants.{AtEnd, Content, To
 use Rattle.timefd_lsp.specs.declared.head.HeadEnd.{HeadEnd}
 use Rattle.timefd_lsp.specs.declared.head.HeadEnd.TheVariants as ends
 
--- Behind a head that tells this length stands the content; a long one is passed over.
+-- The content follows a head with this length. A content that is too long is skipped.
 abbrev pub IsOfLength : ℕ → Option (List ℕ) → Option (List ℕ) → Frame → Type 0
 IsOfLength n mid new (Content content) =
     (n ≤ 2 ^ 24) × (length content.items ≡ n) × Consumes mid new content.items
@@ -19,27 +19,27 @@ IsOfLength n mid new Cut =
 IsOfLength n mid new AtEnd = ⊥
 IsOfLength n mid new NoHead = ⊥
 
-abbrev pub IsBehindLength : Option ℕ → Option (List ℕ) → Option (List ℕ) → Frame → Type 0
-IsBehindLength None mid new frame = (frame ≡ NoHead) × (new ≡ mid)
-IsBehindLength (Some n) mid new frame = IsOfLength n mid new frame
+abbrev pub IsAfterLength : Option ℕ → Option (List ℕ) → Option (List ℕ) → Frame → Type 0
+IsAfterLength None mid new frame = (frame ≡ NoHead) × (new ≡ mid)
+IsAfterLength (Some n) mid new frame = IsOfLength n mid new frame
 
--- what stands behind a head
-abbrev pub IsBehind : List ℕ → Option (List ℕ) → Option (List ℕ) → Frame → Type 0
-IsBehind head mid new frame = IsBehindLength (length_in head) mid new frame
+-- what follows a head
+abbrev pub IsAfter : List ℕ → Option (List ℕ) → Option (List ℕ) → Frame → Type 0
+IsAfter head mid new frame = IsAfterLength (length_in head) mid new frame
 
--- the same, if the head has an end
-abbrev pub IsBehindEnd : HeadEnd → List ℕ → Option (List ℕ) → Option (List ℕ) → Frame → Type 0
-IsBehindEnd ends.Whole head mid new frame = IsBehind head mid new frame
-IsBehindEnd ends.NoByte head mid new frame = (frame ≡ AtEnd) × (new ≡ mid)
-IsBehindEnd ends.Cut head mid new frame = (frame ≡ Cut) × (new ≡ mid)
-IsBehindEnd ends.TooLong head mid new frame = (frame ≡ NoHead) × (new ≡ mid)
+-- what follows a head, by how the head ends
+abbrev pub IsAfterEnd : HeadEnd → List ℕ → Option (List ℕ) → Option (List ℕ) → Frame → Type 0
+IsAfterEnd ends.Whole head mid new frame = IsAfter head mid new frame
+IsAfterEnd ends.NoByte head mid new frame = (frame ≡ AtEnd) × (new ≡ mid)
+IsAfterEnd ends.Cut head mid new frame = (frame ≡ Cut) × (new ≡ mid)
+IsAfterEnd ends.TooLong head mid new frame = (frame ≡ NoHead) × (new ≡ mid)
 
--- A source has a head, and behind it the rest of the frame.
+-- A source has a head, and then the rest of the frame.
 abbrev pub IsFrame : Option (List ℕ) → Option (List ℕ) → Frame → Type 0
 IsFrame old new frame = (mid : Option (List ℕ)) × (head : List ℕ) × (end : HeadEnd)
-    × IsHead old mid head end × IsBehindEnd end head mid new frame
+    × IsHead old mid head end × IsAfterEnd end head mid new frame
 
--- the frame of a content
+-- the frame with this content
 abbrev pub framed : List ℕ → List ℕ
 framed content =
     codes "Content-Length: " ++ (decimal (length content) ++ (codes "\r\n\r\n" ++ content))

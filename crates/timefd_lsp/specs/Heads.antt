@@ -5,7 +5,7 @@ use Rattle.std.specs.List.{ends_with}
 use Rattle.timefd_lsp.specs.declared.head.HeadEnd.{HeadEnd}
 use Rattle.timefd_lsp.specs.declared.head.HeadEnd.TheVariants.{Whole, NoByte, Cut, TooLong}
 
--- The source gave a byte, or had none.
+-- The source gave a byte, or was at its end.
 abbrev pub IsNext : Option (List ℕ) → Option (List ℕ) → Option ℕ → Type 0
 IsNext old new (Some byte) = Consumes old new (byte ∷ [])
 IsNext old new None = Consumes old new [] × IsAtEnd new
@@ -18,22 +18,22 @@ is_ended bytes = ends_with nat_eq bytes (codes "\r\n\r\n")
 abbrev pub IsFirst : List ℕ → Type 0
 IsFirst bytes = (k : ℕ) → k < length bytes → is_ended (take k bytes) ≡ false
 
--- Nor do the bytes themselves.
+-- Neither do the bytes themselves.
 abbrev pub IsOpen : List ℕ → Type 0
 IsOpen bytes = (k : ℕ) → k ≤ length bytes → is_ended (take k bytes) ≡ false
 
--- how a head ends where no byte is left behind these
+-- how a head with these bytes ends, if no byte follows
 abbrev pub end_of : List ℕ → HeadEnd
 end_of [] = NoByte
 end_of (byte ∷ bytes) = Cut
 
--- The bytes end so, where these are left.
+-- The bytes end like this, if these bytes are left in the source.
 abbrev pub EndsSo : Option (List ℕ) → List ℕ → HeadEnd → Type 0
 EndsSo new bytes Whole = IsFirst bytes × (is_ended bytes ≡ true)
 EndsSo new bytes NoByte = IsAtEnd new × (bytes ≡ [])
 EndsSo new bytes Cut = IsAtEnd new × IsOpen bytes × (0 < length bytes)
 EndsSo new bytes TooLong = IsOpen bytes × (4096 ≤ length bytes)
 
--- The bytes were read, and end so; they are no more than 4096.
+-- The bytes were read, and end like this. There are at most 4096.
 abbrev pub IsHead : Option (List ℕ) → Option (List ℕ) → List ℕ → HeadEnd → Type 0
 IsHead old new bytes end = Consumes old new bytes × EndsSo new bytes end × (length bytes ≤ 4096)

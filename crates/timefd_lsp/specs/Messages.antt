@@ -1,4 +1,4 @@
--- What a value of JSON is as a message of an editor.
+-- The message of an editor that a value of JSON is.
 use Rattle.std.specs.Prelude.{◌≡◌, ℕ, List, Option, Some, None, codes, bytes_eq, string_bytes, if◌then◌else◌, IsUtf8, ◌⊎◌, ⊤}
 use Rattle.serde_json.specs.Data.{Data}
 use Rattle.serde_json.specs.Read.{read}
@@ -6,15 +6,15 @@ use Rattle.timefd_editor.specs.declared.position.Position.{Position}
 use Rattle.timefd_editor.specs.declared.position.Range.{Range}
 use Rattle.timefd_lsp.specs.Envelopes.{seen_id, Shape, envelope_of}
 use Rattle.timefd_lsp.specs.Envelopes as shapes
-use Rattle.timefd_lsp.specs.Params.{last_text, place_of, range_of, text_by, uri_of}
+use Rattle.timefd_lsp.specs.Params.{last_text, position_in, range_of, text_by, uri_of}
 use Rattle.timefd_lsp.specs.declared.message.Message.{Message}
 use Rattle.timefd_lsp.specs.declared.message.Message.TheVariants as messages
 use Rattle.timefd_lsp.specs.declared.message.Notification.{Notification}
-use Rattle.timefd_lsp.specs.declared.message.Notification.TheVariants as told
+use Rattle.timefd_lsp.specs.declared.message.Notification.TheVariants as reported
 use Rattle.timefd_lsp.specs.declared.message.Request.{Request}
 use Rattle.timefd_lsp.specs.declared.message.Request.TheVariants as asked
 
--- what is asked for, without where its texts lie
+-- what is asked for, without the addresses of its texts in memory
 pub data Asked : Type 0 where
   initialize : Asked
   hover : List ℕ → Position → Asked
@@ -37,7 +37,7 @@ hover_from (Some uri) None = wrong_params
 hover_from None position = wrong_params
 
 abbrev pub hover_of : Data → Asked
-hover_of d = hover_from (uri_of d) (place_of d)
+hover_of d = hover_from (uri_of d) (position_in d)
 
 abbrev pub actions_from : Option (List ℕ) → Option Range → Asked
 actions_from (Some uri) (Some range) = actions uri range
@@ -55,49 +55,49 @@ request_of method d =
     else if bytes_eq method (codes "textDocument/codeAction") then actions_of d
     else unknown
 
--- what is told, without where its texts lie
-pub data Told : Type 0 where
-  opened : List ℕ → List ℕ → List ℕ → Told
-  changed : List ℕ → List ℕ → Told
-  closed : List ℕ → Told
-  exit : Told
-  other : Told
+-- what is reported, without the addresses of its texts in memory
+pub data Reported : Type 0 where
+  opened : List ℕ → List ℕ → List ℕ → Reported
+  changed : List ℕ → List ℕ → Reported
+  closed : List ℕ → Reported
+  exit : Reported
+  other : Reported
 
-abbrev pub seen_notification : Notification → Told
-seen_notification (told.Opened uri language text) =
+abbrev pub seen_notification : Notification → Reported
+seen_notification (reported.Opened uri language text) =
     opened (string_bytes uri) (string_bytes language) (string_bytes text)
-seen_notification (told.Changed uri text) = changed (string_bytes uri) (string_bytes text)
-seen_notification (told.Closed uri) = closed (string_bytes uri)
-seen_notification told.Exit = exit
-seen_notification told.Other = other
+seen_notification (reported.Changed uri text) = changed (string_bytes uri) (string_bytes text)
+seen_notification (reported.Closed uri) = closed (string_bytes uri)
+seen_notification reported.Exit = exit
+seen_notification reported.Other = other
 
-abbrev pub opened_from : Option (List ℕ) → Option (List ℕ) → Option (List ℕ) → Told
+abbrev pub opened_from : Option (List ℕ) → Option (List ℕ) → Option (List ℕ) → Reported
 opened_from (Some uri) (Some language) (Some text) = opened uri language text
 opened_from (Some uri) (Some language) None = other
 opened_from (Some uri) None text = other
 opened_from None language text = other
 
-abbrev pub opened_of : Data → Told
+abbrev pub opened_of : Data → Reported
 opened_of d = opened_from (uri_of d) (text_by (codes "/params/textDocument/languageId") d)
     (text_by (codes "/params/textDocument/text") d)
 
-abbrev pub closed_from : Option (List ℕ) → Told
+abbrev pub closed_from : Option (List ℕ) → Reported
 closed_from (Some uri) = closed uri
 closed_from None = other
 
-abbrev pub closed_of : Data → Told
+abbrev pub closed_of : Data → Reported
 closed_of d = closed_from (uri_of d)
 
-abbrev pub changed_from : Option (List ℕ) → Option (List ℕ) → Told
+abbrev pub changed_from : Option (List ℕ) → Option (List ℕ) → Reported
 changed_from (Some uri) (Some text) = changed uri text
 changed_from (Some uri) None = other
 changed_from None text = other
 
--- The change of a document is that to the text behind the last change.
-abbrev pub changed_of : Data → Told
+-- A change replaces the document's text with the text after the last of the changes.
+abbrev pub changed_of : Data → Reported
 changed_of d = changed_from (uri_of d) (last_text d)
 
--- which of these a method is
+-- what a notification's method does
 pub data Notice : Type 0 where
   exits : Notice
   opens : Notice
@@ -120,11 +120,11 @@ IsNoticed changes notification d = seen_notification notification ≡ changed_of
 IsNoticed closes notification d = seen_notification notification ≡ closed_of d
 IsNoticed others notification d = seen_notification notification ≡ other
 
--- what a notification of a method tells
+-- what a notification of this method reports
 abbrev pub IsNotification : List ℕ → Data → Notification → Type 0
 IsNotification method d notification = IsNoticed (notice_of method) notification d
 
--- The message is what a value of this shape is.
+-- The message belongs to a value of this shape.
 abbrev pub IsOfShape : Message → Shape → Data → Type 0
 IsOfShape (messages.Request id request) (shapes.request value method) d =
     (seen_id id ≡ value) × (seen_request request ≡ request_of method d)
@@ -145,7 +145,7 @@ IsOfShape messages.NotJson shape d = ⊥
 abbrev pub IsMessage : Message → Data → Type 0
 IsMessage message d = IsOfShape message (envelope_of d) d
 
--- What is no UTF-8 is no JSON.
+-- Bytes that aren't UTF-8 aren't JSON.
 abbrev pub IsMessageOf : Message → List ℕ → Type 0
 IsMessageOf message content =
     ((message ≡ messages.NotJson) × (IsUtf8 content → read content ≡ None))

@@ -11,13 +11,13 @@ text_by path d = option_and_then as_str (pointer path d)
 abbrev pub count_by : List ℕ → Data → Option ℕ
 count_by path d = option_and_then (λ m. option_and_then as_u64 (as_number m)) (pointer path d)
 
-abbrev pub place_from : Option ℕ → Option ℕ → Option Position
-place_from (Some line) (Some character) = Some (record { line = line; character = character })
-place_from (Some line) None = None
-place_from None character = None
+abbrev pub position_from : Option ℕ → Option ℕ → Option Position
+position_from (Some line) (Some character) = Some (record { line = line; character = character })
+position_from (Some line) None = None
+position_from None character = None
 
-abbrev pub place_by : List ℕ → List ℕ → Data → Option Position
-place_by line character d = place_from (count_by line d) (count_by character d)
+abbrev pub position_by : List ℕ → List ℕ → Data → Option Position
+position_by line character d = position_from (count_by line d) (count_by character d)
 
 abbrev pub range_from : Option Position → Option Position → Option Range
 range_from (Some start) (Some end) = Some (record { start = start; end = end })
@@ -26,11 +26,11 @@ range_from None end = None
 
 abbrev pub range_of : Data → Option Range
 range_of d = range_from
-    (place_by (codes "/params/range/start/line") (codes "/params/range/start/character") d)
-    (place_by (codes "/params/range/end/line") (codes "/params/range/end/character") d)
+    (position_by (codes "/params/range/start/line") (codes "/params/range/start/character") d)
+    (position_by (codes "/params/range/end/line") (codes "/params/range/end/character") d)
 
-abbrev pub place_of : Data → Option Position
-place_of d = place_by (codes "/params/position/line") (codes "/params/position/character") d
+abbrev pub position_in : Data → Option Position
+position_in d = position_by (codes "/params/position/line") (codes "/params/position/character") d
 
 abbrev pub uri_of : Data → Option (List ℕ)
 uri_of d = text_by (codes "/params/textDocument/uri") d
@@ -46,6 +46,6 @@ changes_of d = option_and_then as_array (pointer (codes "/params/contentChanges"
 abbrev pub last_change : Data → Option Data
 last_change d = option_and_then last_item (changes_of d)
 
--- the text of a document behind the last of its changes
+-- the text of a document after the last of its changes
 abbrev pub last_text : Data → Option (List ℕ)
 last_text d = option_and_then (λ change. option_and_then as_str (get (codes "text") change)) (last_change d)

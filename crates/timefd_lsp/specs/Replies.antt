@@ -1,4 +1,4 @@
--- What the server says.
+-- The server's messages.
 use Rattle.std.specs.Prelude.{ℕ, ℤ, negsuc, List, codes, Option, Some, None}
 use Rattle.timefd_lsp.specs.declared.reply.Answer.{Answer}
 use Rattle.timefd_lsp.specs.declared.reply.Answer.TheVariants as answers
@@ -15,14 +15,14 @@ code_of NotInitialized = negsuc 32001
 code_of TooLong = negsuc 32599
 
 abbrev pub sentence_of : Refusal → List ℕ
-sentence_of NotJson = codes "the content is no JSON"
-sentence_of InvalidRequest = codes "the content is no request that can stand here"
+sentence_of NotJson = codes "the content isn't JSON"
+sentence_of InvalidRequest = codes "the content isn't a request that is allowed here"
 sentence_of UnknownMethod = codes "there is no such method"
 sentence_of WrongParams = codes "the parameters are none of the method's"
 sentence_of NotInitialized = codes "`initialize` has to come first"
 sentence_of TooLong = codes "the content has more than 16 MiB"
 
--- why a request isn't served, if it isn't
+-- why a request is refused, if it is
 abbrev pub refusal_of : Answer → Option Refusal
 refusal_of answers.Capabilities = None
 refusal_of answers.Nothing = None

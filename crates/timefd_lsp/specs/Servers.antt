@@ -1,4 +1,4 @@
--- The server, one message after another.
+-- The server, which takes one message after another.
 use Rattle.std.specs.Prelude.{◌≡◌, ℕ, List, [], Option, Some, None, String, string_bytes, ⊤}
 use Rattle.std.specs.BTreeMap.{BTreeMap, get_by_text}
 use Rattle.std.specs.declared.alloc.Global.{Global}
@@ -11,7 +11,7 @@ use Rattle.timefd_lsp.specs.declared.envelope.Id.{Id}
 use Rattle.timefd_lsp.specs.declared.message.Message.{Message}
 use Rattle.timefd_lsp.specs.declared.message.Message.TheVariants as messages
 use Rattle.timefd_lsp.specs.declared.message.Notification.{Notification}
-use Rattle.timefd_lsp.specs.declared.message.Notification.TheVariants as told
+use Rattle.timefd_lsp.specs.declared.message.Notification.TheVariants as reported
 use Rattle.timefd_lsp.specs.declared.message.Request.{Request}
 use Rattle.timefd_lsp.specs.declared.message.Request.TheVariants as asked
 use Rattle.timefd_lsp.specs.declared.reply.Answer.{Answer}
@@ -28,9 +28,9 @@ use Rattle.timefd_editor.specs.Actions.{AreActionsOf}
 use Rattle.timefd_editor.specs.Findings.{AreFindingsOf}
 use Rattle.timefd_editor.specs.Hovers.{IsShownAt}
 use Rattle.timefd_editor.specs.Positions.{index_of}
-use Rattle.timefd_lint_sources.specs.declared.told.Finder.{Finder}
-use Rattle.timefd_lint_sources.specs.declared.told.Finder.TheVariants as finders
-use Rattle.timefd_lint_sources.specs.declared.told.Source.{Source}
+use Rattle.timefd_lint_sources.specs.declared.reported.Finder.{Finder}
+use Rattle.timefd_lint_sources.specs.declared.reported.Finder.TheVariants as finders
+use Rattle.timefd_lint_sources.specs.declared.reported.Source.{Source}
 use Rattle.timefd_lsp.specs.declared.documents.Kind.TheVariants as kinds
 use Rattle.timefd_lsp.specs.declared.server.Settings.{Settings}
 use Rattle.timefd_lsp.specs.declared.server.Phase.{Phase}
@@ -41,7 +41,7 @@ use Rattle.timefd_lsp.specs.declared.server.Step.TheVariants.{Silent, Say, Exit}
 abbrev pub first : Phase
 first = New
 
--- Nothing but `initialize` is served at first.
+-- At first only `initialize` is served.
 abbrev pub first_refusal : Request → Option Refusal
 first_refusal asked.Initialize = None
 first_refusal (asked.Hover uri position) = Some refusals.NotInitialized
@@ -50,7 +50,7 @@ first_refusal asked.Shutdown = Some refusals.NotInitialized
 first_refusal asked.Unknown = Some refusals.NotInitialized
 first_refusal asked.WrongParams = Some refusals.NotInitialized
 
--- Behind it another one is refused.
+-- After `initialize` a second one is refused.
 abbrev pub running_refusal : Request → Option Refusal
 running_refusal asked.Initialize = Some refusals.InvalidRequest
 running_refusal (asked.Hover uri position) = None
@@ -59,7 +59,7 @@ running_refusal asked.Shutdown = None
 running_refusal asked.Unknown = Some refusals.UnknownMethod
 running_refusal asked.WrongParams = Some refusals.WrongParams
 
--- why a request isn't served, if it isn't
+-- why a request is refused, if it is
 abbrev pub refusal : Phase → Request → Option Refusal
 refusal New request = first_refusal request
 refusal Running request = running_refusal request
@@ -86,7 +86,7 @@ phase_after_request New request = first_phase New request
 phase_after_request Running request = running_phase Running request
 phase_after_request ShutDown request = ShutDown
 
--- how far the editor has come behind a message
+-- how far the session is after a message
 abbrev pub phase_after : Phase → Message → Phase
 phase_after phase (messages.Request id request) = phase_after_request phase request
 phase_after phase (messages.Notification notification) = phase
@@ -108,7 +108,7 @@ abbrev pub finder_of : Settings → Kind → Finder
 finder_of settings kinds.Rust = finders.Rust
 finder_of settings (kinds.Keys format) = finders.Keys format settings.keys
 
--- All that is wrong in a document of this text, as the editor's crate defines it.
+-- All that is wrong in a document with this text, as the crate `timefd_editor` defines it.
 pub record AreWrongIn (settings : Settings) (kind : Kind) (text : List ℕ) (findings : List Finding) : Type 0 where
   pub source : Source
   pub finder : source.finder ≡ finder_of settings kind
@@ -124,14 +124,14 @@ abbrev pub hover_answer : Option Hover → Answer
 hover_answer None = answers.Nothing
 hover_answer (Some hover) = answers.Hover hover
 
--- what is answered at a place of a document, if it is open
+-- the answer for a position of a document, if it is open
 abbrev pub IsHoverAnswer : Settings → Option Document → Position → Answer → Type 0
 IsHoverAnswer settings None position answer = answer ≡ answers.Nothing
 IsHoverAnswer settings (Some document) position answer = (source : Source) × IsSourceOf settings document source
     × ((found : Option Hover) × IsShownAt source (index_of source.text.now position) found
     × (answer ≡ hover_answer found))
 
--- and in a range of it
+-- the answer for a range of a document, if it is open
 abbrev pub IsActionsAnswer : Settings → Option Document → String Global → Range → Answer → Type 0
 IsActionsAnswer settings None uri range answer = answer ≡ answers.Nothing
 IsActionsAnswer settings (Some document) uri range answer = (source : Source) × IsSourceOf settings document source
@@ -139,7 +139,7 @@ IsActionsAnswer settings (Some document) uri range answer = (source : Source) ×
     × AreActionsOf (index_of source.text.now range.start) (index_of source.text.now range.end) source actions.items
     × (answer ≡ answers.Actions uri actions))
 
--- What a request is answered that isn't refused.
+-- The answer to a first request that isn't refused.
 abbrev pub IsFirstAnswer : Request → Answer → Type 0
 IsFirstAnswer asked.Initialize answer = answer ≡ answers.Capabilities
 IsFirstAnswer (asked.Hover uri position) answer = ⊤
@@ -174,7 +174,7 @@ Answers settings phase documents request Exit = ⊥
 abbrev pub said : String Global → Vec Finding Global → Step
 said uri findings = Say (replies.Findings uri findings)
 
--- The step tells all that is wrong in the document of this name and text.
+-- The step reports all that is wrong in the document with this name and text.
 abbrev pub IsSaidOf : Settings → Kind → List ℕ → List ℕ → Step → Type 0
 IsSaidOf settings kind text name (Say (replies.Findings uri findings)) =
     (string_bytes uri ≡ name) × AreWrongIn settings kind text findings.items
@@ -186,7 +186,7 @@ abbrev pub IsSaidIf : Settings → Option Kind → List ℕ → List ℕ → Ste
 IsSaidIf settings (Some kind) text name step = IsSaidOf settings kind text name step
 IsSaidIf settings None text name step = step ≡ Silent
 
--- What is wrong in a document is said when it is opened, if it is one that is looked at.
+-- If an opened document is one that is checked, what is wrong in it is reported.
 abbrev pub IsOpened : Settings → List ℕ → List ℕ → List ℕ → Step → Type 0
 IsOpened settings name language text step = IsSaidIf settings (kind_of language name) text name step
 
@@ -194,12 +194,12 @@ abbrev pub IsSaidOfOpen : Settings → Option Document → List ℕ → List ℕ
 IsSaidOfOpen settings (Some document) text name step = IsSaidOf settings document.kind text name step
 IsSaidOfOpen settings None text name step = step ≡ Silent
 
--- It is said when an open document changes.
+-- If an open document changes, what is wrong in it is reported.
 abbrev pub IsChangedOf : Settings → List ℕ → List ℕ → BTreeMap (String Global) Document → Step → Type 0
 IsChangedOf settings name text documents step =
     IsSaidOfOpen settings (get_by_text documents name) text name step
 
--- The step takes back what was said of the document of this name.
+-- The step withdraws what was reported about the document with this name.
 abbrev pub IsTakenBack : List ℕ → Step → Type 0
 IsTakenBack name (Say (replies.Findings uri findings)) = (string_bytes uri ≡ name) × (findings.items ≡ [])
 IsTakenBack name (Say (replies.Response other answer)) = ⊥
@@ -210,37 +210,38 @@ abbrev pub IsTakenBackOf : Option Document → List ℕ → Step → Type 0
 IsTakenBackOf (Some document) name step = IsTakenBack name step
 IsTakenBackOf None name step = step ≡ Silent
 
--- It is taken back when an open document is closed. Nothing is said of one that isn't open.
+-- If an open document is closed, what was reported about it is withdrawn. For one that isn't open nothing is
+-- said.
 abbrev pub IsClosed : List ℕ → BTreeMap (String Global) Document → Step → Type 0
 IsClosed name documents step = IsTakenBackOf (get_by_text documents name) name step
 
--- No response comes to a notification, only what is wrong in the document that it is about.
+-- A notification gets no response, only a report of what is wrong in its document.
 abbrev pub IsHeard : Settings → BTreeMap (String Global) Document → Notification → Step → Type 0
-IsHeard settings documents (told.Opened uri language text) step =
+IsHeard settings documents (reported.Opened uri language text) step =
     IsOpened settings (string_bytes uri) (string_bytes language) (string_bytes text) step
-IsHeard settings documents (told.Changed uri text) step =
+IsHeard settings documents (reported.Changed uri text) step =
     IsChangedOf settings (string_bytes uri) (string_bytes text) documents step
-IsHeard settings documents (told.Closed uri) step = IsClosed (string_bytes uri) documents step
-IsHeard settings documents told.Exit step = step ≡ Exit
-IsHeard settings documents told.Other step = step ≡ Silent
+IsHeard settings documents (reported.Closed uri) step = IsClosed (string_bytes uri) documents step
+IsHeard settings documents reported.Exit step = step ≡ Exit
+IsHeard settings documents reported.Other step = step ≡ Silent
 
 abbrev pub unheard : Notification → Step
-unheard (told.Opened uri language text) = Silent
-unheard (told.Changed uri text) = Silent
-unheard (told.Closed uri) = Silent
-unheard told.Exit = Exit
-unheard told.Other = Silent
+unheard (reported.Opened uri language text) = Silent
+unheard (reported.Changed uri text) = Silent
+unheard (reported.Closed uri) = Silent
+unheard reported.Exit = Exit
+unheard reported.Other = Silent
 
-abbrev pub IsTold : Settings → Phase → BTreeMap (String Global) Document → Notification → Step → Type 0
-IsTold settings New documents notification step = step ≡ unheard notification
-IsTold settings Running documents notification step = IsHeard settings documents notification step
-IsTold settings ShutDown documents notification step = step ≡ unheard notification
+abbrev pub IsReported : Settings → Phase → BTreeMap (String Global) Document → Notification → Step → Type 0
+IsReported settings New documents notification step = step ≡ unheard notification
+IsReported settings Running documents notification step = IsHeard settings documents notification step
+IsReported settings ShutDown documents notification step = step ≡ unheard notification
 
 -- A request gets one response, which has its id. A notification gets none.
 abbrev pub IsStep : Settings → Phase → BTreeMap (String Global) Document → Message → Step → Type 0
 IsStep settings phase documents (messages.Request id request) step =
     Responds id (refusal phase request) step × Answers settings phase documents request step
 IsStep settings phase documents (messages.Notification notification) step =
-    IsTold settings phase documents notification step
+    IsReported settings phase documents notification step
 IsStep settings phase documents messages.NotJson step = step ≡ unanswered refusals.NotJson
 IsStep settings phase documents messages.NotMessage step = step ≡ unanswered refusals.InvalidRequest

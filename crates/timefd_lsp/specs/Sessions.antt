@@ -2,7 +2,7 @@
 use Rattle.std.specs.Prelude.{◌≡◌, ◌⊎◌, ℕ, ◌-◌, ◌^◌, List, [], ◌∷◌, ◌++◌, Option, Some, None, length}
 use Rattle.std.specs.Io.KnownBytes.{Appends}
 use Rattle.serde_json.specs.Written.{compact_text}
-use Rattle.timefd_lsp.specs.Documents.{AreBehind, NoneOpen}
+use Rattle.timefd_lsp.specs.Documents.{AreAfter, NoneOpen}
 use Rattle.timefd_lsp.specs.Frames.{framed, IsFrame}
 use Rattle.timefd_lsp.specs.Messages.{IsMessageOf}
 use Rattle.timefd_lsp.specs.Servers.{IsStep, first, phase_after, unanswered}
@@ -27,7 +27,7 @@ exit New = Left
 exit Running = Left
 exit ShutDown = Done
 
--- the frames of some contents, one behind another
+-- the frames of some contents, one after another
 abbrev pub frames : List (List ℕ) → List ℕ
 frames [] = []
 frames (content ∷ contents) = framed content ++ frames contents
@@ -37,7 +37,7 @@ pub record WritesFrames (old new : Option (List ℕ)) : Type 0 where
   pub written : List (List ℕ)
   pub appended : Appends old new (frames written)
 
--- The same, but for a write that failed.
+-- The session writes whole frames, unless a write failed.
 abbrev pub IsSession : Option (List ℕ) → Option (List ℕ) → End → Type 0
 IsSession old new Done = WritesFrames old new
 IsSession old new Left = WritesFrames old new
@@ -52,14 +52,14 @@ abbrev pub IsTurn : Option (List ℕ) → Option (List ℕ) → Option End → T
 IsTurn old new None = WritesFrames old new
 IsTurn old new (Some end) = IsSession old new end
 
--- A content leads to the step of its message, and the server goes on as that says.
+-- A content leads to the step of its message, and changes the server as the message says.
 abbrev pub IsStepOn : Settings → Server → Server → List ℕ → Step → Type 0
 IsStepOn settings before after content step = (message : Message) × IsMessageOf message content
     × IsStep settings before.phase before.documents message step
     × (after.phase ≡ phase_after before.phase message)
-    × AreBehind before.phase message before.documents after.documents
+    × AreAfter before.phase message before.documents after.documents
 
--- The text of a reply is one frame, unless it isn't written.
+-- The text of a reply is written as one frame, or the write fails.
 abbrev pub IsWritten : Reply → Option (List ℕ) → Option (List ℕ) → Option End → Type 0
 IsWritten reply old new None = Appends old new (framed (compact_text (reply_data reply)))
 IsWritten reply old new (Some Done) = ⊥
@@ -71,7 +71,7 @@ IsWritten reply old new (Some Unread) = ⊥
 IsWritten reply old new (Some Unwritten) = Unit {0}
 IsWritten reply old new (Some Memory) = new ≡ old
 
--- Nothing is written, and the session goes on or ends so.
+-- Nothing is written, and the session goes on or ends as `wanted` says.
 abbrev pub IsStill : Option (List ℕ) → Option (List ℕ) → Option End → Option End → Type 0
 IsStill old new wanted end = (end ≡ wanted) × (new ≡ old)
 
@@ -87,7 +87,7 @@ IsAnswered settings before after content old new end =
     ((step : Step) × IsStepOn settings before after content step × IsDone after.phase step old new end)
     ⊎ IsStill old new (Some Memory) end
 
--- So is a content that is too long. The input's end and a broken frame end the session.
+-- A content that is too long is answered, too. The input's end and a broken frame end the session.
 abbrev pub IsOnFrame : Settings → Server → Server → Frame → Option (List ℕ) → Option (List ℕ) → Option End → Type 0
 IsOnFrame settings before after (got.Content content) old new end =
     IsAnswered settings before after content.items old new end
@@ -114,18 +114,18 @@ IsStepped settings a b end =
     ⊎ IsStill a.output b.output (Some Unread) end
     ⊎ IsStill a.output b.output (Some Memory) end
 
--- So is one frame after another, and none of them ends the session.
+-- The frames are read and answered one after another, and none of them ends the session.
 abbrev pub AreStepped : Settings → At → List At → At → Type 0
 AreStepped settings a [] b = b ≡ a
 AreStepped settings a (m ∷ ms) b = IsStepped settings a m None × AreStepped settings m ms b
 
--- The session ends with the frame that stands then; or so many were read, which no session comes to.
+-- The session ends with the next frame; or 2^64 - 1 frames were read, which no session reaches.
 abbrev pub IsEnd : Settings → ℕ → At → Option (List ℕ) → Option (List ℕ) → End → Type 0
 IsEnd settings count a left written end =
     ((known : Server) × IsStepped settings a (at left written known) (Some end))
     ⊎ ((count ≡ 2 ^ 64 - 1) × (end ≡ InputEnded) × (left ≡ a.input) × (written ≡ a.output))
 
--- So many frames of a session are read and answered, and none of them ends it.
+-- The first `count` frames of a session are read and answered, and none of them ends it.
 pub record AreServed (settings : Settings) (left written : Option (List ℕ)) (b : At) (count : ℕ) : Type 0 where
   pub start : Server
   pub fresh : start.phase ≡ first
@@ -134,7 +134,7 @@ pub record AreServed (settings : Settings) (left written : Option (List ℕ)) (b
   pub counted : length turns ≡ count
   pub each : AreStepped settings (at left written start) turns b
 
--- Each frame of the input is read and answered in turn, until one ends the session.
+-- The frames of the input are read and answered one after another, until one ends the session.
 pub record IsServed (settings : Settings) (left written left_then written_then : Option (List ℕ)) (end : End)
     : Type 0 where
   pub count : ℕ

@@ -1,4 +1,4 @@
--- What an editor is shown, as values of JSON. An object has its members in the order of their names.
+-- What an editor shows, as values of JSON. An object has its members in the order of their names.
 use Rattle.std.specs.Prelude.{ℕ, Bool, true, false, List, codes, map, string_bytes}
 use Rattle.serde_json.specs.Data.{Data, boolean, number, unsigned, string, array, object, member, no_members}
 use Rattle.serde_json.specs.View.{items_of}
@@ -13,13 +13,13 @@ use Rattle.timefd_editor.specs.declared.hovered.Hover.{Hover}
 use Rattle.timefd_editor.specs.declared.position.Position.{Position}
 use Rattle.timefd_editor.specs.declared.position.Range.{Range}
 
-abbrev pub place_data : Position → Data
-place_data place = object (member (codes "character") (number (unsigned place.character))
-    (member (codes "line") (number (unsigned place.line)) no_members))
+abbrev pub position_data : Position → Data
+position_data position = object (member (codes "character") (number (unsigned position.character))
+    (member (codes "line") (number (unsigned position.line)) no_members))
 
 abbrev pub range_data : Range → Data
-range_data range = object (member (codes "end") (place_data range.end)
-    (member (codes "start") (place_data range.start) no_members))
+range_data range = object (member (codes "end") (position_data range.end)
+    (member (codes "start") (position_data range.start) no_members))
 
 -- the number of a severity in the protocol
 abbrev pub severity_number : Severity → ℕ
@@ -61,7 +61,7 @@ kind_name QuickFix = codes "quickfix"
 kind_name Guess = codes "quickfix"
 kind_name Rewrite = codes "refactor.rewrite"
 
--- An editor may do by itself what is sure.
+-- An editor may apply a sure fix without asking.
 abbrev pub is_preferred : ActionKind → Bool
 is_preferred QuickFix = true
 is_preferred Guess = false

@@ -1,4 +1,4 @@
--- What the server says, as values of JSON. An object has its members in the order of their names.
+-- The server's messages, as values of JSON. An object has its members in the order of their names.
 use Rattle.std.specs.Prelude.{ℕ, List, codes, Option, Some, None, string_bytes, true}
 use Rattle.serde_json.specs.Data.{Data, null, boolean, number, unsigned, string, array, object, item, no_items, member, no_members}
 use Rattle.serde_json.specs.Find.{of_integer}
@@ -17,7 +17,7 @@ id_data None = null
 id_data (Some (ids.Number n)) = number (of_integer n)
 id_data (Some (ids.Text text)) = string (string_bytes text)
 
--- the response to the request of an id
+-- the response with the result of the request with this id
 abbrev pub answered : Data → Data → Data
 answered id result = object (member (codes "id") id (member (codes "jsonrpc") (string (codes "2.0"))
     (member (codes "result") result no_members)))
@@ -26,7 +26,7 @@ abbrev pub error_data : Refusal → Data
 error_data refusal = object (member (codes "code") (number (of_integer (code_of refusal)))
     (member (codes "message") (string (sentence_of refusal)) no_members))
 
--- the response that refuses it
+-- the response that refuses the request
 abbrev pub refused : Data → Refusal → Data
 refused id refusal = object (member (codes "error") (error_data refusal)
     (member (codes "id") id (member (codes "jsonrpc") (string (codes "2.0")) no_members)))
@@ -40,12 +40,12 @@ published uri findings = object (member (codes "jsonrpc") (string (codes "2.0"))
     (member (codes "method") (string (codes "textDocument/publishDiagnostics"))
     (member (codes "params") (published_of uri findings) no_members)))
 
--- what an editor may ask for
+-- the kinds of actions that an editor may ask for
 abbrev pub action_kinds : Data
 action_kinds = object (member (codes "codeActionKinds")
     (array (item (string (codes "quickfix")) (item (string (codes "refactor.rewrite")) no_items))) no_members)
 
--- It is sent whole documents (1), and counts in UTF-16.
+-- The server needs whole documents (1), and counts characters in UTF-16.
 abbrev pub provided : Data
 provided = object (member (codes "codeActionProvider") action_kinds
     (member (codes "hoverProvider") (boolean true)
@@ -66,7 +66,7 @@ response id answers.Nothing = answered id null
 response id (answers.Hover hover) = answered id (hover_data hover)
 response id (answers.Actions uri actions) = answered id (actions_data (string_bytes uri) actions.items)
 
--- what a reply is
+-- the value of a reply
 abbrev pub reply_data : Reply → Data
 reply_data (replies.Response id answer) = response (id_data id) answer
 reply_data (replies.Findings uri findings) = published (string_bytes uri) (findings_data findings.items)

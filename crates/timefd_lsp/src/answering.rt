@@ -1,4 +1,4 @@
-//! What requests are answered.
+//! How requests are answered.
 
 ghost use Rattle.std.specs.Prelude.{◌≡◌, IfOk, OnOk, None, string_bytes};
 ghost use Rattle.std.specs.BTreeMap.{get_by_text};
@@ -80,7 +80,7 @@ fn running_answer(
     }
 }
 
-// What the part of a document at a place means.
+// The answer to a hover request: what the part of a document at a position means.
 fn hover_at(
     alloc: Global,
     settings: Settings<'_>,
@@ -102,7 +102,7 @@ fn hover_at(
     }
 }
 
-// What can be done to a range of a document.
+// The answer to a request for actions in a range of a document.
 fn actions_in(
     alloc: Global,
     settings: Settings<'_>,

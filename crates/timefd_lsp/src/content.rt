@@ -1,4 +1,4 @@
-//! The content of a frame: as many bytes as its head says.
+//! The content of a frame: as many bytes as the head says.
 
 ghost use Rattle.std.specs.Prelude.{◌≡◌, ◌++◌, IfErr, IfOk, IsTrue, OnOk};
 ghost use Rattle.timefd_lsp.specs.Contents as spec;
@@ -8,10 +8,10 @@ use std::alloc::{AllocError, Global};
 use timefd_streams::Source;
 use timefd_streams::transfer::ReadError;
 
-// How many bytes a read asks for at most.
+// How many bytes one read asks for at most.
 const PIECE: usize = 8192;
 
-/// The bytes that the source has next, as many as are wanted; fewer only at its end.
+/// Reads the next `wanted` bytes of the source. Returns fewer only at its end.
 pub fn read_content<R: Source>(
     alloc: Global,
     source: &mut R,
@@ -40,7 +40,7 @@ fn append(content: &mut Vec<u8>, bytes: &[u8]) -> Result<(), AllocError>
     content.extend_from_slice(bytes)
 }
 
-/// Passes over the bytes that the source has next, as many as are wanted, and answers how many there were; fewer only at its end.
+/// Skips the next `wanted` bytes of the source, and returns how many there were: fewer only at its end.
 pub fn skip_content<R: Source>(source: &mut R, wanted: u64) -> Result<u64, ReadError>
     ensures skipped { IfOk result (λ count. spec.IsSkipped (R.remaining source.old)
         (R.remaining source.new) wanted count) }

@@ -3,7 +3,7 @@
 ghost use Rattle.std.specs.Prelude.{◌≡◌, ◌↔◌, List, ℕ, Some, None, bytes_eq, string_bytes, if◌then◌else◌, OnOk, IsSome, IsTrue};
 ghost use Rattle.std.specs.BTreeMap.{get_by_text};
 ghost use Rattle.timefd_lsp.specs.Kinds as spec;
-ghost use Rattle.timefd_lsp.specs.Documents.{retold};
+ghost use Rattle.timefd_lsp.specs.Documents.{with_text};
 
 use std::alloc::AllocError;
 use std::collections::BTreeMap;
@@ -12,24 +12,24 @@ use timefd_keys::{Format, format_named};
 /// How the descriptions in a document are found.
 #[derive(Clone, Copy, Debug, PartialEq, Eq)]
 pub enum Kind {
-    /// As string literals of Rust.
+    /// They are string literals of Rust.
     Rust,
-    /// As strings of keys.
+    /// They are strings of keys.
     Keys(Format),
 }
 
-/// A document that is open.
+/// An open document.
 #[derive(Drop)]
 pub struct Document {
     pub kind: Kind,
     pub text: String,
 }
 
-/// The open documents by their names, which are URIs.
+/// The open documents by name. The names are URIs.
 pub type Documents = BTreeMap<String, Document>;
 
-/// How descriptions are found in a document, by the editor's name for its language, or else by the ending of its own name;
-/// `None` in one that isn't looked at.
+/// How descriptions are found in a document, by the editor's name for its language, or else by the ending of
+/// the document's name. `None` if the document isn't checked.
 pub fn kind_of(language: &str, uri: &str) -> Option<Kind>
     ensures { result ≡ spec.kind_of language.now uri.now }
 {
@@ -54,7 +54,7 @@ fn kind_named(uri: &str) -> Option<Kind>
     }
 }
 
-/// Opens a document, in place of one of the same name.
+/// Opens a document, and replaces one with the same name. An `Err` says that memory ran out.
 #[tactic(auto, using(std::proofs::lemmas::Map::Text::text_keys))]
 pub fn open(documents: &mut Documents, uri: String, document: Document) -> Result<(), AllocError>
     ensures { OnOk result ((name : List ℕ) → get_by_text documents.new name
@@ -65,12 +65,12 @@ pub fn open(documents: &mut Documents, uri: String, document: Document) -> Resul
     Ok(())
 }
 
-/// Gives an open document another text, and answers whether there is such a one.
+/// Replaces the text of an open document, and returns whether that document is open.
 #[tactic(auto, using(std::proofs::lemmas::Map::Text::text_keys))]
 pub fn change(documents: &mut Documents, uri: &str, text: String) -> bool
     ensures open { IsTrue result ↔ IsSome (get_by_text documents.old uri.now) }
     ensures texts { (name : List ℕ) → get_by_text documents.new name
-        ≡ (if bytes_eq name uri.now then retold text (get_by_text documents.old name)
+        ≡ (if bytes_eq name uri.now then with_text text (get_by_text documents.old name)
         else get_by_text documents.old name) }
 {
     match documents.get_mut(uri) {
@@ -82,7 +82,7 @@ pub fn change(documents: &mut Documents, uri: &str, text: String) -> bool
     }
 }
 
-/// Closes a document, and answers whether it was open.
+/// Closes a document, and returns whether it was open.
 #[tactic(auto, using(std::proofs::lemmas::Map::Text::text_keys))]
 pub fn close(documents: &mut Documents, uri: &str) -> bool
     ensures open { IsTrue result ↔ IsSome (get_by_text documents.old uri.now) }

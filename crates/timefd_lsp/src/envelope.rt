@@ -1,4 +1,4 @@
-//! What an object of JSON is as a message: a request, a notification, or another.
+//! Whether an object of JSON is a request, a notification, or another message.
 
 ghost use Rattle.std.specs.Prelude.{◌≡◌, codes, IfOk, option_map, option_and_then};
 ghost use Rattle.serde_json.specs.Find.{get, as_str};
@@ -8,27 +8,27 @@ ghost use Rattle.timefd_lsp.specs.Envelopes as spec;
 use serde_json::Value;
 use std::alloc::{AllocError, Global};
 
-/// What a response has in common with its request.
+/// The id of a request, which its response repeats.
 #[derive(Drop)]
 pub enum Id {
     Number(i64),
     Text(String),
 }
 
-/// What a value of JSON is as a message.
+/// The message that a value of JSON is.
 #[derive(Drop)]
 pub enum Envelope<'a> {
-    /// A request of this method. It is to be answered.
+    /// A request of this method. It has to be answered.
     Request(Id, &'a str),
-    /// A notification of this method. It is not to be answered.
+    /// A notification of this method. It isn't answered.
     Notification(&'a str),
-    /// A response. There is no request to which it could belong.
+    /// A response. This server sends no requests, so it belongs to none.
     Response,
     /// None of these.
     Invalid,
 }
 
-/// The text of a member.
+/// The text of the member with this name. `None` if there is none or it isn't a text.
 pub fn text_at<'a>(value: &'a Value, name: &str) -> Option<&'a str>
     ensures { option_map (λ text. text.now) result
         ≡ option_and_then as_str (get name.now (view value.now)) }
@@ -49,7 +49,7 @@ fn is_message(value: &Value) -> bool
     }
 }
 
-// The id that a value is.
+// The id that a value is. `None` if it is neither an integer nor a text.
 fn id_of(alloc: Global, value: &Value) -> Result<Option<Id>, AllocError>
     ensures { IfOk result (λ id. option_map spec.seen_id id ≡ spec.id_of (view value.now)) }
 {
@@ -62,7 +62,7 @@ fn id_of(alloc: Global, value: &Value) -> Result<Option<Id>, AllocError>
     }
 }
 
-/// What a value of JSON is as a message.
+/// The message that a value of JSON is. An `Err` says that memory ran out.
 pub fn envelope_of<'a>(alloc: Global, value: &'a Value) -> Result<Envelope<'a>, AllocError>
     ensures { IfOk result (λ envelope. spec.seen envelope ≡ spec.envelope_of (view value.now)) }
 {

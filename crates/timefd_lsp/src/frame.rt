@@ -1,4 +1,4 @@
-//! Frames: a head that tells how long a content is, and the content.
+//! Frames: a head that says how long the content is, and the content.
 
 ghost use Rattle.std.specs.Prelude.{◌≡◌, ◌≤◌, ◌<◌, ◌^◌, string_bytes, IfOk, IfErr, OnOk, IsTrue};
 ghost use Rattle.std.specs.Io.KnownBytes.{Appends};
@@ -13,25 +13,25 @@ use std::alloc::{AllocError, Global};
 use timefd_streams::transfer::{ReadError, write_all};
 use timefd_streams::{Failed, Sink, Source};
 
-/// How many bytes a content has at most: 16 MiB.
+/// How many bytes a content may have: 16 MiB.
 pub const MOST_CONTENT: u64 = 1 << 24;
 
-/// What a source has next.
+/// What comes next in a source.
 #[derive(Drop)]
 pub enum Frame {
-    /// Nothing: it has no byte left.
+    /// Nothing: the source is at its end.
     AtEnd,
-    /// A frame of this content.
+    /// A frame with this content.
     Content(Vec<u8>),
-    /// A frame whose content has more than 16 MiB. It was passed over.
+    /// A frame whose content has more than 16 MiB. It was skipped.
     TooLong,
-    /// No head of a frame, or one that tells no length.
+    /// The head isn't one, or it doesn't say a length.
     NoHead,
-    /// The front of a frame: no byte is left behind it.
+    /// The front of a frame: no byte follows it.
     Cut,
 }
 
-/// Reads a frame. What stands behind `NoHead` can't be told apart any more.
+/// Reads a frame. After `NoHead` the start of the next frame can't be found.
 pub fn read_frame<R: Source>(alloc: Global, source: &mut R) -> Result<Frame, ReadError>
     ensures frame { IfOk result (spec.IsFrame (R.remaining source.old) (R.remaining source.new)) }
     ensures fails { IfErr result (λ e. e ≡ ReadError.Failed → IsTrue (R.has_failed source.new)) }
@@ -41,13 +41,13 @@ pub fn read_frame<R: Source>(alloc: Global, source: &mut R) -> Result<Frame, Rea
         HeadEnd::NoByte => Ok(Frame::AtEnd),
         HeadEnd::Cut => Ok(Frame::Cut),
         HeadEnd::TooLong => Ok(Frame::NoHead),
-        HeadEnd::Whole => behind_head(alloc, source, &head.bytes),
+        HeadEnd::Whole => after_head(alloc, source, &head.bytes),
     }
 }
 
-// Reads what stands behind a head.
-fn behind_head<R: Source>(alloc: Global, source: &mut R, head: &[u8]) -> Result<Frame, ReadError>
-    ensures behind { IfOk result (spec.IsBehind head.now (R.remaining source.old)
+// Reads what follows a head.
+fn after_head<R: Source>(alloc: Global, source: &mut R, head: &[u8]) -> Result<Frame, ReadError>
+    ensures after { IfOk result (spec.IsAfter head.now (R.remaining source.old)
         (R.remaining source.new)) }
     ensures fails { IfErr result (λ e. e ≡ ReadError.Failed → IsTrue (R.has_failed source.new)) }
 {
@@ -93,7 +93,7 @@ pub enum WriteError {
     Memory,
 }
 
-/// Writes a frame of this content, and flushes the sink.
+/// Writes a frame with this content, and flushes the sink. An `Err` says why that failed.
 pub fn write_frame<W: Sink>(alloc: Global, sink: &mut W, content: &str) -> Result<(), WriteError>
     ensures bytes { OnOk result (Appends (W.contents sink.old) (W.contents sink.new)
         (spec.framed content.now)) }
@@ -111,7 +111,7 @@ pub fn write_frame<W: Sink>(alloc: Global, sink: &mut W, content: &str) -> Resul
     }
 }
 
-// The frame of a content.
+// The frame with this content.
 fn framed(alloc: Global, content: &str) -> Result<String, AllocError>
     ensures { IfOk result (λ frame. string_bytes frame ≡ spec.framed content.now) }
 {

@@ -8,43 +8,43 @@ use std::alloc::{AllocError, Global};
 use timefd_streams::Source;
 use timefd_streams::transfer::ReadError;
 
-// How many bytes a head has at most.
+// How many bytes a head may have.
 const MOST_HEAD: usize = 4096;
 
 /// How a head ends.
 #[derive(Clone, Copy)]
 pub enum HeadEnd {
-    /// With an empty line.
+    /// It ends with an empty line.
     Whole,
-    /// Nowhere: the source has no byte left.
+    /// It has no byte: the source is at its end.
     NoByte,
-    /// Nowhere: the source has no byte left behind some.
+    /// It has some bytes, and then the source is at its end.
     Cut,
-    /// Not within its first 4096 bytes.
+    /// It doesn't end within its first 4096 bytes.
     TooLong,
 }
 
-/// The bytes that were read of a head, and how it ends.
+/// The bytes that were read of a head, and how the head ends.
 #[derive(Drop)]
 pub struct Head {
     pub bytes: Vec<u8>,
     pub end: HeadEnd,
 }
 
-// What a source has next: `None` at its end.
+// The next byte of a source. `None` at its end.
 fn next_byte<R: Source>(source: &mut R) -> Result<Option<u8>, ReadError>
     ensures next { IfOk result (spec.IsNext (R.remaining source.old) (R.remaining source.new)) }
     ensures fails { IfErr result (λ e. e ≡ ReadError.Failed → IsTrue (R.has_failed source.new)) }
 {
-    let mut place = [0];
-    let count = source.read(&mut place)?;
+    let mut position = [0];
+    let count = source.read(&mut position)?;
     if count == 0 {
         return Ok(None);
     }
-    Ok(Some(place[0]))
+    Ok(Some(position[0]))
 }
 
-/// Reads a head, and no byte behind it.
+/// Reads a head, and no byte after it.
 pub fn read_head<R: Source>(alloc: Global, source: &mut R) -> Result<Head, ReadError>
     ensures head { IfOk result (λ head. spec.IsHead (R.remaining source.old) (R.remaining source.new)
         head.bytes.items head.end) }
@@ -77,7 +77,7 @@ fn push(bytes: &mut Vec<u8>, byte: u8) -> Result<(), AllocError>
     Ok(())
 }
 
-// What was read of a head, where no byte is left.
+// The head with these bytes, if the source has no more.
 fn at_end(bytes: Vec<u8>) -> Head
     ensures bytes { result.bytes ≡ bytes }
     ensures end { result.end ≡ spec.end_of bytes.items }

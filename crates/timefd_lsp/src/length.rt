@@ -1,27 +1,27 @@
-//! The length of a content, as the head in front of it tells it.
+//! The length of a content, as said by the head before it.
 
 ghost use Rattle.std.specs.Prelude.{◌≡◌, ◌<◌, length, IsTrue};
 ghost use Rattle.timefd_lsp.specs.Lengths as spec;
 
-// The name of the line that tells the length, and what ends the name.
+// The name of the line with the length, and the colon that ends the name.
 const NAME: &[u8] = b"content-length:";
 
-// A content as long as this has no digit behind.
+// A number that is at least this long takes no further digit.
 const MOST_READ: u64 = 1 << 40;
 
-/// How many bytes the content has: the number in the first line of the head that is named `Content-Length`, in any case of
-/// letters.
+/// How many bytes the content has: the number in the head's first line with the name `Content-Length`, in
+/// upper or lower case. `None` if there is no such line, or no such number.
 pub fn length_in(head: &[u8]) -> Option<u64>
     ensures { result ≡ spec.length_in head.now }
 {
     let mut begins_line = true;
     let mut rest = head;
-    'bytes: while let [byte, behind @ ..] = rest {
+    'bytes: while let [byte, after @ ..] = rest {
         if begins_line && is_named(rest) {
             return value_of(rest);
         }
         begins_line = *byte == b'\n';
-        rest = behind;
+        rest = after;
     }
     None
 }
@@ -42,7 +42,7 @@ fn is_named(bytes: &[u8]) -> bool
     true
 }
 
-// Whether the bytes begin with this small letter, or the large one.
+// Whether the bytes begin with this lower-case letter, or with its upper-case form.
 fn begins_with(bytes: &[u8], letter: u8) -> bool
     ensures value { result ≡ spec.begins_with_letter bytes.now letter }
     ensures some { IsTrue result → 0 < length bytes.now }
@@ -53,49 +53,49 @@ fn begins_with(bytes: &[u8], letter: u8) -> bool
     }
 }
 
-// The number behind the first colon.
+// The number after the first colon.
 fn value_of(bytes: &[u8]) -> Option<u64>
     ensures { result ≡ spec.value_of bytes.now }
 {
     let mut rest = bytes;
-    'bytes: while let [byte, behind @ ..] = rest {
+    'bytes: while let [byte, after @ ..] = rest {
         if *byte == b':' {
-            return behind_spaces(behind);
+            return after_spaces(after);
         }
-        rest = behind;
+        rest = after;
     }
     None
 }
 
-// The number behind spaces.
-fn behind_spaces(bytes: &[u8]) -> Option<u64>
-    ensures { result ≡ spec.behind_spaces bytes.now }
+// The number after leading spaces.
+fn after_spaces(bytes: &[u8]) -> Option<u64>
+    ensures { result ≡ spec.after_spaces bytes.now }
 {
     let mut rest = bytes;
-    'spaces: while let [b' ', behind @ ..] = rest {
-        rest = behind;
+    'spaces: while let [b' ', after @ ..] = rest {
+        rest = after;
     }
     number(rest)
 }
 
-// The number whose digits stand here, up to the end of the line.
+// The number whose digits come next, up to the end of the line.
 fn number(bytes: &[u8]) -> Option<u64>
     ensures { result ≡ spec.number bytes.now }
 {
     let mut value = None;
     let mut rest = bytes;
-    'digits: while let [byte, behind @ ..] = rest {
+    'digits: while let [byte, after @ ..] = rest {
         let more = with_digit(value, *byte);
         if more.is_none() {
             return if *byte == b'\r' { value } else { None };
         }
         value = more;
-        rest = behind;
+        rest = after;
     }
     None
 }
 
-// The number with one more digit, if the byte is one.
+// The number with one more digit. `None` if the byte isn't a digit, or the number takes no more.
 fn with_digit(value: Option<u64>, byte: u8) -> Option<u64>
     ensures { result ≡ spec.with_digit value byte }
 {

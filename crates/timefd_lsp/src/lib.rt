@@ -1,5 +1,5 @@
-//! A language server for the format descriptions in a document: frames on its input, messages in them, the open
-//! documents, and what is answered.
+//! A language server for the format descriptions in a document: frames on its input, the messages in them,
+//! the open documents, and the answers.
 #![tactic(auto)]
 
 mod answering;
@@ -12,10 +12,10 @@ mod length;
 mod message;
 mod params;
 mod reply;
+mod reporting;
 mod server;
 mod session;
 mod shown;
-mod telling;
 mod text;
 
 pub use documents::{Document, Documents, Kind, change, close, kind_of, open};

@@ -1,11 +1,11 @@
-//! Messages of an editor: what it asks for, and what it tells.
+//! Messages of an editor: requests and notifications.
 
 ghost use Rattle.std.specs.Prelude.{◌≡◌, IfOk};
 ghost use Rattle.serde_json.specs.View.{view};
 ghost use Rattle.timefd_lsp.specs.Messages as spec;
 
 use crate::envelope::{Envelope, Id, envelope_of};
-use crate::params::{last_text, place_of, range_of, text_by, uri_of};
+use crate::params::{last_text, position_in, range_of, text_by, uri_of};
 use serde_json::Value;
 use std::alloc::{AllocError, Global};
 use timefd_editor::{Position, Range};
@@ -14,18 +14,18 @@ use timefd_editor::{Position, Range};
 #[derive(Drop)]
 pub enum Request {
     Initialize,
-    /// What the part of a document at a place means.
+    /// What does the part of a document at this position mean?
     Hover { uri: String, position: Position },
-    /// What can be done to a range of a document.
+    /// What can be done to this range of a document?
     Actions { uri: String, range: Range },
     Shutdown,
-    /// What this server doesn't do.
+    /// Something that this server doesn't do.
     Unknown,
-    /// One of these, but the parameters are none of its.
+    /// One of these methods, with wrong parameters.
     WrongParams,
 }
 
-/// What a notification tells.
+/// What a notification reports.
 #[derive(Drop)]
 pub enum Notification {
     Opened {
@@ -33,7 +33,7 @@ pub enum Notification {
         language: String,
         text: String,
     },
-    /// All of a document's text is another.
+    /// The whole text of a document is replaced.
     Changed {
         uri: String,
         text: String,
@@ -42,18 +42,18 @@ pub enum Notification {
         uri: String,
     },
     Exit,
-    /// What changes nothing here.
+    /// Nothing that matters here.
     Other,
 }
 
-/// What a content is.
+/// What the content of a frame is.
 #[derive(Drop)]
 pub enum Message {
     Request(Id, Request),
     Notification(Notification),
-    /// It is no JSON.
+    /// It isn't JSON.
     NotJson,
-    /// It is JSON, but no message.
+    /// It is JSON, but not a message.
     NotMessage,
 }
 
@@ -63,7 +63,7 @@ fn hover_of(alloc: Global, value: &Value) -> Result<Request, AllocError>
     let Some(uri) = uri_of(value) else {
         return Ok(Request::WrongParams);
     };
-    let Some(position) = place_of(value) else {
+    let Some(position) = position_in(value) else {
         return Ok(Request::WrongParams);
     };
     Ok(Request::Hover {
@@ -88,7 +88,7 @@ fn actions_of(alloc: Global, value: &Value) -> Result<Request, AllocError>
     })
 }
 
-/// What a request of a method asks for.
+/// What a request of this method asks for. An `Err` says that memory ran out.
 pub fn request_of(alloc: Global, method: &str, value: &Value) -> Result<Request, AllocError>
     ensures { IfOk result (λ request. spec.seen_request request
         ≡ spec.request_of method.now (view value.now)) }
@@ -103,7 +103,7 @@ pub fn request_of(alloc: Global, method: &str, value: &Value) -> Result<Request,
 }
 
 fn opened_of(alloc: Global, value: &Value) -> Result<Notification, AllocError>
-    ensures { IfOk result (λ told. spec.seen_notification told ≡ spec.opened_of (view value.now)) }
+    ensures { IfOk result (λ reported. spec.seen_notification reported ≡ spec.opened_of (view value.now)) }
 {
     let Some(uri) = uri_of(value) else {
         return Ok(Notification::Other);
@@ -122,7 +122,7 @@ fn opened_of(alloc: Global, value: &Value) -> Result<Notification, AllocError>
 }
 
 fn changed_of(alloc: Global, value: &Value) -> Result<Notification, AllocError>
-    ensures { IfOk result (λ told. spec.seen_notification told ≡ spec.changed_of (view value.now)) }
+    ensures { IfOk result (λ reported. spec.seen_notification reported ≡ spec.changed_of (view value.now)) }
 {
     let Some(uri) = uri_of(value) else {
         return Ok(Notification::Other);
@@ -137,7 +137,7 @@ fn changed_of(alloc: Global, value: &Value) -> Result<Notification, AllocError>
 }
 
 fn closed_of(alloc: Global, value: &Value) -> Result<Notification, AllocError>
-    ensures { IfOk result (λ told. spec.seen_notification told ≡ spec.closed_of (view value.now)) }
+    ensures { IfOk result (λ reported. spec.seen_notification reported ≡ spec.closed_of (view value.now)) }
 {
     let Some(uri) = uri_of(value) else {
         return Ok(Notification::Other);
@@ -147,7 +147,7 @@ fn closed_of(alloc: Global, value: &Value) -> Result<Notification, AllocError>
     })
 }
 
-/// What a notification of a method tells.
+/// What a notification of this method reports. An `Err` says that memory ran out.
 pub fn notification_of(
     alloc: Global,
     method: &str,
@@ -164,7 +164,7 @@ pub fn notification_of(
     }
 }
 
-// What a value of JSON is as a message.
+// The message that a value of JSON is.
 fn message_of_value(alloc: Global, value: &Value) -> Result<Message, AllocError>
     ensures { IfOk result (λ message. spec.IsMessage message (view value.now)) }
 {
@@ -181,7 +181,7 @@ fn message_of_value(alloc: Global, value: &Value) -> Result<Message, AllocError>
     }
 }
 
-/// What the content of a frame is as a message.
+/// The message that the content of a frame is. An `Err` says that memory ran out.
 pub fn message_of(alloc: Global, content: &[u8]) -> Result<Message, AllocError>
     ensures { IfOk result (λ message. spec.IsMessageOf message content.now) }
 {

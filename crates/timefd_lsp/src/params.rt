@@ -8,7 +8,7 @@ use crate::envelope::text_at;
 use serde_json::Value;
 use timefd_editor::{Position, Range};
 
-/// The text at a path.
+/// The text at a JSON pointer. `None` if there is none.
 pub fn text_by<'a>(value: &'a Value, path: &str) -> Option<&'a str>
     ensures { option_map (λ text. text.now) result ≡ spec.text_by path.now (view value.now) }
 {
@@ -18,7 +18,7 @@ pub fn text_by<'a>(value: &'a Value, path: &str) -> Option<&'a str>
     }
 }
 
-// The number at a path, if it counts something.
+// The number at a JSON pointer, if it isn't negative and has no fraction.
 fn count_by(value: &Value, path: &str) -> Option<usize>
     ensures { result ≡ spec.count_by path.now (view value.now) }
 {
@@ -37,16 +37,16 @@ fn count_of(number: Option<u64>) -> Option<usize>
     }
 }
 
-// The place whose line and character stand at these paths.
-fn place_by(value: &Value, line: &str, character: &str) -> Option<Position>
-    ensures { result ≡ spec.place_by line.now character.now (view value.now) }
+// The position whose line and character are at these JSON pointers.
+fn position_by(value: &Value, line: &str, character: &str) -> Option<Position>
+    ensures { result ≡ spec.position_by line.now character.now (view value.now) }
 {
     let line = count_by(value, line)?;
     let character = count_by(value, character)?;
     Some(Position { line, character })
 }
 
-// The range between two places, if both are there.
+// The range between two positions, if both exist.
 fn range_from(start: Option<Position>, end: Option<Position>) -> Option<Range>
     ensures { result ≡ spec.range_from start end }
 {
@@ -55,16 +55,16 @@ fn range_from(start: Option<Position>, end: Option<Position>) -> Option<Range>
     Some(Range { start, end })
 }
 
-/// The range of a request.
+/// The range in a request's parameters.
 pub fn range_of(value: &Value) -> Option<Range>
     ensures { result ≡ spec.range_of (view value.now) }
 {
-    let start = place_by(
+    let start = position_by(
         value,
         "/params/range/start/line",
         "/params/range/start/character",
     );
-    let end = place_by(
+    let end = position_by(
         value,
         "/params/range/end/line",
         "/params/range/end/character",
@@ -72,11 +72,11 @@ pub fn range_of(value: &Value) -> Option<Range>
     range_from(start, end)
 }
 
-/// The place of a request.
-pub fn place_of(value: &Value) -> Option<Position>
-    ensures { result ≡ spec.place_of (view value.now) }
+/// The position in a request's parameters.
+pub fn position_in(value: &Value) -> Option<Position>
+    ensures { result ≡ spec.position_in (view value.now) }
 {
-    place_by(value, "/params/position/line", "/params/position/character")
+    position_by(value, "/params/position/line", "/params/position/character")
 }
 
 /// The name of the document that a message is about.
@@ -114,7 +114,7 @@ fn last_change(value: &Value) -> Option<&Value>
     }
 }
 
-/// The text of a document behind the last of its changes.
+/// The text of a document after the last of its changes.
 pub fn last_text(value: &Value) -> Option<&str>
     ensures { option_map (λ text. text.now) result ≡ spec.last_text (view value.now) }
 {

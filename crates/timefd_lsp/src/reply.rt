@@ -1,4 +1,4 @@
-//! What the server says to an editor.
+//! The server's messages to an editor.
 
 ghost use Rattle.std.specs.Prelude.{◌≡◌};
 ghost use Rattle.timefd_lsp.specs.Replies as spec;
@@ -6,45 +6,45 @@ ghost use Rattle.timefd_lsp.specs.Replies as spec;
 use crate::envelope::Id;
 use timefd_editor::{Action, Finding, Hover};
 
-/// Why a request isn't served.
+/// Why a request is refused.
 #[derive(Clone, Copy, Debug, PartialEq, Eq)]
 pub enum Refusal {
-    /// It is no JSON.
+    /// It isn't JSON.
     NotJson,
-    /// It is no request, or has no place where it stands.
+    /// It isn't a request, or the session doesn't allow it at this point.
     InvalidRequest,
-    /// There is no such method.
+    /// The server has no such method.
     UnknownMethod,
-    /// The parameters are none of the method's.
+    /// The parameters don't fit the method.
     WrongParams,
-    /// It comes in front of `initialize`.
+    /// It comes before `initialize`.
     NotInitialized,
     /// Its content has more than 16 MiB.
     TooLong,
 }
 
-/// What a request is answered.
+/// The answer to a request.
 #[derive(Drop)]
 pub enum Answer {
     /// What the server can do.
     Capabilities,
     Nothing,
     Hover(Hover),
-    /// What can be done to a document of this name.
+    /// What can be done to the document with this name.
     Actions { uri: String, actions: Vec<Action> },
     Refused(Refusal),
 }
 
-/// What the server says.
+/// A message of the server.
 #[derive(Drop)]
 pub enum Reply {
-    /// The answer to the request of an id, or to one whose id isn't known.
+    /// The answer to the request with this id, or to one whose id isn't known.
     Response { id: Option<Id>, answer: Answer },
     /// All that is wrong in a document.
     Findings { uri: String, findings: Vec<Finding> },
 }
 
-/// The number that JSON-RPC or the protocol has for a refusal.
+/// The number of a refusal in JSON-RPC or in the protocol.
 pub fn code_of(refusal: Refusal) -> i64
     ensures { result ≡ spec.code_of refusal }
 {
@@ -57,13 +57,13 @@ pub fn code_of(refusal: Refusal) -> i64
     }
 }
 
-/// A refusal in a sentence.
+/// The refusal as a sentence.
 pub fn sentence_of(refusal: Refusal) -> &'static str
     ensures { result.now ≡ spec.sentence_of refusal }
 {
     match refusal {
-        Refusal::NotJson => "the content is no JSON",
-        Refusal::InvalidRequest => "the content is no request that can stand here",
+        Refusal::NotJson => "the content isn't JSON",
+        Refusal::InvalidRequest => "the content isn't a request that is allowed here",
         Refusal::UnknownMethod => "there is no such method",
         Refusal::WrongParams => "the parameters are none of the method's",
         Refusal::NotInitialized => "`initialize` has to come first",

@@ -1,4 +1,4 @@
-//! The server: one message after another, and what is said to each.
+//! The server: it takes one message after another, and says what each leads to.
 
 ghost use Rattle.std.specs.Prelude.{◌≡◌, IfOk, OnOk};
 ghost use Rattle.timefd_lsp.specs.Documents as opening;
@@ -8,32 +8,32 @@ use crate::answering::answer_to;
 use crate::documents::{Documents, Kind};
 use crate::message::Message;
 use crate::reply::{Answer, Refusal, Reply};
-use crate::telling::told;
+use crate::reporting::reported;
 use std::alloc::{AllocError, Global};
 use timefd_keys::Key;
 use timefd_lint_sources::{Finder, Source};
 use timefd_warnings::Levels;
 
-/// What is looked for in documents.
+/// Which descriptions of a document are checked, and which warnings are reported.
 #[derive(Clone, Copy)]
 pub struct Settings<'a> {
     /// The keys whose strings are descriptions in files with keys.
     pub keys: &'a [Key<'a>],
-    /// What is made of each warning; `None` where none is told.
+    /// The level of each warning. `None` if no warning is reported.
     pub levels: Option<Levels>,
 }
 
-/// How far the editor has come with this server.
+/// How far the session with the editor is.
 #[derive(Clone, Copy, Debug, PartialEq, Eq)]
 pub enum Phase {
-    /// It hasn't sent `initialize`.
+    /// The editor hasn't sent `initialize` yet.
     New,
     Running,
-    /// It has sent `shutdown`.
+    /// The editor has sent `shutdown`.
     ShutDown,
 }
 
-/// What the server knows.
+/// The state of the server.
 #[derive(Drop)]
 pub struct Server {
     pub phase: Phase,
@@ -49,7 +49,7 @@ pub enum Step {
 }
 
 impl Server {
-    /// One that no message has come to.
+    /// A server that hasn't taken a message yet.
     pub fn new(alloc: Global) -> Server
         ensures phase { result.phase ≡ spec.first }
         ensures documents { opening.NoneOpen result.documents }
@@ -61,7 +61,7 @@ impl Server {
     }
 }
 
-/// Takes a message, and says what it leads to.
+/// Takes a message, and returns what it leads to. An `Err` says that memory ran out.
 pub fn take(
     alloc: Global,
     settings: Settings<'_>,
@@ -70,7 +70,7 @@ pub fn take(
 ) -> Result<Step, AllocError>
     ensures step { IfOk result (spec.IsStep settings.entry server.old.phase server.old.documents message) }
     ensures phase { OnOk result (server.new.phase ≡ spec.phase_after server.old.phase message) }
-    ensures documents { OnOk result (opening.AreBehind server.old.phase message server.old.documents
+    ensures documents { OnOk result (opening.AreAfter server.old.phase message server.old.documents
         server.new.documents) }
 {
     match message {
@@ -81,13 +81,13 @@ pub fn take(
                 answer,
             }))
         }
-        Message::Notification(notification) => { told(alloc, settings, server, notification) }
+        Message::Notification(notification) => { reported(alloc, settings, server, notification) }
         Message::NotJson => Ok(unanswered(Refusal::NotJson)),
         Message::NotMessage => Ok(unanswered(Refusal::InvalidRequest)),
     }
 }
 
-/// What is said of a content whose id isn't known.
+/// The response to a content whose id isn't known.
 pub fn unanswered(refusal: Refusal) -> Step
     ensures { result ≡ spec.unanswered refusal }
 {

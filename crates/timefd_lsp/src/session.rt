@@ -16,15 +16,15 @@ use timefd_streams::{Sink, Source};
 /// How a session ends.
 #[derive(Clone, Copy, Debug, PartialEq, Eq)]
 pub enum End {
-    /// The editor said `exit`, behind `shutdown`.
+    /// The editor sent `exit` after `shutdown`.
     Done,
-    /// It said `exit` without that.
+    /// The editor sent `exit` without `shutdown`.
     Left,
     /// The input ended.
     InputEnded,
     /// The input ended within a frame.
     Cut,
-    /// What came was no frame.
+    /// The input isn't a frame.
     NoFrame,
     /// The input can't be read.
     Unread,
@@ -34,7 +34,7 @@ pub enum End {
     Memory,
 }
 
-/// Serves an editor until it leaves. What it writes is whole frames, unless a write fails.
+/// Serves an editor until the session ends, and returns how. It writes whole frames, unless a write fails.
 #[tactic(auto, using(crate::proofs::SessionLemmas::none_written))]
 pub fn serve<R: Source, W: Sink>(
     alloc: Global,
@@ -58,7 +58,7 @@ pub fn serve<R: Source, W: Sink>(
     End::InputEnded
 }
 
-// Takes one frame; `Some` where the session ends.
+// Takes one frame. `Some` if the session ends.
 #[tactic(auto, using(crate::proofs::SessionLemmas::none_written))]
 fn turn<R: Source, W: Sink>(
     alloc: Global,
@@ -84,7 +84,7 @@ fn turn<R: Source, W: Sink>(
     }
 }
 
-// Takes the content of a frame.
+// Takes the content of a frame. `Some` if the session ends.
 #[tactic(auto, using(crate::proofs::SessionLemmas::none_written))]
 fn taken<W: Sink>(
     alloc: Global,
@@ -117,7 +117,7 @@ fn step_of(
     take(alloc, settings, server, message)
 }
 
-// Does what a step says.
+// Carries out a step. `Some` if the session ends.
 #[tactic(auto, using(crate::proofs::SessionLemmas::none_written))]
 fn followed<W: Sink>(alloc: Global, server: &Server, step: Step, sink: &mut W) -> Option<End>
     ensures frames { spec.IsTurn (W.contents sink.old) (W.contents sink.new) result }
@@ -141,7 +141,7 @@ fn exit(phase: Phase) -> End
     }
 }
 
-// Writes a reply as a frame.
+// Writes a reply as a frame. `Some` if that fails.
 #[tactic(auto, using(crate::proofs::SessionLemmas::none_written, crate::proofs::SessionLemmas::same_written, crate::proofs::SessionLemmas::one_written))]
 fn say<W: Sink>(alloc: Global, reply: &Reply, sink: &mut W) -> Option<End>
     ensures frames { spec.IsTurn (W.contents sink.old) (W.contents sink.new) result }

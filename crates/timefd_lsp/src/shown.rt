@@ -1,4 +1,4 @@
-//! What an editor is shown, as values of JSON.
+//! What an editor shows, as values of JSON.
 
 ghost use Rattle.std.specs.Prelude.{◌≡◌, IfOk};
 ghost use Rattle.serde_json.specs.View.{view};
@@ -8,19 +8,19 @@ use serde_json::{Map, Value, json};
 use std::alloc::{AllocError, Global};
 use timefd_editor::{Action, ActionKind, Edit, Finding, Hover, Position, Range, Severity};
 
-fn place_value(alloc: Global, place: Position) -> Result<Value, AllocError>
-    ensures { IfOk result (λ value. view value ≡ spec.place_data place) }
+fn position_value(alloc: Global, position: Position) -> Result<Value, AllocError>
+    ensures { IfOk result (λ value. view value ≡ spec.position_data position) }
 {
-    let line = place.line as u64;
-    let character = place.character as u64;
+    let line = position.line as u64;
+    let character = position.character as u64;
     json!(in alloc; {"character": character, "line": line})
 }
 
 fn range_value(alloc: Global, range: Range) -> Result<Value, AllocError>
     ensures { IfOk result (λ value. view value ≡ spec.range_data range) }
 {
-    let start = place_value(alloc, range.start)?;
-    let end = place_value(alloc, range.end)?;
+    let start = position_value(alloc, range.start)?;
+    let end = position_value(alloc, range.end)?;
     json!(in alloc; {"end": end, "start": start})
 }
 
@@ -68,7 +68,7 @@ fn markdown(alloc: Global, text: &str) -> Result<Value, AllocError>
     json!(in alloc; {"kind": "markdown", "value": text})
 }
 
-/// What the part of a document at a place means.
+/// What the part of a document at a position means.
 pub fn hover_value(alloc: Global, hover: &Hover) -> Result<Value, AllocError>
     ensures { IfOk result (λ value. view value ≡ spec.hover_data hover.now) }
 {
@@ -115,7 +115,7 @@ fn kind_name(kind: ActionKind) -> &'static str
     }
 }
 
-// Whether an editor may do it by itself.
+// Whether an editor may apply the action without asking.
 fn is_preferred(kind: ActionKind) -> bool
     ensures { result ≡ spec.is_preferred kind }
 {
@@ -143,7 +143,7 @@ fn action_value(alloc: Global, uri: &str, action: &Action) -> Result<Value, Allo
     json!(in alloc; {"edit": edit, "isPreferred": preferred, "kind": kind, "title": title})
 }
 
-/// What can be done to a document of this name.
+/// What can be done to the document with this name.
 pub fn actions_value(alloc: Global, uri: &str, actions: &[Action]) -> Result<Value, AllocError>
     ensures { IfOk result (λ value. view value ≡ spec.actions_data uri.now actions.now) }
 {

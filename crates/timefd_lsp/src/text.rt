@@ -1,4 +1,4 @@
-//! What the server says, as texts of JSON.
+//! The server's messages, as texts of JSON.
 
 ghost use Rattle.std.specs.Prelude.{◌≡◌, IfOk, string_bytes};
 ghost use Rattle.serde_json.specs.View.{view};
@@ -11,7 +11,7 @@ use crate::shown::{actions_value, findings_value, hover_value};
 use serde_json::{Value, json};
 use std::alloc::{AllocError, Global};
 
-/// What a reply is as a text: its JSON, with no white space between.
+/// The text of a reply: its JSON, without white space. An `Err` says that memory ran out.
 #[tactic(auto, using(crate::proofs::TextLemmas::written))]
 pub fn text_of(alloc: Global, reply: &Reply) -> Result<String, AllocError>
     ensures { IfOk result (λ text. string_bytes text ≡ compact_text (spec.reply_data reply.now)) }
@@ -63,14 +63,14 @@ fn id_value(alloc: Global, id: &Option<Id>) -> Result<Value, AllocError>
     }
 }
 
-// A response that serves the request.
+// A response with the result of a request.
 fn answered(alloc: Global, id: Value, outcome: Value) -> Result<Value, AllocError>
     ensures { IfOk result (λ value. view value ≡ spec.answered (view id) (view outcome)) }
 {
     json!(in alloc; {"id": id, "jsonrpc": "2.0", "result": outcome})
 }
 
-// Why a request isn't served.
+// The error of a response: why the request is refused.
 fn error_value(alloc: Global, refusal: Refusal) -> Result<Value, AllocError>
     ensures { IfOk result (λ value. view value ≡ spec.error_data refusal) }
 {
@@ -79,7 +79,7 @@ fn error_value(alloc: Global, refusal: Refusal) -> Result<Value, AllocError>
     json!(in alloc; {"code": code, "message": message})
 }
 
-// A response that refuses it.
+// A response that refuses a request.
 fn refused(alloc: Global, id: Value, refusal: Refusal) -> Result<Value, AllocError>
     ensures { IfOk result (λ value. view value ≡ spec.refused (view id) refusal) }
 {
@@ -87,7 +87,7 @@ fn refused(alloc: Global, id: Value, refusal: Refusal) -> Result<Value, AllocErr
     json!(in alloc; {"error": error, "id": id, "jsonrpc": "2.0"})
 }
 
-// The parameters of a notification of what is wrong.
+// The parameters of a notification with what is wrong.
 fn published_of(alloc: Global, uri: &str, findings: Value) -> Result<Value, AllocError>
     ensures { IfOk result (λ value. view value ≡ spec.published_of uri.now (view findings)) }
 {
@@ -106,14 +106,14 @@ fn published(alloc: Global, uri: &str, findings: Value) -> Result<Value, AllocEr
     })
 }
 
-// What an editor may ask for.
+// The kinds of actions that an editor may ask for.
 fn action_kinds(alloc: Global) -> Result<Value, AllocError>
     ensures { IfOk result (λ value. view value ≡ spec.action_kinds) }
 {
     json!(in alloc; {"codeActionKinds": ["quickfix", "refactor.rewrite"]})
 }
 
-// It is sent whole documents, and counts in UTF-16.
+// What the server provides. It needs whole documents, and counts characters in UTF-16.
 fn provided(alloc: Global) -> Result<Value, AllocError>
     ensures { IfOk result (λ value. view value ≡ spec.provided) }
 {
@@ -132,7 +132,7 @@ fn server(alloc: Global) -> Result<Value, AllocError>
     json!(in alloc; {"name": "timefd_lint", "version": "0.2.0"})
 }
 
-// What the server can do, and what it is.
+// The server's capabilities, its name and its version.
 fn capabilities(alloc: Global) -> Result<Value, AllocError>
     ensures { IfOk result (λ value. view value ≡ spec.capabilities) }
 {

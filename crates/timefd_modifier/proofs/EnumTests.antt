@@ -1,4 +1,4 @@
--- `==` of the enums is equality, and so is that of flags and of counts.
+-- `==` of the enums is equality, and so is `==` of flags and of counts.
 use Rattle.std.proofs.Common.{ℕ, ◌≡◌, ◌<◌, refl, ap, subst, Bool, true, false, nat_eq, eqb-true, eq-eqb}
 use Rattle.std.proofs.Math.Bridge.{le_prop}
 use Rattle.std.proofs.lemmas.Bool.{false≢true}

@@ -1,4 +1,4 @@
--- A test of fields in turn is equality where each field's test is.
+-- A test of the fields one after another is equality if the test of each field is.
 use Rattle.std.proofs.Common.{◌≡◌, ◌∙◌, sym, ap, Bool, ◌&&◌}
 use Rattle.std.proofs.lemmas.Bool.{and_parts, and_from}
 use Rattle.timefd_modifier.specs.Equality.{IsEquality}

@@ -105,8 +105,7 @@ use Rattle.timefd_modifier.specs.contracts.input.EndPartialEq.TheImpl as end_eq
 use Rattle.timefd_modifier.specs.declared.input.Ignore.{Ignore}
 use Rattle.timefd_modifier.specs.contracts.input.IgnorePartialEq.TheImpl as ignore_eq
 
--- This test is equality: it holds of two values exactly where they are the same, in variant and
--- fields.
+-- This test is equality: it holds of two values exactly if their variants and fields are the same.
 pub record IsEquality (A : Type 0) (same : A → A → Bool) : Type 0 where
   pub exact : (a b : A) → (same a b ≡ true) ↔ (a ≡ b)
 

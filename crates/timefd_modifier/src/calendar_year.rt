@@ -1,4 +1,4 @@
-//! Years of the calendar. Each type is that of its name in `modifier` of `time`.
+//! Years of the calendar. Each type mirrors the one of the same name in `time`'s `modifier`.
 
 ghost use Rattle.std.specs.Prelude.{◌≡◌, false};
 
@@ -9,12 +9,12 @@ use crate::enums::Padding;
 pub struct CalendarYearFullExtendedRange {
     /// How the number is filled on the left.
     pub padding: Padding,
-    /// Whether a year from 0 to 9,999 has a `+`; a later one always has.
+    /// Whether a year from 0 to 9,999 has a `+`; a later year always has one.
     pub sign_is_mandatory: bool,
 }
 
 impl CalendarYearFullExtendedRange {
-    /// Filled by zeros, no `+`.
+    /// Filled with zeros, no `+`.
     pub const fn default() -> Self
         ensures { result ≡ record { padding = Padding.Zero; sign_is_mandatory = false } }
     {
@@ -52,7 +52,7 @@ pub struct CalendarYearFullStandardRange {
 }
 
 impl CalendarYearFullStandardRange {
-    /// Filled by zeros, no `+`.
+    /// Filled with zeros, no `+`.
     pub const fn default() -> Self
         ensures { result ≡ record { padding = Padding.Zero; sign_is_mandatory = false } }
     {
@@ -85,12 +85,12 @@ impl CalendarYearFullStandardRange {
 pub struct CalendarYearCenturyExtendedRange {
     /// How the number is filled on the left.
     pub padding: Padding,
-    /// Whether a year from 0 to 9,999 has a `+`; a later one always has.
+    /// Whether a year from 0 to 9,999 has a `+`; a later year always has one.
     pub sign_is_mandatory: bool,
 }
 
 impl CalendarYearCenturyExtendedRange {
-    /// Filled by zeros, no `+`.
+    /// Filled with zeros, no `+`.
     pub const fn default() -> Self
         ensures { result ≡ record { padding = Padding.Zero; sign_is_mandatory = false } }
     {
@@ -128,7 +128,7 @@ pub struct CalendarYearCenturyStandardRange {
 }
 
 impl CalendarYearCenturyStandardRange {
-    /// Filled by zeros, no `+`.
+    /// Filled with zeros, no `+`.
     pub const fn default() -> Self
         ensures { result ≡ record { padding = Padding.Zero; sign_is_mandatory = false } }
     {
@@ -164,7 +164,7 @@ pub struct CalendarYearLastTwo {
 }
 
 impl CalendarYearLastTwo {
-    /// Filled by zeros.
+    /// Filled with zeros.
     pub const fn default() -> Self
         ensures { result ≡ record { padding = Padding.Zero } }
     {

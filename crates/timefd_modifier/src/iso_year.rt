@@ -1,5 +1,5 @@
-//! Years of ISO weeks: such a year begins with the week that holds its first Thursday. Each type is
-//! that of its name in `modifier` of `time`.
+//! Years of ISO weeks: such a year begins with the week that holds its first Thursday. Each type
+//! mirrors the one of the same name in `time`'s `modifier`.
 
 ghost use Rattle.std.specs.Prelude.{◌≡◌, false};
 
@@ -10,12 +10,12 @@ use crate::enums::Padding;
 pub struct IsoYearFullExtendedRange {
     /// How the number is filled on the left.
     pub padding: Padding,
-    /// Whether a year from 0 to 9,999 has a `+`; a later one always has.
+    /// Whether a year from 0 to 9,999 has a `+`; a later year always has one.
     pub sign_is_mandatory: bool,
 }
 
 impl IsoYearFullExtendedRange {
-    /// Filled by zeros, no `+`.
+    /// Filled with zeros, no `+`.
     pub const fn default() -> Self
         ensures { result ≡ record { padding = Padding.Zero; sign_is_mandatory = false } }
     {
@@ -53,7 +53,7 @@ pub struct IsoYearFullStandardRange {
 }
 
 impl IsoYearFullStandardRange {
-    /// Filled by zeros, no `+`.
+    /// Filled with zeros, no `+`.
     pub const fn default() -> Self
         ensures { result ≡ record { padding = Padding.Zero; sign_is_mandatory = false } }
     {
@@ -86,12 +86,12 @@ impl IsoYearFullStandardRange {
 pub struct IsoYearCenturyExtendedRange {
     /// How the number is filled on the left.
     pub padding: Padding,
-    /// Whether a year from 0 to 9,999 has a `+`; a later one always has.
+    /// Whether a year from 0 to 9,999 has a `+`; a later year always has one.
     pub sign_is_mandatory: bool,
 }
 
 impl IsoYearCenturyExtendedRange {
-    /// Filled by zeros, no `+`.
+    /// Filled with zeros, no `+`.
     pub const fn default() -> Self
         ensures { result ≡ record { padding = Padding.Zero; sign_is_mandatory = false } }
     {
@@ -129,7 +129,7 @@ pub struct IsoYearCenturyStandardRange {
 }
 
 impl IsoYearCenturyStandardRange {
-    /// Filled by zeros, no `+`.
+    /// Filled with zeros, no `+`.
     pub const fn default() -> Self
         ensures { result ≡ record { padding = Padding.Zero; sign_is_mandatory = false } }
     {
@@ -165,7 +165,7 @@ pub struct IsoYearLastTwo {
 }
 
 impl IsoYearLastTwo {
-    /// Filled by zeros.
+    /// Filled with zeros.
     pub const fn default() -> Self
         ensures { result ≡ record { padding = Padding.Zero } }
     {

@@ -1,8 +1,8 @@
-//! What holds of `==`.
+//! The laws of `==`.
 
 ghost use Rattle.timefd_modifier.specs.Equality.{ModifierEquality};
 
-/// `==` of modifiers is that of their variants and fields.
+/// Two modifiers are `==` exactly if their variants and fields are equal.
 pub fn modifier_equality()
     ensures { ModifierEquality }
 {}

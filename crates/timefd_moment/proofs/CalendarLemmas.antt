@@ -1,9 +1,9 @@
--- The days before a year, and those before a month.
+-- The days before a year, and before a month.
 use Rattle.std.proofs.Common.{ℕ, zero, suc, ◌≡◌, ◌∙◌, ◌+◌, ◌-◌, ◌*◌, ◌/◌, ◌<◌, ◌≤◌, ◌⊎◌, inl, inr, true, false, refl, ap, arith, if◌then◌else◌}
 use Rattle.std.proofs.lemmas.Bool.{cases_order}
 use Rattle.timefd_moment.specs.Calendar.{days_of_years, days_of_months, days_in_month, days_in_year, is_leap}
 
--- the closed form that the code has
+-- the closed form that the code uses
 pub days_before : (y : ℕ) → 365 * y + (y + 3) / 4 + (y + 399) / 400 - (y + 99) / 100 ≡ days_of_years y
 unfolding days_of_years
 days_before zero = refl
@@ -13,7 +13,7 @@ pub days_next : (y : ℕ) → days_of_years (suc y) ≡ days_of_years y + days_i
 unfolding days_of_years
 days_next y = refl
 
--- a later year begins behind the last day of an earlier one
+-- a later year begins after the last day of an earlier one
 pub years_more : (y j z : ℕ) → z ≡ suc y + j → days_of_years y + days_in_year y ≤ days_of_years z
 years_more y zero z e =
     let at : z ≡ suc y = omega (arith, e) in
@@ -79,7 +79,7 @@ year_long y = elim (is_leap y) as (λ b. (if b then 366 else 365) ≤ 366) [
   | false ↦ omega arith
 ]
 
--- a day of a month lies in the year
+-- a day of a month is within the year
 pub in_year : (y m d : ℕ) → 1 ≤ m → m ≤ 12 → d ≤ days_in_month y m
     → days_of_months y (m - 1) + d ≤ days_in_year y
 in_year y zero d a b e = absurd (omega (arith, a))
@@ -102,7 +102,8 @@ at_least y = omega (
   ],
 )
 
--- The year that is looked at first begins at the day or before it: 400 years have 146,097 days.
+-- The year where the search begins starts on the day or before it, since 400 years have 146,097
+-- days.
 early : (y n : ℕ) → 146097 * (y + 1) ≤ 400 * n → days_of_years y ≤ n
 early y n h = omega (arith, days_before y, h)
 
@@ -123,7 +124,7 @@ first_year n h = by (n * 400 / 146097) refl
 pub year_within : (y n : ℕ) → n ≤ 730484999 → days_of_years y ≤ n → y ≤ 1999999
 year_within y n h k = omega (arith, days_before y, h, k)
 
--- the place that is left behind a month
+-- an ordinal after the end of a month
 pub month_left : (y m d o : ℕ) → 1 ≤ m → m ≤ 12 → days_of_months y (m - 1) + d ≡ o → o ≤ days_in_year y
     → days_in_month y m < d
     → (days_of_months y (m + 1 - 1) + (d - days_in_month y m) ≡ o) × (1 ≤ m + 1) × (m + 1 ≤ 12)
@@ -133,8 +134,8 @@ month_left y (suc m) d o a b e within more =
     let here : suc m - 1 ≡ m = omega arith in
     let next : suc m + 1 - 1 ≡ suc m = omega arith in
     let at = ap (days_of_months y) here in
-    let behind = ap (days_of_months y) next in (
-      omega (arith, e, more, at, behind, months_next y m),
+    let after = ap (days_of_months y) next in (
+      omega (arith, e, more, at, after, months_next y m),
       omega arith,
       not_last (cases_order (suc m) 12),
       omega (arith, more),
@@ -155,7 +156,7 @@ month_left y (suc m) d o a b e within more =
           months_sum y,
         ))
     not_last (inr (inl before)) = omega (arith, before)
-    not_last (inr (inr behind)) = absurd (omega (arith, behind, b))
+    not_last (inr (inr after)) = absurd (omega (arith, after, b))
 
 -- a day before the next year begins
 pub year_found : (y n : ℕ) → n < days_of_years (y + 1) → 366 ≤ n

@@ -1,4 +1,4 @@
--- The lengths of months, and how days follow one another.
+-- The lengths of months, and how days follow each other.
 use Rattle.std.proofs.Common.{ℕ, zero, suc, ◌≡◌, ◌≢◌, ◌∙◌, ◌+◌, ◌-◌, ◌*◌, ◌%◌, ◌≤◌, ◌==◌, ◌||◌, Bool, true, false, if◌then◌else◌, nat_lt, refl, sym, ap, arith}
 use Rattle.std.proofs.lemmas.Bool.{ltb-true}
 use Rattle.timefd_moment.specs.declared.date.Date.{Date}
@@ -13,7 +13,7 @@ use Rattle.timefd_moment.proofs.LeapLemmas.{leap_of, none_left, periods_apart, s
 abbrev days : Bool → Bool → Bool → ℕ
 days a b c = if leap_of a b c then 29 else 28
 
--- no multiple of 4
+-- not a multiple of 4
 common : (y : ℕ) → (y + 1000000) % 4 ≢ 0 → february y ≡ 28
 common y h = λ i. days (some_left ((y + 1000000) % 4) h i) ((y + 1000000) % 100 == 0) ((y + 1000000) % 400 == 0)
 
@@ -54,7 +54,7 @@ next_day d e years month day =
     (λ i. days_of_months (years i) (month i - 1)) in
     omega (arith, months, ap days_of_years years, day, d.exists.4)
 
--- what the months before the next one have
+-- the days of the months before the next month
 through : (y m : ℕ) → 1 ≤ m → days_of_months y (m + 1 - 1) ≡ days_of_months y (m - 1) + days_in_month y m
 through y zero h = absurd (omega (arith, h))
 through y (suc m) h =
@@ -96,7 +96,8 @@ epoch_day d years month day =
 epoch : (d : Date) (t : Time) (o : UtcOffset) → day_number d ≡ 365962028 → day_second t ≡ 0
     → t.nanosecond ≡ 0 → o.seconds ≡ 0 → utc_nanoseconds d t o ≡ unix_start * 1000000000
 epoch d t o day second fraction offset = elim o.is_negative as (λ b.
-    (if b then day_number d * 86400 + day_second t + 100000 + o.seconds else day_number d * 86400 + day_second t + 100000 - o.seconds) * 1000000000 + t.nanosecond
+    (if b then day_number d * 86400 + day_second t + 100000 + o.seconds else day_number d * 86400 + day_second t + 100000 - o.seconds)
+    * 1000000000 + t.nanosecond
     ≡ unix_start * 1000000000) [
       | true ↦ omega (arith, day, second, fraction, offset)
       | false ↦ omega (arith, day, second, fraction, offset)

@@ -1,4 +1,4 @@
--- What holds of the calendar.
+-- Laws of the calendar.
 use Rattle.std.proofs.Common.{ℕ, zero, suc, ◌≡◌, ◌∙◌, ◌+◌, ◌-◌, ◌*◌, ◌/◌, ◌%◌, ◌<◌, ◌≤◌, ◌⊎◌, inl, inr, Bool, true, false, nat_le, nat_lt, refl, sym, ap, subst, arith}
 use Rattle.std.proofs.lemmas.Bool.{cases_order, leb-true, leb-false, ltb-true, ltb-false}
 use Rattle.timefd_moment.specs.declared.date.Date.{Date}
@@ -66,7 +66,7 @@ earlier_year d e h =
       calendar.years_more d.years (e.years - suc d.years) e.years until,
     )
 
--- and so does one of an earlier month of the same year
+-- and so does a day of an earlier month of the same year
 earlier_month : (y m n d e : ℕ) → 1 ≤ m → m < n → d ≤ days_in_month y m → 1 ≤ e
     → ordinal y m d < ordinal y n e
 earlier_month y zero n d e a h k one = absurd (omega (arith, a))
@@ -88,7 +88,7 @@ same_years d e h = by (cases_order d.years e.years)
     by : (d.years ≡ e.years) ⊎ ((d.years < e.years) ⊎ (e.years < d.years)) → d.years ≡ e.years
     by (inl same) = same
     by (inr (inl before)) = absurd (omega (arith, h, earlier_year d e before))
-    by (inr (inr behind)) = absurd (omega (arith, h, earlier_year e d behind))
+    by (inr (inr after)) = absurd (omega (arith, h, earlier_year e d after))
 
 same_month : (y m n d e : ℕ) → 1 ≤ m → 1 ≤ n → d ≤ days_in_month y m → e ≤ days_in_month y n
     → 1 ≤ d → 1 ≤ e → ordinal y m d ≡ ordinal y n e → m ≡ n
@@ -97,36 +97,37 @@ same_month y m n d e a b k l one two h = by (cases_order m n)
     by : (m ≡ n) ⊎ ((m < n) ⊎ (n < m)) → m ≡ n
     by (inl same) = same
     by (inr (inl before)) = absurd (omega (arith, h, earlier_month y m n d e a before k two))
-    by (inr (inr behind)) = absurd (omega (arith, h, earlier_month y n m e d b behind l one))
+    by (inr (inr after)) = absurd (omega (arith, h, earlier_month y n m e d b after l one))
 
 pub one_date : (d e : Date) → day_number d ≡ day_number e
     → (d.years ≡ e.years) × (d.month ≡ e.month) × (d.day ≡ e.day)
 one_date d e h =
     let years : d.years ≡ e.years = same_years d e h in
     let before : days_of_years d.years ≡ days_of_years e.years = ap days_of_years years in
-    let place : date_ordinal d ≡ date_ordinal e = omega (arith, h, before, from_one d, from_one e) in
+    let day_of_year : date_ordinal d ≡ date_ordinal e = omega (arith, h, before, from_one d, from_one e) in
     let moved : ordinal e.years e.month e.day ≡ ordinal d.years e.month e.day =
     ap (λ y. ordinal y e.month e.day) (sym years) in
     let fits : e.day ≤ days_in_month d.years e.month =
     subst (λ y. e.day ≤ days_in_month y e.month) (sym years) e.exists.5 in
     let month : d.month ≡ e.month =
     same_month d.years d.month e.month d.day e.day d.exists.2 e.exists.2 d.exists.5 fits d.exists.4
-    e.exists.4 (place ∙ moved) in
+    e.exists.4 (day_of_year ∙ moved) in
     let months : days_of_months d.years (d.month - 1) ≡ days_of_months e.years (e.month - 1) =
     (λ i. days_of_months (years i) (month i - 1)) in
-    (years, month, omega (arith, place, months))
+    (years, month, omega (arith, day_of_year, months))
 
--- Of a day in the place `o` of a year that begins on day `s` and has `l` days, `w` days after a Monday:
--- it lies in the last week of the year before, in the first one of the next, or in one of its own year.
+-- About a day with ordinal `o`, in a year that begins on day `s` and has `l` days, `w` days after a
+-- Monday: it is in the last week of the year before, in the first one of the next, or in a week of its
+-- own year.
 week_before : (s b k o w : ℕ) → s ≡ b + k → w ≡ (s + (o - 1) + 5) % 7 → 1 ≤ o → o + 10 - w ≤ 7 → 365 ≤ k
     → (s + (o - 1) + 7 ≡ (b + 3 - (b + 3 + 5) % 7) + 7 * ((o + 10 - w + k - 8) / 7 + 1) + w)
     × (1 ≤ (o + 10 - w + k - 8) / 7 + 1) × (s + (o - 1) < s + 3 - (s + 3 + 5) % 7)
 week_before s b k o w e d one h long =
     (omega (arith, e, d, one, h, long), omega arith, omega (arith, e, d, one, h, long))
 
-week_behind : (s l o w : ℕ) → w ≡ (s + (o - 1) + 5) % 7 → 1 ≤ o → o ≤ l → l + 7 < o + 10 - w
+week_after : (s l o w : ℕ) → w ≡ (s + (o - 1) + 5) % 7 → 1 ≤ o → o ≤ l → l + 7 < o + 10 - w
     → (s + (o - 1) + 7 ≡ (s + l + 3 - (s + l + 3 + 5) % 7) + 7 * 1 + w)
-week_behind s l o w d one last h = omega (arith, d, one, last, h)
+week_after s l o w d one last h = omega (arith, d, one, last, h)
 
 week_within : (s l o w : ℕ) → w ≡ (s + (o - 1) + 5) % 7 → 1 ≤ o → 7 < o + 10 - w → o + 10 - w ≤ l + 7
     → (s + (o - 1) + 7 ≡ (s + 3 - (s + 3 + 5) % 7) + 7 * ((o + 10 - w - 8) / 7 + 1) + w)
@@ -160,7 +161,7 @@ next_week : (d : Date) → days_in_year d.years + 7 < thursday d → Counted d (
 next_week d h =
     let next : d.years + 1 ≡ suc d.years = omega arith in
     let after : d.years + 1 + 1 ≡ suc (d.years + 1) = omega arith in
-    let w = week_behind (days_of_years d.years) (days_in_year d.years) (date_ordinal d) (days_from_monday d)
+    let w = week_after (days_of_years d.years) (days_in_year d.years) (date_ordinal d) (days_from_monday d)
     refl (from_one d) (within_year d) h in
     let one = begins d.years (d.years + 1) next in
     let two = begins (d.years + 1) (d.years + 1 + 1) after in (

@@ -4,7 +4,7 @@ use Rattle.std.proofs.Math.Dec.{eqb}
 use Rattle.std.proofs.lemmas.Bool.Decides.{eqb_tells}
 use Rattle.timefd_moment.specs.Calendar.{is_leap}
 
--- two numbers of which one is 0 where the other is
+-- two numbers, each of which is 0 if the other is
 pub same : (a b : ℕ) → (a ≡ 0 → b ≡ 0) → (b ≡ 0 → a ≡ 0) → (a == 0) ≡ (b == 0)
 same a b f g = by (eqb_tells a 0) (eqb_tells b 0)
   where
@@ -25,7 +25,7 @@ some_left a e = same a 1 (λ h. absurd (e h)) (λ h. absurd (omega (arith, h)))
 abbrev pub leap_of : Bool → Bool → Bool → Bool
 leap_of a b c = a && (not b || c)
 
--- numbers that are whole periods of 400 apart
+-- numbers that differ by whole periods of 400
 pub periods_apart : (c s k : ℕ) → c ≡ s + 400 * k → is_leap c ≡ is_leap s
 periods_apart c s k e =
     let four : (c % 4 == 0) ≡ (s % 4 == 0) = same (c % 4) (s % 4) (λ h. omega (arith, e, h)) (λ h. omega (arith, e, h)) in

@@ -1,17 +1,17 @@
--- Which number is out of its range, and the sentence of that.
+-- Which number is out of range, and the sentence that says so.
 use Rattle.std.specs.Prelude.{ℕ, ◌||◌, ◌==◌, nat_lt, if◌then◌else◌, List, codes, Option, Some, None, ℤ, unsigned_abs}
 use Rattle.timefd_moment.specs.declared.component_range.ComponentRange.{ComponentRange}
 use Rattle.timefd_moment.specs.declared.component_range.ComponentRange.TheVariants as of
 use Rattle.timefd_moment.specs.Calendar.{days_in_month, counted}
 
--- the first number of a date that is out of its range
+-- the first number of a date that is out of range
 abbrev pub date_fault : ℤ → ℕ → ℕ → Option ComponentRange
 date_fault year m d =
     if nat_lt 999999 (unsigned_abs year) then Some of.Year
     else (if (m == 0) || nat_lt 12 m then Some of.Month
     else (if (d == 0) || nat_lt (days_in_month (counted year) m) d then Some of.Day else None))
 
--- the first number of a time of day that is out of its range
+-- the first number of a time of day that is out of range
 abbrev pub time_fault : ℕ → ℕ → ℕ → ℕ → Option ComponentRange
 time_fault h m s n =
     if nat_lt 23 h then Some of.Hour

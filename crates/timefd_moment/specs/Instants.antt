@@ -1,4 +1,4 @@
--- Instants, and the moment that one is in UTC.
+-- Instants, and the moment in UTC at one.
 use Rattle.std.specs.Prelude.{ℕ, ◌≡◌, ◌+◌, ◌-◌, ◌*◌, Bool, nat_le, nat_lt, if◌then◌else◌, Option, Some}
 use Rattle.timefd_moment.specs.declared.date.Date.{Date}
 use Rattle.timefd_moment.specs.declared.time.Time.{Time}
@@ -7,13 +7,13 @@ use Rattle.timefd_moment.specs.declared.moment.Moment.{Moment}
 use Rattle.timefd_moment.specs.declared.unix_time.UnixTime.{UnixTime}
 use Rattle.timefd_moment.specs.Moments.{unix_start, utc_nanoseconds}
 
--- whether the year in UTC is one of the years -999,999 to 999,999
+-- whether the year in UTC is from -999,999 to 999,999
 abbrev pub is_within : UnixTime → Bool
 is_within u =
     if u.is_negative then nat_le u.nanoseconds (31619087596800 * 1000000000)
     else nat_lt u.nanoseconds (31494784780800 * 1000000000)
 
--- nanoseconds, counted as those of dates and times are
+-- the nanoseconds of an instant, in the same count as those of dates and times
 abbrev pub count : UnixTime → ℕ
 count u =
     if u.is_negative then unix_start * 1000000000 - u.nanoseconds

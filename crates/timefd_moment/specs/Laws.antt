@@ -1,4 +1,4 @@
--- What holds of the calendar, so that its definitions aren't the code told again.
+-- Laws of the calendar. They make sure that its definitions aren't just the code written twice.
 use Rattle.std.specs.Prelude.{ℕ, ◌≡◌, ◌+◌, ◌-◌, ◌*◌, ◌%◌, ◌<◌, ◌≤◌}
 use Rattle.timefd_moment.specs.declared.date.Date.{Date}
 use Rattle.timefd_moment.specs.declared.time.Time.{Time}
@@ -7,11 +7,11 @@ use Rattle.timefd_moment.specs.Calendar.{days_in_month, days_in_year, days_of_ye
 use Rattle.timefd_moment.specs.Moments.{day_number, day_second, days_from_monday, iso_years, iso_week, unix_time, utc_nanoseconds}
 use Rattle.timefd_moment.specs.Instants.{count}
 
--- the days of February in a year from the year 0 on
+-- the days of February, in a year counted from the year 0
 abbrev pub february : ℕ → ℕ
 february year = days_in_month (year + 1000000) 2
 
--- Every fourth year is a leap year, but of the centuries only every fourth.
+-- Every fourth year is a leap year, but only every fourth of those that end a century.
 abbrev pub LeapYears : Type 0
 LeapYears = (year : ℕ) →
     (¬ (year % 4 ≡ 0) → february year ≡ 28)
@@ -19,11 +19,11 @@ LeapYears = (year : ℕ) →
     × (year % 100 ≡ 0 → ¬ (year % 400 ≡ 0) → february year ≡ 28)
     × (year % 400 ≡ 0 → february year ≡ 29)
 
--- So it goes on with each 400 years, before the year 0 too.
+-- The lengths repeat every 400 years, before the year 0 too.
 abbrev pub MonthsRepeat : Type 0
 MonthsRepeat = (year month : ℕ) → days_in_month (year + 400) month ≡ days_in_month year month
 
--- April, June, September and November have 30 days, all others but February 31
+-- April, June, September and November have 30 days, all others but February have 31
 abbrev pub MonthLengths : Type 0
 MonthLengths = (year : ℕ) →
     (days_in_month year 1 ≡ 31) × (days_in_month year 3 ≡ 31) × (days_in_month year 4 ≡ 30)
@@ -31,7 +31,7 @@ MonthLengths = (year : ℕ) →
     × (days_in_month year 8 ≡ 31) × (days_in_month year 9 ≡ 30) × (days_in_month year 10 ≡ 31)
     × (days_in_month year 11 ≡ 30) × (days_in_month year 12 ≡ 31)
 
--- the months of a year sum to its days
+-- the days of the months add up to those of the year
 abbrev pub MonthsSum : Type 0
 MonthsSum = (year : ℕ) → days_of_months year 12 ≡ days_in_year year
 
@@ -44,12 +44,12 @@ abbrev pub NewYear : Type 0
 NewYear = (d e : Date) → d.month ≡ 12 → d.day ≡ 31 → e.years ≡ d.years + 1 → e.month ≡ 1
     → e.day ≡ 1 → day_number e ≡ day_number d + 1
 
--- the day after one of the same month
+-- the next day of the same month has the next day number
 abbrev pub NextDay : Type 0
 NextDay = (d e : Date) → e.years ≡ d.years → e.month ≡ d.month → e.day ≡ d.day + 1
     → day_number e ≡ day_number d + 1
 
--- the first day of a month comes after the last one of the month before
+-- the first day of a month comes after the last day of the month before
 abbrev pub NextMonth : Type 0
 NextMonth = (d e : Date) → d.day ≡ days_in_month d.years d.month → e.years ≡ d.years
     → e.month ≡ d.month + 1 → e.day ≡ 1 → day_number e ≡ day_number d + 1
@@ -65,7 +65,7 @@ UnixEpoch = (d : Date) (t : Time) (o : UtcOffset) → d.years ≡ 1970 + 1000000
     → d.day ≡ 1 → day_second t ≡ 0 → t.nanosecond ≡ 0 → o.seconds ≡ 0
     → (days_from_monday d ≡ 3) × ((unix_time d t o).nanoseconds ≡ 0)
 
--- a day number is that of one date
+-- no two dates have the same day number
 abbrev pub OneDate : Type 0
 OneDate = (d e : Date) → day_number d ≡ day_number e
     → (d.years ≡ e.years) × (d.month ≡ e.month) × (d.day ≡ e.day)
@@ -74,14 +74,14 @@ OneDate = (d e : Date) → day_number d ≡ day_number e
 abbrev pub first_monday : ℕ → ℕ
 first_monday year = days_of_years year + 3 - weekday_of_day (days_of_years year + 3)
 
--- Week 1 of ISO 8601 is the one with 4 January, and each week is counted from it. The last one of a
--- year lies before week 1 of the next.
+-- Week 1 of ISO 8601 is the one with 4 January, and all weeks are counted from it. The last week of
+-- a year is before week 1 of the next.
 abbrev pub IsoWeeksCounted : Type 0
 IsoWeeksCounted = (d : Date) →
     (day_number d + 7 ≡ first_monday (iso_years d) + 7 * iso_week d + days_from_monday d)
     × (1 ≤ iso_week d) × (day_number d < first_monday (iso_years d + 1))
 
--- the instant of a date, a time and an offset is theirs
+-- the instant of a date, a time and an offset counts their nanoseconds in UTC
 abbrev pub InstantKept : Type 0
 InstantKept = (d : Date) (t : Time) (o : UtcOffset)
     → count (unix_time d t o) ≡ utc_nanoseconds d t o

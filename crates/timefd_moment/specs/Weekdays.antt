@@ -3,7 +3,7 @@ use Rattle.std.specs.Prelude.{ℕ, List, codes}
 use Rattle.timefd_moment.specs.declared.weekday.Weekday.{Weekday}
 use Rattle.timefd_moment.specs.declared.weekday.Weekday.TheVariants as of
 
--- how many days it is after Monday
+-- the number of days after Monday
 abbrev pub days_after_monday : Weekday → ℕ
 days_after_monday of.Monday = 0
 days_after_monday of.Tuesday = 1

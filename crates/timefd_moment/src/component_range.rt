@@ -1,15 +1,15 @@
-//! Numbers that are out of their range.
+//! Numbers that are out of range.
 
 ghost use Rattle.std.specs.Prelude.{◌≡◌};
 
 use std::fmt;
 
-/// The number that is out of its range.
+/// The number that is out of range.
 #[derive(Debug, Clone, Copy, PartialEq, Eq)]
 pub enum ComponentRange {
-    /// The year is before -999,999 or behind 999,999.
+    /// The year is not from -999,999 to 999,999.
     Year,
-    /// The month is none from 1 to 12.
+    /// The month is not from 1 to 12.
     Month,
     /// The month has no such day.
     Day,
@@ -19,11 +19,11 @@ pub enum ComponentRange {
     Minute,
     /// The second is above 59.
     Second,
-    /// There are fewer nanoseconds in a second.
+    /// The nanosecond is above 999,999,999.
     Nanosecond,
     /// The offset is 26 hours or more from UTC.
     Offset,
-    /// The instant is in no year from -999,999 to 999,999 of UTC.
+    /// The year of the instant in UTC is not from -999,999 to 999,999.
     Instant,
 }
 

@@ -8,10 +8,10 @@ use crate::calendar::{days_before_month, days_before_year, days_in_month, days_i
 use crate::component_range::ComponentRange;
 use crate::weekday::Weekday;
 
-/// A day of the years -999,999 to 999,999 of the Gregorian calendar.
+/// A day of the Gregorian calendar, in the years -999,999 to 999,999.
 #[derive(Debug, Clone, Copy, PartialEq, Eq)]
 pub struct Date {
-    /// How many years the year is after the year -1,000,000.
+    /// The number of years after the year -1,000,000.
     pub years: u32,
     /// The month, from 1.
     pub month: u8,
@@ -24,7 +24,7 @@ impl Date {
     ghost use Rattle.timefd_moment.specs.Moments as spec;
     ghost use Rattle.timefd_moment.specs.Weekdays.{days_after_monday};
 
-    /// The date of these numbers. An `Err` names the first one that is out of its range.
+    /// The date of these numbers. An `Err` names the first one that is out of range.
     pub fn from_calendar_date(year: i32, month: u8, day: u8) -> Result<Date, ComponentRange>
         ensures found { IfOk result (λ d. (d.years ≡ counted year) × (d.month ≡ month)
             × (d.day ≡ day)) }
@@ -44,7 +44,7 @@ impl Date {
         Ok(Date { years, month, day })
     }
 
-    /// The year, before the year 0 as a negative number.
+    /// The year. Years before the year 0 are negative.
     pub fn year(self) -> i32
         ensures { result +ℤ pos 1000000 ≡ pos self.years }
     {
@@ -62,7 +62,7 @@ impl Date {
         }
     }
 
-    /// The place in the year, from 1.
+    /// The number of the day in the year, from 1.
     #[tactic(auto, using(crate::proofs::CalendarLemmas::months_fit))]
     pub fn ordinal(self) -> u16
         ensures value { result ≡ spec.date_ordinal self }
@@ -72,7 +72,7 @@ impl Date {
         days_before_month(self.years, self.month) + self.day as u16
     }
 
-    /// How many days lie between 1 January of the year -1,000,000 and this date.
+    /// The number of days from 1 January of the year -1,000,000 to this date.
     pub(crate) fn day_number(self) -> u32
         ensures value { result ≡ spec.day_number self }
         ensures within { result ≤ 740000000 }
@@ -80,7 +80,7 @@ impl Date {
         days_before_year(self.years) + (self.ordinal() - 1) as u32
     }
 
-    /// How many days it is after a Monday.
+    /// The number of days after a Monday, from 0.
     pub fn number_days_from_monday(self) -> u8
         ensures value { result ≡ spec.days_from_monday self }
         ensures within { result ≤ 6 }
@@ -95,7 +95,7 @@ impl Date {
         Weekday::after_monday(self.number_days_from_monday())
     }
 
-    /// How many days it is after a Sunday.
+    /// The number of days after a Sunday, from 0.
     pub fn number_days_from_sunday(self) -> u8
         ensures value { result ≡ spec.days_from_sunday self }
         ensures within { result ≤ 6 }
@@ -103,7 +103,8 @@ impl Date {
         (self.number_days_from_monday() + 1) % 7
     }
 
-    /// Seven more than the place in its year that the Thursday of the week has, or would have.
+    /// The ordinal of the week's Thursday, plus seven. It is counted in the year of this date, even
+    /// if that Thursday is in another year.
     fn thursday(self) -> u16
         ensures value { result ≡ spec.thursday self }
         ensures low { 5 ≤ result }
@@ -112,7 +113,7 @@ impl Date {
         self.ordinal() + 10 - self.number_days_from_monday() as u16
     }
 
-    /// The year of the week of ISO 8601, counted from the year -1,000,000 on.
+    /// The ISO 8601 week-numbering year, counted from the year -1,000,000.
     pub fn iso_years(self) -> u32
         ensures { result ≡ spec.iso_years self }
     {
@@ -126,7 +127,7 @@ impl Date {
         }
     }
 
-    /// The week of ISO 8601.
+    /// The week of ISO 8601, from 1.
     pub fn iso_week(self) -> u8
         ensures { result ≡ spec.iso_week self }
     {
@@ -140,14 +141,14 @@ impl Date {
         }
     }
 
-    /// The week of the year from 0, where weeks begin on Sunday.
+    /// The week of the year, from 0. Weeks begin on Sunday.
     pub fn sunday_based_week(self) -> u8
         ensures { result ≡ spec.sunday_week self }
     {
         ((self.ordinal() + 6 - self.number_days_from_sunday() as u16) / 7) as u8
     }
 
-    /// The week of the year from 0, where weeks begin on Monday.
+    /// The week of the year, from 0. Weeks begin on Monday.
     pub fn monday_based_week(self) -> u8
         ensures { result ≡ spec.monday_week self }
     {

@@ -48,7 +48,7 @@ impl fmt::Display for UtcOffset {
     }
 }
 
-/// What is known, one behind another: a `T` between a date and a time.
+/// The parts that are known, one after another, with a `T` between a date and a time.
 impl fmt::Display for Moment {
     ghost output = { λ m. Some (spec.moment_text m) };
 
@@ -60,7 +60,7 @@ impl fmt::Display for Moment {
     }
 }
 
-/// The seconds after the start of 1970.
+/// The seconds after the start of 1970. Before 1970 they are negative.
 impl fmt::Display for UnixTime {
     ghost output = { λ u. Some (spec.unix_text u) };
 

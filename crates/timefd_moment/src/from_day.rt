@@ -7,7 +7,7 @@ ghost use Rattle.timefd_moment.specs.Moments.{day_number};
 use crate::calendar::{days_before_year, days_in_month};
 use crate::date::Date;
 
-/// The date so many days after 1 January of the year -1,000,000.
+/// The date that is this many days after 1 January of the year -1,000,000.
 #[tactic(auto, using(crate::proofs::CalendarLemmas::year_long))]
 pub(crate) fn date_of_day(number: u32) -> Date
     requires first { 366 ≤ number }
@@ -20,7 +20,7 @@ pub(crate) fn date_of_day(number: u32) -> Date
     Date { years, month, day }
 }
 
-/// The year that a day lies in: it is looked for from a year on that is at most a few years before.
+/// The year that a day is in. The search begins at most a few years before it.
 fn year_of_day(number: u32) -> u32
     requires first { 366 ≤ number }
     requires last { number ≤ 730484999 }
@@ -36,11 +36,11 @@ fn year_of_day(number: u32) -> u32
     year
 }
 
-/// The month and the day in it, of a place in the year.
+/// The month, and the day of the month, with this ordinal in the year.
 fn month_and_day(year: u32, ordinal: u16) -> (u8, u8)
     requires first { 1 ≤ ordinal }
     requires last { ordinal ≤ spec.days_in_year year }
-    ensures place { spec.ordinal year result.0 result.1 ≡ ordinal }
+    ensures ordinal { spec.ordinal year result.0 result.1 ≡ ordinal }
     ensures month { (1 ≤ result.0) × (result.0 ≤ 12) }
     ensures day { (1 ≤ result.1) × (result.1 ≤ spec.days_in_month year result.0) }
 {

@@ -1,25 +1,26 @@
-//! What holds of the calendar, whatever its definitions look like.
+//! Laws of the calendar. They hold however its definitions are written.
 
 ghost use Rattle.timefd_moment.specs.Laws.{InstantKept, IsoWeeksCounted, LeapYears, MonthLengths, MonthsRepeat, MonthsSum, NewYear, NextDay, NextMonth, OneDate, UnixEpoch, WeekdaysFollow, YearsRepeat};
 
-/// February has 29 days in every fourth year, but of the centuries only in every fourth, and else 28.
+/// February has 29 days in every fourth year, but only in every fourth of the years that end a
+/// century. In all others it has 28.
 #[tactic(auto, using(crate::proofs::DayLemmas::leap_years))]
 pub fn leap_years()
     ensures { LeapYears }
 {}
 
-/// Each month has as many days 400 years later.
+/// Each month has the same number of days 400 years later.
 #[tactic(auto, using(crate::proofs::DayLemmas::months_repeat))]
 pub fn months_repeat()
     ensures { MonthsRepeat }
 {}
 
-/// April, June, September and November have 30 days, all others but February 31.
+/// April, June, September and November have 30 days. All others but February have 31.
 pub fn month_lengths()
     ensures { MonthLengths }
 {}
 
-/// The months of a year sum to its days.
+/// The days of the months add up to those of the year.
 #[tactic(auto, using(crate::proofs::LawLemmas::months_sum))]
 pub fn months_sum()
     ensures { MonthsSum }
@@ -31,13 +32,13 @@ pub fn years_repeat()
     ensures { YearsRepeat }
 {}
 
-/// Each day of a month has the number after that of the day before.
+/// The next day of the same month has the next day number.
 #[tactic(auto, using(crate::proofs::DayLemmas::next_day))]
 pub fn next_day()
     ensures { NextDay }
 {}
 
-/// The first day of a month comes after the last one of the month before.
+/// The first day of a month comes after the last day of the month before.
 #[tactic(auto, using(crate::proofs::DayLemmas::next_month))]
 pub fn next_month()
     ensures { NextMonth }
@@ -60,19 +61,19 @@ pub fn unix_epoch()
     ensures { UnixEpoch }
 {}
 
-/// A day number is that of one date.
+/// No two dates have the same day number.
 #[tactic(auto, using(crate::proofs::LawLemmas::one_date))]
 pub fn one_date()
     ensures { OneDate }
 {}
 
-/// Week 1 of ISO 8601 is the one with 4 January, and each week is counted from it.
+/// Week 1 of ISO 8601 is the one with 4 January, and all weeks are counted from it.
 #[tactic(auto, using(crate::proofs::LawLemmas::iso_weeks_counted))]
 pub fn iso_weeks_counted()
     ensures { IsoWeeksCounted }
 {}
 
-/// The instant of a date, a time and an offset is theirs.
+/// The instant of a date, a time and an offset counts their nanoseconds in UTC.
 #[tactic(auto, using(crate::proofs::LawLemmas::instant_kept))]
 pub fn instant_kept()
     ensures { InstantKept }

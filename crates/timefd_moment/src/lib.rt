@@ -1,4 +1,5 @@
-//! Dates, times of day, offsets from UTC, instants, and what is known of a value: the moment.
+//! Dates, times of day, offsets from UTC, instants, and moments: the parts of a value that are
+//! known.
 #![tactic(auto)]
 
 mod calendar;

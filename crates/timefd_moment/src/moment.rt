@@ -1,4 +1,4 @@
-//! What is known of a value.
+//! The parts of a value that are known.
 
 ghost use Rattle.std.specs.Prelude.{◌≡◌, Some, IfErr, IfOk, IsFalse, IsTrue};
 
@@ -8,7 +8,7 @@ use crate::offset::UtcOffset;
 use crate::time::Time;
 use crate::unix_time::UnixTime;
 
-/// What is known of a value: a date, a time of day, an offset from UTC, or some of these.
+/// A date, a time of day and an offset from UTC, as far as each is known.
 #[derive(Debug, Clone, Copy, PartialEq, Eq)]
 pub struct Moment {
     pub date: Option<Date>,
@@ -19,8 +19,8 @@ pub struct Moment {
 impl Moment {
     ghost use Rattle.timefd_moment.specs.Instants.{IsAt, is_within};
 
-    /// The date and time of an instant in UTC, and UTC as its offset. An `Err` comes where the year
-    /// is none from -999,999 to 999,999.
+    /// The date and time of an instant in UTC, with UTC as the offset. An `Err` says that its year
+    /// is not from -999,999 to 999,999.
     pub fn from_unix(unix: UnixTime) -> Result<Moment, ComponentRange>
         ensures found { IfOk result (λ m. IsAt m unix) }
         ensures in_range { IfOk result (λ m. IsTrue (is_within unix)) }

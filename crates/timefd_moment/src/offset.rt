@@ -5,20 +5,20 @@ ghost use Rattle.timefd_moment.specs.Signed.{signed};
 
 use crate::component_range::ComponentRange;
 
-/// How far a clock is ahead of UTC, or behind it: less than 26 hours.
+/// How far a clock is ahead of UTC or behind it, which is less than 26 hours.
 #[derive(Debug, Clone, Copy, PartialEq, Eq)]
 pub struct UtcOffset {
     /// Whether the clock is behind UTC.
     pub is_negative: bool,
-    /// How many seconds.
+    /// The number of seconds ahead or behind.
     pub seconds: u32,
     pub ghost within: { seconds ≤ 93599 },
     pub ghost no_negative_zero: { IsTrue is_negative → 1 ≤ seconds },
 }
 
 impl UtcOffset {
-    /// The offset of so many seconds ahead of UTC, behind it as a negative number. An `Err` comes
-    /// from 26 hours on, either way.
+    /// The offset this many seconds ahead of UTC. Offsets behind UTC are negative. An `Err` says
+    /// that the number is 26 hours or more, either way.
     pub fn from_whole_seconds(seconds: i32) -> Result<UtcOffset, ComponentRange>
         ensures found { IfOk result (λ o. signed o.is_negative o.seconds ≡ seconds) }
         ensures in_range { IfOk result (λ o. unsigned_abs seconds ≤ 93599) }
@@ -47,7 +47,8 @@ impl UtcOffset {
         }
     }
 
-    /// How many seconds the clock is ahead of UTC, behind it as a negative number.
+    /// The number of seconds that the clock is ahead of UTC. It is negative if the clock is behind
+    /// UTC.
     pub fn whole_seconds(self) -> i32
         ensures { result ≡ signed self.is_negative self.seconds }
     {

@@ -5,7 +5,7 @@ ghost use Rattle.timefd_moment.specs.Faults.{time_fault};
 
 use crate::component_range::ComponentRange;
 
-/// What a clock shows.
+/// A time of day, as a clock shows it.
 #[derive(Debug, Clone, Copy, PartialEq, Eq)]
 pub struct Time {
     pub hour: u8,
@@ -21,7 +21,7 @@ pub struct Time {
 impl Time {
     ghost use Rattle.timefd_moment.specs.Moments as spec;
 
-    /// The time of these numbers. An `Err` names the first one that is out of its range.
+    /// The time of these numbers. An `Err` names the first one that is out of range.
     pub fn from_hms_nano(
         hour: u8,
         minute: u8,
@@ -53,14 +53,14 @@ impl Time {
         })
     }
 
-    /// The hour of a clock of twelve hours.
+    /// The hour on a twelve-hour clock, from 1 to 12.
     pub fn hour_of_twelve(self) -> u8
         ensures { result ≡ spec.hour_of_twelve self.hour }
     {
         (self.hour + 11) % 12 + 1
     }
 
-    /// The time so many seconds after midnight.
+    /// The time this many seconds after midnight.
     pub(crate) fn of_second(seconds: u32, nanosecond: u32) -> Time
         requires day { seconds ≤ 86399 }
         requires second { nanosecond ≤ 999999999 }

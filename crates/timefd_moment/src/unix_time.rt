@@ -8,16 +8,16 @@ use crate::from_day::date_of_day;
 use crate::offset::UtcOffset;
 use crate::time::Time;
 
-/// How far an instant is after the start of 1970 in UTC, or before it.
+/// An instant, as its distance from the start of 1970 in UTC.
 #[derive(Debug, Clone, Copy, PartialEq, Eq)]
 pub struct UnixTime {
-    /// Whether it is before that.
+    /// Whether it is before the start of 1970.
     pub is_negative: bool,
-    /// How many nanoseconds.
+    /// The distance in nanoseconds.
     pub nanoseconds: u128,
 }
 
-// The start of 1970, counted as in `UnixTime::of`.
+// The start of 1970, in the count that `UnixTime::of` uses.
 const UNIX_START: u128 = (365_962_028 * 86_400 + 100_000) * 1_000_000_000;
 
 impl UnixTime {
@@ -25,7 +25,7 @@ impl UnixTime {
     ghost use Rattle.timefd_moment.specs.Moments as spec;
     ghost use Rattle.timefd_moment.specs.Signed.{signed};
 
-    /// That of a date and time with an offset.
+    /// The instant of a date and time with an offset.
     pub fn of(date: Date, time: Time, offset: UtcOffset) -> UnixTime
         ensures { result ≡ spec.unix_time date time offset }
     {
@@ -53,7 +53,8 @@ impl UnixTime {
         }
     }
 
-    /// The instant so many nanoseconds after the start of 1970, before it as a negative number.
+    /// The instant this many nanoseconds after the start of 1970. Before 1970 the number is
+    /// negative.
     pub fn from_nanoseconds(nanoseconds: i128) -> UnixTime
         ensures value { signed result.is_negative result.nanoseconds ≡ nanoseconds }
         ensures no_negative_zero { IsTrue result.is_negative → 1 ≤ result.nanoseconds }
@@ -64,7 +65,7 @@ impl UnixTime {
         }
     }
 
-    /// The instant so many seconds after the start of 1970, before it as a negative number.
+    /// The instant this many seconds after the start of 1970. Before 1970 the number is negative.
     pub fn from_seconds(seconds: i64) -> UnixTime
         ensures value { signed result.is_negative result.nanoseconds ≡ seconds *ℤ pos 1000000000 }
         ensures no_negative_zero { IsTrue result.is_negative → 1 ≤ result.nanoseconds }
@@ -72,7 +73,7 @@ impl UnixTime {
         UnixTime::from_nanoseconds(seconds as i128 * 1_000_000_000)
     }
 
-    /// Whether its year in UTC is one of the years -999,999 to 999,999.
+    /// Whether its year in UTC is from -999,999 to 999,999.
     pub fn is_within(self) -> bool
         ensures { result ≡ is_within self }
     {
@@ -85,7 +86,7 @@ impl UnixTime {
         }
     }
 
-    /// The date and time in UTC. An `Err` comes where the year is none from -999,999 to 999,999.
+    /// The date and time in UTC. An `Err` says that the year is not from -999,999 to 999,999.
     pub(crate) fn date_and_time(self) -> Result<(Date, Time), ComponentRange>
         ensures found { IfOk result (λ r. spec.local_nanoseconds r.0 r.1 ≡ count self) }
         ensures in_range { IfOk result (λ r. IsTrue (is_within self)) }

@@ -19,7 +19,7 @@ pub enum Weekday {
 impl Weekday {
     ghost use Rattle.timefd_moment.specs.Weekdays as spec;
 
-    /// The day so many days after a Monday.
+    /// The weekday this many days after Monday.
     pub(crate) fn after_monday(days: u8) -> Weekday
         requires { days ≤ 6 }
         ensures { spec.days_after_monday result ≡ days }
@@ -35,7 +35,7 @@ impl Weekday {
         }
     }
 
-    /// How many days it is after Monday.
+    /// The number of days after Monday, from 0.
     pub fn number_days_from_monday(self) -> u8
         ensures value { result ≡ spec.days_after_monday self }
         ensures within { result ≤ 6 }
@@ -51,7 +51,7 @@ impl Weekday {
         }
     }
 
-    /// How many days it is after Sunday.
+    /// The number of days after Sunday, from 0.
     pub fn number_days_from_sunday(self) -> u8
         ensures value { result ≡ (spec.days_after_monday self + 1) % 7 }
         ensures within { result ≤ 6 }
@@ -59,28 +59,28 @@ impl Weekday {
         (self.number_days_from_monday() + 1) % 7
     }
 
-    /// Its place in the week, where Monday is 1.
+    /// The number of the day in the week. Monday is 1.
     pub fn number_from_monday(self) -> u8
         ensures { result ≡ spec.days_after_monday self + 1 }
     {
         self.number_days_from_monday() + 1
     }
 
-    /// Its place in the week, where Sunday is 1.
+    /// The number of the day in the week. Sunday is 1.
     pub fn number_from_sunday(self) -> u8
         ensures { result ≡ (spec.days_after_monday self + 1) % 7 + 1 }
     {
         self.number_days_from_sunday() + 1
     }
 
-    /// The day behind it.
+    /// The next day.
     pub fn next(self) -> Weekday
         ensures { spec.days_after_monday result ≡ (spec.days_after_monday self + 1) % 7 }
     {
         Weekday::after_monday((self.number_days_from_monday() + 1) % 7)
     }
 
-    /// The day before it.
+    /// The day before.
     pub fn previous(self) -> Weekday
         ensures { spec.days_after_monday result ≡ (spec.days_after_monday self + 6) % 7 }
     {

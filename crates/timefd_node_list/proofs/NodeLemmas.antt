@@ -1,4 +1,4 @@
--- Lists of nodes: one more behind them, and the way back over the last trees.
+-- Lists of nodes: one more node after them, and the way back over the last trees.
 use Rattle.std.proofs.Common.{◌≡◌, ◌∙◌, ℕ, zero, suc, ◌+◌, ◌-◌, ◌<◌, ◌≤◌, ◌^◌, List, [], ◌∷◌, ◌++◌, map, length, take, drop, refl, sym, ap}
 use Rattle.std.proofs.Common.{subst, append_assoc, arith, length-append, length-drop, get_or}
 use Rattle.std.proofs.lemmas.List.{take-append-drop, take-append-le, drop-append-le, take_all, drop_all, length-take-le}
@@ -40,7 +40,7 @@ one_member [] h = absurd (omega (arith, h))
 one_member (u ∷ []) h = omega arith
 one_member (u ∷ v ∷ us) h = absurd (omega (arith, h))
 
--- a tree is one more than its members are
+-- a tree has one node more than its members
 pub made-count : (r : Role) (us : List Tree) → length us ≡ arity r
     → tree_count (made r us) ≡ 1 + trees_count (trees us)
 made-count (text bytes) [] h = refl
@@ -77,7 +77,7 @@ ending-one_more ts t k h =
     ap (λ n. drop n (ts ++ t ∷ [])) (omega (arith, length-append ts (t ∷ []))) ∙
     drop-append-le (length ts - k) ts (t ∷ []) (omega arith)
 
--- Nodes up to the last trees, so many, and the nodes of those.
+-- Nodes up to the last `k` trees, and the nodes of those.
 pub record Back (ns : List Part) (k : ℕ) : Type 0 where
   pub kept : List Part
   pub rest : List Part
@@ -130,7 +130,7 @@ one_tree_more p es t all outer inner ys e a b c =
       length-append inner (p ∷ []),
     )
 
--- the way back, where it is known over shorter lists
+-- the way back, if it is known over shorter lists
 back_one_more : (ms : List Part) (p : Part) (k : ℕ) → Fit [] (ms ++ p ∷ [])
     → suc k ≤ length (grown_by [] (ms ++ p ∷ []))
     → ((ns : List Part) (j : ℕ) → length ns ≤ length ms → Fit [] ns → j ≤ length (grown_by [] ns)
@@ -199,7 +199,7 @@ pub count_inside : (ns : List Part) (k : ℕ) → Fit [] ns → k ≤ length (gr
 count_inside ns k f h = let b : Back ns k = back ns k f h in
     omega (arith, b.count, ap length b.split, length-append b.kept b.rest)
 
--- What the node right in front of the last trees, so many, says of one more.
+-- What the node right before the last `k` trees says about one more.
 pub record OneBack (ns : List Part) (k m : ℕ) (p : Part) : Type 0 where
   pub tree : Tree
   pub ends : ending (suc k) (grown_by [] ns) ≡ tree ∷ ending k (grown_by [] ns)
@@ -267,10 +267,10 @@ one_back ns k m p f h e is =
     let us : List Tree = grown_by [] w.front in
     let a : ℕ = arity w.last.role in
     let t : Tree = made w.last.role (ending a us) in
-    let place : length ns - 1 - m ≡ length w.front =
+    let position : length ns - 1 - m ≡ length w.front =
     omega (arith, e, w.count, ap length w.split, length-append w.front (w.last ∷ w.rest)) in
     let same : p ≡ w.last = is ∙ ap (λ xs. get_or xs (length ns - 1 - m) p) w.split ∙
-    at_seam w.front w.last w.rest (length ns - 1 - m) p place in
+    at_seam w.front w.last w.rest (length ns - 1 - m) p position in
     let whole : ts ≡ before a us ++ (t ∷ ending k ts) =
     sym (take-append-drop (length ts - k) ts) ∙ ap (λ xs. xs ++ ending k ts) (sym w.reads) ∙
     append_assoc (before a us) (t ∷ []) (ending k ts) in
@@ -291,7 +291,7 @@ pub step_inside : (ns : List Part) (k m : ℕ) (p : Part) → Fit [] ns → k < 
 step_inside ns k m p f h e o =
     omega (arith, count_inside ns (suc k) f h, ap (λ us. trees_count (trees us)) o.ends, o.nodes, e)
 
--- The same over the nodes themselves.
+-- The way back over the nodes themselves.
 pub found_part : (xs : List Node) (i : ℕ) (n : Node) → n ≡ get_or xs i n
     → part n ≡ get_or (map part xs) i (part n)
 found_part xs i n e = ap part e ∙ sym (get_or-part xs i n)
@@ -328,7 +328,7 @@ grown_at ts [] i n h e = absurd (omega (arith, h))
 grown_at ts (x ∷ xs) zero n h e = ap (λ y. grown ts (part y)) (sym e)
 grown_at ts (x ∷ xs) (suc i) n h e = grown_at (grown ts (part x)) xs i n (omega (arith, h)) e
 
--- What adding a node asks for, and what it comes to.
+-- What adding a node requires, and what it results in.
 pub before_zero : (ts : List Tree) → before 0 ts ≡ ts
 before_zero ts = take_all (length ts - 0) ts (omega arith)
 

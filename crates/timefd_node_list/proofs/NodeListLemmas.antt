@@ -1,4 +1,4 @@
--- What a node with members says of them, and what the node of one tree keeps.
+-- What a node with members says about them, and what the node of one tree keeps.
 use Rattle.std.proofs.Common.{◌≡◌, ◌∙◌, ℕ, ◌-◌, ◌^◌, ◌≤◌, Bool, true, false, if◌then◌else◌, List, [], ◌∷◌, length, refl, sym, ap, subst}
 use Rattle.std.proofs.Common.{arith}
 use Rattle.timefd_node_list.specs.declared.node.Members.{Members}
@@ -11,7 +11,7 @@ use Rattle.timefd_component.specs.Tree.{Tree, optional, trees, pack}
 use Rattle.timefd_node_list.proofs.NodeLemmas.{length-ending}
 use Rattle.timefd_node_list.proofs.TallyLemmas.{kept_of_all}
 
--- What a node with members says of them.
+-- What a node with members says about them.
 pub compound_fits : (ts : List Tree) (count : ℕ) (t : Tally) (m : Members) → count ≤ length ts
     → IsTally (ending count ts) t
     → m ≡ record { count = count; nodes = t.nodes; bytes = kept_of t.bytes }

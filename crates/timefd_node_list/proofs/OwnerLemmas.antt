@@ -1,4 +1,4 @@
--- Whether nodes own their text: one more behind them, one less, and copies.
+-- Whether nodes own their text: one more after them, one less, and copies.
 use Rattle.std.proofs.Common.{◌≡◌, ◌∙◌, Bool, true, false, ◌||◌, List, [], ◌∷◌, ◌++◌, map, refl, sym, ap}
 use Rattle.std.specs.Bool.{IsTrue, IsFalse}
 use Rattle.std.specs.List.{list_any}
@@ -19,7 +19,7 @@ or_is_none false false h = (refl, refl)
 or_is_none false true h = absurd (true≢false h)
 or_is_none true b h = absurd (true≢false h)
 
--- one node behind the others
+-- one node after the others
 only_where : (own owns : Bool) → (IsTrue own → IsTrue owns) → IsFalse owns → IsFalse own
 only_where false owns h f = refl
 only_where true owns h f = sym (h refl) ∙ f
@@ -32,15 +32,15 @@ flag_more owns ns n flag new f =
     (or_of_none (owns_text n) false (only_where (owns_text n) owns new f) refl)
 
 -- the last of nodes that own nothing, and those before it
-pub lent_front : (ns ms : List Node) → IsFalse (list_any owns_text (ns ++ ms))
+pub borrowed_front : (ns ms : List Node) → IsFalse (list_any owns_text (ns ++ ms))
     → IsFalse (list_any owns_text ns)
-lent_front ns ms h =
+borrowed_front ns ms h =
     (or_is_none (list_any owns_text ns) (list_any owns_text ms)
     (sym (list_any-append owns_text ns ms) ∙ h)).0
 
-pub lent_last : (ns : List Node) (n : Node) → IsFalse (list_any owns_text (ns ++ n ∷ []))
+pub borrowed_last : (ns : List Node) (n : Node) → IsFalse (list_any owns_text (ns ++ n ∷ []))
     → IsFalse (owns_text n)
-lent_last ns n h =
+borrowed_last ns n h =
     (or_is_none (owns_text n) false
     (or_is_none (list_any owns_text ns) (list_any owns_text (n ∷ []))
     (sym (list_any-append owns_text ns (n ∷ [])) ∙ h)).1).0
@@ -58,12 +58,12 @@ pub flag_copied : (owns : Bool) (ns ms : List Node) → map owns_text ms ≡ map
     → IsFlag owns ns → IsFlag owns ms
 flag_copied owns ns ms same flag f = any_of_map ms ∙ ap any_owner same ∙ sym (any_of_map ns) ∙ flag f
 
--- of all texts but those that are lent
-pub owner_unless_lent : (n : Node) → ((lent : _) → n ≡ node.Literal lent → ⊥)
+-- true for all texts but the borrowed ones
+pub owner_unless_borrowed : (n : Node) → ((borrowed : _) → n ≡ node.Literal borrowed → ⊥)
     → is_text (part n).role ≡ owns_text n
-owner_unless_lent (node.Literal lent) h = absurd (h lent refl)
-owner_unless_lent (node.OwnedLiteral owned) h = refl
-owner_unless_lent (node.Component c kept) h = refl
-owner_unless_lent (node.Compound m) h = refl
-owner_unless_lent (node.Optional format inner kept) h = refl
-owner_unless_lent (node.First m) h = refl
+owner_unless_borrowed (node.Literal borrowed) h = absurd (h borrowed refl)
+owner_unless_borrowed (node.OwnedLiteral owned) h = refl
+owner_unless_borrowed (node.Component c kept) h = refl
+owner_unless_borrowed (node.Compound m) h = refl
+owner_unless_borrowed (node.Optional format inner kept) h = refl
+owner_unless_borrowed (node.First m) h = refl

@@ -1,5 +1,5 @@
--- What it takes to print a list of nodes: which trees are left in front of the last, and that each
--- step has less to print.
+-- What it takes to print a list of nodes: which trees are left before the last, and that each step
+-- has less to print.
 use Rattle.std.proofs.Common.{◌≡◌, ◌∙◌, ℕ, suc, zero, ◌+◌, ◌*◌, ◌-◌, ◌<◌, ◌≤◌, List, [], ◌∷◌, map, length, take, refl, ap, arith}
 use Rattle.std.proofs.Common.{length-append}
 use Rattle.std.proofs.Math.Nat.{mul-le-mul_left, mul-le-mul_right}
@@ -23,11 +23,11 @@ pub left_without : (xs : List Node) (k m : ℕ) → Fit [] (map part xs)
     (grown_by [] (map part xs))
 left_without xs k m f h e =
     let b : Back (map part xs) k = back (map part xs) k f h in
-    let place : length xs - m ≡ length b.kept =
+    let position : length xs - m ≡ length b.kept =
     omega (arith, e, b.count, ap length b.split, length-append b.kept b.rest, length-parts xs)
     in
     let kept : map part (take (length xs - m) xs) ≡ b.kept =
-    parts-take (length xs - m) xs ∙ ap (λ n. take n (map part xs)) place ∙
+    parts-take (length xs - m) xs ∙ ap (λ n. take n (map part xs)) position ∙
     ap (λ ps. take (length b.kept) ps) b.split ∙ take-append_seam b.kept b.rest in
     omega (
       arith,

@@ -15,7 +15,7 @@ reserve_all-append : (ts us : List Tree)
 reserve_all-append [] us = omega arith
 reserve_all-append (t ∷ ts) us = omega (arith, reserve_all-append ts us)
 
--- what is known of a sum holds of an equal one
+-- what is known about a sum holds for an equal one
 sum_of : (ts us : List Tree) (known : Bool) (sum : ℕ)
     → reserve_all (trees ts) ≡ reserve_all (trees us) → IsSum ts known sum → IsSum us known sum
 sum_of ts us known sum e h = λ k. h k ∙ ap kept_bytes e
@@ -37,7 +37,7 @@ sum-one_more ts us t known sum bytes e g h = λ k.
       reserve_all-append ts (t ∷ []),
     ))
 
--- the last trees, so many, as one that reserves as much
+-- the last `k` trees as one that reserves as much
 made_same : (k : ℕ) (ts us : List Tree) (t : Tree) → us ≡ before k ts ++ t ∷ []
     → reserve t ≡ reserve_all (trees (ending k ts))
     → reserve_all (trees ts) ≡ reserve_all (trees us)

@@ -1,4 +1,4 @@
--- What is known of trees side by side, with one more in front.
+-- What is known about trees side by side, with one more before them.
 use Rattle.std.proofs.Common.{◌≡◌, ◌∙◌, ℕ, ◌+◌, ◌-◌, ◌^◌, List, [], ◌∷◌, Option, Some, None, refl, arith}
 use Rattle.std.proofs.lemmas.Bool.Decides.{nat_tests}
 use Rattle.timefd_node_list.specs.declared.tally.Tally.{Tally}

@@ -1,4 +1,4 @@
--- Places among members, which stay right while the members in front of them go.
+-- Positions among members, which stay right while the members before them are removed.
 use Rattle.std.proofs.Common.{◌≡◌, ◌∙◌, ℕ, zero, suc, ◌+◌, ◌-◌, ◌<◌, ◌≤◌, List, [], ◌∷◌, ◌++◌, length, set, replicate, get_or, sym, ap}
 use Rattle.std.proofs.Common.{subst, append_assoc, arith, length-append}
 use Rattle.std.proofs.lemmas.List.{take-append-drop}
@@ -10,7 +10,7 @@ use Rattle.timefd_node_list.specs.Views.{IsMark, AreMarks}
 use Rattle.timefd_node_list.proofs.NodeLemmas.{none_of, ending-append, length-before, length-ending, trees_count-append}
 use Rattle.timefd_node_list.proofs.ViewLemmas.{ending_frame}
 
--- the place behind all
+-- the position after all
 pub end_mark : (ts : List Tree) → IsMark ts (record { count = 0; nodes = 0 })
 end_mark ts h = none_of ts
 
@@ -40,14 +40,14 @@ later_marks : (us ts : List Tree) (ms : List Mark) → AreMarks (us ++ ts) ms �
 later_marks us ts [] a = tt
 later_marks us ts (m ∷ ms) a = (later_mark us ts m a.0, later_marks us ts ms a.1)
 
-pub marks_behind : (ts vs : List Tree) (k : ℕ) (ms : List Mark) → vs ≡ ending k ts → AreMarks ts ms
+pub marks_after : (ts vs : List Tree) (k : ℕ) (ms : List Mark) → vs ≡ ending k ts → AreMarks ts ms
     → AreMarks vs ms
-marks_behind ts vs k ms e a =
+marks_after ts vs k ms e a =
     subst (λ xs. AreMarks xs ms) (sym e)
     (later_marks (before k ts) (ending k ts) ms
     (subst (λ xs. AreMarks xs ms) (sym (take-append-drop (length ts - k) ts)) a))
 
--- a place further in front
+-- a position further to the front
 ending_more : (ts : List Tree) (c s : ℕ) → c + s ≤ length ts
     → ending (c + s) ts ≡ ending s (before c ts) ++ ending c ts
 ending_more ts c s h =

@@ -11,7 +11,7 @@ use Rattle.timefd_node_list.proofs.NodeLemmas.{Last, last_of, grown_by-append, f
 use Rattle.timefd_node_list.proofs.NodeLemmas.{grown_some, before-append, ending-append, before-one_more, ending-one_more, before_zero}
 use Rattle.timefd_node_list.proofs.NodeLemmas.{ending_zero, length-before, length-ending, Back, back, length-parts, one_member}
 
--- Nodes behind some trees leave those as they are.
+-- Nodes after some trees leave those as they are.
 before_frame : (ts us : List Tree) (a : ℕ) → a ≤ length us → before a (ts ++ us) ≡ ts ++ before a us
 before_frame ts us a h =
     ap (λ xs. before a (ts ++ xs)) (sym (take-append-drop (length us - a) us))
@@ -32,7 +32,7 @@ grown_frame ts us p h =
     ∙ ap (λ xs. (ts ++ before a us) ++ made p.role xs ∷ []) (ending_frame ts us a h)
     ∙ append_assoc ts (before a us) (made p.role (ending a us) ∷ [])
 
--- a node looks at its members alone
+-- a node looks only at its members
 fits_same : (ts us : List Tree) (p : Part) → Fits ts p → arity p.role ≤ length us
     → ending (arity p.role) us ≡ ending (arity p.role) ts → Fits us p
 fits_same ts us p f h e = (
@@ -60,20 +60,20 @@ fit_frame ts us (p ∷ ps) f = (
       (fit_frame ts (grown us p) ps f.1),
 )
 
-grown_by_behind : (ts : List Tree) (ps : List Part) → Fit [] ps
+grown_by_after : (ts : List Tree) (ps : List Part) → Fit [] ps
     → grown_by ts ps ≡ ts ++ grown_by [] ps
-grown_by_behind ts ps f = ap (λ xs. grown_by xs ps) (sym (append-nil ts)) ∙
+grown_by_after ts ps f = ap (λ xs. grown_by xs ps) (sym (append-nil ts)) ∙
     grown_by_frame ts [] ps f
 
-fit_behind : (ts : List Tree) (ps : List Part) → Fit [] ps → Fit ts ps
-fit_behind ts ps f = subst (λ xs. Fit xs ps) (append-nil ts) (fit_frame ts [] ps f)
+fit_after : (ts : List Tree) (ps : List Part) → Fit [] ps → Fit ts ps
+fit_after ts ps f = subst (λ xs. Fit xs ps) (append-nil ts) (fit_frame ts [] ps f)
 
 fit_both : (ts : List Tree) (ps qs : List Part) → Fit ts ps → Fit (grown_by ts ps) qs
     → Fit ts (ps ++ qs)
 fit_both ts [] qs f g = g
 fit_both ts (p ∷ ps) qs f g = (f.0, fit_both (grown ts p) ps qs f.1 g)
 
--- Nodes up to the last trees, so many, and the nodes of those, which read alone as those.
+-- Nodes up to the last `k` trees, and the nodes of those, which read alone as those trees.
 pub record Own (ns : List Part) (k : ℕ) : Type 0 where
   pub kept : List Part
   pub rest : List Part
@@ -92,24 +92,24 @@ own_none ns = record {
   fit = tt;
 }
 
--- one node behind its members, which stand alone behind some trees
-grown_behind : (es ys us : List Tree) (p : Part) → Fits us p → ys ≡ ending (arity p.role) us
+-- one node after its members, which follow some trees
+grown_after : (es ys us : List Tree) (p : Part) → Fits us p → ys ≡ ending (arity p.role) us
     → grown (es ++ ys) p ≡ es ++ made p.role ys ∷ []
-grown_behind es ys us p f e =
+grown_after es ys us p f e =
     let a : ℕ = arity p.role in
     let long : a ≡ length ys = sym (length-ending a us f.0) ∙ ap length (sym e) in
     ap (λ xs. xs ++ made p.role (ending a (es ++ ys)) ∷ []) (before-append es ys a long) ∙
     ap (λ xs. es ++ made p.role xs ∷ []) (ending-append es ys a long)
 
-fits_behind : (es ys us : List Tree) (p : Part) → Fits us p → ys ≡ ending (arity p.role) us
+fits_after : (es ys us : List Tree) (p : Part) → Fits us p → ys ≡ ending (arity p.role) us
     → Fits (es ++ ys) p
-fits_behind es ys us p f e =
+fits_after es ys us p f e =
     let a : ℕ = arity p.role in
     let long : a ≡ length ys = sym (length-ending a us f.0) ∙ ap length (sym e) in
     fits_same us (es ++ ys) p f (omega (arith, long, length-append es ys))
     (ending-append es ys a long ∙ e)
 
--- the same, where it is known over shorter lists
+-- the nodes of the last trees, if that is known over shorter lists
 own_one_more : (ms : List Part) (p : Part) (k : ℕ) → Fit [] (ms ++ p ∷ [])
     → suc k ≤ length (grown_by [] (ms ++ p ∷ []))
     → ((ns : List Part) (j : ℕ) → length ns ≤ length ms → Fit [] ns → j ≤ length (grown_by [] ns)
@@ -136,7 +136,7 @@ own_one_more ms p k fit h go =
     let ends : ending (suc k) (grown_by [] (ms ++ p ∷ [])) ≡ es ++ t ∷ [] =
     ap (λ xs. ending (suc k) xs) read ∙ ending-one_more bs t k long in
     let outer : grown_by [] above.rest ≡ es = above.alone ∙ ap (λ xs. ending k xs) within.reads in
-    let inner : grown_by es within.rest ≡ es ++ ys = grown_by_behind es within.rest within.fit ∙
+    let inner : grown_by es within.rest ≡ es ++ ys = grown_by_after es within.rest within.fit ∙
     ap (λ xs. es ++ xs) within.alone in
     record {
       kept = above.kept;
@@ -156,13 +156,13 @@ own_one_more ms p k fit h go =
           ∙ ap (λ xs. grown_by xs (within.rest ++ p ∷ [])) outer
           ∙ grown_by-append es within.rest (p ∷ [])
           ∙ ap (λ xs. grown xs p) inner
-          ∙ grown_behind es ys us p f refl
+          ∙ grown_after es ys us p f refl
           ∙ sym ends;
       fit =
           fit_both [] above.rest (within.rest ++ p ∷ []) above.fit
           (subst (λ xs. Fit xs (within.rest ++ p ∷ [])) (sym outer)
-          (fit_one_more es within.rest p (fit_behind es within.rest within.fit)
-          (subst (λ xs. Fits xs p) (sym inner) (fits_behind es ys us p f refl))));
+          (fit_one_more es within.rest p (fit_after es within.rest within.fit)
+          (subst (λ xs. Fits xs p) (sym inner) (fits_after es ys us p f refl))));
     }
 
 own_up_to : (n : ℕ) (ns : List Part) (k : ℕ) → length ns ≤ n → Fit [] ns
@@ -206,22 +206,22 @@ count_all ps f = from (back ps (length (grown_by [] ps)) f (omega arith))
           ap (λ us. trees_count (trees us)) all,
         )
 
--- Nodes cut in front of those of the last trees, so many.
-pub record Cut (xs : List Node) (k : ℕ) (front behind : List Node) : Type 0 where
+-- Nodes cut before those of the last `k` trees.
+pub record Cut (xs : List Node) (k : ℕ) (front after : List Node) : Type 0 where
   pub front_fit : Fit [] (map part front)
   pub front_trees : grown_by [] (map part front) ≡ before k (grown_by [] (map part xs))
-  pub behind_fit : Fit [] (map part behind)
-  pub behind_trees : grown_by [] (map part behind) ≡ ending k (grown_by [] (map part xs))
+  pub after_fit : Fit [] (map part after)
+  pub after_trees : grown_by [] (map part after) ≡ ending k (grown_by [] (map part xs))
 
 pub cut : (xs fs bs : List Node) (k m : ℕ) → Fit [] (map part xs)
     → k ≤ length (grown_by [] (map part xs))
     → m ≡ trees_count (trees (ending k (grown_by [] (map part xs))))
     → fs ≡ take (length xs - m) xs → bs ≡ drop (length xs - m) xs → Cut xs k fs bs
-cut xs fs bs k m f h e front behind = from (own (map part xs) k f h)
+cut xs fs bs k m f h e front after = from (own (map part xs) k f h)
   where
     from : Own (map part xs) k → Cut xs k fs bs
     from o =
-        let place : length xs - m ≡ length o.kept =
+        let position : length xs - m ≡ length o.kept =
         omega (
           arith,
           e,
@@ -233,18 +233,18 @@ cut xs fs bs k m f h e front behind = from (own (map part xs) k f h)
         ) in
         let fronts : map part fs ≡ o.kept =
         ap (λ ys. map part ys) front ∙ sym (take-map part (length xs - m) xs) ∙
-        ap (λ n. take n (map part xs)) place ∙ ap (λ ps. take (length o.kept) ps) o.split ∙
+        ap (λ n. take n (map part xs)) position ∙ ap (λ ps. take (length o.kept) ps) o.split ∙
         take-append_seam o.kept o.rest in
         let behinds : map part bs ≡ o.rest =
-        ap (λ ys. map part ys) behind ∙ sym (drop-map part (length xs - m) xs) ∙
-        ap (λ n. drop n (map part xs)) place ∙ ap (λ ps. drop (length o.kept) ps) o.split ∙
+        ap (λ ys. map part ys) after ∙ sym (drop-map part (length xs - m) xs) ∙
+        ap (λ n. drop n (map part xs)) position ∙ ap (λ ps. drop (length o.kept) ps) o.split ∙
         drop-append_seam o.kept o.rest in
         record {
           front_fit = subst (λ ps. Fit [] ps) (sym fronts)
               (fit_front [] o.kept o.rest (subst (λ ps. Fit [] ps) o.split f));
           front_trees = ap (λ ps. grown_by [] ps) fronts ∙ o.reads;
-          behind_fit = subst (λ ps. Fit [] ps) (sym behinds) o.fit;
-          behind_trees = ap (λ ps. grown_by [] ps) behinds ∙ o.alone;
+          after_fit = subst (λ ps. Fit [] ps) (sym behinds) o.fit;
+          after_trees = ap (λ ps. grown_by [] ps) behinds ∙ o.alone;
         }
 
 -- One tree: all trees before its node are its members.
@@ -293,7 +293,7 @@ one xs n f h there is =
           ap (λ t. kept_bytes (reserve t)) (sym tree);
     }
 
--- it has as many parts as nodes, or one, where it is the compound of none
+-- it has as many parts as nodes, or one, if it is the compound of nothing
 pub one_count : (xs : List Node) → Fit [] (map part xs) → length (grown_by [] (map part xs)) ≤ 1
     → max (length xs) 1 ≡ tree_count (pack (grown_by [] (map part xs)))
 one_count [] f h = refl

@@ -1,4 +1,4 @@
--- The trees of the nodes in turn are all parts of the trees that they are.
+-- The trees of the nodes, one after another, are all parts of the trees that they are.
 use Rattle.std.proofs.Common.{◌≡◌, ◌∙◌, ℕ, zero, suc, ◌+◌, ◌-◌, ◌<◌, ◌≤◌, List, [], ◌∷◌, ◌++◌, map, length, take, drop, refl, sym, ap}
 use Rattle.std.proofs.Common.{append_assoc, arith, get_or}
 use Rattle.std.proofs.lemmas.List.{append-nil, take-append-drop, drop_all, length-take-le}
@@ -28,7 +28,7 @@ none_walked : (us : List Tree) (t : Tree) → length us ≡ 0 → t ∷ [] ≡ w
 none_walked [] t h = refl
 none_walked (u ∷ us) t h = absurd (omega (arith, h))
 
--- a tree is walked behind its members
+-- a tree is walked after its members
 made_walked : (r : Role) (us : List Tree) → length us ≡ arity r
     → walked (made r us) ≡ walked_all (trees us) ++ made r us ∷ []
 made_walked (text bytes) us h = none_walked us _ h
@@ -107,7 +107,7 @@ last_at xs i n h e =
     ap (λ ts. pack (ending 1 ts)) (grown_at [] xs i n h e) ∙
     ap pack (ending-append (before (arity (part n).role) us) (tree_at xs i n ∷ []) 1 refl)
 
--- in how many nodes it stands
+-- how many nodes it has
 pub nodes_at : (xs : List Node) (i : ℕ) (n : Node) → Fit [] (map part xs) → i < length xs
     → n ≡ get_or xs i n
     → 1 + (part n).nodes ≡ trees_count (trees (ending 1 (grown_by [] (map part (take (suc i) xs)))))
@@ -155,24 +155,24 @@ part_at xs front own i inner n f h e is fronts owns =
     let fs : List Node = take (suc i) xs in
     let next : i + 1 ≡ suc i = omega arith in
     let long : length fs ≡ suc i = length-take-le (suc i) xs (omega (arith, h)) in
-    let place : i - inner ≡ length fs - (1 + (part n).nodes) = omega (arith, is, long) in
+    let position : i - inner ≡ length fs - (1 + (part n).nodes) = omega (arith, is, long) in
     let cut_there : own ≡ drop (length fs - (1 + (part n).nodes)) fs =
     owns ∙ ap (λ ys. drop (i - inner) ys) (fronts ∙ ap (λ k. take k xs) next) ∙
-    ap (λ k. drop k fs) place in
+    ap (λ k. drop k fs) position in
     let c : Cut fs 1 (take (length fs - (1 + (part n).nodes)) fs) own =
     cut fs (take (length fs - (1 + (part n).nodes)) fs) own 1 (1 + (part n).nodes)
     (fit_take [] xs (suc i) f) (up_to xs i h) (nodes_at xs i n f h e) refl cut_there in
     record {
-      fit = c.behind_fit;
+      fit = c.after_fit;
       one = omega (
         arith,
-        ap length c.behind_trees,
+        ap length c.after_trees,
         length-ending 1 (grown_by [] (map part fs))
             (up_to xs i h),
       );
       step =
           walk_step xs i n h e
           ∙ ap (λ t. t ∷ walk_from xs (suc i)) (sym (last_at xs i n h e) ∙
-          sym (ap pack c.behind_trees))
+          sym (ap pack c.after_trees))
           ∙ ap (λ k. pack (grown_by [] (map part own)) ∷ walk_from xs k) (sym next);
     }

@@ -19,17 +19,17 @@ list_owners l = map owns_text l.nodes.items
 abbrev pub node_count : NodeList → ℕ
 node_count l = vec_len l.nodes
 
--- for how many nodes more there is room
+-- for how many more nodes there is room
 abbrev pub room : NodeList → ℕ
 room l = vec_capacity l.nodes - vec_len l.nodes
 
--- there is room for so many nodes more
+-- there is room for this many more nodes
 abbrev pub HasRoom : NodeList → ℕ → Type 0
 HasRoom l count = vec_len l.nodes + count ≤ vec_capacity l.nodes
 
--- these trees were added behind the others, in the room that there was
+-- these trees were added after the others, in the room that there was
 pub record Adds (old new : NodeList) (added : List Tree) : Type 0 where
-  pub behind : list_trees new ≡ list_trees old ++ added
+  pub after : list_trees new ≡ list_trees old ++ added
   pub nodes : vec_len new.nodes ≡ vec_len old.nodes + trees_count (trees added)
   pub capacity : vec_capacity new.nodes ≡ vec_capacity old.nodes
 

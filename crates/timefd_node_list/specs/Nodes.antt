@@ -1,5 +1,5 @@
--- How a list of nodes reads as a list of trees: each node stands behind its members, takes them off
--- the end of the trees so far, and puts its own tree there.
+-- How a list of nodes reads as a list of trees: each node follows its members, takes them off the
+-- end of the trees so far, and puts its own tree there.
 use Rattle.std.specs.Prelude.{ℕ, ◌≡◌, ◌-◌, ◌^◌, ◌≤◌, Bool, List, [], ◌∷◌, ◌++◌, length, take, drop, max, min, string_bytes, ⊤}
 use Rattle.std.specs.Coded.{Unit-prop, ×_prop}
 use Rattle.std.proofs.Props.{props}
@@ -10,7 +10,7 @@ use Rattle.timefd_component.specs.Tree.{Text, Tree, component, literal, compound
 use Rattle.timefd_component.specs.Modern.{modern}
 use Rattle.timefd_component.specs.Reserved.{reserve, reserve_first, trees_count}
 
--- what a node makes of its members
+-- what a node makes from its members
 pub data Role : Type 0 where
   text : Text → Role
   shown : Component → Role
@@ -26,14 +26,14 @@ arity (together count) = count
 arity (perhaps format) = 1
 arity (either count) = count
 
--- a node: what it makes, in how many nodes its members stand, and the bytes that it keeps
+-- a node: what it makes, how many nodes its members have, and the bytes that it keeps
 pub record Part : Type 0 where
   pub role : Role
   pub nodes : ℕ
   pub bytes : ℕ
 
 abbrev pub part : Node → Part
-part (node.Literal lent) = record { role = text lent.now; nodes = 0; bytes = length lent.now }
+part (node.Literal borrowed) = record { role = text borrowed.now; nodes = 0; bytes = length borrowed.now }
 part (node.OwnedLiteral owned) = record {
   role = text (string_bytes owned);
   nodes = 0;
@@ -46,7 +46,7 @@ part (node.Optional format inner kept) =
     record { role = perhaps format; nodes = inner; bytes = kept }
 part (node.First m) = record { role = either m.count; nodes = m.nodes; bytes = m.bytes }
 
--- the tree that it makes of them
+-- the tree that it makes from them
 abbrev pub made : Role → List Tree → Tree
 made (text bytes) members = literal bytes
 made (shown c) members = component (modern c)
@@ -61,20 +61,20 @@ before k ts = take (length ts - k) ts
 abbrev pub ending : ℕ → List Tree → List Tree
 ending k ts = drop (length ts - k) ts
 
--- the trees once there is one more node
+-- the trees with one more node
 abbrev pub grown : List Tree → Part → List Tree
 grown ts p = before (arity p.role) ts ++ made p.role (ending (arity p.role) ts) ∷ []
 
--- the trees once there are these nodes more
+-- the trees with these nodes added
 abbrev pub grown_by : List Tree → List Part → List Tree
 grown_by ts [] = ts
 grown_by ts (p ∷ ps) = grown_by (grown ts p) ps
 
--- the bytes that a node keeps of so many
+-- the bytes that a node keeps of this many
 abbrev pub kept_bytes : ℕ → ℕ
 kept_bytes bytes = min bytes (2 ^ 64 - 1)
 
--- the bytes that the node of the last tree keeps, or 0 where there is none
+-- the bytes that the node of the last tree keeps, or 0 if there is none
 abbrev pub last_kept : List Tree → ℕ
 last_kept ts = kept_bytes (reserve_first (trees (ending 1 ts)))
 
@@ -83,7 +83,7 @@ abbrev pub largest : List Tree → ℕ
 largest [] = 0
 largest (t ∷ ts) = max (reserve t) (largest ts)
 
--- its members are there, it knows in how many nodes, and it keeps what its tree reserves
+-- its members are there, it knows how many nodes they have, and it keeps what its tree reserves
 abbrev pub Fits : List Tree → Part → Type 0
 Fits ts p =
     (arity p.role ≤ length ts)

@@ -10,7 +10,7 @@ use Rattle.timefd_node_list.specs.Nodes.{Role, text, shown, together, perhaps, e
 
 -- whether it owns its text
 abbrev pub owns_text : Node → Bool
-owns_text (node.Literal lent) = false
+owns_text (node.Literal borrowed) = false
 owns_text (node.OwnedLiteral owned) = true
 owns_text (node.Component c kept) = false
 owns_text (node.Compound m) = false

@@ -1,4 +1,4 @@
--- What is known of trees side by side.
+-- What is known about trees side by side.
 use Rattle.std.specs.Prelude.{ℕ, ◌≡◌, ◌+◌, ◌-◌, ◌^◌, List, [], ◌∷◌, Option, Some, None, Bool, IsTrue}
 use Rattle.std.specs.Coded.{→_prop}
 use Rattle.std.proofs.Props.{props}
@@ -12,7 +12,7 @@ abbrev pub kept_of : Option ℕ → ℕ
 kept_of (Some bytes) = bytes
 kept_of None = 2 ^ 64 - 1
 
--- a sum and so many more, where a `usize` counts them
+-- a sum and this many bytes more, if that fits a `usize`
 abbrev pub sum_within : Option ℕ → ℕ → Option ℕ
 sum_within (Some sum) bytes = within (2 ^ 64 - 1) (sum + bytes)
 sum_within None bytes = None
@@ -27,7 +27,7 @@ pub record IsTally (ts : List Tree) (t : Tally) : Type 0 where
   pub bytes : t.bytes ≡ kept_sum ts
   pub first : t.first ≡ kept_bytes (reserve_first (trees ts))
 
--- it is what is kept of what these trees reserve, where that is known
+-- the number is what is kept of the bytes that these trees reserve, if that is known
 abbrev pub IsSum : List Tree → Bool → ℕ → Type 0
 IsSum ts known sum = IsTrue known → sum ≡ kept_bytes (reserve_all (trees ts))
 

@@ -1,4 +1,4 @@
--- What is seen of a description in place.
+-- What a view sees of a description, in place.
 use Rattle.std.specs.Prelude.{ℕ, ◌≡◌, ◌≤◌, Option, Some, None, List, [], ◌∷◌, ◌++◌, map, length, take, drop, ⊤}
 use Rattle.std.specs.Coded.{Unit-prop, ×_prop, →_prop}
 use Rattle.std.proofs.Props.{props}
@@ -16,7 +16,7 @@ use Rattle.timefd_component.specs.Tree.{Tree, component, literal, compound, opti
 abbrev pub view_tree : View → Tree
 view_tree v = pack (grown_by [] (map part v.nodes.now))
 
--- the members that are looked at, in turn
+-- the members that are looked at, one after another
 abbrev pub member_trees : Members → List Tree
 member_trees m = grown_by [] (map part m.nodes.now)
 
@@ -28,7 +28,7 @@ shape_tree (shape.Compound members) = compound (trees (member_trees members))
 shape_tree (shape.Optional format member) = optional format (view_tree member)
 shape_tree (shape.First members) = first (trees (member_trees members))
 
--- from a place on there are so many nodes
+-- from a position on there are this many nodes
 abbrev pub IsMark : List Tree → Mark → Type 0
 IsMark ts m = m.count ≤ length ts → m.nodes ≡ trees_count (trees (ending m.count ts))
 
@@ -43,7 +43,7 @@ pub AreMarks-prop : (ts : List Tree) (ms : List Mark) → IsProp (AreMarks ts ms
 AreMarks-prop ts [] = Unit-prop
 AreMarks-prop ts (m ∷ ms) = ×_prop (IsMark-prop ts m) (AreMarks-prop ts ms)
 
--- all parts of a tree in turn, each behind its members
+-- all parts of a tree, one after another, each after its members
 abbrev mutual
   pub walked : Tree → List Tree
   walked (component c) = component c ∷ []
@@ -56,7 +56,7 @@ abbrev mutual
   walked_all no_trees = []
   walked_all (more_trees t ts) = walked t ++ walked_all ts
 
--- the tree of each node, behind these trees
+-- the tree of each node, after these trees
 abbrev pub made_each : List Tree → List Part → List Tree
 made_each ts [] = []
 made_each ts (p ∷ ps) = made p.role (ending (arity p.role) ts) ∷ made_each (grown ts p) ps
@@ -65,6 +65,6 @@ abbrev pub view_trees : Option View → List Tree
 view_trees None = []
 view_trees (Some v) = view_tree v ∷ []
 
--- the tree of each node from this place on
+-- the tree of each node from this index on
 abbrev pub walk_from : List Node → ℕ → List Tree
 walk_from ns at = made_each (grown_by [] (map part (take at ns))) (map part (drop at ns))

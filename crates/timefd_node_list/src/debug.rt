@@ -1,4 +1,5 @@
-//! How a list of nodes prints under `{:?}`: a lent and an owned text of one content alike.
+//! How a list of nodes prints under `{:?}`: a borrowed and an owned text with the same content
+//! alike.
 
 ghost use Rattle.std.specs.Prelude.{◌≤◌, [], length, map};
 ghost use Rattle.timefd_node_list.specs.Nodes.{Fit, grown_by, part};
@@ -8,7 +9,7 @@ use crate::tally::{split_last, without_ending};
 use std::fmt;
 use timefd_component::debug::ModifiersOf;
 
-/// The last tree of these nodes.
+/// Writes the last tree of these nodes.
 #[cycle(debug_nodes)]
 pub(crate) fn write_last<W: fmt::Write>(
     nodes: &[Node<'_>],
@@ -43,8 +44,9 @@ pub(crate) fn write_last<W: fmt::Write>(
     }
 }
 
-/// The last trees of these nodes, so many. They are found from the end on and written from the
-/// front, so half of them are skipped at a time, and not each of them again for each before it.
+/// Writes the last `count` trees of these nodes. Trees are found from the end and written from the
+/// front, so half of them are skipped at a time. Otherwise the later trees would be walked again
+/// for each tree before them.
 #[cycle(debug_nodes)]
 fn write_ending<W: fmt::Write>(
     nodes: &[Node<'_>],
@@ -60,8 +62,8 @@ fn write_ending<W: fmt::Write>(
     if count == 1 {
         return write_last(nodes, f);
     }
-    let behind = count / 2;
-    write_ending(without_ending(nodes, behind), count - behind, f)?;
+    let after = count / 2;
+    write_ending(without_ending(nodes, after), count - after, f)?;
     f.write_str(", ")?;
-    write_ending(nodes, behind, f)
+    write_ending(nodes, after, f)
 }

@@ -1,4 +1,4 @@
-//! The members of a part of a description one after another. This is this port's own.
+//! The members of a part of a description, one after another. This is this port's own.
 
 ghost use Rattle.std.specs.Prelude.{◌≡◌, ◌+◌, ◌<◌, ◌≤◌, length};
 ghost use Rattle.timefd_node_list.specs.Views.{AreMarks, AreMarks-prop, IsMark, member_trees};
@@ -6,18 +6,19 @@ ghost use Rattle.timefd_node_list.specs.Views.{AreMarks, AreMarks-prop, IsMark, 
 use crate::members::{Mark, Members};
 use crate::view::View;
 
-/// How many marks are kept: each halves what is left, so that a million members want no more. They stand on the stack
-/// of whoever walks members within members.
+/// How many marks are kept. Each halves what is left, so a million members need no more. The marks are on the
+/// stack of every caller that walks members within members.
 const MARKS: usize = 20;
 
-/// Members in turn, the first one first. They are found from the last one back, so the places that
-/// were come by are kept, each half as far away as the one before it: all of n members take n log n
-/// steps, and of more than a million, as many as a millionth of them for each. It takes no memory but its own.
+/// Members one after another, from the first on. They are found from the last one back, so positions passed
+/// on the way are kept, each half as far away as the one before it. All of `n` members take `n log n` steps;
+/// of more than a million members, each takes as many steps as a millionth of them. It takes no memory but
+/// its own.
 #[derive(Clone, Copy)]
 pub struct InTurn<'v, 'a> {
-    // Those that are left.
+    // The members that are left.
     members: Members<'v, 'a>,
-    // Where some of them begin, the next one last.
+    // Where some of them begin, the next one last in the array.
     marks: [Mark; MARKS],
     len: usize,
     ghost size: { length marks ≡ 20 },
@@ -39,7 +40,7 @@ impl<'v, 'a> InTurn<'v, 'a> {
         }
     }
 
-    /// Takes the next mark off. Where there is none, it is the end of all.
+    /// Takes the next mark off. If there is none, the mark is the end of all members.
     #[tactic(auto, using(crate::proofs::TurnLemmas::end_mark))]
     fn pop(&mut self) -> Mark
         requires { 0 < length (member_trees self.old.members) }
@@ -57,7 +58,7 @@ impl<'v, 'a> InTurn<'v, 'a> {
         Mark { count: 0, nodes: 0 }
     }
 
-    /// Keeps a mark, where there is room.
+    /// Keeps a mark, if there is room.
     fn push(&mut self, mark: Mark)
         requires { IsMark (member_trees self.old.members) mark }
         ensures { self.new.members ≡ self.old.members }
@@ -68,8 +69,8 @@ impl<'v, 'a> InTurn<'v, 'a> {
         }
     }
 
-    /// The mark behind the first member. Those that are come by are kept.
-    fn behind_first(&mut self) -> Mark
+    /// The mark after the first member. Marks passed on the way are kept.
+    fn after_first(&mut self) -> Mark
         requires { 0 < length (member_trees self.old.members) }
         ensures count { result.count + 1 ≡ length (member_trees self.old.members) }
         ensures marked { IsMark (member_trees self.old.members) result }
@@ -100,7 +101,7 @@ impl<'v, 'a> Iterator for InTurn<'v, 'a> {
         if self.members.is_empty() {
             return None;
         }
-        let mark = self.behind_first();
+        let mark = self.after_first();
         let (first, others) = self.members.split_at_mark(mark);
         self.members = others;
         Some(first.only())

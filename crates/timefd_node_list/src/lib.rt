@@ -1,5 +1,5 @@
-//! Descriptions of version 3 as one list of nodes, each behind its members, and the views of such a
-//! list. Users take the views from `timefd_items`, where the descriptions stand.
+//! Descriptions of version 3 as one list of nodes, each after its members, and the views of such a
+//! list. Users import the views from `timefd_items`, which has the descriptions.
 #![tactic(auto)]
 
 mod debug;

@@ -8,18 +8,18 @@ use crate::node::Node;
 use crate::tally::ending_tally;
 use crate::view::View;
 
-/// Descriptions side by side: the members of a compound, or alternatives. They lend the
+/// Descriptions side by side: the members of a compound, or alternatives. They borrow the
 /// description, take no memory, and may be copied.
 #[derive(Clone, Copy)]
 pub struct Members<'v, 'a> {
-    // Their nodes, each member's behind those of the one before it.
+    // Their nodes, each member's after those of the member before it.
     nodes: &'v [Node<'a>],
     count: usize,
     ghost fit: { Fit [] (map part nodes.now) } by { Fit-prop [] (map part nodes.now) },
     ghost counted: { count ≡ length (grown_by [] (map part nodes.now)) },
 }
 
-/// A place among members: how many there are from it on, and in how many nodes.
+/// A position among members: how many members there are from it on, and how many nodes those have.
 #[derive(Clone, Copy)]
 pub struct Mark {
     pub count: usize,
@@ -38,7 +38,7 @@ impl<'v, 'a> Members<'v, 'a> {
         Members { nodes, count }
     }
 
-    /// How many they are.
+    /// How many members there are.
     pub fn len(self) -> usize
         ensures { result ≡ length (member_trees self.entry) }
     {
@@ -52,7 +52,7 @@ impl<'v, 'a> Members<'v, 'a> {
         self.count == 0
     }
 
-    /// Each in turn, the first one first.
+    /// Each member, one after another, from the first on.
     #[inline(never)]
     pub fn in_turn(self) -> InTurn<'v, 'a>
         ensures { turn_trees result ≡ member_trees self.entry }
@@ -60,7 +60,8 @@ impl<'v, 'a> Members<'v, 'a> {
         InTurn::new(self)
     }
 
-    /// The last one, and those in front of it. It takes the same time however many they are.
+    /// The last member, and those before it. `None` if there are none. It takes the same time
+    /// however many members there are.
     pub fn split_last(self) -> Option<(Self, View<'v, 'a>)>
         ensures { MatchOption result (member_trees self.entry ≡ [])
             (λ r. member_trees self.entry ≡ member_trees r.0 ++ view_tree r.1 ∷ []) }
@@ -68,7 +69,7 @@ impl<'v, 'a> Members<'v, 'a> {
         if self.count == 0 {
             return None;
         }
-        let (front, last) = self.split_behind(1);
+        let (front, last) = self.split_ending(1);
         Some((front, last.only()))
     }
 
@@ -79,31 +80,31 @@ impl<'v, 'a> Members<'v, 'a> {
         View::new(self.nodes)
     }
 
-    /// Two parts, of which the second has so many. It goes back over those.
-    pub fn split_behind(self, count: usize) -> (Self, Self)
+    /// Two parts, of which the second has the last `count` members. It goes back over those.
+    pub fn split_ending(self, count: usize) -> (Self, Self)
         requires { count ≤ length (member_trees self) }
         ensures front { member_trees result.0 ≡ before count (member_trees self.entry) }
-        ensures behind { member_trees result.1 ≡ ending count (member_trees self.entry) }
+        ensures after { member_trees result.1 ≡ ending count (member_trees self.entry) }
     {
         let nodes = ending_tally(self.nodes, count).nodes;
         self.split_at_mark(Mark { count, nodes })
     }
 
-    /// The members in front of a mark, and those behind it.
+    /// The members before a mark, and those after it.
     pub(crate) fn split_at_mark(self, mark: Mark) -> (Self, Self)
         requires there { mark.count ≤ length (member_trees self) }
         requires marked { IsMark (member_trees self) mark }
         ensures front { member_trees result.0 ≡ before mark.count (member_trees self.entry) }
-        ensures behind { member_trees result.1 ≡ ending mark.count (member_trees self.entry) }
+        ensures after { member_trees result.1 ≡ ending mark.count (member_trees self.entry) }
     {
-        let (front, behind) = self.nodes.split_at(self.nodes.len() - mark.nodes);
+        let (front, after) = self.nodes.split_at(self.nodes.len() - mark.nodes);
         (
             Members::new(front, self.count - mark.count),
-            Members::new(behind, mark.count),
+            Members::new(after, mark.count),
         )
     }
 
-    /// The mark so many members in front of another.
+    /// The mark `count` members before another.
     pub(crate) fn mark_before(self, mark: Mark, count: usize) -> Mark
         requires there { mark.count + count ≤ length (member_trees self) }
         requires marked { IsMark (member_trees self) mark }

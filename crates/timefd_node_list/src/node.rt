@@ -1,22 +1,22 @@
-//! One part of a description, which stands behind its members.
+//! One part of a description, which follows its members.
 
 ghost use Rattle.std.specs.Prelude.{◌≡◌, IfOk};
 
 use std::alloc::{AllocError, Global};
 use timefd_component::Component;
 
-/// What a description is made of. Of its members a node keeps how many they are, and in how many
-/// nodes they stand: those right before it, so each member is found by going back over the nodes of
-/// the one behind it. It has 32 bytes.
+/// What a description is made of. A node knows how many members it has, and how many nodes those
+/// have. They are the nodes right before it, so each member is found by going back over the nodes
+/// of the member after it. A node has 32 bytes.
 #[derive(Drop)]
 pub enum Node<'a> {
-    /// Text that is lent.
+    /// Borrowed text.
     Literal(&'a str),
-    /// Text of its own.
+    /// Owned text.
     OwnedLiteral(String),
     /// A component, and how many bytes it reserves.
     Component(Component, usize),
-    /// Its members in turn.
+    /// Its members, one after another.
     Compound(Members),
     /// The one member that a parser may skip.
     Optional {
@@ -31,10 +31,10 @@ pub enum Node<'a> {
     First(Members),
 }
 
-/// What a node keeps of its members.
+/// What a node knows about its members.
 #[derive(Clone, Copy)]
 pub struct Members {
-    /// How many they are.
+    /// How many members there are.
     pub count: usize,
     /// How many nodes they have.
     pub nodes: usize,
@@ -60,7 +60,7 @@ impl<'a> Node<'a> {
         }
     }
 
-    /// How many nodes stand before it as parts of its tree.
+    /// How many nodes right before it are parts of its tree.
     pub fn inner_nodes(&self) -> usize
         ensures { result ≡ (part self.now).nodes }
     {
@@ -72,8 +72,8 @@ impl<'a> Node<'a> {
         }
     }
 
-    /// A copy that borrows what this one borrows and owns what it owns. An `Err` comes where there
-    /// is no memory left for its text.
+    /// A copy that borrows what this one borrows and owns what it owns. An `Err` says that memory
+    /// ran out.
     pub fn copied(&self, alloc: Global) -> Result<Node<'a>, AllocError>
         ensures part { IfOk result (λ copy. part copy ≡ part self.now) }
         ensures owner { IfOk result (λ copy. owns_text copy ≡ owns_text self.now) }
@@ -84,7 +84,7 @@ impl<'a> Node<'a> {
         }
     }
 
-    /// A copy that borrows nothing. An `Err` comes where there is no memory left for its text.
+    /// A copy that borrows nothing. An `Err` says that memory ran out.
     pub fn owned(&self, alloc: Global) -> Result<Node<'static>, AllocError>
         ensures part { IfOk result (λ copy. part copy ≡ part self.now) }
         ensures owner { IfOk result (λ copy. owns_text copy ≡ is_text (part self.now).role) }

@@ -1,4 +1,4 @@
-//! Trees as one list of nodes, each behind its members.
+//! Trees as one list of nodes, each after its members.
 
 ghost use Rattle.std.specs.Prelude.{◌≡◌, ◌∷◌, ◌++◌, ◌≤◌, [], length, map, IfOk, string_bytes, vec_capacity, IsOk, OnOk};
 ghost use Rattle.std.specs.Bool.{IsFalse, IsTrue};
@@ -16,7 +16,7 @@ use std::mem::forget;
 use timefd_component::Component;
 use timefd_component::reserved::reserved_bytes;
 
-/// Trees side by side. Nothing is moved where some of them become one: its node comes behind.
+/// Trees side by side. Nothing is moved when some of them become one: its node is added after them.
 pub struct NodeList<'a> {
     nodes: Vec<Node<'a>>,
     // Whether a node may own its text.
@@ -25,13 +25,13 @@ pub struct NodeList<'a> {
     ghost flag: { IsFlag owns nodes.items } by { IsFlag-prop owns nodes.items },
 }
 
-/// Where no node owns its text there is nothing to drop but the list, and none is looked at.
+/// If no node owns its text, only the list has to be freed, and its nodes are forgotten.
 impl Drop for NodeList<'_> {
     fn drop(self) {
         let NodeList { mut nodes, owns } = self;
         if !owns {
-            'lent: while let Some(node) = nodes.pop() {
-                forget_lent(node);
+            'borrowed: while let Some(node) = nodes.pop() {
+                forget_borrowed(node);
             }
         }
     }
@@ -39,7 +39,7 @@ impl Drop for NodeList<'_> {
 
 /// Leaves a node that owns nothing as it is: there is nothing to free.
 #[inline(always)]
-fn forget_lent(node: Node<'_>)
+fn forget_borrowed(node: Node<'_>)
     requires { IsFalse (owns_text node) }
 {
     forget(node);
@@ -59,7 +59,7 @@ impl<'a> NodeList<'a> {
         }
     }
 
-    /// No trees, with room for so many nodes. An `Err` comes where there is no memory left.
+    /// No trees, with room for `count` nodes. An `Err` says that memory ran out.
     pub fn with_capacity(alloc: Global, count: usize) -> Result<Self, AllocError>
         ensures empty { IfOk result (λ list. list_trees list ≡ []) }
         ensures nodes { IfOk result (λ list. node_count list ≡ 0) }
@@ -80,14 +80,14 @@ impl<'a> NodeList<'a> {
         self.nodes.as_slice()
     }
 
-    /// How many they are.
+    /// How many nodes there are.
     pub fn node_count(&self) -> usize
         ensures { result ≡ node_count self.now }
     {
         self.nodes.len()
     }
 
-    /// The bytes that the last tree keeps, or 0 where there is none.
+    /// The bytes that the last tree reserves, at most `usize::MAX`, or 0 if there is none.
     pub fn last_bytes(&self) -> usize
         ensures { result ≡ last_kept (list_trees self.now) }
     {
@@ -95,7 +95,7 @@ impl<'a> NodeList<'a> {
     }
 
     /// A copy that borrows what this one borrows and owns what it owns, with no room for more. An
-    /// `Err` comes where there is no memory left for it.
+    /// `Err` says that memory ran out.
     pub fn copied(&self, alloc: Global) -> Result<Self, AllocError>
         ensures parts { IfOk result (λ copy. list_parts copy ≡ list_parts self.now) }
         ensures owners { IfOk result (λ copy. list_owners copy ≡ list_owners self.now) }
@@ -112,8 +112,7 @@ impl<'a> NodeList<'a> {
         })
     }
 
-    /// A copy that borrows nothing, with no room for more. An `Err` comes where there is no memory
-    /// left for it.
+    /// A copy that borrows nothing, with no room for more. An `Err` says that memory ran out.
     pub fn owned(&self, alloc: Global) -> Result<NodeList<'static>, AllocError>
         ensures parts { IfOk result (λ copy. list_parts copy ≡ list_parts self.now) }
         ensures exact { IfOk result (λ copy. room copy ≡ 0) }
@@ -129,7 +128,7 @@ impl<'a> NodeList<'a> {
         })
     }
 
-    /// Makes room for so many nodes more. An `Err` comes where there is no memory left for it.
+    /// Makes room for `count` more nodes. An `Err` says that memory ran out.
     pub fn reserve(&mut self, count: usize) -> Result<(), AllocError>
         ensures room { OnOk result (HasRoom self.new count) }
         ensures kept { list_trees self.new ≡ list_trees self.old }
@@ -141,14 +140,14 @@ impl<'a> NodeList<'a> {
         self.nodes.reserve(count)
     }
 
-    /// For how many nodes more there is room.
+    /// For how many more nodes there is room.
     pub fn room(&self) -> usize
         ensures { result ≡ room self.now }
     {
         self.nodes.capacity() - self.nodes.len()
     }
 
-    /// Adds a text that is lent.
+    /// Adds a borrowed text.
     pub fn literal(&mut self, text: &'a str)
         requires { HasRoom self.old 1 }
         ensures { Adds self.old self.new (literal text.now ∷ []) }
@@ -156,7 +155,7 @@ impl<'a> NodeList<'a> {
         self.push(Node::Literal(text));
     }
 
-    /// Adds a text.
+    /// Adds an owned text.
     pub fn owned_literal(&mut self, text: String)
         requires { HasRoom self.old 1 }
         ensures { Adds self.old self.new (literal (string_bytes text) ∷ []) }
@@ -165,7 +164,7 @@ impl<'a> NodeList<'a> {
         self.push(Node::OwnedLiteral(text));
     }
 
-    /// Adds a component, in its modern form, and says how many bytes it reserves.
+    /// Adds a component, in its modern form, and returns how many bytes it reserves.
     pub fn component(&mut self, component: Component) -> usize
         requires { HasRoom self.old 1 }
         ensures added { Adds self.old self.new (spec.component (modern component) ∷ []) }
@@ -176,7 +175,7 @@ impl<'a> NodeList<'a> {
         bytes
     }
 
-    /// Makes the last trees, so many, their compound.
+    /// Makes the last `count` trees their compound.
     pub fn compound(&mut self, count: usize)
         requires there { count ≤ length (list_trees self.old) }
         requires room { HasRoom self.old 1 }
@@ -188,7 +187,7 @@ impl<'a> NodeList<'a> {
         self.push(Node::Compound(members.of_all(count)));
     }
 
-    /// Makes all trees, so many, their compound, where the bytes that they reserve are known.
+    /// Makes all `count` trees their compound. They reserve `bytes` bytes.
     pub fn compound_of_all(&mut self, count: usize, bytes: usize)
         requires all { count ≡ length (list_trees self.old) }
         requires bytes { bytes ≡ reserve_all (trees (list_trees self.old)) }
@@ -205,7 +204,7 @@ impl<'a> NodeList<'a> {
         }));
     }
 
-    /// Makes the last trees, so many, the alternatives of one.
+    /// Makes the last `count` trees the alternatives of one tree.
     pub fn first(&mut self, count: usize)
         requires there { count ≤ length (list_trees self.old) }
         requires room { HasRoom self.old 1 }

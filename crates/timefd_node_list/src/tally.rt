@@ -1,4 +1,4 @@
-//! What the last trees of a list come to.
+//! What the last trees of a list add up to.
 
 ghost use Rattle.std.specs.Prelude.{◌≡◌, ◌+◌, ◌<◌, ◌≤◌, if◌then◌else◌, [], length, map};
 ghost use Rattle.timefd_node_list.specs.Nodes.{Fit, arity, ending, grown_by, last_kept, part};
@@ -7,19 +7,19 @@ ghost use Rattle.timefd_node_list.specs.Tallies.{IsTally, kept_of};
 
 use crate::node::{Members, Node};
 
-/// What is known of trees side by side.
+/// What is known about trees side by side.
 #[derive(Clone, Copy)]
 pub struct Tally {
     /// How many nodes they have.
     pub nodes: usize,
-    /// The sum of the bytes that they keep, where a `usize` counts it.
+    /// The sum of the bytes that they keep; `None` if it doesn't fit a `usize`.
     pub bytes: Option<usize>,
-    /// The bytes that the first of them keeps, or 0 where there is none.
+    /// The bytes that the first of them keeps, or 0 if there is none.
     pub first: usize,
 }
 
 impl Tally {
-    /// Of so many members in turn.
+    /// What a node keeps of `count` members, one after another.
     pub fn of_all(self, count: usize) -> Members
         ensures { result ≡ record { count = count; nodes = self.nodes; bytes = kept_of self.bytes } }
     {
@@ -33,7 +33,7 @@ impl Tally {
         }
     }
 
-    /// Of so many alternatives.
+    /// What a node keeps of `count` alternatives.
     pub fn of_first(self, count: usize) -> Members
         ensures { result ≡ record { count = count; nodes = self.nodes; bytes = self.first } }
     {
@@ -44,15 +44,16 @@ impl Tally {
         }
     }
 
-    /// Of a member that a formatter may not write.
+    /// The bytes that a node keeps of a member that a parser may skip. `format` says whether a
+    /// formatter writes it.
     pub fn of_optional(self, format: bool) -> usize
         ensures { result ≡ (if format then self.first else 0) }
     {
         if format { self.first } else { 0 }
     }
 
-    /// These and one more in front, which has so many nodes and keeps so many bytes.
-    fn behind(self, nodes: usize, bytes: usize) -> Tally
+    /// The tally of these trees and one more before them, with this many nodes and bytes.
+    fn after(self, nodes: usize, bytes: usize) -> Tally
         requires { self.nodes + nodes ≤ usize.MAX }
         ensures { result ≡ record {
           nodes = self.nodes + nodes;
@@ -69,7 +70,7 @@ impl Tally {
     }
 }
 
-/// A sum and so many more, where it is known and a `usize` counts them.
+/// A sum and this many bytes more; `None` if the sum isn't known or doesn't fit a `usize`.
 pub fn sum_within(sum: Option<usize>, bytes: usize) -> Option<usize>
     ensures { result ≡ spec.sum_within sum bytes }
 {
@@ -79,8 +80,8 @@ pub fn sum_within(sum: Option<usize>, bytes: usize) -> Option<usize>
     }
 }
 
-/// What the last trees, so many, come to: each is found by going back over the nodes of the one
-/// behind it.
+/// What the last `count` trees add up to. Each is found by going back over the nodes of the tree
+/// after it.
 pub fn ending_tally(nodes: &[Node<'_>], count: usize) -> Tally
     requires fit { Fit [] (map part nodes.now) }
     requires there { count ≤ length (grown_by [] (map part nodes.now)) }
@@ -93,12 +94,12 @@ pub fn ending_tally(nodes: &[Node<'_>], count: usize) -> Tally
     };
     'trees: for at in 0..count {
         let node = &nodes[nodes.len() - 1 - tally.nodes];
-        tally = tally.behind(1 + node.inner_nodes(), node.bytes());
+        tally = tally.after(1 + node.inner_nodes(), node.bytes());
     }
     tally
 }
 
-/// The bytes that the last tree keeps, or 0 where there is none.
+/// The bytes that the last tree keeps, or 0 if there is none.
 pub fn last_kept_bytes(nodes: &[Node<'_>]) -> usize
     requires { Fit [] (map part nodes.now) }
     ensures { result ≡ last_kept (grown_by [] (map part nodes.now)) }
@@ -110,7 +111,7 @@ pub fn last_kept_bytes(nodes: &[Node<'_>]) -> usize
     nodes[count - 1].bytes()
 }
 
-/// The last node, and the nodes in front of it, which end with its members.
+/// The last node, and the nodes before it, which end with its members.
 pub fn split_last<'n, 'a>(nodes: &'n [Node<'a>]) -> (&'n [Node<'a>], &'n Node<'a>)
     requires fit { Fit [] (map part nodes.now) }
     requires there { 1 ≤ length nodes.now }
@@ -123,7 +124,7 @@ pub fn split_last<'n, 'a>(nodes: &'n [Node<'a>]) -> (&'n [Node<'a>], &'n Node<'a
     (&nodes[..count], last)
 }
 
-/// The nodes without those of the last trees, so many.
+/// The nodes without those of the last `count` trees.
 pub fn without_ending<'n, 'a>(nodes: &'n [Node<'a>], count: usize) -> &'n [Node<'a>]
     requires fit { Fit [] (map part nodes.now) }
     requires there { count ≤ length (grown_by [] (map part nodes.now)) }
@@ -132,7 +133,7 @@ pub fn without_ending<'n, 'a>(nodes: &'n [Node<'a>], count: usize) -> &'n [Node<
     ensures left { count + length (grown_by [] (map part result.now)) ≡ length
         (grown_by [] (map part nodes.now)) }
 {
-    let behind = ending_tally(nodes, count).nodes;
-    let rest = nodes.len() - behind;
+    let after = ending_tally(nodes, count).nodes;
+    let rest = nodes.len() - after;
     &nodes[..rest]
 }

@@ -16,7 +16,7 @@ use timefd_component::Component;
 /// A description, or a part of one. It borrows the description, takes no memory, and may be copied.
 #[derive(Clone, Copy)]
 pub struct View<'v, 'a> {
-    // The nodes of one tree, or none for the compound of none.
+    // The nodes of one tree, or none for the compound of nothing.
     nodes: &'v [Node<'a>],
     ghost fit: { Fit [] (map part nodes.now) } by { Fit-prop [] (map part nodes.now) },
     ghost one: { length (grown_by [] (map part nodes.now)) ≤ 1 },
@@ -27,9 +27,9 @@ pub struct View<'v, 'a> {
 pub enum Shape<'v, 'a> {
     /// A component, in its modern form.
     Component(Component),
-    /// Text as it stands.
+    /// Text as it is written.
     Literal(&'v str),
-    /// Descriptions in turn.
+    /// Descriptions one after another.
     Compound(Members<'v, 'a>),
     /// A description that a parser may skip.
     Optional {
@@ -49,7 +49,7 @@ impl<'v, 'a> View<'v, 'a> {
     ghost use Rattle.timefd_node_list.specs.Turns.{walk_trees};
     ghost use Rattle.timefd_node_list.specs.Views.{shape_tree, view_tree, walked};
 
-    /// The view of these nodes: those of one tree, or none for the compound of none.
+    /// The view of these nodes: those of one tree, or none for the compound of nothing.
     pub fn new(nodes: &'v [Node<'a>]) -> Self
         requires fit { Fit [] (map part nodes.now) }
         requires one { length (grown_by [] (map part nodes.now)) ≤ 1 }
@@ -58,7 +58,7 @@ impl<'v, 'a> View<'v, 'a> {
         View { nodes }
     }
 
-    /// What it is.
+    /// What the description is.
     pub fn shape(self) -> Shape<'v, 'a>
         ensures { shape_tree result ≡ view_tree self.entry }
     {
@@ -79,22 +79,22 @@ impl<'v, 'a> View<'v, 'a> {
         }
     }
 
-    /// The parts of it that a formatter writes.
+    /// The parts of the description that a formatter writes.
     pub fn leaves(self) -> Leaves<'v, 'a>
         ensures { leaves_left result ≡ leaves (view_tree self.entry) }
     {
         Leaves::new(self.nodes)
     }
 
-    /// How many parts it has, itself among them: as many as `walk` gives.
+    /// How many parts the description has, itself included: as many as `walk` gives.
     pub fn part_count(self) -> usize
         ensures { result ≡ tree_count (view_tree self.entry) }
     {
         self.nodes.len().max(1)
     }
 
-    /// How many bytes are reserved for it, at most `usize::MAX`: the greatest length of what a
-    /// formatter shows it as.
+    /// How many bytes are reserved for the description, at most `usize::MAX`: the most that a
+    /// formatter writes for it.
     pub fn max_bytes_needed(self) -> usize
         ensures { result ≡ kept_bytes (reserve (view_tree self.entry)) }
     {
@@ -105,7 +105,7 @@ impl<'v, 'a> View<'v, 'a> {
         last.bytes()
     }
 
-    /// All parts of it, each behind its members and itself the last.
+    /// All parts of the description, each after its members, and itself last.
     pub fn walk(self) -> Walk<'v, 'a>
         ensures { walk_trees result ≡ walked (view_tree self.entry) }
     {
@@ -116,7 +116,7 @@ impl<'v, 'a> View<'v, 'a> {
     }
 }
 
-/// As the whole description prints.
+/// Prints like the whole description.
 impl fmt::Debug for View<'_, '_> {
     fn fmt<W: fmt::Write>(&self, f: &mut fmt::Formatter<W>) -> fmt::Result {
         if self.nodes.is_empty() {
@@ -126,7 +126,7 @@ impl fmt::Debug for View<'_, '_> {
     }
 }
 
-/// The nodes of the members of one tree, and its own.
+/// The nodes of the members of one tree, and its own node.
 fn split_one<'n, 'a>(nodes: &'n [Node<'a>]) -> (&'n [Node<'a>], &'n Node<'a>)
     requires fit { Fit [] (map part nodes.now) }
     requires one { length (grown_by [] (map part nodes.now)) ≤ 1 }

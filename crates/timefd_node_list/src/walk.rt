@@ -1,4 +1,4 @@
-//! All parts of a description one after another. This is this port's own.
+//! All parts of a description, one after another. This is this port's own.
 
 ghost use Rattle.std.specs.Prelude.{◌≡◌, ◌+◌, ◌++◌, ◌∷◌, ◌<◌, ◌≤◌, [], length, map};
 ghost use Rattle.timefd_node_list.specs.Nodes.{Fit, Fit-prop, part};
@@ -7,13 +7,13 @@ ghost use Rattle.timefd_node_list.specs.Views.{made_each, view_tree, view_trees,
 use crate::node::Node;
 use crate::view::View;
 
-/// The parts of a description, each behind its members and the whole one last. Each takes the same
-/// time, and all of them no memory.
+/// The parts of a description, each after its members, and the whole description last. Each takes
+/// the same time, and none takes memory.
 #[derive(Clone, Copy)]
 pub struct Walk<'v, 'a> {
     nodes: &'v [Node<'a>],
     at: usize,
-    // What comes behind the nodes: the compound of none, where there are no nodes.
+    // What comes after the nodes: the compound of nothing, if there are no nodes.
     last: Option<View<'v, 'a>>,
     ghost fit: { Fit [] (map part nodes.now) } by { Fit-prop [] (map part nodes.now) },
     ghost inside: { at ≤ length nodes.now },
@@ -50,7 +50,7 @@ impl<'v, 'a> Iterator for Walk<'v, 'a> {
     }
 }
 
-/// The tree of a node: it and those that stand before it as its parts.
+/// The tree of a node: the node and those before it that are its parts.
 fn part_at<'v, 'a>(nodes: &'v [Node<'a>], at: usize) -> View<'v, 'a>
     requires fit { Fit [] (map part nodes.now) }
     requires there { at < length nodes.now }

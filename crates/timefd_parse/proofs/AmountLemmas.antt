@@ -7,12 +7,12 @@ use Rattle.timefd_language.specs.declared.description_version.DescriptionVersion
 use Rattle.timefd_language.specs.declared.description_version.DescriptionVersion.TheVariants.{One, Two, Three}
 use Rattle.timefd_parse.specs.declared.language.Language.TheVariants.{Version, Strftime}
 use Rattle.timefd_fault.specs.declared.parse_error.ParseError.{ParseError}
-use Rattle.timefd_fault.specs.declared.parse_error.ParseError.TheVariants as told
+use Rattle.timefd_fault.specs.declared.parse_error.ParseError.TheVariants as reported
 use Rattle.timefd_language.specs.Broken.{FaultOf}
 use Rattle.timefd_language.specs.Strftime.{StrftimeFaultOf}
 use Rattle.timefd_fault.specs.declared.borrowed_parse_error.BorrowedParseError.{BorrowedParseError}
 use Rattle.timefd_fault.specs.declared.borrowed_parse_error.BorrowedParseError.TheVariants.{Invalid, Memory}
-use Rattle.timefd_fault.specs.BorrowedFaults.{HasShortWords, IsLentOf, IsOwned}
+use Rattle.timefd_fault.specs.BorrowedFaults.{HasShortWords, IsBorrowedOf, IsOwned}
 use Rattle.timefd_fault.specs.Placed.{IsPlaced}
 use Rattle.timefd_language.proofs.PlacedLemmas.{is_placed, is_strftime_placed}
 use Rattle.timefd_language.proofs.ShortWords.{short_fault, short_strftime_fault}
@@ -21,21 +21,21 @@ use Rattle.timefd_fault.proofs.OwnedLemmas.{owned_of}
 use Rattle.timefd_parse.specs.declared.language.Language.{Language}
 use Rattle.timefd_parse.specs.Language.{amount, takes_memory, FaultIn, IsAssignedIn}
 
-pub lent-in-version : (v : DescriptionVersion) (limit : ℕ) (text : Text) (e : BorrowedParseError)
-    → IsLentOf (FaultOf v limit text) e → IsLentOf (FaultIn (Version v) limit text) e
-lent-in-version v limit text (Invalid f) is = is
-lent-in-version v limit text (Memory m) is = tt
+pub borrowed-in-version : (v : DescriptionVersion) (limit : ℕ) (text : Text) (e : BorrowedParseError)
+    → IsBorrowedOf (FaultOf v limit text) e → IsBorrowedOf (FaultIn (Version v) limit text) e
+borrowed-in-version v limit text (Invalid f) is = is
+borrowed-in-version v limit text (Memory m) is = tt
 
-pub lent-in-strftime : (limit : ℕ) (text : Text) (e : BorrowedParseError)
-    → IsLentOf (StrftimeFaultOf text) e → IsLentOf (FaultIn Strftime limit text) e
-lent-in-strftime limit text (Invalid f) is = is
-lent-in-strftime limit text (Memory m) is = tt
+pub borrowed-in-strftime : (limit : ℕ) (text : Text) (e : BorrowedParseError)
+    → IsBorrowedOf (StrftimeFaultOf text) e → IsBorrowedOf (FaultIn Strftime limit text) e
+borrowed-in-strftime limit text (Invalid f) is = is
+borrowed-in-strftime limit text (Memory m) is = tt
 
 pub owned-assigned-in : (language : Language) (limit : ℕ) (text : Text) (e : BorrowedParseError)
-    (r : ParseError) → IsLentOf (FaultIn language limit text) e → IsOwned e r
+    (r : ParseError) → IsBorrowedOf (FaultIn language limit text) e → IsOwned e r
     → IsAssignedIn language limit text r
-owned-assigned-in language limit text e (told.Memory m) is owned = tt
-owned-assigned-in language limit text e (told.Invalid x) is owned =
+owned-assigned-in language limit text e (reported.Memory m) is owned = tt
+owned-assigned-in language limit text e (reported.Invalid x) is owned =
     owned_of (FaultIn language limit text) e x is owned
 
 pub short_in : (language : Language) (limit : ℕ) (text : Text) (f : Fault)

@@ -1,4 +1,4 @@
--- Brackets that hold the name of a component, alone or with modifiers behind it.
+-- Brackets that hold the name of a component, alone or with modifiers after it.
 use Rattle.std.proofs.Common.{◌≡◌, ℕ, ◌+◌, Bool, true, false, List, [], ◌∷◌, ◌++◌, length, Option, Some, None, Ok, refl, sym, ap, ◌∙◌, subst, arith, append_assoc, append-nil, length-append, take, drop, take-append-drop, ◌<◌, IsTrue, IsUtf8}
 use Rattle.std.proofs.lemmas.Str.{IsCharBoundary-from_take}
 use Rattle.std.specs.Str.{IsCharBoundary}
@@ -11,7 +11,7 @@ use Rattle.timefd_language.specs.declared.name.ComponentName.{ComponentName}
 use Rattle.timefd_language.specs.declared.name.Name.{Name}
 use Rattle.timefd_language.specs.declared.setting.Setting.{Setting}
 use Rattle.timefd_language.specs.declared.setting.Settings.{Settings}
-use Rattle.timefd_parse.specs.declared.places.Places.{Places}
+use Rattle.timefd_parse.specs.declared.positions.Positions.{Positions}
 use Rattle.timefd_language.specs.Bytes.{left, right, colon, is_word_byte, is_key_byte, is_version_three, OneOrMore}
 use Rattle.timefd_language.specs.Combinations.{Refusal, refusals}
 use Rattle.timefd_language.specs.Head.{Head, Modifier, AreModifiers, Placed, modifiers_text, name_index, placed, placed_at, placed_from}
@@ -21,13 +21,13 @@ use Rattle.timefd_language.specs.Values.{key_in, setting_in}
 use Rattle.timefd_language.specs.Grammar.{bracket, no_nested, spelling}
 use Rattle.timefd_language.specs.Lookup.{IsNameOf, key_for}
 use Rattle.timefd_language.specs.Verdict as rules
-use Rattle.timefd_language.specs.Verdict.{unless, behind, combination, combined, component_verdict, settings, verdict}
-use Rattle.timefd_parse.specs.Checked.{Checks, ShowsFault, ShowsPlace}
-use Rattle.timefd_parse.specs.Judged.{ShowsPlaces}
-use Rattle.timefd_parse.specs.Places.{no_places, place}
+use Rattle.timefd_language.specs.Verdict.{unless, after, combination, combined, component_verdict, settings, verdict}
+use Rattle.timefd_parse.specs.Checked.{Checks, ShowsFault, ShowsPosition}
+use Rattle.timefd_parse.specs.Judged.{ShowsPositions}
+use Rattle.timefd_parse.specs.Positions.{no_positions, position}
 use Rattle.timefd_parse.specs.Quick.{BeginsWithValue, IsModified, IsNoted, TakenBefore, Takes, TakesModifiers}
 use Rattle.timefd_parse.specs.Read.{LeadsOn, IsBare}
-use Rattle.timefd_parse.proofs.CheckLemmas.{good_one, none_shown, place_known, take_good}
+use Rattle.timefd_parse.proofs.CheckLemmas.{good_one, none_shown, position_known, take_good}
 use Rattle.timefd_parse.proofs.HeadLemmas.{modifiers_more, modifiers_text_more, placed_more}
 use Rattle.timefd_language.proofs.ModernPieces.{name_modern}
 
@@ -100,11 +100,11 @@ unfolding bare_head
 bare_made true name c = ap (λ f. unless f (component c)) (nothing_combined (refusals c))
 bare_made false name c = refl
 
-bare_verdict : (strict : Bool) (n : ComponentName) (c : Component) (place : ℕ)
+bare_verdict : (strict : Bool) (n : ComponentName) (c : Component) (position : ℕ)
     → (row_for n).component (defaults strict) ≡ Ok c
-    → verdict strict (bare_head (row_for n).name) [] place ≡ Ok (component c)
+    → verdict strict (bare_head (row_for n).name) [] position ≡ Ok (component c)
 unfolding bare_head
-bare_verdict strict n c place e =
+bare_verdict strict n c position e =
     let is = named_itself strict n in
     rw (is.0, is.1, is.2, e) (bare_made strict (row_for n).name c)
 
@@ -171,23 +171,23 @@ is_key code_key.Key.Format = refl
 
 -- no modifiers yet
 pub none_taken : (strict : Bool) (name : ComponentName) (text : Text) (s : Settings)
-    (places : Places) → s ≡ defaults strict → places ≡ no_places
-    → TakenBefore strict name text s places text
-none_taken strict name text s places new empty = record {
+    (positions : Positions) → s ≡ defaults strict → positions ≡ no_positions
+    → TakenBefore strict name text s positions text
+none_taken strict name text s positions new empty = record {
   list = [];
   are = tt;
   whole = refl;
   checks = λ k total e. record {
     fault = tt;
     settings = λ none. new;
-    places = λ none exact key.
-        subst (λ p. ShowsPlace total (place p key) None) (sym empty) (no_place total key);
+    positions = λ none exact key.
+        subst (λ p. ShowsPosition total (position p key) None) (sym empty) (no_position total key);
   };
 }
   where
-    no_place : (total : ℕ) (key : code_key.Key) → ShowsPlace total (place no_places key) None
-    no_place total code_key.Key.Padding = tt
-    no_place total _ = tt
+    no_position : (total : ℕ) (key : code_key.Key) → ShowsPosition total (position no_positions key) None
+    no_position total code_key.Key.Padding = tt
+    no_position total _ = tt
 
 taken_key : (strict : Bool) (name : ComponentName) (key : code_key.Key) → Takes name key
     → key_in strict (key_for key).key (row_for name).keys ≡ Some (key_for key)
@@ -202,12 +202,12 @@ taken_value false key text rest setting is = is.anyhow
 
 -- one more
 pub one_taken : (strict : Bool) (name : ComponentName) (text front word rest : Text) (s s' : Settings)
-    (places places' : Places) (key : code_key.Key) (setting : Setting)
-    → TakenBefore strict name text s places front → front ≡ 32 ∷ word
+    (positions positions' : Positions) (key : code_key.Key) (setting : Setting)
+    → TakenBefore strict name text s positions front → front ≡ 32 ∷ word
     → IsModified name word key setting rest
-    → (IsTrue strict → IsNoted places key (length word) places') → s' ≡ with s setting
-    → TakenBefore strict name text s' places' rest
-one_taken strict name text front word rest s s' places places' key setting before e is noted set =
+    → (IsTrue strict → IsNoted positions key (length word) positions') → s' ≡ with s setting
+    → TakenBefore strict name text s' positions' rest
+one_taken strict name text front word rest s s' positions positions' key setting before e is noted set =
     let value = is.3 in
     let m : Modifier = record { white = 32 ∷ []; key = (key_for key).key; value = value.value } in
     let lengths : length text ≡ length (modifiers_text before.list) + (length word + 1) =
@@ -226,31 +226,31 @@ one_taken strict name text front word rest s s' places places' key setting befor
           ap (λ t. (key_for key).key ++ colon ∷ t) value.whole)) ∙
           rw (modifiers_text_more before.list m) (simp append_assoc);
       checks = λ k total f.
-          let place_at : ℕ = k + length (modifiers_text before.list) in
-          let remaining : place_at + 1 + length word ≡ total = omega (arith, f, lengths) in
+          let position_at : ℕ = k + length (modifiers_text before.list) in
+          let remaining : position_at + 1 + length word ≡ total = omega (arith, f, lengths) in
           let old = before.checks k total f in
           subst (Checks strict (Some (Name.Component name)) total
-          (record { settings = s'; places = places'; fault = None }))
+          (record { settings = s'; positions = positions'; fault = None }))
           (sym (placed_more k before.list m))
           (take_good strict (Some (Name.Component name)) total
-          (record { settings = s; places = places; fault = None }) (length word)
-          (placed_from k before.list) (placed_at place_at m) key setting s' places' old refl
+          (record { settings = s; positions = positions; fault = None }) (length word)
+          (placed_from k before.list) (placed_at position_at m) key setting s' positions' old refl
           remaining
           (good_one strict (Some (Name.Component name)) total key setting
-          (placed_from k before.list) (placed_at place_at m) (taken_key strict name key is.1)
+          (placed_from k before.list) (placed_at position_at m) (taken_key strict name key is.1)
           (taken_value strict key is.0 rest setting value)
-          (λ exact. place_known total _ _ false (old.places refl exact key) (noted exact).0)) set
+          (λ exact. position_known total _ _ false (old.positions refl exact key) (noted exact).0)) set
           (λ exact. (noted exact).1));
     }
 
--- all of them, where a `]` stands next
+-- all of them, if a `]` comes next
 pub all_taken : (strict : Bool) (name : ComponentName) (text front rest : Text) (s : Settings)
-    (places : Places) → TakenBefore strict name text s places front → front ≡ right ∷ rest
-    → IsUtf8 rest → TakesModifiers strict name text s places rest
-all_taken strict name text front rest s places before e utf8 =
-    (subst (TakenBefore strict name text s places) e before, utf8)
+    (positions : Positions) → TakenBefore strict name text s positions front → front ≡ right ∷ rest
+    → IsUtf8 rest → TakesModifiers strict name text s positions rest
+all_taken strict name text front rest s positions before e utf8 =
+    (subst (TakenBefore strict name text s positions) e before, utf8)
 
--- less is left behind each
+-- less is left after each
 pub less_left : (name : ComponentName) (front word rest : Text) (key : code_key.Key)
     (setting : Setting) → front ≡ 32 ∷ word → IsModified name word key setting rest
     → length rest < length front
@@ -265,28 +265,28 @@ less_left name front word rest key setting e is =
     )
 
 modified_verdict : (strict : Bool) (n : ComponentName) (ms : List Modifier) (c : Component)
-    (place : ℕ)
+    (position : ℕ)
     → component_verdict strict (modified_head (row_for n).name ms) (Some (row_for n)) ≡ Ok
     (component c)
-    → verdict strict (modified_head (row_for n).name ms) [] place ≡ Ok (component c)
+    → verdict strict (modified_head (row_for n).name ms) [] position ≡ Ok (component c)
 unfolding modified_head
-modified_verdict strict n ms c place e =
+modified_verdict strict n ms c position e =
     let is = named_itself strict n in
     rw (is.0, is.1, is.2) e
 
 -- modifiers that were taken make a component
 judged : (strict : Bool) (n : ComponentName) (ms : List Modifier) (total : ℕ) (s : Settings)
-    (places : Places) (c : Component) (o : Option code_fault.Fault)
+    (positions : Positions) (c : Component) (o : Option code_fault.Fault)
     → Checks strict (Some (Name.Component n)) total
-    (record { settings = s; places = places; fault = None })
+    (record { settings = s; positions = positions; fault = None })
     (placed (modified_head (row_for n).name ms))
     → (row_for n).component s ≡ Ok c → o ≡ None
     → ShowsFault total o (combination strict c (placed (modified_head (row_for n).name ms)))
     → component_verdict strict (modified_head (row_for n).name ms) (Some (row_for n)) ≡ Ok
     (component c)
-judged strict n ms total s places c o checks e none free =
+judged strict n ms total s positions c o checks e none free =
     let h : Head = modified_head (row_for n).name ms in
-    ap (λ b. behind b (rules.made strict h ((row_for n).component (settings strict (row_for n).keys
+    ap (λ b. after b (rules.made strict h ((row_for n).component (settings strict (row_for n).keys
     (placed h))))) (none_shown total None _ checks.fault refl)
     ∙ ap (rules.made strict h) (ap (row_for n).component (sym (checks.settings refl)) ∙ e)
     ∙ ap (λ f. unless f (component c)) (none_shown total o _ free none)
@@ -331,22 +331,22 @@ modified_leads v limit n inside after rest name ms c e are d utf8 made = record 
 }
 
 pub is_modified : (v : DescriptionVersion) (strict : Bool) (inside after rest : Text)
-    (name : ComponentName) (s : Settings) (places : Places) (c : Component)
+    (name : ComponentName) (s : Settings) (positions : Positions) (c : Component)
     (o : Option code_fault.Fault) → strict ≡ is_version_three v
     → (inside ≡ (row_for name).name ++ after) × IsUtf8 after
-    → TakesModifiers strict name after s places rest → (row_for name).component s ≡ Ok c
+    → TakesModifiers strict name after s positions rest → (row_for name).component s ≡ Ok c
     → o ≡ None
-    → ((total : ℕ) (ps : List Placed) → (IsTrue strict → ShowsPlaces total places ps)
+    → ((total : ℕ) (ps : List Placed) → (IsTrue strict → ShowsPositions total positions ps)
     → ShowsFault total o (combination strict c ps))
     → IsBare v inside c rest
 unfolding modified_head
-is_modified v strict inside after rest name s places c o exact shows taken made none free =
+is_modified v strict inside after rest name s positions c o exact shows taken made none free =
     let ms = taken.0.list in
     let h : Head = modified_head (row_for name).name ms in
     let start : ℕ = name_index h + length (row_for name).name in
     let checks = taken.0.checks start (start + length after) refl in
-    let good = judged strict name ms (start + length after) s places c o checks made none
-    (free (start + length after) (placed h) (λ is. checks.places refl is)) in
+    let good = judged strict name ms (start + length after) s positions c o checks made none
+    (free (start + length after) (placed h) (λ is. checks.positions refl is)) in
     record {
       leads = λ limit n. modified_leads v limit n inside after rest name ms c shows.0 taken.0.are
           taken.0.whole taken.1 (subst (λ b. component_verdict b h (Some (row_for name)) ≡ Ok
@@ -366,7 +366,7 @@ word_before text word x y first second begins =
     sym (take-append-drop (length word) text) ∙
     ap (λ t. t ++ drop (length word) text) (sym (front_is text word x y first second begins))
 
--- Where a word ends that a text begins with, a character ends.
+-- If a text begins with a word, a character ends where the word ends.
 pub word_ends : (text word x y : Text) → x ≡ word → y ≡ text → x ≡ take (length x) y
     → IsUtf8 text → IsUtf8 word → IsCharBoundary text (length word)
 word_ends text word x y first second begins utf8 whole =

@@ -1,4 +1,4 @@
--- Bytes that begin with a word, by lanes that are compared.
+-- Bytes that begin with a word, by comparing lanes.
 use Rattle.std.proofs.Common.{◌≡◌, ℕ, ◌+◌, ◌*◌, ◌%◌, ◌^◌, ◌≤◌, Bool, true, false, not, eqb, eqb-true, cond, List, [], ◌∷◌, ◌++◌, length, map, take, nat_eq, w8, refl, sym, ap, ap₂, ◌∙◌, arith, take-take, IsTrue}
 use Rattle.std.proofs.Math.Seq.{take-add, take-length}
 use Rattle.std.proofs.lemmas.Simd.{tops_compared, mask_l-mod, length-zip2}
@@ -33,7 +33,7 @@ zero_of k is = eqb-true k 0 (twice (nat_eq k 0) is)
     twice true is = refl
     twice false is = is
 
--- where no lane differs, the lanes are the same
+-- if no lane differs, the lanes are the same
 pub lanes_same : (xs ys : List ℕ) (n : ℕ) → length xs ≡ n → length ys ≡ n → n ≤ 64
     → IsTrue (not (not (nat_eq (mask_l (map (top 7)
     (zip2 (λ a b. cond (differ a b) 255 0) xs ys)) % 18446744073709551616) 0)))

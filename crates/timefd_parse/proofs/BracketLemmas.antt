@@ -57,40 +57,40 @@ not_empty test (b ∷ text) some all = all
 
 -- Names.
 
-behind_modifiers : (ms : List Modifier) (behind : Text) → AreModifiers ms
-    → StopsBefore is_word_byte behind → StopsBefore is_word_byte (modifiers_before ms behind)
-behind_modifiers [] behind are stops = stops
-behind_modifiers (m ∷ ms) behind are stops =
+after_modifiers : (ms : List Modifier) (after : Text) → AreModifiers ms
+    → StopsBefore is_word_byte after → StopsBefore is_word_byte (modifiers_before ms after)
+after_modifiers [] after are stops = stops
+after_modifiers (m ∷ ms) after are stops =
     stops_one is_white is_word_byte white-not_word m.white _ are.0.white
 
--- the name and what follows it are those of each head that the text begins with
-pub same_name : (text inside white named name rest : Text) (h : Head) (behind : Text)
+-- the name and what follows it are those of every head that the text begins with
+pub same_name : (text inside white named name rest : Text) (h : Head) (after : Text)
     → text ≡ left ∷ inside → IsCut is_white inside white named
-    → IsCut is_word_byte named name rest → IsHead h → StopsBefore is_word_byte behind
-    → text ≡ head_text h ++ behind
-    → SameCut name rest h.name (modifiers_text h.modifiers ++ behind)
-same_name text inside white named name rest h behind e w n is stops whole =
-    let f : inside ≡ h.white ++ (h.name ++ modifiers_before h.modifiers behind) =
-    ap (drop 1) (sym e ∙ whole ∙ sym (head_before-is h behind)) in
+    → IsCut is_word_byte named name rest → IsHead h → StopsBefore is_word_byte after
+    → text ≡ head_text h ++ after
+    → SameCut name rest h.name (modifiers_text h.modifiers ++ after)
+same_name text inside white named name rest h after e w n is stops whole =
+    let f : inside ≡ h.white ++ (h.name ++ modifiers_before h.modifiers after) =
+    ap (drop 1) (sym e ∙ whole ∙ sym (head_before-is h after)) in
     let first = same_cut is_white inside white named h.white
-    (h.name ++ modifiers_before h.modifiers behind) w f is.white
+    (h.name ++ modifiers_before h.modifiers after) w f is.white
     (stops_one is_word_byte is_white word-not_white h.name _ is.name) in
     let second = same_cut is_word_byte named name rest h.name
-    (modifiers_before h.modifiers behind) n first.rest
+    (modifiers_before h.modifiers after) n first.rest
     (zero_from_one is_word_byte h.name is.name)
-    (behind_modifiers h.modifiers behind is.modifiers stops) in
+    (after_modifiers h.modifiers after is.modifiers stops) in
     record {
       front = second.front;
-      rest = second.rest ∙ modifiers_before-is h.modifiers behind;
+      rest = second.rest ∙ modifiers_before-is h.modifiers after;
     }
 
-pub never_nameless : (text inside white named name rest : Text) (h : Head) (behind : Text)
+pub never_nameless : (text inside white named name rest : Text) (h : Head) (after : Text)
     → length name ≡ 0
     → text ≡ left ∷ inside → IsCut is_white inside white named
-    → IsCut is_word_byte named name rest → IsHead h → StopsBefore is_word_byte behind
-    → text ≡ head_text h ++ behind → ⊥
-never_nameless text inside white named name rest h behind none e w n is stops whole =
-    some_word h.name (sym (same_name text inside white named name rest h behind e w n is stops
+    → IsCut is_word_byte named name rest → IsHead h → StopsBefore is_word_byte after
+    → text ≡ head_text h ++ after → ⊥
+never_nameless text inside white named name rest h after none e w n is stops whole =
+    some_word h.name (sym (same_name text inside white named name rest h after e w n is stops
     whole).front ∙ empty_is name none) is.name
 
 -- Modifiers.
@@ -111,8 +111,8 @@ is_modified text white word rest m whole w some b is = record {
   whole = w.whole ∙ ap (λ t. white ++ t) (b.cut.whole ∙ ap (λ t. t ++ rest) is.whole)
       ∙ sym (regrouped white m.key.now (colon ∷ m.value.now) rest);
   stops = b.cut.stops;
-  key_place = omega (arith, is.key_place, ap length w.whole, length-append white word);
-  value_place = omega (arith, is.value_place, is.key_place);
+  key_position = omega (arith, is.key_position, ap length w.whole, length-append white word);
+  value_position = omega (arith, is.value_position, is.key_position);
 }
   where
     regrouped : (a b c d : Text) → (a ++ b ++ c) ++ d ≡ a ++ ((b ++ c) ++ d)
@@ -130,37 +130,37 @@ key_and_value m is = joined m.key m.value is.key is.value
         (zero_from_one is_word_byte value v)
 
 -- the white bytes and the word of a modifier that the text begins with
-pub record CutWord (text white word : Text) (m : Modifier) (behind : Text) : Type 0 where
+pub record CutWord (text white word : Text) (m : Modifier) (after : Text) : Type 0 where
   pub white_is : white ≡ m.white
-  pub word_is : word ≡ (m.key ++ colon ∷ m.value) ++ behind
+  pub word_is : word ≡ (m.key ++ colon ∷ m.value) ++ after
 
-pub cut_word : (text white word : Text) (m : Modifier) (behind : Text)
-    → IsCut is_white text white word → IsModifier m → text ≡ modifier_text m ++ behind
-    → CutWord text white word m behind
-cut_word text white word m behind w is whole =
-    let same = same_cut is_white text white word m.white ((m.key ++ colon ∷ m.value) ++ behind) w
-    (whole ∙ regrouped m.white m.key (colon ∷ m.value) behind)
+pub cut_word : (text white word : Text) (m : Modifier) (after : Text)
+    → IsCut is_white text white word → IsModifier m → text ≡ modifier_text m ++ after
+    → CutWord text white word m after
+cut_word text white word m after w is whole =
+    let same = same_cut is_white text white word m.white ((m.key ++ colon ∷ m.value) ++ after) w
+    (whole ∙ regrouped m.white m.key (colon ∷ m.value) after)
     (zero_from_one is_white m.white is.white)
-    (stops_one is_word_byte is_white word-not_white (m.key ++ colon ∷ m.value) behind
+    (stops_one is_word_byte is_white word-not_white (m.key ++ colon ∷ m.value) after
     (key_and_value m is)) in
     record { white_is = same.front; word_is = same.rest }
   where
     regrouped : (a b c d : Text) → (a ++ b ++ c) ++ d ≡ a ++ ((b ++ c) ++ d)
     regrouped a b c d = simp append_assoc
 
-pub never_unspaced : (text white word : Text) (m : Modifier) (behind : Text) → length white ≡ 0
-    → IsCut is_white text white word → IsModifier m → text ≡ modifier_text m ++ behind → ⊥
-never_unspaced text white word m behind none w is whole =
-    subst (OneOrMore is_white) (sym (cut_word text white word m behind w is whole).white_is
+pub never_unspaced : (text white word : Text) (m : Modifier) (after : Text) → length white ≡ 0
+    → IsCut is_white text white word → IsModifier m → text ≡ modifier_text m ++ after → ⊥
+never_unspaced text white word m after none w is whole =
+    subst (OneOrMore is_white) (sym (cut_word text white word m after w is whole).white_is
     ∙ empty_is white none) is.white
 
 -- the word that a text begins with is the modifier's
-word_of_text : (word : Text) (m : Modifier) (behind front rest : Text)
-    → word ≡ (m.key ++ colon ∷ m.value) ++ behind → IsModifier m → StopsBefore is_word_byte behind
+word_of_text : (word : Text) (m : Modifier) (after front rest : Text)
+    → word ≡ (m.key ++ colon ∷ m.value) ++ after → IsModifier m → StopsBefore is_word_byte after
     → IsCut is_word_byte word front rest
-    → SameCut front rest (m.key ++ colon ∷ m.value) behind
-word_of_text word m behind front rest e is stops c =
-    same_cut is_word_byte word front rest (m.key ++ colon ∷ m.value) behind c e
+    → SameCut front rest (m.key ++ colon ∷ m.value) after
+word_of_text word m after front rest e is stops c =
+    same_cut is_word_byte word front rest (m.key ++ colon ∷ m.value) after c e
     (zero_from_one is_word_byte _ (key_and_value m is)) stops
 
 abbrev key_in : WordRead → Text
@@ -176,51 +176,51 @@ DoesFit (fits key value) = ⊤
 DoesFit (misfits m) = ⊥
 
 -- what was read is the modifier that the text begins with
-pub record SameModifier (m : Modifier) (behind : Text) (c : code.Modifier) (rest : Text) : Type 0
+pub record SameModifier (m : Modifier) (after : Text) (c : code.Modifier) (rest : Text) : Type 0
   where
     pub key : c.key.now ≡ m.key
     pub value : c.value.now ≡ m.value
-    pub behind_is : rest ≡ behind
+    pub after_is : rest ≡ after
 
-same_modifier : (text white word : Text) (m : Modifier) (behind whole rest : Text)
+same_modifier : (text white word : Text) (m : Modifier) (after whole rest : Text)
     (c : code.Modifier) → IsCut is_white text white word → IsModifier m
-    → StopsBefore is_word_byte behind → text ≡ modifier_text m ++ behind
+    → StopsBefore is_word_byte after → text ≡ modifier_text m ++ after
     → BeginsWithWord word whole rest → IsWord whole (length word) c
-    → SameModifier m behind c rest
-same_modifier text white word m behind whole rest c w is stops e b of =
-    let same = word_of_text word m behind whole rest
-    (cut_word text white word m behind w is e).word_is is stops b.cut in
+    → SameModifier m after c rest
+same_modifier text white word m after whole rest c w is stops e b of =
+    let same = word_of_text word m after whole rest
+    (cut_word text white word m after w is e).word_is is stops b.cut in
     let r : fits c.key.now c.value.now ≡ fits m.key m.value =
     sym (word_of-fits c.key.now c.value.now of.key of.value)
     ∙ ap word_of (sym of.whole ∙ same.front) ∙ word_of-fits m.key m.value is.key is.value in
-    record { key = ap key_in r; value = ap value_in r; behind_is = same.rest }
+    record { key = ap key_in r; value = ap value_in r; after_is = same.rest }
 
-never_wordless : (text white word : Text) (m : Modifier) (behind : Text)
-    → IsCut is_white text white word → IsModifier m → text ≡ modifier_text m ++ behind
+never_wordless : (text white word : Text) (m : Modifier) (after : Text)
+    → IsCut is_white text white word → IsModifier m → text ≡ modifier_text m ++ after
     → StopsBefore is_word_byte word → ⊥
-never_wordless text white word m behind w is e none =
-    stops_twice (m.key ++ colon ∷ m.value) behind (key_and_value m is)
-    (subst (StopsBefore is_word_byte) (cut_word text white word m behind w is e).word_is none)
+never_wordless text white word m after w is e none =
+    stops_twice (m.key ++ colon ∷ m.value) after (key_and_value m is)
+    (subst (StopsBefore is_word_byte) (cut_word text white word m after w is e).word_is none)
   where
-    stops_twice : (front behind : Text) → OneOrMore is_word_byte front
-        → StopsBefore is_word_byte (front ++ behind) → ⊥
-    stops_twice [] behind some none = some
-    stops_twice (b ∷ front) behind some none =
+    stops_twice : (front after : Text) → OneOrMore is_word_byte front
+        → StopsBefore is_word_byte (front ++ after) → ⊥
+    stops_twice [] after some none = some
+    stops_twice (b ∷ front) after some none =
         both_ways (is_word_byte b) none (and_parts (is_word_byte b) _ some).0
 
-pub never_misfit : (text white word : Text) (m : Modifier) (behind whole rest : Text)
+pub never_misfit : (text white word : Text) (m : Modifier) (after whole rest : Text)
     (remaining : ℕ) (f : code_fault.Fault) → IsCut is_white text white word → IsModifier m
-    → StopsBefore is_word_byte behind → text ≡ modifier_text m ++ behind
+    → StopsBefore is_word_byte after → text ≡ modifier_text m ++ after
     → BeginsWithWord word whole rest → IsNoWord whole remaining f → ⊥
-never_misfit text white word m behind whole rest remaining f w is stops e b bad =
-    let same = word_of_text word m behind whole rest
-    (cut_word text white word m behind w is e).word_is is stops b.cut in
+never_misfit text white word m after whole rest remaining f w is stops e b bad =
+    let same = word_of_text word m after whole rest
+    (cut_word text white word m after w is e).word_is is stops b.cut in
     let r : fits m.key m.value ≡ misfits bad.0 =
     sym (word_of-fits m.key m.value is.key is.value)
     ∙ ap word_of (sym same.front ∙ bad.2) ∙ word_of-misfits bad.0 bad.1 in
     subst DoesFit r tt
 
--- the same of what the call finds
+-- what the call finds
 
 pub modified : (text white word : Text) (found : Option (code.Modifier × Bor (List ℕ)))
     → IsCut is_white text white word → (length white ≡ 0 → ⊥) → ReadsWord word found
@@ -229,18 +229,18 @@ modified text white word None w some is = tt
 modified text white word (Some x) w some is =
     is_modified text white word x.1.now x.0 is.0 w some is.1 is.2
 
-pub modifier_found : (text white word : Text) (m : Modifier) (behind : Text)
+pub modifier_found : (text white word : Text) (m : Modifier) (after : Text)
     (found : Option (code.Modifier × Bor (List ℕ))) → IsCut is_white text white word
-    → IsModifier m → StopsBefore is_word_byte behind → text ≡ modifier_text m ++ behind
+    → IsModifier m → StopsBefore is_word_byte after → text ≡ modifier_text m ++ after
     → ReadsWord word found
     → MatchOption found ⊥ (λ parts. (parts.0.key.now ≡ m.key) × (parts.0.value.now ≡ m.value)
-    × (parts.1.now ≡ behind))
-modifier_found text white word m behind None w is stops e none =
-    never_wordless text white word m behind w is e none
-modifier_found text white word m behind (Some x) w is stops e read =
-    let same = same_modifier text white word m behind read.0 x.1.now x.0 w is stops e read.1
+    × (parts.1.now ≡ after))
+modifier_found text white word m after None w is stops e none =
+    never_wordless text white word m after w is e none
+modifier_found text white word m after (Some x) w is stops e read =
+    let same = same_modifier text white word m after read.0 x.1.now x.0 w is stops e read.1
     read.2 in
-    (same.key, same.value, same.behind_is)
+    (same.key, same.value, same.after_is)
 
 -- Nested descriptions.
 
@@ -250,21 +250,21 @@ no_run_byte b passes e = true≢false (sym passes ∙ ap (is_run_byte Three) e)
 first_byte : (a b : ℕ) (x y : Text) → a ∷ x ≡ b ∷ y → a ≡ b
 first_byte a b x y e = cc
 
-pub never_opened : (s : Start) (rest inner behind : Text) → BeginsWith s rest
+pub never_opened : (s : Start) (rest inner after : Text) → BeginsWith s rest
     → ((x : Bor (List ℕ)) → s ≡ starts.Opening x → ⊥)
-    → rest ≡ left ∷ (inner ++ right ∷ behind) → ⊥
-never_opened starts.End rest inner behind is opening e = omega (arith, ap length (sym is ∙ e))
-never_opened (starts.Opening x) rest inner behind is opening e = opening x refl
-never_opened (starts.Closing x) rest inner behind is opening e =
-    omega (arith, first_byte right left x.now (inner ++ right ∷ behind) (sym is ∙ e))
-never_opened (starts.Backslash x) rest inner behind is opening e =
-    omega (arith, first_byte backslash left x.now (inner ++ right ∷ behind) (sym is ∙ e))
-never_opened starts.Other rest inner behind is opening e =
-    no_run_byte is.0 is.3 (first_byte is.0 left is.1 (inner ++ right ∷ behind) (sym is.2 ∙ e))
+    → rest ≡ left ∷ (inner ++ right ∷ after) → ⊥
+never_opened starts.End rest inner after is opening e = omega (arith, ap length (sym is ∙ e))
+never_opened (starts.Opening x) rest inner after is opening e = opening x refl
+never_opened (starts.Closing x) rest inner after is opening e =
+    omega (arith, first_byte right left x.now (inner ++ right ∷ after) (sym is ∙ e))
+never_opened (starts.Backslash x) rest inner after is opening e =
+    omega (arith, first_byte backslash left x.now (inner ++ right ∷ after) (sym is ∙ e))
+never_opened starts.Other rest inner after is opening e =
+    no_run_byte is.0 is.3 (first_byte is.0 left is.1 (inner ++ right ∷ after) (sym is.2 ∙ e))
 
-pub inside_is : (rest inside inner behind : Text) → rest ≡ left ∷ inside
-    → rest ≡ left ∷ (inner ++ right ∷ behind) → inside ≡ inner ++ right ∷ behind
-inside_is rest inside inner behind e f = ap (drop 1) (sym e ∙ f)
+pub inside_is : (rest inside inner after : Text) → rest ≡ left ∷ inside
+    → rest ≡ left ∷ (inner ++ right ∷ after) → inside ≡ inner ++ right ∷ after
+inside_is rest inside inner after e f = ap (drop 1) (sym e ∙ f)
 
 -- what is spelled inside of a description is spelled outside too
 mutual
@@ -297,11 +297,11 @@ outer : (v : DescriptionVersion) (limit : ℕ) (text : Text) (list : List Tree)
     → Spells v limit 1 text list → Spells v limit 0 text list
 outer v limit text list s = (s.0, outer_pieces s.0 v limit 0 s.1, s.2, s.3)
 
-is_nested : (v : DescriptionVersion) (text white behind inside inner end rest : Text)
-    (read : List Tree) → IsCut is_white text white behind → behind ≡ left ∷ inside
+is_nested : (v : DescriptionVersion) (text white after inside inner end rest : Text)
+    (read : List Tree) → IsCut is_white text white after → after ≡ left ∷ inside
     → PiecesToEnd v nesting_limit 1 inside read end → inner ++ end ≡ inside
     → end ≡ right ∷ rest → BeginsNested v text inner rest
-is_nested v text white behind inside inner end rest read w b are joined e =
+is_nested v text white after inside inner end rest read w b are joined e =
     let inner_is : inner ≡ spelling are.0 =
     append_cancel_right inner (spelling are.0) end (joined ∙ are.2) in
     let s : Spells v nesting_limit 1 inner read = (are.0, are.1, inner_is, sym are.3) in
@@ -315,12 +315,12 @@ is_nested v text white behind inside inner end rest read w b are joined e =
       alone = outer v nesting_limit inner read s;
     }
 
--- the text behind the `[` of a nested description that the text begins with
-pub cut_nested : (text white behind w inner rest : Text) → IsCut is_white text white behind
+-- the text after the `[` of a nested description that the text begins with
+pub cut_nested : (text white after w inner rest : Text) → IsCut is_white text white after
     → ZeroOrMore is_white w → text ≡ w ++ left ∷ (inner ++ right ∷ rest)
-    → behind ≡ left ∷ (inner ++ right ∷ rest)
-cut_nested text white behind w inner rest is all e =
-    (same_cut is_white text white behind w (left ∷ (inner ++ right ∷ rest)) is e all refl).rest
+    → after ≡ left ∷ (inner ++ right ∷ rest)
+cut_nested text white after w inner rest is all e =
+    (same_cut is_white text white after w (left ∷ (inner ++ right ∷ rest)) is e all refl).rest
 
 closed_reads : (v : DescriptionVersion) (text inner rest : Text) (list : List Tree)
     (s : Spells v nesting_limit 1 inner list) → text ≡ inner ++ right ∷ rest
@@ -389,36 +389,36 @@ never_broken_so v inside inner rest list (errors.Invalid f) s e bad is =
     never_broken v inside inner rest list f s e bad
 never_broken_so v inside inner rest list errors.Memory s e bad is = is
 
--- the same of what the call finds
+-- what the call finds
 
-pub nested_at : (v : DescriptionVersion) (text white behind inside end : Text) (read : List Tree)
-    (found : Option (Bor (List ℕ) × Bor (List ℕ))) → IsCut is_white text white behind
-    → behind ≡ left ∷ inside → PiecesToEnd v nesting_limit 1 inside read end
+pub nested_at : (v : DescriptionVersion) (text white after inside end : Text) (read : List Tree)
+    (found : Option (Bor (List ℕ) × Bor (List ℕ))) → IsCut is_white text white after
+    → after ≡ left ∷ inside → PiecesToEnd v nesting_limit 1 inside read end
     → IfSome found (λ parts. (parts.0.now ++ end ≡ inside) × (end ≡ right ∷ parts.1.now))
     → IfSome found (λ parts. BeginsNested v text parts.0.now parts.1.now)
-nested_at v text white behind inside end read None w b are is = tt
-nested_at v text white behind inside end read (Some x) w b are is =
-    is_nested v text white behind inside x.0.now end x.1.now read w b are is.0 is.1
+nested_at v text white after inside end read None w b are is = tt
+nested_at v text white after inside end read (Some x) w b are is =
+    is_nested v text white after inside x.0.now end x.1.now read w b are is.0 is.1
 
-pub nested_found : (v : DescriptionVersion) (inside inner behind : Text) (list read : List Tree)
+pub nested_found : (v : DescriptionVersion) (inside inner after : Text) (list read : List Tree)
     (end : Text) (found : Option (Bor (List ℕ) × Bor (List ℕ)))
-    → Spells v nesting_limit 1 inner list → inside ≡ inner ++ right ∷ behind
+    → Spells v nesting_limit 1 inner list → inside ≡ inner ++ right ∷ after
     → PiecesToEnd v nesting_limit 1 inside read end
     → ((rest : List ℕ) → end ≡ right ∷ rest → MatchOption found ⊥
     (λ parts. (parts.0.now ++ end ≡ inside) × (parts.1.now ≡ rest)))
-    → MatchOption found ⊥ (λ parts. (parts.0.now ≡ inner) × (parts.1.now ≡ behind))
-nested_found v inside inner behind list read end found s e are finds =
-    let same = same_nested v inside inner behind list read end s e are in
-    told found same.inner_is (finds behind same.end_is)
+    → MatchOption found ⊥ (λ parts. (parts.0.now ≡ inner) × (parts.1.now ≡ after))
+nested_found v inside inner after list read end found s e are finds =
+    let same = same_nested v inside inner after list read end s e are in
+    reported found same.inner_is (finds after same.end_is)
   where
-    told : (found : Option (Bor (List ℕ) × Bor (List ℕ)))
+    reported : (found : Option (Bor (List ℕ) × Bor (List ℕ)))
         → ((front : Text) → front ++ end ≡ inside → front ≡ inner)
-        → MatchOption found ⊥ (λ parts. (parts.0.now ++ end ≡ inside) × (parts.1.now ≡ behind))
-        → MatchOption found ⊥ (λ parts. (parts.0.now ≡ inner) × (parts.1.now ≡ behind))
-    told None inner_is is = is
-    told (Some x) inner_is is = (inner_is x.0.now is.0, is.1)
+        → MatchOption found ⊥ (λ parts. (parts.0.now ++ end ≡ inside) × (parts.1.now ≡ after))
+        → MatchOption found ⊥ (λ parts. (parts.0.now ≡ inner) × (parts.1.now ≡ after))
+    reported None inner_is is = is
+    reported (Some x) inner_is is = (inner_is x.0.now is.0, is.1)
 
--- Less of the text is left behind each part.
+-- Less of the text is left after each part.
 
 pub modified_shorter : (text : Text) (found : Option (code.Modifier × Bor (List ℕ)))
     → IfSome found (λ parts. BeginsModified text parts.0 parts.1.now)

@@ -41,7 +41,7 @@ pub built_more : (builds : Bool) (old between new done list : List Tree)
 built_more builds old between new done list first more = λ on.
     more on ∙ ap (λ ts. ts ++ list) (first on) ∙ append_assoc old done list
 
--- A constant parameter, which stands as a number in what is tested.
+-- A constant parameter, which is a number in what is tested.
 
 pub is_off : (n : ℕ) → n ≡ 0 → IsFalse (not (n == 0))
 is_off n off = ap (λ k. not (k == 0)) off

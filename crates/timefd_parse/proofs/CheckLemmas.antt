@@ -12,7 +12,7 @@ use Rattle.timefd_language.specs.declared.key.Key.TheVariants.{Padding, Trailing
 use Rattle.timefd_parse.specs.declared.modifier.Modifier as code
 use Rattle.timefd_parse.specs.declared.modifiers.Modifiers.{Modifiers}
 use Rattle.timefd_language.specs.declared.name.Name.{Name}
-use Rattle.timefd_parse.specs.declared.places.Places.{Places}
+use Rattle.timefd_parse.specs.declared.positions.Positions.{Positions}
 use Rattle.timefd_language.specs.declared.setting.Setting.{Setting}
 use Rattle.timefd_language.specs.declared.setting.Settings.{Settings}
 use Rattle.timefd_language.specs.Bytes.{equal}
@@ -20,11 +20,11 @@ use Rattle.timefd_language.specs.Settings.{with}
 use Rattle.timefd_language.specs.Head.{Placed}
 use Rattle.timefd_language.specs.Values.{Key, key_in, setting_in}
 use Rattle.timefd_language.specs.Lookup.{key_for}
-use Rattle.timefd_parse.specs.Places.{place, with_place}
+use Rattle.timefd_parse.specs.Positions.{position, with_position}
 use Rattle.timefd_language.specs.Verdict.{bad_modifier, bad_modifiers, ◌or◌, bad_value, refuse, is_set, settings, settings_from, setting_of, with_option}
 use Rattle.timefd_fault.specs.ReadErrors.{IsFault}
 use Rattle.timefd_parse.specs.ReadModifiers.{IsPlaced}
-use Rattle.timefd_parse.specs.Checked.{keys_of, first_place, ShowsFault, ShowsPlace, Checks, ChecksOne}
+use Rattle.timefd_parse.specs.Checked.{keys_of, first_position, ShowsFault, ShowsPosition, Checks, ChecksOne}
 use Rattle.timefd_language.proofs.Lookup.{equal-true, Each, named-found}
 use Rattle.timefd_language.proofs.Words.{equal-refl}
 
@@ -64,13 +64,13 @@ settings_more strict keys s (q ∷ ps) p =
 
 -- Places.
 
-is_set_place : (key : Text) (ps : List Placed) → is_set true key ps ≡ is_some (first_place key ps)
-is_set_place key [] = refl
-is_set_place key (p ∷ ps) = by (equal key p.key) (is_set_place key ps)
+is_set_position : (key : Text) (ps : List Placed) → is_set true key ps ≡ is_some (first_position key ps)
+is_set_position key [] = refl
+is_set_position key (p ∷ ps) = by (equal key p.key) (is_set_position key ps)
   where
-    by : (t : Bool) → is_set true key ps ≡ is_some (first_place key ps)
+    by : (t : Bool) → is_set true key ps ≡ is_some (first_position key ps)
         → (t || is_set true key ps) ≡ is_some
-        (elim t as (λ _. Option ℕ) [ true ↦ Some p.key_index | false ↦ first_place key ps ])
+        (elim t as (λ _. Option ℕ) [ true ↦ Some p.key_index | false ↦ first_position key ps ])
     by true e = refl
     by false e = e
 
@@ -78,32 +78,32 @@ abbrev first_or : Option ℕ → Option ℕ → Option ℕ
 first_or (Some i) o = Some i
 first_or None o = o
 
-abbrev place_if : Bool → ℕ → Option ℕ
-place_if true i = Some i
-place_if false i = None
+abbrev position_if : Bool → ℕ → Option ℕ
+position_if true i = Some i
+position_if false i = None
 
-first_place_more : (key : Text) (ps : List Placed) (p : Placed)
-    → first_place key (ps ++ p ∷ []) ≡ first_or (first_place key ps)
-    (place_if (equal key p.key) p.key_index)
-first_place_more key [] p = by (equal key p.key)
+first_position_more : (key : Text) (ps : List Placed) (p : Placed)
+    → first_position key (ps ++ p ∷ []) ≡ first_or (first_position key ps)
+    (position_if (equal key p.key) p.key_index)
+first_position_more key [] p = by (equal key p.key)
   where
     by : (t : Bool) → elim t as (λ _. Option ℕ) [ true ↦ Some p.key_index | false ↦ None ]
-        ≡ place_if t p.key_index
+        ≡ position_if t p.key_index
     by true = refl
     by false = refl
-first_place_more key (q ∷ ps) p = by (equal key q.key) (first_place_more key ps p)
+first_position_more key (q ∷ ps) p = by (equal key q.key) (first_position_more key ps p)
   where
-    by : (t : Bool) → first_place key (ps ++ p ∷ []) ≡ first_or (first_place key ps)
-        (place_if (equal key p.key) p.key_index)
+    by : (t : Bool) → first_position key (ps ++ p ∷ []) ≡ first_or (first_position key ps)
+        (position_if (equal key p.key) p.key_index)
         → elim t as (λ _. Option ℕ)
-        [ true ↦ Some q.key_index | false ↦ first_place key (ps ++ p ∷ []) ]
+        [ true ↦ Some q.key_index | false ↦ first_position key (ps ++ p ∷ []) ]
         ≡ first_or (elim t as (λ _. Option ℕ)
-        [ true ↦ Some q.key_index | false ↦ first_place key ps ])
-        (place_if (equal key p.key) p.key_index)
+        [ true ↦ Some q.key_index | false ↦ first_position key ps ])
+        (position_if (equal key p.key) p.key_index)
     by true e = refl
     by false e = e
 
--- what is shown, where there is none
+-- what is shown if there is no fault
 
 pub none_shown : (total : ℕ) (o : Option code_fault.Fault) (b : Option Fault) → ShowsFault total o b
     → o ≡ None → b ≡ None
@@ -117,7 +117,7 @@ shows_none total None None e d = tt
 shows_none total None (Some g) e d = absurd (cc)
 shows_none total (Some f) b e d = absurd (cc)
 
-some_shown : (total : ℕ) (o : Option ℕ) (i : Option ℕ) → ShowsPlace total o i
+some_shown : (total : ℕ) (o : Option ℕ) (i : Option ℕ) → ShowsPosition total o i
     → is_some o ≡ is_some i
 some_shown total None None is = refl
 some_shown total None (Some i) is = absurd is
@@ -127,17 +127,17 @@ some_shown total (Some r) (Some i) is = refl
 -- Looking at one modifier.
 
 not_again : (strict : Bool) (key : code_key.Key) (ps : List Placed)
-    → (strict ≡ true → is_some (first_place (key_for key).key ps) ≡ false)
+    → (strict ≡ true → is_some (first_position (key_for key).key ps) ≡ false)
     → (strict && is_set strict (key_for key).key ps) ≡ false
-not_again true key ps new = is_set_place (key_for key).key ps ∙ new refl
+not_again true key ps new = is_set_position (key_for key).key ps ∙ new refl
 not_again false key ps new = refl
 
--- a good modifier, told by its key and its value
+-- a good modifier, given by its key and its value
 pub good_one : (strict : Bool) (name : Option Name) (total : ℕ) (key : code_key.Key)
     (setting : Setting) (ps : List Placed) (p : Placed)
     → key_in strict p.key (keys_of name) ≡ Some (key_for key)
     → setting_in strict (key_for key).values p.value ≡ Some setting
-    → (strict ≡ true → is_some (first_place (key_for key).key ps) ≡ false)
+    → (strict ≡ true → is_some (first_position (key_for key).key ps) ≡ false)
     → ChecksOne strict name total (Ok (key, setting)) ps p
 good_one strict name total key setting ps p known sets new = (
   known,
@@ -146,7 +146,7 @@ good_one strict name total key setting ps p known sets new = (
       (key_for key) p) ≡ None) (sym (not_again strict key ps new))
       (ap (λ w. refuse (not (is_some w)) (invalid_modifier p.value) p.value_index) sets)),
   sets,
-  λ exact. none_of (first_place (key_for key).key ps) (new exact),
+  λ exact. none_of (first_position (key_for key).key ps) (new exact),
 )
   where
     none_of : (i : Option ℕ) → is_some i ≡ false → i ≡ None
@@ -173,7 +173,7 @@ module _ (strict : Bool) (name : Option Name) (total : ℕ) (m : code.Modifier) 
         fault (invalid_modifier p.key) p.key_index,
         subst (λ k. bad_modifier strict k ps p ≡ Some (fault (invalid_modifier p.key) p.key_index))
             (sym none) refl,
-        record { kind = ap invalid_modifier is.key; place = is.key_place },
+        record { kind = ap invalid_modifier is.key; position = is.key_position },
       )
 
   found : (o : Option code_key.Key) (key : code_key.Key)
@@ -184,7 +184,7 @@ module _ (strict : Bool) (name : Option Name) (total : ℕ) (m : code.Modifier) 
   -- a key that was there before
   pub at_again : (o : Option code_key.Key) (key : code_key.Key) (spelling : Bor (List ℕ))
       → option_map key_for o ≡ key_in strict m.key.now (keys_of name) → o ≡ Some key
-      → strict ≡ true → is_some (first_place (key_for key).key ps) ≡ true
+      → strict ≡ true → is_some (first_position (key_for key).key ps) ≡ true
       → spelling.now ≡ (key_for key).key
       → Refused (record { rule = broken.DuplicateModifier spelling; remaining = m.key_remaining })
   at_again o key spelling known e exact there spelled = (
@@ -195,16 +195,16 @@ module _ (strict : Bool) (name : Option Name) (total : ℕ) (m : code.Modifier) 
         strict (key_for key) p) ≡ Some
         (fault (duplicate_modifier (key_for key).key) p.key_index))
         (sym (set_again strict exact)) refl),
-    record { kind = ap duplicate_modifier (sym spelled); place = is.key_place },
+    record { kind = ap duplicate_modifier (sym spelled); position = is.key_position },
   )
     where
       set_again : (s : Bool) → s ≡ true → (s && is_set s (key_for key).key ps) ≡ true
-      set_again true e = is_set_place (key_for key).key ps ∙ there
+      set_again true e = is_set_position (key_for key).key ps ∙ there
       set_again false e = absurd (true≢false (sym e))
 
   checked : (o : Option code_key.Key) (key : code_key.Key) (v : Option Setting)
       → option_map key_for o ≡ key_in strict m.key.now (keys_of name) → o ≡ Some key
-      → (strict ≡ true → is_some (first_place (key_for key).key ps) ≡ false)
+      → (strict ≡ true → is_some (first_position (key_for key).key ps) ≡ false)
       → v ≡ setting_in strict (key_for key).values m.value.now
       → bad_modifier strict (key_in strict p.key (keys_of name)) ps p ≡ refuse (not (is_some v))
       (invalid_modifier p.value) p.value_index
@@ -220,70 +220,70 @@ module _ (strict : Bool) (name : Option Name) (total : ℕ) (m : code.Modifier) 
   -- a bad value
   pub at_bad_value : (o : Option code_key.Key) (key : code_key.Key) (v : Option Setting)
       → option_map key_for o ≡ key_in strict m.key.now (keys_of name) → o ≡ Some key
-      → (strict ≡ true → is_some (first_place (key_for key).key ps) ≡ false)
+      → (strict ≡ true → is_some (first_position (key_for key).key ps) ≡ false)
       → v ≡ setting_in strict (key_for key).values m.value.now → v ≡ None
       → Refused (record { rule = broken.InvalidModifier m.value; remaining = m.value_remaining })
   at_bad_value o key v known e new valued none = (
     fault (invalid_modifier p.value) p.value_index,
     checked o key v known e new valued ∙
         ap (λ w. refuse (not (is_some w)) (invalid_modifier p.value) p.value_index) none,
-    record { kind = ap invalid_modifier is.value; place = is.value_place },
+    record { kind = ap invalid_modifier is.value; position = is.value_position },
   )
 
   -- a good one
   pub at_good : (o : Option code_key.Key) (key : code_key.Key) (v : Option Setting)
       (setting : Setting) → option_map key_for o ≡ key_in strict m.key.now (keys_of name)
       → o ≡ Some key
-      → (strict ≡ true → is_some (first_place (key_for key).key ps) ≡ false)
+      → (strict ≡ true → is_some (first_position (key_for key).key ps) ≡ false)
       → v ≡ setting_in strict (key_for key).values m.value.now → v ≡ Some setting
       → ChecksOne strict name total (Ok (key, setting)) ps p
   at_good o key v setting known e new valued some =
       good_one strict name total key setting ps p (found o key known e)
       (ap (setting_in strict (key_for key).values) is.value ∙ sym valued ∙ some) new
 
-pub place_known : (total : ℕ) (o i : Option ℕ) (b : Bool) → ShowsPlace total o i → is_some o ≡ b
+pub position_known : (total : ℕ) (o i : Option ℕ) (b : Bool) → ShowsPosition total o i → is_some o ≡ b
     → is_some i ≡ b
-place_known total o i b is e = sym (some_shown total o i is) ∙ e
+position_known total o i b is e = sym (some_shown total o i is) ∙ e
 
 -- Taking one more.
 
-place_law : (p : Places) (k j : code_key.Key) (r : ℕ)
-    → place (with_place p k r) j ≡ (if equal (key_for k).key (key_for j).key then Some r else place
+position_law : (p : Positions) (k j : code_key.Key) (r : ℕ)
+    → position (with_position p k r) j ≡ (if equal (key_for k).key (key_for j).key then Some r else position
     p j)
-place_law p Padding Padding r = refl
-place_law p Padding _ r = refl
-place_law p TrailingInput Padding r = refl
-place_law p TrailingInput _ r = refl
-place_law p HourRepr Padding r = refl
-place_law p HourRepr _ r = refl
-place_law p Count Padding r = refl
-place_law p Count _ r = refl
-place_law p MonthRepr Padding r = refl
-place_law p MonthRepr _ r = refl
-place_law p CaseSensitive Padding r = refl
-place_law p CaseSensitive _ r = refl
-place_law p Sign Padding r = refl
-place_law p Sign _ r = refl
-place_law p Case Padding r = refl
-place_law p Case _ r = refl
-place_law p Digits Padding r = refl
-place_law p Digits _ r = refl
-place_law p Precision Padding r = refl
-place_law p Precision _ r = refl
-place_law p WeekdayRepr Padding r = refl
-place_law p WeekdayRepr _ r = refl
-place_law p OneIndexed Padding r = refl
-place_law p OneIndexed _ r = refl
-place_law p WeekNumberRepr Padding r = refl
-place_law p WeekNumberRepr _ r = refl
-place_law p YearRepr Padding r = refl
-place_law p YearRepr _ r = refl
-place_law p Range Padding r = refl
-place_law p Range _ r = refl
-place_law p Base Padding r = refl
-place_law p Base _ r = refl
-place_law p Format Padding r = refl
-place_law p Format _ r = refl
+position_law p Padding Padding r = refl
+position_law p Padding _ r = refl
+position_law p TrailingInput Padding r = refl
+position_law p TrailingInput _ r = refl
+position_law p HourRepr Padding r = refl
+position_law p HourRepr _ r = refl
+position_law p Count Padding r = refl
+position_law p Count _ r = refl
+position_law p MonthRepr Padding r = refl
+position_law p MonthRepr _ r = refl
+position_law p CaseSensitive Padding r = refl
+position_law p CaseSensitive _ r = refl
+position_law p Sign Padding r = refl
+position_law p Sign _ r = refl
+position_law p Case Padding r = refl
+position_law p Case _ r = refl
+position_law p Digits Padding r = refl
+position_law p Digits _ r = refl
+position_law p Precision Padding r = refl
+position_law p Precision _ r = refl
+position_law p WeekdayRepr Padding r = refl
+position_law p WeekdayRepr _ r = refl
+position_law p OneIndexed Padding r = refl
+position_law p OneIndexed _ r = refl
+position_law p WeekNumberRepr Padding r = refl
+position_law p WeekNumberRepr _ r = refl
+position_law p YearRepr Padding r = refl
+position_law p YearRepr _ r = refl
+position_law p Range Padding r = refl
+position_law p Range _ r = refl
+position_law p Base Padding r = refl
+position_law p Base _ r = refl
+position_law p Format Padding r = refl
+position_law p Format _ r = refl
 
 equal_not : (a b : Text) → equal a b ≡ false → equal b a ≡ false
 equal_not a b e = by (equal b a) refl
@@ -292,9 +292,9 @@ equal_not a b e = by (equal b a) refl
     by true h = absurd (true≢false (sym (equal-refl a) ∙ ap (equal a) (sym (equal-true b a h)) ∙ e))
     by false h = refl
 
-or_no_place : (i : Option ℕ) → first_or i None ≡ i
-or_no_place None = refl
-or_no_place (Some i) = refl
+or_no_position : (i : Option ℕ) → first_or i None ≡ i
+or_no_position None = refl
+or_no_position (Some i) = refl
 
 named_key : (keys : List Key) (text : Text) (k : Key) → key_in true text keys ≡ Some k
     → k.key ≡ text
@@ -305,56 +305,56 @@ named_key keys text k e = (named-found (λ (x : Key). x.key) (λ (x : Key). ⊤)
     all [] = tt
     all (x ∷ xs) = (tt, all xs)
 
-place_more : (total : ℕ) (places : Places) (key j : code_key.Key) (r : ℕ) (ps : List Placed)
-    (p : Placed) → (key_for key).key ≡ p.key → first_place (key_for key).key ps ≡ None
+position_more : (total : ℕ) (positions : Positions) (key j : code_key.Key) (r : ℕ) (ps : List Placed)
+    (p : Placed) → (key_for key).key ≡ p.key → first_position (key_for key).key ps ≡ None
     → p.key_index + r ≡ total
-    → ShowsPlace total (place places j) (first_place (key_for j).key ps)
-    → ShowsPlace total (place (with_place places key r) j)
-    (first_place (key_for j).key (ps ++ p ∷ []))
-place_more total places key j r ps p is_named none at before =
+    → ShowsPosition total (position positions j) (first_position (key_for j).key ps)
+    → ShowsPosition total (position (with_position positions key r) j)
+    (first_position (key_for j).key (ps ++ p ∷ []))
+position_more total positions key j r ps p is_named none at before =
     by (equal (key_for key).key (key_for j).key) refl
   where
-    shows : (o i : Option ℕ) → place (with_place places key r) j ≡ o
-        → first_place (key_for j).key (ps ++ p ∷ []) ≡ i → ShowsPlace total o i
-        → ShowsPlace total (place (with_place places key r) j)
-        (first_place (key_for j).key (ps ++ p ∷ []))
-    shows o i e d h = subst (λ x. ShowsPlace total x (first_place (key_for j).key (ps ++ p ∷ [])))
-        (sym e) (subst (ShowsPlace total o) (sym d) h)
+    shows : (o i : Option ℕ) → position (with_position positions key r) j ≡ o
+        → first_position (key_for j).key (ps ++ p ∷ []) ≡ i → ShowsPosition total o i
+        → ShowsPosition total (position (with_position positions key r) j)
+        (first_position (key_for j).key (ps ++ p ∷ []))
+    shows o i e d h = subst (λ x. ShowsPosition total x (first_position (key_for j).key (ps ++ p ∷ [])))
+        (sym e) (subst (ShowsPosition total o) (sym d) h)
 
     by : (t : Bool) → equal (key_for key).key (key_for j).key ≡ t
-        → ShowsPlace total (place (with_place places key r) j)
-        (first_place (key_for j).key (ps ++ p ∷ []))
+        → ShowsPosition total (position (with_position positions key r) j)
+        (first_position (key_for j).key (ps ++ p ∷ []))
     by true e =
         let same : (key_for key).key ≡ (key_for j).key =
         equal-true (key_for key).key (key_for j).key e in
         shows (Some r) (Some p.key_index)
-        (place_law places key j r ∙ ap (λ t. if t then Some r else place places j) e)
-        (first_place_more (key_for j).key ps p ∙
-        ap (λ i. first_or i (place_if (equal (key_for j).key p.key) p.key_index))
-        (ap (λ k. first_place k ps) (sym same) ∙ none)
-        ∙ ap (λ t. first_or None (place_if t p.key_index))
+        (position_law positions key j r ∙ ap (λ t. if t then Some r else position positions j) e)
+        (first_position_more (key_for j).key ps p ∙
+        ap (λ i. first_or i (position_if (equal (key_for j).key p.key) p.key_index))
+        (ap (λ k. first_position k ps) (sym same) ∙ none)
+        ∙ ap (λ t. first_or None (position_if t p.key_index))
         (ap (equal (key_for j).key) (sym is_named ∙ same) ∙ equal-refl (key_for j).key))
         at
     by false e =
-        shows (place places j) (first_place (key_for j).key ps)
-        (place_law places key j r ∙ ap (λ t. if t then Some r else place places j) e)
-        (first_place_more (key_for j).key ps p ∙
-        ap (λ t. first_or (first_place (key_for j).key ps) (place_if t p.key_index))
+        shows (position positions j) (first_position (key_for j).key ps)
+        (position_law positions key j r ∙ ap (λ t. if t then Some r else position positions j) e)
+        (first_position_more (key_for j).key ps p ∙
+        ap (λ t. first_or (first_position (key_for j).key ps) (position_if t p.key_index))
         (ap (equal (key_for j).key) (sym is_named) ∙ equal_not (key_for key).key (key_for j).key
         e)
-        ∙ or_no_place (first_place (key_for j).key ps))
+        ∙ or_no_position (first_position (key_for j).key ps))
         before
 
 -- the parts of Modifiers that one more good modifier leaves
 pub take_good : (strict : Bool) (name : Option Name) (total : ℕ) (c : Modifiers) (r : ℕ)
     (ps : List Placed) (p : Placed) (key : code_key.Key) (setting : Setting) (settings' : Settings)
-    (places' : Places)
+    (positions' : Positions)
     → Checks strict name total c ps → c.fault ≡ None → p.key_index + r ≡ total
     → ChecksOne strict name total (Ok (key, setting)) ps p
-    → settings' ≡ with c.settings setting → (IsTrue strict → places' ≡ with_place c.places key r)
-    → Checks strict name total (record { settings = settings'; places = places'; fault = c.fault })
+    → settings' ≡ with c.settings setting → (IsTrue strict → positions' ≡ with_position c.positions key r)
+    → Checks strict name total (record { settings = settings'; positions = positions'; fault = c.fault })
     (ps ++ p ∷ [])
-take_good strict name total c r ps p key setting settings' places' checks none is one s q = record {
+take_good strict name total c r ps p key setting settings' positions' checks none is one s q = record {
   fault = shows_none total c.fault _ none
       (bad_more strict (keys_of name) [] ps p ∙
       ap (λ b. b or bad_modifier strict (key_in strict p.key (keys_of name)) ps p)
@@ -364,11 +364,11 @@ take_good strict name total c r ps p key setting settings' places' checks none i
       ∙ ap (with_option (settings strict (keys_of name) ps))
       (sym (ap (λ k. setting_of strict k p.value) one.0 ∙ one.2))
       ∙ sym (settings_more strict (keys_of name) _ ps p);
-  places = λ e exact k.
-      subst (λ x. ShowsPlace total (place x k) (first_place (key_for k).key (ps ++ p ∷ [])))
+  positions = λ e exact k.
+      subst (λ x. ShowsPosition total (position x k) (first_position (key_for k).key (ps ++ p ∷ [])))
       (sym (q exact))
-      (place_more total c.places key k r ps p (named strict exact one.0) (one.3 exact) is
-      (checks.places none exact k));
+      (position_more total c.positions key k r ps p (named strict exact one.0) (one.3 exact) is
+      (checks.positions none exact k));
 }
   where
     named : (b : Bool) → b ≡ true → key_in b p.key (keys_of name) ≡ Some (key_for key)
@@ -377,20 +377,20 @@ take_good strict name total c r ps p key setting settings' places' checks none i
     named false e found = absurd (true≢false (sym e))
 
 pub take_bad : (strict : Bool) (name : Option Name) (total : ℕ) (c : Modifiers) (ps : List Placed)
-    (p : Placed) (f : code_fault.Fault) (settings' : Settings) (places' : Places)
+    (p : Placed) (f : code_fault.Fault) (settings' : Settings) (positions' : Positions)
     → Checks strict name total c ps → c.fault ≡ None
     → ((g : Fault) × (bad_modifier strict (key_in strict p.key (keys_of name)) ps p ≡ Some g)
     × IsFault total f g)
-    → Checks strict name total (record { settings = settings'; places = places'; fault = Some f })
+    → Checks strict name total (record { settings = settings'; positions = positions'; fault = Some f })
     (ps ++ p ∷ [])
-take_bad strict name total c ps p f settings' places' checks none one = record {
+take_bad strict name total c ps p f settings' positions' checks none one = record {
   fault = subst (ShowsFault total (Some f))
       (sym (bad_more strict (keys_of name) [] ps p ∙
       ap (λ b. b or bad_modifier strict (key_in strict p.key (keys_of name)) ps p)
       (none_shown total c.fault _ checks.fault none) ∙ one.1))
       one.2;
   settings = λ e. absurd (cc);
-  places = λ e exact k. absurd (cc);
+  positions = λ e exact k. absurd (cc);
 }
 
 -- a fault stays the first
@@ -401,7 +401,7 @@ take_after strict name total c ps p checks some = record {
   fault = subst (ShowsFault total c.fault) (sym (bad_more strict (keys_of name) [] ps p))
       (still c.fault _ some checks.fault);
   settings = λ e. absurd (true≢false (sym some ∙ ap is_some e));
-  places = λ e exact k. absurd (true≢false (sym some ∙ ap is_some e));
+  positions = λ e exact k. absurd (true≢false (sym some ∙ ap is_some e));
 }
   where
     still : (o : Option code_fault.Fault) (b : Option Fault) → is_some o ≡ true

@@ -1,4 +1,4 @@
--- What is counted of the pieces of a text, one after another.
+-- What is counted for the pieces of a text, one after another.
 use Rattle.std.proofs.Common.{◌≡◌, ◌∙◌, ℕ, ◌+◌, ◌≤◌, List, [], ◌∷◌, ◌++◌, length, true, refl, ap, arith, append-nil, length-append}
 use Rattle.timefd_component.specs.Reserved.{reserved, reserve, reserve_all}
 use Rattle.timefd_component.specs.Tree.{Text, Tree, pack, trees}
@@ -81,7 +81,7 @@ continues_within limit text done rest before =
       length-append (spelling w.0) rest,
     )
 
--- where nothing was read, nothing is built
+-- if nothing was read, nothing is built
 pub none_built : (built list : List Tree) → length built ≤ length list → list ≡ [] → built ≡ []
 none_built [] list fewer none = refl
 none_built (t ∷ ts) list fewer none = absurd (omega (arith, fewer, ap length none))

@@ -7,7 +7,7 @@ use Rattle.timefd_component.specs.Tree.{Text, Tree}
 use Rattle.timefd_fault.specs.Faults.{Fault}
 use Rattle.timefd_fault.specs.declared.borrowed_parse_error.BorrowedParseError.{BorrowedParseError}
 use Rattle.timefd_fault.specs.declared.borrowed_parse_error.BorrowedParseError.TheVariants.{Invalid, Memory}
-use Rattle.timefd_fault.specs.BorrowedFaults.{lent_fault, IsLentOf, IsRefusal}
+use Rattle.timefd_fault.specs.BorrowedFaults.{to_borrowed_fault, IsBorrowedOf, IsRefusal}
 use Rattle.timefd_language.specs.declared.description_version.DescriptionVersion.{DescriptionVersion}
 use Rattle.timefd_fault.specs.declared.read_error.ReadError.{ReadError}
 use Rattle.timefd_language.specs.FaultMeaning.{IsFaultAt}
@@ -21,7 +21,7 @@ use Rattle.timefd_language.proofs.StrftimeReader.{strftime_one_answer_law}
 use Rattle.timefd_strftime.specs.StrftimeReading as strftime
 use Rattle.timefd_parse.specs.declared.language.Language.{Language}
 use Rattle.timefd_parse.specs.declared.language.Language.TheVariants.{Version, Strftime}
-use Rattle.timefd_parse.specs.FirstPiece.{LeadsIn, EndsWith, IsBehindFirst, IsFirst, BeginsList}
+use Rattle.timefd_parse.specs.FirstPiece.{LeadsIn, EndsWith, IsAfterFirst, IsFirst, BeginsList}
 use Rattle.timefd_parse.specs.Language.{SpellsIn, FaultIn}
 use Rattle.timefd_parse.specs.Read.{IsFaultIn, Leads}
 use Rattle.timefd_parse.proofs.ReadLemmas.{continues_first, items_fault, memory_or}
@@ -48,7 +48,7 @@ alone (Version v) text piece rest tree leads joined =
 alone Strftime text piece rest tree leads joined =
     strftime_alone text piece rest tree leads joined
 
-pub is_first : (language : Language) (text piece rest : Text) → IsBehindFirst language text rest
+pub is_first : (language : Language) (text piece rest : Text) → IsAfterFirst language text rest
     → piece ++ rest ≡ text → IsFirst language text piece rest
 is_first language text piece rest is joined = record {
   tree = is.tree;
@@ -56,12 +56,12 @@ is_first language text piece rest is joined = record {
   leads = is.leads;
 }
 
--- What is behind it, where the whole is spelled.
+-- What follows it, if the whole text spells something.
 
-version_behind : (v : DescriptionVersion) (limit : ℕ) (text rest : Text) (tree : Tree)
+version_after : (v : DescriptionVersion) (limit : ℕ) (text rest : Text) (tree : Tree)
     (list : List Tree) → Leads v limit 0 text tree rest → Spells v limit 0 text list
     → (others : List Tree) × (list ≡ tree ∷ others) × Spells v limit 0 rest others
-version_behind v limit text rest tree list leads s =
+version_after v limit text rest tree list leads s =
     let one = (one_answer_law v limit text).1 in
     elim (one_answer_law v limit rest).0 [
       | inl x ↦
@@ -81,10 +81,10 @@ version_behind v limit text rest tree list leads s =
           (w.0, x.1.1, w.1, x.1.3, w.2, refl))
     ]
 
-strftime_behind : (text rest : Text) (tree : Tree) (list : List Tree)
+strftime_after : (text rest : Text) (tree : Tree) (list : List Tree)
     → strftime.Leads text tree rest → SpellsStrftime text list
     → (others : List Tree) × (list ≡ tree ∷ others) × SpellsStrftime rest others
-strftime_behind text rest tree list leads s =
+strftime_after text rest tree list leads s =
     let one = (strftime_one_answer_law text).1 in
     elim (strftime_one_answer_law rest).0 [
       | inl x ↦
@@ -104,23 +104,23 @@ strftime_behind text rest tree list leads s =
           (w.0, x.1.1, w.1, x.1.3, w.2, refl))
     ]
 
-behind : (language : Language) (text rest : Text) (tree : Tree) (list : List Tree)
+after : (language : Language) (text rest : Text) (tree : Tree) (list : List Tree)
     → LeadsIn language text tree rest → SpellsIn language nesting_limit text list
     → (others : List Tree) × (list ≡ tree ∷ others) × SpellsIn language nesting_limit rest others
-behind (Version v) text rest tree list leads s =
-    version_behind v nesting_limit text rest tree list leads s
-behind Strftime text rest tree list leads s = strftime_behind text rest tree list leads s
+after (Version v) text rest tree list leads s =
+    version_after v nesting_limit text rest tree list leads s
+after Strftime text rest tree list leads s = strftime_after text rest tree list leads s
 
 pub begins_list : (language : Language) (text piece rest : Text) (list : List Tree)
-    → IsBehindFirst language text rest → piece ++ rest ≡ text
+    → IsAfterFirst language text rest → piece ++ rest ≡ text
     → SpellsIn language nesting_limit text list → BeginsList language piece rest list
 begins_list language text piece rest list is joined s =
-    let b = behind language text rest is.tree list is.leads s in record {
+    let b = after language text rest is.tree list is.leads s in record {
       tree = is.tree;
       others = b.0;
       whole = b.1;
       first = alone language text piece rest is.tree is.leads joined;
-      behind = b.2;
+      after = b.2;
     }
 
 -- The empty text, and one that has a fault.
@@ -139,10 +139,10 @@ not_both (Version v) text list f s is =
 not_both Strftime text list f s is = (strftime_one_answer_law text).1.not_both list f s is
 
 pub not_broken : (language : Language) (text : Text) (e : BorrowedParseError) (list : List Tree)
-    → IsLentOf (FaultIn language nesting_limit text) e → IsRefusal e
+    → IsBorrowedOf (FaultIn language nesting_limit text) e → IsRefusal e
     → SpellsIn language nesting_limit text list → ⊥
 not_broken language text (Invalid f) list is refusal s =
-    not_both language text list (lent_fault f) s is
+    not_both language text list (to_borrowed_fault f) s is
 not_broken language text (Memory m) list is refusal s = refusal
 
 -- the fault that a text begins with is the text's
@@ -152,9 +152,9 @@ fault_in v limit text =
     memory_or (IsFaultAt v limit 0 text) (IsFaultIn v limit 0 text)
     (λ f is. items_fault v limit 0 text text [] f (continues_first v limit 0 text) is)
 
--- The cut in front of what is behind the first piece.
+-- The cut before what follows the first piece.
 
-pub ends_with : (language : Language) (text rest : Text) → IsBehindFirst language text rest
+pub ends_with : (language : Language) (text rest : Text) → IsAfterFirst language text rest
     → EndsWith text rest
 ends_with language text rest is = ends language is.leads
   where

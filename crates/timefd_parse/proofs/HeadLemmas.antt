@@ -110,16 +110,16 @@ modifiers_step strict name start rest white after word after_word c c' item befo
           (placed_at (k + length (modifiers_text before.list)) m) (before.checks k total e)
           (record {
             key = refl;
-            key_place = omega (arith, is.key_place);
+            key_position = omega (arith, is.key_position);
             value = refl;
-            value_place =
-                omega (arith, is.value_place);
+            value_position =
+                omega (arith, is.value_position);
           }));
     }
 
 -- Heads.
 
--- a text that has no name where one is wanted
+-- a text without a name where one is needed
 pub nameless_fault : (v : DescriptionVersion) (limit n : ℕ) (inside white named name after : Text)
     (remaining : ℕ)
     → BeginsNoEscape v inside → IsCut is_white inside white named
@@ -127,7 +127,7 @@ pub nameless_fault : (v : DescriptionVersion) (limit n : ℕ) (inside white name
     → remaining + name_wanted_index white ≡ length inside + 1
     → IsFaultAt v limit n (left ∷ inside)
     (record { rule = broken.MissingName; remaining = remaining })
-nameless_fault v limit n inside white named name after remaining none_escaped w u none place = (
+nameless_fault v limit n inside white named name after remaining none_escaped w u none position = (
   nameless white named,
   (
     w.passes,
@@ -137,7 +137,7 @@ nameless_fault v limit n inside white named name after remaining none_escaped w 
     subst (BeginsNoEscape v) w.whole none_escaped,
   ),
   ap (λ t. left ∷ t) w.whole,
-  record { kind = refl; place = omega (arith, place) },
+  record { kind = refl; position = omega (arith, position) },
 )
 
 head_of : Text → Text → List Modifier → Head
@@ -177,7 +177,7 @@ head_found strict inside white named word start rest after head modifiers w u so
         stops_word = stops;
         shows = record {
           word = sym word_is;
-          place = omega (arith, remaining_is);
+          position = omega (arith, remaining_is);
           name = name_is;
           checks = before.checks _ _ (omega arith);
         };
@@ -188,11 +188,11 @@ misfit_raised : (m : Misfit) (k : ℕ) (remaining total : ℕ) (f : code_fault.F
     → IsFault remaining f (misfit_fault m 0) → k + remaining ≡ total
     → IsFault total f (misfit_fault m k)
 misfit_raised (no_colon word) k remaining total f is e =
-    record { kind = is.kind; place = omega (arith, is.place) }
+    record { kind = is.kind; position = omega (arith, is.position) }
 misfit_raised (no_key value) k remaining total f is e =
-    record { kind = is.kind; place = omega (arith, is.place) }
+    record { kind = is.kind; position = omega (arith, is.position) }
 misfit_raised (no_value key) k remaining total f is e =
-    record { kind = is.kind; place = omega (arith, is.place) }
+    record { kind = is.kind; position = omega (arith, is.position) }
 
 pub modifier_fault : (v : DescriptionVersion) (limit n : ℕ) (strict : Bool) (name : Option Name)
     (inside white named name_word start : Text) (c : code_modifiers.Modifiers)

@@ -13,7 +13,7 @@ use Rattle.timefd_parse.specs.declared.modifiers.Modifiers as code_modifiers
 use Rattle.timefd_language.specs.declared.name.ComponentName.{ComponentName}
 use Rattle.timefd_language.specs.declared.name.Name.{Name}
 use Rattle.timefd_language.specs.declared.name.Name.TheVariants as names
-use Rattle.timefd_parse.specs.declared.places.Places.{Places}
+use Rattle.timefd_parse.specs.declared.positions.Positions.{Positions}
 use Rattle.timefd_language.specs.declared.combination.Refusal as code_refusal
 use Rattle.timefd_language.specs.declared.key.Key as code_key
 use Rattle.timefd_language.specs.Bytes.{equal, same, left, is_white, is_word_byte, OneOrMore, StopsBefore}
@@ -22,17 +22,17 @@ use Rattle.timefd_language.specs.Head.{Head, Placed, placed, name_index}
 use Rattle.timefd_language.specs.Names.{Row, row_for, row_of}
 use Rattle.timefd_language.specs.Combinations.{Refusal, refusals}
 use Rattle.timefd_language.specs.Lookup.{key_for, IsNameOf, refusal_for}
-use Rattle.timefd_parse.specs.Places.{place}
-use Rattle.timefd_language.specs.Verdict.{PlacedDescription, ◌or◌, unless, behind, refuse, settings, component_verdict, combination, combined, misplaced, made, nested_wanted, too_many, is_formatted, only, optional_verdict, first_verdict, touching, nested_refused, verdict}
+use Rattle.timefd_parse.specs.Positions.{position}
+use Rattle.timefd_language.specs.Verdict.{PlacedDescription, ◌or◌, unless, after, refuse, settings, component_verdict, combination, combined, misplaced, made, nested_wanted, too_many, is_formatted, only, optional_verdict, first_verdict, touching, nested_refused, verdict}
 use Rattle.timefd_fault.specs.ReadErrors.{IsFault}
-use Rattle.timefd_parse.specs.Checked.{Checks, ShowsFault, ShowsPlace, first_place}
+use Rattle.timefd_parse.specs.Checked.{Checks, ShowsFault, ShowsPosition, first_position}
 use Rattle.timefd_parse.specs.Heads.{ShowsHead}
 use Rattle.timefd_parse.specs.HeadVerdicts.{BeginsJudged, IsPlain, IsVerdict, Decides, nests, refused_unless, placing}
-use Rattle.timefd_parse.specs.Judged.{ShowsPlaces, JudgedFault}
+use Rattle.timefd_parse.specs.Judged.{ShowsPositions, JudgedFault}
 use Rattle.timefd_parse.proofs.CheckLemmas.{none_shown, shows_none}
 use Rattle.timefd_parse.proofs.VerdictLemmas.{any_is_bad}
 
--- What modifiers come to.
+-- What modifiers set.
 
 pub fault_shown : (total : ℕ) (o : Option code_fault.Fault) (b : Option Fault)
     (f : code_fault.Fault) → ShowsFault total o b → o ≡ Some f
@@ -46,15 +46,15 @@ fault_shown total (Some x) (Some g) f is e =
 
 misplaced_at : (r : Refusal) (ps : List Placed)
     → misplaced r ps ≡ option_map (λ i. fault (invalid_combination r.key r.context) i)
-    (first_place r.key ps)
+    (first_position r.key ps)
 misplaced_at r [] = refl
 misplaced_at r (p ∷ ps) = by (equal r.key p.key) (misplaced_at r ps)
   where
     by : (t : Bool) → misplaced r ps ≡ option_map
-        (λ i. fault (invalid_combination r.key r.context) i) (first_place r.key ps)
+        (λ i. fault (invalid_combination r.key r.context) i) (first_position r.key ps)
         → (refuse t (invalid_combination r.key r.context) p.key_index or misplaced r ps)
         ≡ option_map (λ i. fault (invalid_combination r.key r.context) i)
-        (elim t as (λ _. Option ℕ) [ true ↦ Some p.key_index | false ↦ first_place r.key ps ])
+        (elim t as (λ _. Option ℕ) [ true ↦ Some p.key_index | false ↦ first_position r.key ps ])
     by true e = refl
     by false e = e
 
@@ -68,10 +68,10 @@ pub exactly : (strict : Bool) (c : Component) (ps : List Placed) → strict ≡ 
 exactly strict c ps exact = ap (λ b. if b then combined (refusals c) ps else None) exact
 
 -- the refusals from one on decide
-pub refused_here : (total : ℕ) (places : Places) (ps : List Placed) (r : code_refusal.Refusal)
+pub refused_here : (total : ℕ) (positions : Positions) (ps : List Placed) (r : code_refusal.Refusal)
     (rest : List Refusal) (remaining : ℕ) (spelling : Bor (List ℕ)) (all : Option Fault)
-    → ShowsPlaces total places ps
-    → place places r.key ≡ Some remaining → spelling.now ≡ (key_for r.key).key
+    → ShowsPositions total positions ps
+    → position positions r.key ≡ Some remaining → spelling.now ≡ (key_for r.key).key
     → all ≡ combined (refusal_for r ∷ rest) ps
     → ShowsFault total
     (Some (record {
@@ -79,12 +79,12 @@ pub refused_here : (total : ℕ) (places : Places) (ps : List Placed) (r : code_
       remaining =
           remaining;
     })) all
-refused_here total places ps r rest remaining spelling all shows at spelled e =
-    by (first_place (key_for r.key).key ps) refl
-    (subst (λ o. ShowsPlace total o (first_place (key_for r.key).key ps)) at (shows r.key))
+refused_here total positions ps r rest remaining spelling all shows at spelled e =
+    by (first_position (key_for r.key).key ps) refl
+    (subst (λ o. ShowsPosition total o (first_position (key_for r.key).key ps)) at (shows r.key))
   where
-    by : (o : Option ℕ) → first_place (key_for r.key).key ps ≡ o
-        → ShowsPlace total (Some remaining) o
+    by : (o : Option ℕ) → first_position (key_for r.key).key ps ≡ o
+        → ShowsPosition total (Some remaining) o
         → ShowsFault total
         (Some (record {
           rule = broken.RefusedModifier spelling r.context;
@@ -99,16 +99,16 @@ refused_here total places ps r rest remaining spelling all shows at spelled e =
         (sym (e ∙ ap (λ x. x or combined rest ps) (misplaced_at (refusal_for r) ps ∙
         ap (option_map (λ j. fault (invalid_combination (key_for r.key).key r.context.now) j))
         f)))
-        (record { kind = ap (λ k. invalid_combination k r.context.now) (sym spelled); place = is })
+        (record { kind = ap (λ k. invalid_combination k r.context.now) (sym spelled); position = is })
 
-pub refused_later : (total : ℕ) (places : Places) (ps : List Placed) (r : code_refusal.Refusal)
-    (rest : List Refusal) (all : Option Fault) → ShowsPlaces total places ps
-    → place places r.key ≡ None → all ≡ combined (refusal_for r ∷ rest) ps → all ≡ combined rest ps
-refused_later total places ps r rest all shows none e =
-    by (first_place (key_for r.key).key ps) refl
-    (subst (λ o. ShowsPlace total o (first_place (key_for r.key).key ps)) none (shows r.key))
+pub refused_later : (total : ℕ) (positions : Positions) (ps : List Placed) (r : code_refusal.Refusal)
+    (rest : List Refusal) (all : Option Fault) → ShowsPositions total positions ps
+    → position positions r.key ≡ None → all ≡ combined (refusal_for r ∷ rest) ps → all ≡ combined rest ps
+refused_later total positions ps r rest all shows none e =
+    by (first_position (key_for r.key).key ps) refl
+    (subst (λ o. ShowsPosition total o (first_position (key_for r.key).key ps)) none (shows r.key))
   where
-    by : (o : Option ℕ) → first_place (key_for r.key).key ps ≡ o → ShowsPlace total None o
+    by : (o : Option ℕ) → first_position (key_for r.key).key ps ≡ o → ShowsPosition total None o
         → all ≡ combined rest ps
     by None f is = e ∙ ap (λ x. x or combined rest ps) (misplaced_at (refusal_for r) ps ∙
         ap (option_map (λ j. fault (invalid_combination (key_for r.key).key r.context.now) j)) f)
@@ -125,7 +125,7 @@ module _ (strict : Bool) (total : ℕ) (head : code_head.Head) (modifiers : code
   component_bad f e =
       let b = fault_shown total _ _ f checks.fault e in (
         b.0,
-        ap (λ x. behind x (made strict h
+        ap (λ x. after x (made strict h
             ((row_for n).component (settings strict (row_for n).keys (placed h))))) b.1,
         b.2,
       )
@@ -134,7 +134,7 @@ module _ (strict : Bool) (total : ℕ) (head : code_head.Head) (modifiers : code
       → (row_for n).component modifiers.settings ≡ r
       → component_verdict strict h (Some (row_for n)) ≡ made strict h r
   good none r e =
-      ap (λ x. behind x (made strict h
+      ap (λ x. after x (made strict h
       ((row_for n).component (settings strict (row_for n).keys (placed h)))))
       (none_shown total _ _ checks.fault none)
       ∙ ap (made strict h) (ap (row_for n).component (sym (checks.settings none)) ∙ e)
@@ -146,12 +146,12 @@ module _ (strict : Bool) (total : ℕ) (head : code_head.Head) (modifiers : code
   component_missing key none e = (
     fault (missing_modifier key.now) (name_index h),
     good none _ e,
-    record { kind = refl; place = shows.place },
+    record { kind = refl; position = shows.position },
   )
 
-  pub places_shown : modifiers.fault ≡ None → strict ≡ true
-      → ShowsPlaces total modifiers.places (placed h)
-  places_shown none exact = checks.places none exact
+  pub positions_shown : modifiers.fault ≡ None → strict ≡ true
+      → ShowsPositions total modifiers.positions (placed h)
+  positions_shown none exact = checks.positions none exact
 
   pub component_refused : (c : Component) (f : code_fault.Fault) → modifiers.fault ≡ None
       → (row_for n).component modifiers.settings ≡ Ok c
@@ -174,68 +174,68 @@ module _ (strict : Bool) (total : ℕ) (head : code_head.Head) (modifiers : code
 
 abbrev by_tests : Bool → Head → List PlacedDescription → ℕ → Bool → Bool → Option Row
     → Result Tree Fault
-by_tests strict h parts place is_optional is_first row =
-    if is_optional then optional_verdict strict h parts place
-    else if is_first then first_verdict strict h parts place
-    else behind (nested_refused parts) (component_verdict strict h row)
+by_tests strict h parts position is_optional is_first row =
+    if is_optional then optional_verdict strict h parts position
+    else if is_first then first_verdict strict h parts position
+    else after (nested_refused parts) (component_verdict strict h row)
 
 abbrev pub by_name : Bool → Head → List PlacedDescription → ℕ → Option Name → Result Tree Fault
-by_name strict h parts place (Some names.Optional) = optional_verdict strict h parts place
-by_name strict h parts place (Some names.First) = first_verdict strict h parts place
-by_name strict h parts place (Some (names.Component n)) =
+by_name strict h parts position (Some names.Optional) = optional_verdict strict h parts position
+by_name strict h parts position (Some names.First) = first_verdict strict h parts position
+by_name strict h parts position (Some (names.Component n)) =
     component_verdict strict h (Some (row_for n))
-by_name strict h parts place None = component_verdict strict h None
+by_name strict h parts position None = component_verdict strict h None
 
-named : (strict : Bool) (h : Head) (parts : List PlacedDescription) (place : ℕ) (name : Option Name)
+named : (strict : Bool) (h : Head) (parts : List PlacedDescription) (position : ℕ) (name : Option Name)
     → IsNameOf strict h.name name
-    → by_tests strict h parts place (same strict (codes "optional") h.name)
+    → by_tests strict h parts position (same strict (codes "optional") h.name)
     (same strict (codes "first") h.name) (row_of strict h.name)
-    ≡ behind (refused_unless (nests name) parts) (by_name strict h parts place name)
-named strict h parts place (Some names.Optional) is =
-    ap (λ b. by_tests strict h parts place b (same strict (codes "first") h.name)
+    ≡ after (refused_unless (nests name) parts) (by_name strict h parts position name)
+named strict h parts position (Some names.Optional) is =
+    ap (λ b. by_tests strict h parts position b (same strict (codes "first") h.name)
     (row_of strict h.name)) is
-named strict h parts place (Some names.First) is =
-    ap (λ b. by_tests strict h parts place b (same strict (codes "first") h.name)
+named strict h parts position (Some names.First) is =
+    ap (λ b. by_tests strict h parts position b (same strict (codes "first") h.name)
     (row_of strict h.name)) is.0
-    ∙ ap (λ b. by_tests strict h parts place false b (row_of strict h.name)) is.1
-named strict h parts place (Some (names.Component n)) is =
-    ap (λ b. by_tests strict h parts place b (same strict (codes "first") h.name)
+    ∙ ap (λ b. by_tests strict h parts position false b (row_of strict h.name)) is.1
+named strict h parts position (Some (names.Component n)) is =
+    ap (λ b. by_tests strict h parts position b (same strict (codes "first") h.name)
     (row_of strict h.name)) is.0
-    ∙ ap (λ b. by_tests strict h parts place false b (row_of strict h.name)) is.1
-    ∙ ap (λ r. by_tests strict h parts place false false r) is.2
-named strict h parts place None is =
-    ap (λ b. by_tests strict h parts place b (same strict (codes "first") h.name)
+    ∙ ap (λ b. by_tests strict h parts position false b (row_of strict h.name)) is.1
+    ∙ ap (λ r. by_tests strict h parts position false false r) is.2
+named strict h parts position None is =
+    ap (λ b. by_tests strict h parts position b (same strict (codes "first") h.name)
     (row_of strict h.name)) is.0
-    ∙ ap (λ b. by_tests strict h parts place false b (row_of strict h.name)) is.1
-    ∙ ap (λ r. by_tests strict h parts place false false r) is.2
+    ∙ ap (λ b. by_tests strict h parts position false b (row_of strict h.name)) is.1
+    ∙ ap (λ r. by_tests strict h parts position false false r) is.2
 
-behind_both : (a b : Option Fault) (r : Result Tree Fault)
-    → behind a (behind b r) ≡ behind (a or b) r
-behind_both (Some f) b r = refl
-behind_both None b r = refl
+after_both : (a b : Option Fault) (r : Result Tree Fault)
+    → after a (after b r) ≡ after (a or b) r
+after_both (Some f) b r = refl
+after_both None b r = refl
 
-by_rules : (strict : Bool) (total place : ℕ) (head : code_head.Head)
+by_rules : (strict : Bool) (total position : ℕ) (head : code_head.Head)
     (modifiers : code_modifiers.Modifiers) (h : Head) (parts : List PlacedDescription)
     → ShowsHead strict total head modifiers h
-    → verdict strict h parts place ≡ behind (placing (nests head.name) parts)
-    (by_name strict h parts place head.name)
-by_rules strict total place head modifiers h parts shows =
-    ap (behind (touching parts)) (named strict h parts place head.name
+    → verdict strict h parts position ≡ after (placing (nests head.name) parts)
+    (by_name strict h parts position head.name)
+by_rules strict total position head modifiers h parts shows =
+    ap (after (touching parts)) (named strict h parts position head.name
     (subst (λ w. IsNameOf strict w head.name) (sym shows.word) shows.name))
-    ∙ behind_both (touching parts) (refused_unless (nests head.name) parts)
-    (by_name strict h parts place head.name)
+    ∙ after_both (touching parts) (refused_unless (nests head.name) parts)
+    (by_name strict h parts position head.name)
 
 -- what a head decides by its name
 pub decided : (strict : Bool) (total : ℕ) (head : code_head.Head)
     (modifiers : code_modifiers.Modifiers) (h : Head) (name : Option Name)
     (by : List PlacedDescription → ℕ → Result Tree Fault)
     → ShowsHead strict total head modifiers h → head.name ≡ name
-    → ((parts : List PlacedDescription) (place : ℕ) → by_name strict h parts place name ≡ by parts place)
+    → ((parts : List PlacedDescription) (position : ℕ) → by_name strict h parts position name ≡ by parts position)
     → Decides strict h (nests head.name) by
-decided strict total head modifiers h name by shows is same = λ parts place.
-    by_rules strict total place head modifiers h parts shows
-    ∙ ap (behind (placing (nests head.name) parts))
-    (ap (by_name strict h parts place) is ∙ same parts place)
+decided strict total head modifiers h name by shows is same = λ parts position.
+    by_rules strict total position head modifiers h parts shows
+    ∙ ap (after (placing (nests head.name) parts))
+    (ap (by_name strict h parts position) is ∙ same parts position)
 
 pub refused_name : (strict : Bool) (total : ℕ) (head : code_head.Head)
     (modifiers : code_modifiers.Modifiers) (h : Head) → ShowsHead strict total head modifiers h
@@ -244,8 +244,8 @@ pub refused_name : (strict : Bool) (total : ℕ) (head : code_head.Head)
     (record { rule = broken.UnknownName head.word; remaining = head.remaining }))
 refused_name strict total head modifiers h shows none = (
   fault (invalid_name h.name) (name_index h),
-  record { kind = ap invalid_name shows.word; place = shows.place },
-  decided strict total head modifiers h None _ shows none (λ parts place. refl),
+  record { kind = ap invalid_name shows.word; position = shows.position },
+  decided strict total head modifiers h None _ shows none (λ parts position. refl),
 )
 
 module _ (strict : Bool) (total : ℕ) (head : code_head.Head) (modifiers : code_modifiers.Modifiers)
@@ -264,8 +264,8 @@ refused_optional strict total head modifiers h f shows is bad =
       b.0,
       b.2,
       decided strict total head modifiers h (Some names.Optional) _ shows is
-          (λ parts place. ap (λ a. unless (a or too_many parts or nested_wanted expected_nested parts
-          place or refuse (not strict) optional_item 0)
+          (λ parts position. ap (λ a. unless (a or too_many parts or nested_wanted expected_nested parts
+          position or refuse (not strict) optional_item 0)
           (optional (is_formatted strict (placed h)) (only parts))) b.1),
     )
 
@@ -279,8 +279,8 @@ refused_first strict total head modifiers h f shows is bad =
       b.0,
       b.2,
       decided strict total head modifiers h (Some names.First) _ shows is
-          (λ parts place. ap (λ a. unless (a or (if strict then nested_wanted expected_alternative
-          parts place else Some (fault first_item 0)))
+          (λ parts position. ap (λ a. unless (a or (if strict then nested_wanted expected_alternative
+          parts position else Some (fault first_item 0)))
           (first (trees (map (λ (p : PlacedDescription). pack p.trees) parts))))
           (any_is_bad strict (placed h) ∙ b.1)),
     )
@@ -294,7 +294,7 @@ is_optional strict total head modifiers h shows is none =
       none_shown total _ _ c.fault none,
       ap (λ s. s.format) (c.settings none),
       decided strict total head modifiers h (Some names.Optional) _ shows is
-          (λ parts place. refl),
+          (λ parts position. refl),
     )
 
 pub is_first : (strict : Bool) (total : ℕ) (head : code_head.Head)
@@ -303,7 +303,7 @@ pub is_first : (strict : Bool) (total : ℕ) (head : code_head.Head)
     → IsVerdict strict total h (nests head.name) verdicts.First
 is_first strict total head modifiers h shows is none = (
   none_shown total _ _ (checked strict total head modifiers h names.First shows is).fault none,
-  decided strict total head modifiers h (Some names.First) _ shows is (λ parts place. refl),
+  decided strict total head modifiers h (Some names.First) _ shows is (λ parts position. refl),
 )
 
 -- Heads that are a word and a space.
@@ -314,18 +314,18 @@ plain name = record { white = []; name = name; modifiers = [] }
 by_optional : (strict : Bool) → Decides strict (plain (codes "optional")) true (optional_verdict strict
     (plain (codes "optional")))
 unfolding plain
-by_optional true = λ parts place.
-    behind_both (touching parts) None (optional_verdict true (plain (codes "optional")) parts place)
-by_optional false = λ parts place.
-    behind_both (touching parts) None (optional_verdict false (plain (codes "optional")) parts place)
+by_optional true = λ parts position.
+    after_both (touching parts) None (optional_verdict true (plain (codes "optional")) parts position)
+by_optional false = λ parts position.
+    after_both (touching parts) None (optional_verdict false (plain (codes "optional")) parts position)
 
 by_first : (strict : Bool) → Decides strict (plain (codes "first")) true (first_verdict strict
     (plain (codes "first")))
 unfolding plain
-by_first true = λ parts place.
-    behind_both (touching parts) None (first_verdict true (plain (codes "first")) parts place)
-by_first false = λ parts place.
-    behind_both (touching parts) None (first_verdict false (plain (codes "first")) parts place)
+by_first true = λ parts position.
+    after_both (touching parts) None (first_verdict true (plain (codes "first")) parts position)
+by_first false = λ parts position.
+    after_both (touching parts) None (first_verdict false (plain (codes "first")) parts position)
 
 begins_plainly : (strict : Bool) (inside name rest tail : Text) (verdict : HeadVerdict)
     → OneOrMore is_word_byte name → inside ≡ name ++ 32 ∷ rest → rest ≡ left ∷ tail
@@ -367,33 +367,33 @@ plainly strict inside word rest tail verdicts.First is e f =
 plainly strict inside word rest tail (verdicts.Component c) is e f = absurd is
 plainly strict inside word rest tail (verdicts.Refused g) is e f = absurd is
 
--- What a verdict on a head makes of its bracket.
+-- What a verdict on a head means for its bracket.
 
-module _ (strict : Bool) (total place : ℕ) (h : Head) (nested : Bool)
+module _ (strict : Bool) (total position : ℕ) (h : Head) (nested : Bool)
     (parts : List PlacedDescription) where
   pub misplaced_nested : (v : HeadVerdict) (o : Option code_fault.Fault) (f : code_fault.Fault)
       → IsVerdict strict total h nested v → ShowsFault total o (placing nested parts) → o ≡ Some f
-      → JudgedFault total (verdict strict h parts place) f
+      → JudgedFault total (verdict strict h parts position) f
   misplaced_nested (verdicts.Component c) o f is shows some =
       let b = fault_shown total o _ f shows some in
-      (b.0, is.2 parts place ∙ ap (λ x. behind x (Ok (component c))) b.1, b.2)
+      (b.0, is.2 parts position ∙ ap (λ x. after x (Ok (component c))) b.1, b.2)
   misplaced_nested (verdicts.Optional formatted) o f is shows some =
       let b = fault_shown total o _ f shows some in
-      (b.0, is.2 parts place ∙ ap (λ x. behind x (optional_verdict strict h parts place)) b.1, b.2)
+      (b.0, is.2 parts position ∙ ap (λ x. after x (optional_verdict strict h parts position)) b.1, b.2)
   misplaced_nested verdicts.First o f is shows some =
       let b = fault_shown total o _ f shows some in
-      (b.0, is.1 parts place ∙ ap (λ x. behind x (first_verdict strict h parts place)) b.1, b.2)
+      (b.0, is.1 parts position ∙ ap (λ x. after x (first_verdict strict h parts position)) b.1, b.2)
   misplaced_nested (verdicts.Refused e) o f is shows some =
       let b = fault_shown total o _ f shows some in
-      (b.0, is.2 parts place ∙ ap (λ x. behind x (Err is.0)) b.1, b.2)
+      (b.0, is.2 parts position ∙ ap (λ x. after x (Err is.0)) b.1, b.2)
 
-  -- with nested descriptions where they may stand, or none
+  -- with nested descriptions where they may be, or none
   pub well_placed : (by : List PlacedDescription → ℕ → Result Tree Fault)
       (o : Option code_fault.Fault) → Decides strict h nested by
       → ShowsFault total o (placing nested parts) → o ≡ None
-      → verdict strict h parts place ≡ by parts place
+      → verdict strict h parts position ≡ by parts position
   well_placed by o decides shows none =
-      decides parts place ∙ ap (λ x. behind x (by parts place)) (none_shown total o _ shows none)
+      decides parts position ∙ ap (λ x. after x (by parts position)) (none_shown total o _ shows none)
 
 refused_anyway : (b : Bool) (kind : Kind) (index : ℕ) (f : Fault)
     → (refuse b kind index or Some f) ≡ None → ⊥

@@ -1,4 +1,4 @@
--- A word that is a modifier, or isn't, from its key and what stands behind it.
+-- A word that is a modifier, or isn't, by its key and what follows the key.
 use Rattle.std.proofs.Common.{◌≡◌, ℕ, ◌+◌, ◌<◌, ◌==◌, Bool, false, [], ◌∷◌, ◌++◌, length, refl, sym, ap, ◌∙◌, subst, arith, append_assoc, length-append}
 use Rattle.std.specs.List.{list_all}
 use Rattle.std.proofs.lemmas.Bool.{and_from}
@@ -37,26 +37,26 @@ stops_word (b ∷ text) stops other = word_stop b stops other
 
 -- Words.
 
-pub word_of_key : (text key behind : Text) → IsCut is_key_byte text key behind
-    → StopsBefore (λ b. b == 58) behind → IsCut is_word_byte text key behind
-word_of_key text key behind is other =
+pub word_of_key : (text key after : Text) → IsCut is_key_byte text key after
+    → StopsBefore (λ b. b == 58) after → IsCut is_word_byte text key after
+word_of_key text key after is other =
     record {
       whole = is.whole;
       passes = keys_are_words key is.passes;
       stops =
-          stops_word behind is.stops other;
+          stops_word after is.stops other;
     }
 
-pub no_word : (text key behind : Text) → IsCut is_key_byte text key behind
-    → StopsBefore (λ b. b == 58) behind → length key ≡ 0 → StopsBefore is_word_byte text
-no_word text key behind is other none =
-    subst (StopsBefore is_word_byte) (sym (is.whole ∙ ap (λ t. t ++ behind) (empty key none)))
-    (stops_word behind is.stops other)
+pub no_word : (text key after : Text) → IsCut is_key_byte text key after
+    → StopsBefore (λ b. b == 58) after → length key ≡ 0 → StopsBefore is_word_byte text
+no_word text key after is other none =
+    subst (StopsBefore is_word_byte) (sym (is.whole ∙ ap (λ t. t ++ after) (empty key none)))
+    (stops_word after is.stops other)
 
-pub word_of_parts : (text key behind after value rest : Text) → IsCut is_key_byte text key behind
-    → behind ≡ colon ∷ after → IsCut is_word_byte after value rest
+pub word_of_parts : (text key after assigned value rest : Text) → IsCut is_key_byte text key after
+    → after ≡ colon ∷ assigned → IsCut is_word_byte assigned value rest
     → BeginsWithWord text (key ++ colon ∷ value) rest
-word_of_parts text key behind after value rest is e v = record {
+word_of_parts text key after assigned value rest is e v = record {
   cut = record {
     whole = is.whole ∙ ap (λ t. key ++ t) (e ∙ ap (λ t. colon ∷ t) v.whole) ∙
         sym (append_assoc key (colon ∷ value) rest);
@@ -67,43 +67,43 @@ word_of_parts text key behind after value rest is e v = record {
   some = simp length-append (omega arith);
 }
 
-pub behind_length : (text key behind after : Text) → IsCut is_key_byte text key behind
-    → behind ≡ colon ∷ after → length text ≡ length key + 1 + length after
-behind_length text key behind after is e =
-    omega (arith, ap length is.whole, length-append key behind, ap length e)
+pub after_length : (text key after assigned : Text) → IsCut is_key_byte text key after
+    → after ≡ colon ∷ assigned → length text ≡ length key + 1 + length assigned
+after_length text key after assigned is e =
+    omega (arith, ap length is.whole, length-append key after, ap length e)
 
-pub misfit_no_colon : (text key behind : Text) (f : code_fault.Fault)
-    → IsCut is_key_byte text key behind → StopsBefore (λ b. b == 58) behind → 0 < length key
+pub misfit_no_colon : (text key after : Text) (f : code_fault.Fault)
+    → IsCut is_key_byte text key after → StopsBefore (λ b. b == 58) after → 0 < length key
     → IsFault (length text) f (misfit_fault (no_colon key) 0)
     → (word : Text) × (rest : Text) × BeginsWithWord text word rest × IsNoWord word (length text) f
-misfit_no_colon text key behind f is other some fault = (
+misfit_no_colon text key after f is other some fault = (
   key,
-  behind,
-  record { cut = word_of_key text key behind is other; some = some },
+  after,
+  record { cut = word_of_key text key after is other; some = some },
   (no_colon key, one_or_more is_key_byte key some is.passes, refl, fault),
 )
 
-pub misfit_no_key : (text key behind after value rest : Text) (f : code_fault.Fault)
-    → IsCut is_key_byte text key behind → behind ≡ colon ∷ after
-    → IsCut is_word_byte after value rest
+pub misfit_no_key : (text key after assigned value rest : Text) (f : code_fault.Fault)
+    → IsCut is_key_byte text key after → after ≡ colon ∷ assigned
+    → IsCut is_word_byte assigned value rest
     → length key ≡ 0 → IsFault (length text) f (misfit_fault (no_key value) 0)
     → (word : Text) × (rest : Text) × BeginsWithWord text word rest × IsNoWord word (length text) f
-misfit_no_key text key behind after value rest f is e v none fault = (
+misfit_no_key text key after assigned value rest f is e v none fault = (
   key ++ colon ∷ value,
   rest,
-  word_of_parts text key behind after value rest is e v,
+  word_of_parts text key after assigned value rest is e v,
   (no_key value, v.passes, ap (λ t. t ++ colon ∷ value) (empty key none), fault),
 )
 
-pub misfit_no_value : (text key behind after value rest : Text) (f : code_fault.Fault)
-    → IsCut is_key_byte text key behind → behind ≡ colon ∷ after
-    → IsCut is_word_byte after value rest
+pub misfit_no_value : (text key after assigned value rest : Text) (f : code_fault.Fault)
+    → IsCut is_key_byte text key after → after ≡ colon ∷ assigned
+    → IsCut is_word_byte assigned value rest
     → 0 < length key → length value ≡ 0 → IsFault (length text) f (misfit_fault (no_value key) 0)
     → (word : Text) × (rest : Text) × BeginsWithWord text word rest × IsNoWord word (length text) f
-misfit_no_value text key behind after value rest f is e v some none fault = (
+misfit_no_value text key after assigned value rest f is e v some none fault = (
   key ++ colon ∷ value,
   rest,
-  word_of_parts text key behind after value rest is e v,
+  word_of_parts text key after assigned value rest is e v,
   (
     no_value key,
     one_or_more is_key_byte key some is.passes,

@@ -138,15 +138,15 @@ unfolding add
 first_nested_more spaced remaining no_nested white ps w rest = tt
 first_nested_more spaced remaining (nested v qs ns) white ps w rest = tt
 
-first_place : (k total : ℕ) (spaced : Bool) (remaining : ℕ) (ns : Nested) (white : Text)
+first_position : (k total : ℕ) (spaced : Bool) (remaining : ℕ) (ns : Nested) (white : Text)
     (ps : Pieces) (rest : Text) → IsFirst spaced remaining ns white rest
     → k + length (nested_text ns ++ white ++ rest) ≡ total
     → parts_from k ns ≡ [] → ((part (k + length (nested_text ns)) white ps).spaced ≡ spaced)
     × ((part (k + length (nested_text ns)) white ps).index + remaining ≡ total)
 unfolding part
-first_place k total spaced remaining no_nested white ps rest first e none =
+first_position k total spaced remaining no_nested white ps rest first e none =
     (first.0, omega (arith, e, first.1, length-append white rest))
-first_place k total spaced remaining (nested w qs ns) white ps rest first e none = absurd (cc)
+first_position k total spaced remaining (nested w qs ns) white ps rest first e none = absurd (cc)
 
 pub nested_step : (v : DescriptionVersion) (limit n : ℕ) (start : Text) (spaced : Bool)
     (remaining : ℕ) (read : List Tree) (rest text after white' rest' : Text) (front : Pieces)
@@ -173,7 +173,7 @@ nested_step v limit n start spaced remaining read rest text after white' rest' f
           (sym (parts_more k before.list before.white front))
           (shows_more total spaced remaining read (parts_from k before.list) inner
           (part (k + length (nested_text before.list)) before.white front) (before.shows k total f)
-          (first_place k total spaced remaining before.list before.white front rest before.first
+          (first_position k total spaced remaining before.list before.white front rest before.first
           (ap (λ t. k + length t) (sym before.whole) ∙ f)) tree);
     }
 
@@ -248,25 +248,25 @@ module _ {v : DescriptionVersion} {limit n : ℕ} {text : Text} where
 
 -- Brackets.
 
--- what a verdict says of a bracket that it accepts, and of one that it refuses
+-- what a verdict says about a bracket that it accepts, and about one that it refuses
 abbrev pub Accepts : Bool → Bool → ℕ → JudgedHead → code_nested.Nested → ℕ → List Tree → List Tree
     → Piece → Type 0
 Accepts strict builds total judged inners end old new piece =
-    (place : ℕ) (h : Head) (parts : List PlacedDescription) (base : List Tree)
+    (position : ℕ) (h : Head) (parts : List PlacedDescription) (base : List Tree)
     → IsVerdict strict total h judged.nests judged.verdict → ShowsNested total inners parts
-    → place + end ≡ total
+    → position + end ≡ total
     → IsBuilt builds base old (packed parts)
-    → (tree : Tree) × (verdict strict h parts place ≡ Ok tree)
+    → (tree : Tree) × (verdict strict h parts position ≡ Ok tree)
     × IsPiece strict builds base new piece tree
 
 abbrev pub Refuses : Bool → Bool → ℕ → JudgedHead → code_nested.Nested → ℕ → List Tree → ReadError
     → Type 0
 Refuses strict builds total judged inners end old e =
-    (place : ℕ) (h : Head) (parts : List PlacedDescription) (base : List Tree)
+    (position : ℕ) (h : Head) (parts : List PlacedDescription) (base : List Tree)
     → IsVerdict strict total h judged.nests judged.verdict → ShowsNested total inners parts
-    → place + end ≡ total
+    → position + end ≡ total
     → IsBuilt builds base old (packed parts)
-    → MemoryOr (JudgedFault total (verdict strict h parts place)) e
+    → MemoryOr (JudgedFault total (verdict strict h parts position)) e
 
 shows_nested : (total : ℕ) (inners : code_nested.Nested) (read : List Tree)
     (parts : List PlacedDescription)
@@ -290,28 +290,28 @@ read_packed total spaced remaining read (p ∷ ps) shows = shows.2
 pub record BracketBefore (v : DescriptionVersion) (limit n : ℕ) (inside : Text)
     (judged : JudgedHead) (remaining : ℕ) (read : List Tree) (rest : Text) : Type 0 where
   pub h : Head
-  pub behind : Text
-  pub begins : BeginsWithJudged (is_version_three v) (left ∷ inside) judged behind h
-  pub before : NestedBefore v limit n (begins.white ++ behind) judged.spaced remaining read rest
+  pub after : Text
+  pub begins : BeginsWithJudged (is_version_three v) (left ∷ inside) judged after h
+  pub before : NestedBefore v limit n (begins.white ++ after) judged.spaced remaining read rest
 
 pub bracket_begins : {v : DescriptionVersion} {limit n : ℕ} {inside : Text} {judged : JudgedHead}
-    {behind : Text} {h : Head}
-    → BeginsWithJudged (is_version_three v) (left ∷ inside) judged behind h
-    → BracketBefore v limit n inside judged (length behind) [] behind
-bracket_begins {v} {limit} {n} {inside} {judged} {behind} {h} begins = record {
+    {after : Text} {h : Head}
+    → BeginsWithJudged (is_version_three v) (left ∷ inside) judged after h
+    → BracketBefore v limit n inside judged (length after) [] after
+bracket_begins {v} {limit} {n} {inside} {judged} {after} {h} begins = record {
   h = h;
-  behind = behind;
+  after = after;
   begins = begins;
-  before = nothing_nested v limit n (left ∷ inside) judged behind h (length behind) begins refl;
+  before = nothing_nested v limit n (left ∷ inside) judged after h (length after) begins refl;
 }
 
-pub behind_within : {strict : Bool} {inside : Text} {judged : JudgedHead} {behind : Text} {h : Head}
-    → BeginsWithJudged strict (left ∷ inside) judged behind h → length behind ≤ length inside
-behind_within {strict} {inside} {judged} {behind} {h} begins =
+pub after_within : {strict : Bool} {inside : Text} {judged : JudgedHead} {after : Text} {h : Head}
+    → BeginsWithJudged strict (left ∷ inside) judged after h → length after ≤ length inside
+after_within {strict} {inside} {judged} {after} {h} begins =
     omega (
       arith,
       ap length begins.whole,
-      length-append (head_text h ++ begins.white) behind,
+      length-append (head_text h ++ begins.white) after,
       length-append (head_text h) begins.white,
       length-append (left ∷ h.white ++ h.name) (modifiers_text h.modifiers),
       length-append (left ∷ h.white) h.name,
@@ -361,21 +361,21 @@ module _ {v : DescriptionVersion} {limit n : ℕ} {inside : Text} {judged : Judg
     (b : BracketBefore v limit n inside judged remaining read rest) where
   whole : left ∷ inside ≡ head_text b.h ++ nested_text b.before.list ++ b.before.white ++ rest
   whole =
-      b.begins.whole ∙ append_assoc (head_text b.h) b.begins.white b.behind ∙
+      b.begins.whole ∙ append_assoc (head_text b.h) b.begins.white b.after ∙
       ap (λ t. head_text b.h ++ t) b.before.whole
       ∙ sym (append_assoc (head_text b.h) (nested_text b.before.list ++ b.before.white) rest) ∙
       ap (λ t. t ++ rest) (sym (append_assoc (head_text b.h) (nested_text b.before.list)
       b.before.white))
 
-  pub place : ℕ
-  place = length (head_text b.h ++ nested_text b.before.list ++ b.before.white)
+  pub position : ℕ
+  position = length (head_text b.h ++ nested_text b.before.list ++ b.before.white)
 
   pub parts : List PlacedDescription
   parts = parts_from (length (head_text b.h)) b.before.list
 
-  pub place_of_rest : place + length rest ≡ length inside + 1
-  unfolding place
-  place_of_rest = omega (
+  pub position_of_rest : position + length rest ≡ length inside + 1
+  unfolding position
+  position_of_rest = omega (
     arith,
     ap length whole,
     length-append (head_text b.h ++ nested_text b.before.list ++ b.before.white) rest,
@@ -388,15 +388,15 @@ module _ {v : DescriptionVersion} {limit n : ℕ} {inside : Text} {judged : Judg
         arith,
         ap length b.begins.whole,
         length-append (head_text b.h ++ b.begins.white)
-            b.behind,
+            b.after,
         length-append (head_text b.h) b.begins.white,
-        length-append b.begins.white b.behind,
+        length-append b.begins.white b.after,
       ))
 
   pub bracket_leads : (after : Text) (tree : Tree) → rest ≡ right ∷ after
-      → verdict (is_version_three v) b.h parts place ≡ Ok tree
+      → verdict (is_version_three v) b.h parts position ≡ Ok tree
       → Leads v limit n (left ∷ inside) tree after
-  unfolding place parts
+  unfolding position parts
   bracket_leads after tree closing ok = λ front tail are e. (
     bracket b.h b.before.list b.before.white tree front,
     (b.begins.is, b.before.are, b.before.all_white, ok, are),
@@ -406,14 +406,14 @@ module _ {v : DescriptionVersion} {limit n : ℕ} {inside : Text} {judged : Judg
   )
 
   pub bracket_refused : (after : Text) (f : code_fault.Fault) (g : Fault) → rest ≡ right ∷ after
-      → verdict (is_version_three v) b.h parts place ≡ Err g → IsFault (length inside + 1) f g
+      → verdict (is_version_three v) b.h parts position ≡ Err g → IsFault (length inside + 1) f g
       → IsFaultAt v limit n (left ∷ inside) f
-  unfolding place parts
+  unfolding position parts
   bracket_refused after f g closing refuses is = (
     refused b.h b.before.list b.before.white g after,
     (b.begins.is, b.before.are, b.before.all_white, refuses),
     whole ∙ ap (λ t. head_text b.h ++ nested_text b.before.list ++ b.before.white ++ t) closing,
-    record { kind = is.kind; place = omega (arith, is.place) },
+    record { kind = is.kind; position = omega (arith, is.position) },
   )
 
   pub bracket_unclosed : (f : code_fault.Fault) → StopsBefore is_bracket_byte rest
@@ -423,7 +423,7 @@ module _ {v : DescriptionVersion} {limit n : ℕ} {inside : Text} {judged : Judg
     unclosed b.h b.before.list b.before.white rest,
     (b.begins.is, b.before.are, b.before.all_white, b.before.stops, stops, b.before.wholly),
     whole,
-    record { kind = is.kind; place = omega (arith, is.place) },
+    record { kind = is.kind; position = omega (arith, is.position) },
   )
 
   pub bracket_too_deep : (f : code_fault.Fault) (text : Text) → rest ≡ left ∷ text → n ≡ limit
@@ -435,10 +435,10 @@ module _ {v : DescriptionVersion} {limit n : ℕ} {inside : Text} {judged : Judg
         simp append_assoc,
     record {
       kind = is.kind;
-      place =
+      position =
           omega (
             arith,
-            is.place,
+            is.position,
             ap length whole,
             length-append (head_text b.h ++ nested_text b.before.list ++ b.before.white) rest,
           );
@@ -454,7 +454,7 @@ module _ {v : DescriptionVersion} {limit n : ℕ} {inside : Text} {judged : Judg
     (b.begins.is, b.before.are, b.before.all_white, lt, are),
     whole ∙ ap (λ t. head_text b.h ++ nested_text b.before.list ++ b.before.white ++ t)
         (opening ∙ ap (λ t. left ∷ t) e) ∙ simp append_assoc,
-    record { kind = is.kind; place = omega (arith, is.place) },
+    record { kind = is.kind; position = omega (arith, is.position) },
   )
 
   pub bracket_broken : (f : code_fault.Fault) (text : Text) (front : Pieces) (c : Broken)
@@ -470,14 +470,14 @@ module _ {v : DescriptionVersion} {limit n : ℕ} {inside : Text} {judged : Judg
     (b.begins.is, b.before.are, b.before.all_white, lt, are, broken),
     whole ∙ ap (λ t. head_text b.h ++ nested_text b.before.list ++ b.before.white ++ t)
         (opening ∙ ap (λ t. left ∷ t) e) ∙ simp append_assoc,
-    record { kind = is.kind; place = omega (arith, is.place) },
+    record { kind = is.kind; position = omega (arith, is.position) },
   )
 
-  pub inner_place : (text : Text) (front : Pieces) (c : Broken) → rest ≡ left ∷ text
+  pub inner_position : (text : Text) (front : Pieces) (c : Broken) → rest ≡ left ∷ text
       → text ≡ spelling front ++ broken_text c
       → length (before_inner b.h b.before.list b.before.white ++ spelling front) + length
       (broken_text c) ≡ length inside + 1
-  inner_place text front c opening e =
+  inner_position text front c opening e =
       let whole_is : left ∷ inside ≡ before_inner b.h b.before.list b.before.white ++ spelling
       front ++ broken_text c =
       whole ∙ ap (λ t. head_text b.h ++ nested_text b.before.list ++ b.before.white ++ t)
@@ -489,7 +489,7 @@ module _ {v : DescriptionVersion} {limit n : ℕ} {inside : Text} {judged : Judg
             (broken_text c),
       )
 
-  -- The same from what the calls ensure.
+  -- The bracket, from what the calls ensure.
 
   shown : IsVerdict (is_version_three v) (length inside + 1) b.h judged.nests judged.verdict
   shown = let same : length (left ∷ inside) ≡ length inside + 1 = omega arith in
@@ -515,7 +515,7 @@ module _ {v : DescriptionVersion} {limit n : ℕ} {inside : Text} {judged : Judg
         → (tree : Tree) × Leads v limit n (left ∷ inside) tree after
         × IsPiece (is_version_three v) builds base new piece tree
     accepted after new piece closing tree =
-        let j = tree place b.h parts base shown nested_shown place_of_rest built_parts in
+        let j = tree position b.h parts base shown nested_shown position_of_rest built_parts in
         (j.0, bracket_leads after j.0 closing j.1, j.2)
 
     pub refuses : (after : Text) (e : ReadError) → rest ≡ right ∷ after
@@ -525,7 +525,7 @@ module _ {v : DescriptionVersion} {limit n : ℕ} {inside : Text} {judged : Judg
     refuses after e closing fails =
         memory_or _ (IsFaultAt v limit n (left ∷ inside))
         (λ f is. bracket_refused after f is.0 closing is.1 is.2) e
-        (fails place b.h parts base shown nested_shown place_of_rest built_parts)
+        (fails position b.h parts base shown nested_shown position_of_rest built_parts)
 
   pub never_closed : (e : ReadError) → StopsBefore is_bracket_byte rest
       → MemoryOr (λ f. IsFault (length inside + 1) f (fault unclosed_bracket 0)) e
@@ -548,15 +548,15 @@ module _ {v : DescriptionVersion} {limit n : ℕ} {inside : Text} {judged : Judg
       by f (inr (inr k)) =
           bracket_broken f text k.0 k.1 opening k.2 k.3 k.4 k.5
           (k.6 (length (before_inner b.h b.before.list b.before.white ++ spelling k.0))
-          (inner_place text k.0 k.1 opening k.5))
+          (inner_position text k.0 k.1 opening k.5))
 
-  pub one_more : {text after white' rest' : Text} {tree : Tree} → rest ≡ left ∷ text
-      → IsNested v limit n text tree after → IsCut is_white after white' rest'
+  pub one_more : {text later white' rest' : Text} {tree : Tree} → rest ≡ left ∷ text
+      → IsNested v limit n text tree later → IsCut is_white later white' rest'
       → BracketBefore v limit n inside judged remaining (read ++ tree ∷ []) rest'
-  one_more {text} {after} {white'} {rest'} {tree} opening is cut = record {
+  one_more {text} {later} {white'} {rest'} {tree} opening is cut = record {
     h = b.h;
-    behind = b.behind;
+    after = b.after;
     begins = b.begins;
-    before = nested_step v limit n (b.begins.white ++ b.behind) judged.spaced remaining read rest text
-        after white' rest' is.0 tree b.before opening is.1 is.2 is.3 cut is.4;
+    before = nested_step v limit n (b.begins.white ++ b.after) judged.spaced remaining read rest text
+        later white' rest' is.0 tree b.before opening is.1 is.2 is.3 cut is.4;
   }

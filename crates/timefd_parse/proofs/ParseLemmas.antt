@@ -15,11 +15,11 @@ use Rattle.timefd_fault.specs.declared.read_error.ReadError.TheVariants as error
 use Rattle.timefd_parse.specs.declared.language.Language.TheVariants.{Version}
 use Rattle.timefd_parse.specs.declared.parsing.BorrowedOutput.TheVariants.{Items}
 use Rattle.timefd_fault.specs.declared.parse_error.ParseError.{ParseError}
-use Rattle.timefd_fault.specs.declared.parse_error.ParseError.TheVariants as told
+use Rattle.timefd_fault.specs.declared.parse_error.ParseError.TheVariants as reported
 use Rattle.timefd_fault.specs.declared.borrowed_parse_error.BorrowedParseError.{BorrowedParseError}
-use Rattle.timefd_fault.specs.BorrowedFaults.{IsLent, IsLentOf, IsMemory, IsOwned, IsRefusal, Lends}
-use Rattle.timefd_fault.proofs.LentLemmas as lent
-use Rattle.timefd_fault.proofs.LentLemmas.{Assigned}
+use Rattle.timefd_fault.specs.BorrowedFaults.{IsBorrowed, IsBorrowedOf, IsMemory, IsOwned, IsRefusal, Lends}
+use Rattle.timefd_fault.proofs.BorrowedLemmas as borrowed
+use Rattle.timefd_fault.proofs.BorrowedLemmas.{Assigned}
 use Rattle.timefd_fault.proofs.OwnedLemmas.{owned_of}
 use Rattle.timefd_language.specs.Bytes.{is_version_three}
 use Rattle.timefd_language.specs.Fault.{raised}
@@ -55,7 +55,7 @@ pub same_list : (v : DescriptionVersion) (limit : ℕ) (text : Text) (read : Lis
 same_list v limit text read rest list are s =
     (one v limit text).one_list read list (items_spelled v limit text read rest are) s
 
--- the empty text was read as none
+-- the empty text was read as no trees
 pub none_read : (v : DescriptionVersion) (limit : ℕ) (text : Text) (read : List Tree) (rest : Text)
     → PiecesToEnd v limit 0 text read rest → text ≡ [] → read ≡ []
 none_read v limit text read rest are e =
@@ -88,8 +88,8 @@ whole_fault v limit text f h = record {
   assigned = (h.0, h.1, h.2, h.3, h.4, refl);
   is = record {
     kind = h.5.kind;
-    place =
-        omega (arith, h.5.place, ap length h.4, length-append (spelling h.0) (broken_text h.1));
+    position =
+        omega (arith, h.5.position, ap length h.4, length-append (spelling h.0) (broken_text h.1));
   };
 }
 
@@ -99,40 +99,40 @@ whole : (v : DescriptionVersion) (limit : ℕ) (text : Text) (e : ReadError)
 whole v limit text (errors.Invalid f) h = whole_fault v limit text f h
 whole v limit text errors.Memory h = tt
 
-pub lent_assigned : (v : DescriptionVersion) (limit : ℕ) (text : Text) (e : ReadError)
+pub borrowed_assigned : (v : DescriptionVersion) (limit : ℕ) (text : Text) (e : ReadError)
     (r : BorrowedParseError) → MemoryOr (IsFaultIn v limit 0 text) e → Lends (length text) e r
-    → IsLentOf (FaultOf v limit text) r
-lent_assigned v limit text e r h =
-    lent.lent_of (FaultOf v limit text) (length text) e r (whole v limit text e h)
+    → IsBorrowedOf (FaultOf v limit text) r
+borrowed_assigned v limit text e r h =
+    borrowed.borrowed_of (FaultOf v limit text) (length text) e r (whole v limit text e h)
 
-pub lent_spelled : (v : DescriptionVersion) (limit : ℕ) (text : Text) (e : ReadError)
+pub borrowed_spelled : (v : DescriptionVersion) (limit : ℕ) (text : Text) (e : ReadError)
     (r : BorrowedParseError) (list : List Tree) → MemoryOr (IsFaultIn v limit 0 text) e
     → Lends (length text) e r → Spells v limit 0 text list → IsMemory r
-lent_spelled v limit text e r list h lends s =
-    lent.lent_none (FaultOf v limit text) (length text)
+borrowed_spelled v limit text e r list h lends s =
+    borrowed.borrowed_none (FaultOf v limit text) (length text)
     (λ g is. (one v limit text).not_both list g s is) e r (whole v limit text e h) lends
 
--- where memory did not run out, the fault is lent
+-- if memory did not run out, the fault is borrowed
 
-pub lent_refused : (v : DescriptionVersion) (limit : ℕ) (text : Text) (e : ReadError)
+pub borrowed_refused : (v : DescriptionVersion) (limit : ℕ) (text : Text) (e : ReadError)
     (r : BorrowedParseError) (f : Fault) → MemoryOr (IsFaultIn v limit 0 text) e → IsInvalid e
-    → Lends (length text) e r → FaultOf v limit text f → IsLent f r
-lent_refused v limit text e r f h is lends has =
-    lent.lent_one (FaultOf v limit text) (length text) f
+    → Lends (length text) e r → FaultOf v limit text f → IsBorrowed f r
+borrowed_refused v limit text e r f h is lends has =
+    borrowed.borrowed_one (FaultOf v limit text) (length text) f
     (λ g other. (one v limit text).one_fault g f other has) e r (whole v limit text e h) is lends
 
-pub lent_refusal : (v : DescriptionVersion) (limit : ℕ) (text : Text) (e : ReadError)
+pub borrowed_refusal : (v : DescriptionVersion) (limit : ℕ) (text : Text) (e : ReadError)
     (r : BorrowedParseError) → MemoryOr (IsFaultIn v limit 0 text) e → IsInvalid e
     → Lends (length text) e r → IsRefusal r
-lent_refusal v limit text e r h =
-    lent.lent_refusal (FaultOf v limit text) (length text) e r (whole v limit text e h)
+borrowed_refusal v limit text e r h =
+    borrowed.borrowed_refusal (FaultOf v limit text) (length text) e r (whole v limit text e h)
 
--- The same of what the caller owns.
+-- Faults that the caller owns.
 
 pub owned_assigned : (v : DescriptionVersion) (limit : ℕ) (text : Text) (e : BorrowedParseError)
-    (r : ParseError) → IsLentOf (FaultOf v limit text) e → IsOwned e r → IsAssigned v limit text r
-owned_assigned v limit text e (told.Memory m) is owned = tt
-owned_assigned v limit text e (told.Invalid x) is owned =
+    (r : ParseError) → IsBorrowedOf (FaultOf v limit text) e → IsOwned e r → IsAssigned v limit text r
+owned_assigned v limit text e (reported.Memory m) is owned = tt
+owned_assigned v limit text e (reported.Invalid x) is owned =
     owned_of (FaultOf v limit text) e x is owned
 
 -- Outputs.

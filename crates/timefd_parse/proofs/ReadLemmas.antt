@@ -111,7 +111,7 @@ escape_fault v limit n text after f later e stops is = (
   half_escape after,
   (later, stops),
   e,
-  record { kind = is.kind; place = omega (arith, is.place, ap length e) },
+  record { kind = is.kind; position = omega (arith, is.position, ap length e) },
 )
 
 pub escape_none : (text : Text) → length text ≡ 0 → escape_index text ≡ 0
@@ -148,13 +148,13 @@ pub closing_fault_of : (v : DescriptionVersion) (limit : ℕ) (text rest : Text)
     → IsFaultAt v limit 0 text f
 closing_fault_of v limit text rest f is e kind at =
     subst (λ w. IsFaultAt w limit 0 text f) (sym is)
-    (closing_fault limit text rest f e (record { kind = kind; place = omega (arith, at) }))
+    (closing_fault limit text rest f e (record { kind = kind; position = omega (arith, at) }))
 
--- cutting behind a first byte that is ASCII
+-- cutting after a first byte that is ASCII
 
-pub behind_first : (text : Text) (b : ℕ) (rest : Text) → text ≡ b ∷ rest → b < 128 → IsUtf8 text
+pub after_first : (text : Text) (b : ℕ) (rest : Text) → text ≡ b ∷ rest → b < 128 → IsUtf8 text
     → IsCharBoundary text 1
-behind_first text b rest e ascii utf8 =
+after_first text b rest e ascii utf8 =
     IsCharBoundary-after_ascii text 0 utf8 (omega (arith, ap length e))
     (subst (λ t. get_or t 0 0 < 128) (sym e) ascii)
 
@@ -162,21 +162,21 @@ pub first_is : (text front : Text) (b : ℕ) (rest : Text) → text ≡ b ∷ re
     → front ≡ b ∷ []
 first_is text front b rest e f = f ∙ ap (take 1) e
 
-pub utf8_behind_first : (text : Text) (b : ℕ) (rest : Text) → text ≡ b ∷ rest → b < 128
+pub utf8_after_first : (text : Text) (b : ℕ) (rest : Text) → text ≡ b ∷ rest → b < 128
     → IsUtf8 text → IsUtf8 (drop 1 text)
-utf8_behind_first text b rest e ascii utf8 =
-    IsUtf8-drop text 1 utf8 (behind_first text b rest e ascii utf8)
+utf8_after_first text b rest e ascii utf8 =
+    IsUtf8-drop text 1 utf8 (after_first text b rest e ascii utf8)
 
 pub utf8_after : (text : Text) (b : ℕ) (rest : Text) → text ≡ b ∷ rest → b < 128 → IsUtf8 text
     → IsUtf8 rest
 utf8_after text b rest e ascii utf8 =
-    subst IsUtf8 (ap (drop 1) e) (utf8_behind_first text b rest e ascii utf8)
+    subst IsUtf8 (ap (drop 1) e) (utf8_after_first text b rest e ascii utf8)
 
 pub rest_is : (text back : Text) (b : ℕ) (rest : Text) → text ≡ b ∷ rest → back ≡ drop 1 text
     → text ≡ b ∷ back
 rest_is text back b rest e f = e ∙ ap (λ t. b ∷ t) (sym (ap (drop 1) e) ∙ sym f)
 
--- What was read of a text so far: what the rest begins with, the text begins with behind the trees.
+-- What was read of a text so far: what the rest begins with, the text has after the trees.
 abbrev pub Continues : DescriptionVersion → ℕ → ℕ → Text → List Tree → Text → Type 0
 Continues v limit n text done rest =
     (front : Pieces) (tail : Text) → ArePieces v limit n front → rest ≡ spelling front ++ tail
@@ -206,7 +206,7 @@ items_end v limit n text rest done before end =
     let w = before no_pieces rest tt refl in
     (w.0, w.1, w.2, w.3 ∙ append-nil done, end)
 
--- the same, with what is built
+-- all members, with what is built
 pub members_end : (v : DescriptionVersion) (builds : Bool) (limit n : ℕ) (text rest : Text)
     (done old built new : List Tree) (count : ℕ) → Continues v limit n text done rest → IsEnd n rest
     → count ≡ length done → IsBuilt builds old built done → new ≡ built
@@ -240,7 +240,7 @@ pub cut_shorter : (test : ℕ → Bool) (text front rest : Text) → IsCut test 
     → length rest ≤ length text
 cut_shorter test text front rest is = omega (arith, ap length is.whole, length-append front rest)
 
--- the same from what the calls ensure
+-- a `]` outside nested descriptions, from what the calls ensure
 
 pub closing_outside : (v : DescriptionVersion) (limit n : ℕ) (text : Text) (tree : Tree)
     (rest : Text) → n ≡ 0 → LeadsOn v limit 0 text tree rest → LeadsOn v limit n text tree rest

@@ -1,4 +1,4 @@
--- How an answer of the public calls stands to a text.
+-- How the answer of a public call relates to the text.
 use Rattle.std.specs.Prelude.{ℕ, ◌≡◌, ◌≤◌, List, map, IsTrue, ⊤}
 use Rattle.timefd_component.specs.Tree.{Text, Tree, pack}
 use Rattle.timefd_format_item.specs.Meaning.{item_tree}
@@ -14,8 +14,8 @@ use Rattle.timefd_fault.specs.declared.parse_error.ParseError.TheVariants.{Inval
 use Rattle.timefd_language.specs.Broken.{FaultOf}
 use Rattle.timefd_language.specs.Strings.{are_of_strings}
 
--- The items of the list in versions 1 and 2, and in version 3 the description that they are packed
--- to.
+-- In versions 1 and 2 the output has the items of the list; in version 3 it is the description that
+-- the list is packed into.
 abbrev pub IsOutput : DescriptionVersion → List Tree → BorrowedOutput → Type 0
 IsOutput One list (Items items) = map item_tree items.items ≡ list
 IsOutput Two list (Items items) = map item_tree items.items ≡ list
@@ -29,7 +29,7 @@ abbrev pub IsAssigned : DescriptionVersion → ℕ → Text → ParseError → T
 IsAssigned v limit text (Invalid f) = FaultOf v limit text (fault_of f)
 IsAssigned v limit text (Memory e) = ⊤
 
--- the reserved bytes of a description are at most so many
+-- a description reserves at most this many bytes
 abbrev pub ReservesAtMost : ℕ → BorrowedOutput → Type 0
 ReservesAtMost most (Items items) = ⊤
 ReservesAtMost most (Description d) = reserve (description_tree d) ≤ most

@@ -1,4 +1,4 @@
--- What stands in a bracket, one part after another: name, modifiers, nested descriptions.
+-- What a bracket holds, one part after another: name, modifiers, nested descriptions.
 use Rattle.std.specs.Prelude.{ℕ, ◌≡◌, ◌+◌, List, ◌∷◌, ◌++◌, length, MatchOption, Option}
 use Rattle.std.specs.Borrow.{Bor}
 use Rattle.timefd_component.specs.Tree.{Text, Tree}
@@ -16,15 +16,16 @@ pub record BeginsNamed (text name rest : Text) : Type 0 where
   pub whole : text ≡ left ∷ (white ++ (name ++ rest))
   pub stops : StopsBefore is_word_byte rest
 
--- The name is that of every head which the text begins with, and its modifiers follow.
+-- If the text begins with a head, the name is that of the head, and its modifiers follow.
 abbrev pub NamesHeads : Text → Option (Bor (List ℕ) × Bor (List ℕ)) → Type 0
 NamesHeads text found =
-    (h : Head) (behind : Text) → IsHead h → StopsBefore is_word_byte behind
-    → text ≡ head_text h ++ behind
+    (h : Head) (after : Text) → IsHead h → StopsBefore is_word_byte after
+    → text ≡ head_text h ++ after
     → MatchOption found ⊥ (λ parts. (parts.0.now ≡ h.name)
-    × (parts.1.now ≡ modifiers_text h.modifiers ++ behind))
+    × (parts.1.now ≡ modifiers_text h.modifiers ++ after))
 
--- White bytes, a key, a colon and a value, and the rest. The places are so many bytes from the end.
+-- White bytes, a key, a colon and a value, and the rest. The positions are counted in bytes from
+-- the end.
 pub record BeginsModified (text : Text) (m : code.Modifier) (rest : Text) : Type 0 where
   pub modifier : Modifier
   pub is : IsModifier modifier
@@ -32,16 +33,16 @@ pub record BeginsModified (text : Text) (m : code.Modifier) (rest : Text) : Type
   pub value : modifier.value ≡ m.value.now
   pub whole : text ≡ modifier_text modifier ++ rest
   pub stops : StopsBefore is_word_byte rest
-  pub key_place : length modifier.white + m.key_remaining ≡ length text
-  pub value_place : m.value_remaining + length m.key.now + 1 ≡ m.key_remaining
+  pub key_position : length modifier.white + m.key_remaining ≡ length text
+  pub value_position : m.value_remaining + length m.key.now + 1 ≡ m.key_remaining
 
--- A modifier that the text begins with is found.
+-- If the text begins with a modifier, it is found.
 abbrev pub FindsModifiers : Text → Option (code.Modifier × Bor (List ℕ)) → Type 0
 FindsModifiers text found =
-    (m : Modifier) (behind : Text) → IsModifier m → StopsBefore is_word_byte behind
-    → text ≡ modifier_text m ++ behind
+    (m : Modifier) (after : Text) → IsModifier m → StopsBefore is_word_byte after
+    → text ≡ modifier_text m ++ after
     → MatchOption found ⊥ (λ parts. (parts.0.key.now ≡ m.key) × (parts.0.value.now ≡ m.value)
-    × (parts.1.now ≡ behind))
+    × (parts.1.now ≡ after))
 
 -- White bytes, `[`, this text, which spells a list by itself too, `]` and the rest.
 pub record BeginsNested (v : DescriptionVersion) (text inner rest : Text) : Type 0 where
@@ -52,10 +53,10 @@ pub record BeginsNested (v : DescriptionVersion) (text inner rest : Text) : Type
   pub inside : Spells v nesting_limit 1 inner list
   pub alone : Spells v nesting_limit 0 inner list
 
--- A nested description that the text begins with is found.
+-- If the text begins with a nested description, it is found.
 abbrev pub FindsNested : DescriptionVersion → Text → Option (Bor (List ℕ) × Bor (List ℕ)) → Type 0
 FindsNested v text found =
-    (white inner behind : Text) (list : List Tree) → ZeroOrMore is_white white
+    (white inner after : Text) (list : List Tree) → ZeroOrMore is_white white
     → Spells v nesting_limit 1 inner list
-    → text ≡ white ++ left ∷ (inner ++ right ∷ behind)
-    → MatchOption found ⊥ (λ parts. (parts.0.now ≡ inner) × (parts.1.now ≡ behind))
+    → text ≡ white ++ left ∷ (inner ++ right ∷ after)
+    → MatchOption found ⊥ (λ parts. (parts.0.now ≡ inner) × (parts.1.now ≡ after))

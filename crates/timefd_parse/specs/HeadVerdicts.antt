@@ -1,4 +1,4 @@
--- How what the code makes of a head by itself stands to the rules.
+-- How the code's verdict on a head by itself relates to the rules.
 use Rattle.std.specs.Prelude.{ℕ, ◌≡◌, ◌==◌, Bool, true, false, not, codes, List, [], ◌∷◌, ◌++◌, length, Option, Some, None, Result, Ok, Err, MatchResult}
 use Rattle.std.specs.Borrow.{Bor}
 use Rattle.std.specs.Str.{IsUtf8}
@@ -18,9 +18,9 @@ use Rattle.timefd_fault.specs.ReadErrors.{IsFault}
 use Rattle.timefd_language.specs.FaultMeaning.{IsFaultAt}
 use Rattle.timefd_language.specs.Head.{Head, IsHead, head_text, placed}
 use Rattle.timefd_language.specs.Values.{format}
-use Rattle.timefd_language.specs.Verdict.{PlacedDescription, ◌or◌, touching, nested_refused, behind, bad_modifiers, is_formatted, optional_verdict, first_verdict, verdict}
+use Rattle.timefd_language.specs.Verdict.{PlacedDescription, ◌or◌, touching, nested_refused, after, bad_modifiers, is_formatted, optional_verdict, first_verdict, verdict}
 
--- whether nested descriptions may stand behind a name
+-- whether nested descriptions may follow a name
 abbrev pub nests : Option Name → Bool
 nests (Some names.Optional) = true
 nests (Some names.First) = true
@@ -31,21 +31,21 @@ abbrev pub refused_unless : Bool → List PlacedDescription → Option Fault
 refused_unless true parts = None
 refused_unless false parts = nested_refused parts
 
--- the fault of nested descriptions that stand where they may not
+-- the fault of nested descriptions where they may not be
 abbrev pub placing : Bool → List PlacedDescription → Option Fault
 placing nests parts = touching parts or refused_unless nests parts
 
--- once its nested descriptions may stand where they do, a bracket with this head is that
+-- if its nested descriptions are where they may be, a bracket with this head is decided by this
 abbrev pub Decides : Bool → Head → Bool → (List PlacedDescription → ℕ → Result Tree Fault) → Type 0
 Decides strict h nests by =
-    (parts : List PlacedDescription) (place : ℕ)
-    → verdict strict h parts place ≡ behind (placing nests parts) (by parts place)
+    (parts : List PlacedDescription) (position : ℕ)
+    → verdict strict h parts position ≡ after (placing nests parts) (by parts position)
 
--- The verdict is that of a head in a text with so many bytes, behind which nested descriptions may
--- stand or not.
+-- The verdict is the one of the rules on a head in a text with this many bytes; the head says
+-- whether nested descriptions may follow it.
 abbrev pub IsVerdict : Bool → ℕ → Head → Bool → HeadVerdict → Type 0
 IsVerdict strict total h nests (verdicts.Component c) =
-    (nests ≡ false) × (modern c ≡ c) × Decides strict h nests (λ parts place. Ok (component c))
+    (nests ≡ false) × (modern c ≡ c) × Decides strict h nests (λ parts position. Ok (component c))
 IsVerdict strict total h nests (verdicts.Optional formatted) =
     (bad_modifiers strict (format ∷ []) [] (placed h) ≡ None)
     × (formatted ≡ is_formatted strict (placed h))
@@ -53,7 +53,7 @@ IsVerdict strict total h nests (verdicts.Optional formatted) =
 IsVerdict strict total h nests verdicts.First = (bad_modifiers strict [] [] (placed h) ≡ None)
     × Decides strict h nests (first_verdict strict h)
 IsVerdict strict total h nests (verdicts.Refused f) =
-    (g : Fault) × IsFault total f g × Decides strict h nests (λ parts place. Err g)
+    (g : Fault) × IsFault total f g × Decides strict h nests (λ parts position. Err g)
 
 -- the text begins with this head, which was judged, and white bytes
 pub record BeginsWithJudged (strict : Bool) (text : Text) (judged : JudgedHead) (rest : Text)
@@ -67,12 +67,12 @@ pub record BeginsWithJudged (strict : Bool) (text : Text) (judged : JudgedHead) 
   pub stops_word : StopsBefore is_word_byte rest
   pub spaced : judged.spaced ≡ not (length white == 0)
 
--- the text behind a `[` begins with a judged head
+-- the text after a `[` begins with a judged head
 abbrev pub BeginsJudged : Bool → Text → JudgedHead → Text → Type 0
 BeginsJudged strict inside judged rest =
     ((h : Head) × BeginsWithJudged strict (left ∷ inside) judged rest h) × IsUtf8 rest
 
--- a judged head, or the fault of a bracket that has none
+-- a judged head, or the fault of a bracket without a head
 abbrev pub ReadsJudgedHead : Bool → Text → Result (JudgedHead × Bor (List ℕ)) code_fault.Fault
     → Type 0
 ReadsJudgedHead strict inside r =
@@ -81,7 +81,7 @@ ReadsJudgedHead strict inside r =
     (λ f. (v : DescriptionVersion) (limit n : ℕ) → BeginsNoEscape v inside
     → IsFaultAt v limit n (left ∷ inside) f)
 
--- the word and a space, and what a head with no modifiers is by that word
+-- the word and a space, and what the word makes a head without modifiers
 abbrev pub IsPlain : Text → HeadVerdict → Type 0
 IsPlain word (verdicts.Optional formatted) =
     (word ≡ codes "optional" ++ 32 ∷ []) × (formatted ≡ true)

@@ -1,4 +1,4 @@
--- How a head that the code reads stands to the rules.
+-- How a head that the code reads relates to the rules.
 use Rattle.std.specs.Prelude.{ℕ, ◌≡◌, ◌+◌, Bool, List, ◌∷◌, ◌++◌, length, Result, MatchResult}
 use Rattle.std.specs.Borrow.{Bor}
 use Rattle.std.specs.Str.{IsUtf8}
@@ -14,11 +14,11 @@ use Rattle.timefd_parse.specs.Checked.{Checks}
 use Rattle.timefd_language.specs.Broken.{BeginsNoEscape}
 use Rattle.timefd_language.specs.FaultMeaning.{IsFaultAt}
 
--- the head and its modifiers, as the code has them, of a text with so many bytes
+-- the head and its modifiers, as the code has them, of a text with this many bytes
 pub record ShowsHead (strict : Bool) (total : ℕ) (head : code_head.Head)
     (modifiers : code_modifiers.Modifiers) (h : Head) : Type 0 where
   pub word : h.name ≡ head.word.now
-  pub place : name_index h + head.remaining ≡ total
+  pub position : name_index h + head.remaining ≡ total
   pub name : IsNameOf strict head.word.now head.name
   pub checks : Checks strict head.name total modifiers (placed h)
 
@@ -32,8 +32,8 @@ pub record BeginsWithHead (strict : Bool) (text : Text) (head : code_head.Head)
   pub stops_white : StopsBefore is_white rest
   pub stops_word : StopsBefore is_word_byte rest
 
--- a head, or the fault of a bracket that has none; where `[[` is an escape the inside begins with
--- no `[`
+-- a head, or the fault of a bracket without a head; if `[[` is an escape, the inside doesn't begin
+-- with `[`
 abbrev pub ReadsHead : Bool → Text → code_modifiers.Modifiers
     → Result (code_head.Head × Bor (List ℕ)) code_fault.Fault → Type 0
 ReadsHead strict inside modifiers r =

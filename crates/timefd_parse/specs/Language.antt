@@ -1,8 +1,8 @@
--- The languages, and what a text is in each.
+-- The languages, and what a text means in each.
 use Rattle.std.specs.Prelude.{ℕ, ◌≡◌, Bool, true, false, [], List, length, IfOk, IsFalse, IsOk, MatchResult, Result, ⊤}
 use Rattle.std.specs.Result.{IfErr}
 use Rattle.timefd_fault.specs.declared.borrowed_parse_error.BorrowedParseError.{BorrowedParseError}
-use Rattle.timefd_fault.specs.BorrowedFaults.{IsLent, IsLentOf, IsMemory, IsRefusal}
+use Rattle.timefd_fault.specs.BorrowedFaults.{IsBorrowed, IsBorrowedOf, IsMemory, IsRefusal}
 use Rattle.timefd_language.specs.Bytes.{is_version_three}
 use Rattle.timefd_language.specs.declared.description_version.DescriptionVersion.{DescriptionVersion}
 use Rattle.timefd_component.specs.Tree.{Text, Tree, pack}
@@ -17,8 +17,8 @@ use Rattle.timefd_language.specs.Grammar.{Spells}
 use Rattle.timefd_language.specs.Broken.{FaultOf}
 use Rattle.timefd_language.specs.Strftime.{SpellsStrftime, StrftimeFaultOf}
 
--- The text spells the list in the language, with at most so many nested descriptions around one
--- another. Strftime nests none.
+-- The text spells the list in the language, with descriptions nested at most this deep. Strftime
+-- nests none.
 abbrev pub SpellsIn : Language → ℕ → Text → List Tree → Type 0
 SpellsIn (Version v) limit text list = Spells v limit 0 text list
 SpellsIn Strftime limit text list = SpellsStrftime text list
@@ -28,7 +28,7 @@ abbrev pub FaultIn : Language → ℕ → Text → Fault → Type 0
 FaultIn (Version v) limit text f = FaultOf v limit text f
 FaultIn Strftime limit text f = StrftimeFaultOf text f
 
--- how many items a text has that spells the list, or in version 3 how many bytes it reserves
+-- how many items a text that spells the list has, or in version 3 how many bytes it reserves
 abbrev pub amount : Language → List Tree → ℕ
 amount (Version One) list = length list
 amount (Version Two) list = length list
@@ -42,17 +42,17 @@ takes_memory (Version Two) = false
 takes_memory (Version Three) = true
 takes_memory Strftime = false
 
--- The answer is how much a text of the version holds, or its fault, or that memory ran out, but that
--- of a text without a fault alone.
+-- The answer is how much a text of the version holds, or its fault, or that memory ran out. Only a
+-- text without a fault gets the last answer.
 pub record IsAmount (version : DescriptionVersion) (limit : ℕ) (text : Text)
     (r : Result ℕ BorrowedParseError) : Type 0 where
   pub found : IfOk r (λ n. (list : List Tree) × SpellsIn (Version version) limit text list
       × (n ≡ amount (Version version) list))
-  pub fault : IfErr r (IsLentOf (FaultIn (Version version) limit text))
+  pub fault : IfErr r (IsBorrowedOf (FaultIn (Version version) limit text))
   pub spelled : (list : List Tree) → SpellsIn (Version version) limit text list
       → MatchResult r (λ n. n ≡ amount (Version version) list) IsMemory
   pub refused : (f : Fault) → FaultIn (Version version) limit text f
-      → MatchResult r (λ _. ⊥) (IsLent f)
+      → MatchResult r (λ _. ⊥) (IsBorrowed f)
   -- Versions 1 and 2 take no memory, and the empty text takes none.
   pub memory : IsFalse (is_version_three version) → IfErr r IsRefusal
   pub empty : text ≡ [] → IsOk r

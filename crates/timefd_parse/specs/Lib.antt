@@ -1,5 +1,5 @@
 pub mod ReadModifiers
-pub mod Places
+pub mod Positions
 pub mod Checked
 pub mod Heads
 pub mod Pieces

@@ -1,4 +1,4 @@
--- How the pieces of the code stand to trees, and to the trees that are built of them.
+-- How the pieces of the code relate to trees, and to the trees that are built from them.
 use Rattle.std.specs.Prelude.{ℕ, ◌≡◌, Bool, List, [], ◌∷◌, ◌++◌, length, IsTrue, ⊤}
 use Rattle.timefd_component.specs.Modern.{modern}
 use Rattle.timefd_component.specs.Reserved.{reserved}
@@ -6,13 +6,14 @@ use Rattle.timefd_component.specs.Tree.{Tree, component, literal}
 use Rattle.timefd_parse.specs.declared.piece.Piece as code
 use Rattle.timefd_parse.specs.declared.piece.Piece.TheVariants.{Literal, Component, Compound}
 
--- A reader that builds has built these trees behind the others. Of another nothing is said.
+-- A reader that builds has built these trees after the others. Nothing is said about a reader that
+-- doesn't.
 abbrev pub IsBuilt : Bool → List Tree → List Tree → List Tree → Type 0
 IsBuilt builds old new list = IsTrue builds → new ≡ old ++ list
 
--- The piece is this tree. Where the reader builds, a compound is the last tree that is built, and
--- of another piece nothing is built yet, and the bytes that a component reserves are told. Version 3
--- alone, which is strict, has compounds, and a component is modern.
+-- The piece is this tree. If the reader builds, a compound is the last tree that is built, nothing
+-- is built yet for any other piece, and a component comes with the bytes that it reserves. Only
+-- version 3, which is strict, has compounds. A component is modern.
 abbrev pub IsPiece : Bool → Bool → List Tree → List Tree → code.Piece → Tree → Type 0
 IsPiece strict builds old new (Literal text) tree = (tree ≡ literal text.now)
     × (IsTrue builds → new ≡ old)
@@ -32,7 +33,7 @@ IsLeafTree (Literal text) tree = tree ≡ literal text.now
 IsLeafTree (Component c bytes) tree = tree ≡ component c
 IsLeafTree Compound tree = ⊥
 
--- how many bytes a piece reserves that isn't built
+-- how many bytes a piece reserves, if it isn't built
 abbrev pub own_bytes : code.Piece → ℕ
 own_bytes (Literal text) = length text.now
 own_bytes (Component c bytes) = bytes

@@ -7,14 +7,14 @@ use Rattle.timefd_language.specs.declared.name.ComponentName.{ComponentName}
 use Rattle.timefd_language.specs.declared.name.Name.{Name}
 use Rattle.timefd_language.specs.declared.setting.Setting.{Setting}
 use Rattle.timefd_language.specs.declared.setting.Settings.{Settings}
-use Rattle.timefd_parse.specs.declared.places.Places.{Places}
+use Rattle.timefd_parse.specs.declared.positions.Positions.{Positions}
 use Rattle.timefd_language.specs.Bytes.{right, colon, is_word_byte, OneOrMore}
 use Rattle.timefd_language.specs.Head.{Modifier, AreModifiers, modifiers_text, placed_from}
 use Rattle.timefd_language.specs.Lookup.{key_for}
 use Rattle.timefd_language.specs.Names.{row_for}
 use Rattle.timefd_language.specs.Values.{key_in, setting_in}
 use Rattle.timefd_parse.specs.Checked.{Checks}
-use Rattle.timefd_parse.specs.Places.{place, with_place}
+use Rattle.timefd_parse.specs.Positions.{position, with_position}
 
 -- the inside of a bracket begins with this name, and the rest follows
 abbrev pub BeginsWithName : Text → ComponentName → Text → Type 0
@@ -49,20 +49,20 @@ IsModified name text key setting rest =
 
 -- the modifiers that were taken from a text, all of them good, and the rest of it
 pub record TakenBefore (strict : Bool) (name : ComponentName) (text : Text) (settings : Settings)
-    (places : Places) (rest : Text) : Type 0 where
+    (positions : Positions) (rest : Text) : Type 0 where
   pub list : List Modifier
   pub are : AreModifiers list
   pub whole : text ≡ modifiers_text list ++ rest
   pub checks : (k total : ℕ) → k + length text ≡ total
       → Checks strict (Some (Name.Component name)) total
-      (record { settings = settings; places = places; fault = None }) (placed_from k list)
+      (record { settings = settings; positions = positions; fault = None }) (placed_from k list)
 
--- a key that stands nowhere is noted here
-abbrev pub IsNoted : Places → code_key.Key → ℕ → Places → Type 0
-IsNoted places key remaining noted =
-    (is_some (place places key) ≡ false) × (noted ≡ with_place places key remaining)
+-- a key that has no position yet gets this one
+abbrev pub IsNoted : Positions → code_key.Key → ℕ → Positions → Type 0
+IsNoted positions key remaining noted =
+    (is_some (position positions key) ≡ false) × (noted ≡ with_position positions key remaining)
 
--- modifiers up to a `]`, and the rest behind that
-abbrev pub TakesModifiers : Bool → ComponentName → Text → Settings → Places → Text → Type 0
-TakesModifiers strict name text settings places rest =
-    TakenBefore strict name text settings places (right ∷ rest) × IsUtf8 rest
+-- modifiers up to a `]`, and the rest after that
+abbrev pub TakesModifiers : Bool → ComponentName → Text → Settings → Positions → Text → Type 0
+TakesModifiers strict name text settings positions rest =
+    TakenBefore strict name text settings positions (right ∷ rest) × IsUtf8 rest

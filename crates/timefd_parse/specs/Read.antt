@@ -1,4 +1,4 @@
--- How what is read of a text stands to the grammar.
+-- How what is read of a text relates to the grammar.
 use Rattle.std.specs.Prelude.{ℕ, suc, Bool, ◌≡◌, ◌+◌, ◌≤◌, ◌<◌, ◌⊎◌, List, [], ◌∷◌, ◌++◌, length, map, Option, Some, None, Result, MatchResult, IsTrue, ⊤}
 use Rattle.std.specs.Borrow.{Bor}
 use Rattle.std.specs.Str.{IsUtf8}
@@ -34,42 +34,42 @@ BeginsRun v text = (b : ℕ) × (rest : Text) × (text ≡ b ∷ rest) × IsTrue
 abbrev pub BeginsClosing : Text → Type 0
 BeginsClosing text = (rest : Text) × (text ≡ right ∷ rest)
 
--- The text is a piece, which is this tree, and the rest: what the rest begins with, the text begins
--- with behind it.
+-- The text is a piece, which is this tree, and the rest: what the rest begins with, the text has
+-- after that piece.
 abbrev pub Leads : DescriptionVersion → ℕ → ℕ → Text → Tree → Text → Type 0
 Leads v limit n text tree rest =
     (front : Pieces) (tail : Text) → ArePieces v limit n front → rest ≡ spelling front ++ tail
     → (whole : Pieces) × ArePieces v limit n whole × (text ≡ spelling whole ++ tail)
     × (items whole ≡ tree ∷ items front)
 
--- the same of what the code reads: less text is left
+-- the text is a piece and the rest, as the code reads it: less text is left
 pub record LeadsOn (v : DescriptionVersion) (limit n : ℕ) (text : Text) (tree : Tree)
     (rest : Text) : Type 0 where
   pub leads : Leads v limit n text tree rest
   pub shorter : length rest < length text
   pub utf8 : IsUtf8 rest
 
--- behind a `[` the text begins with what makes a bracket this component, which is modern
+-- after a `[` the text begins with what makes a bracket this component, which is modern
 pub record IsBare (v : DescriptionVersion) (inside : Text) (c : Component) (rest : Text) : Type 0
   where
     pub leads : (limit n : ℕ) → LeadsOn v limit n (left ∷ inside) (component c) rest
     pub is_modern : modern c ≡ c
 
--- a literal and the rest, or the fault of a text that begins as no piece does
+-- a literal and the rest, or the fault of a text that doesn't begin with a piece
 abbrev pub ReadsEscape : DescriptionVersion → ℕ → ℕ → Text
     → Result (Bor (List ℕ) × Bor (List ℕ)) code_fault.Fault → Type 0
 ReadsEscape v limit n text r = MatchResult r (λ x. LeadsOn v limit n text (literal x.0.now) x.1.now)
     (IsFaultAt v limit n text)
 
--- The text begins with a piece, behind which is the rest. The lists are the trees that were built
--- before it was read, and after, by a reader that builds.
+-- The text begins with a piece, and the rest follows it. The lists are the trees that a reader that
+-- builds had built before it read the piece, and after.
 abbrev pub BeginsWithPiece : DescriptionVersion → Bool → ℕ → ℕ → Text → List Tree → List Tree
     → Piece × Bor (List ℕ) → Type 0
 BeginsWithPiece v builds limit n text old new x =
     (tree : Tree) × LeadsOn v limit n text tree x.1.now
     × IsPiece (is_version_three v) builds old new x.0 tree
 
--- the same of what may want memory
+-- the piece and the rest, or an error, which may be that memory ran out
 abbrev pub ReadsPiece : DescriptionVersion → Bool → ℕ → ℕ → Text → List Tree → List Tree
     → Result (Piece × Bor (List ℕ)) code_error.ReadError → Type 0
 ReadsPiece v builds limit n text old new r =
@@ -92,7 +92,7 @@ abbrev pub ReadsNext : DescriptionVersion → Bool → ℕ → ℕ → Text → 
 ReadsNext v builds limit n text old new r =
     MatchResult r (IsNext v builds limit n text old new) (MemoryOr (IsFaultAt v limit n text))
 
--- pieces, and a construct that no piece begins with, with its fault
+-- pieces, and then a construct that begins no piece, with its fault
 abbrev pub IsFaultIn : DescriptionVersion → ℕ → ℕ → Text → code_fault.Fault → Type 0
 IsFaultIn v limit n text f =
     (front : Pieces) × (b : Broken) × ArePieces v limit n front × IsBroken v limit n b
@@ -104,15 +104,15 @@ PiecesToEnd v limit n text read rest =
     (front : Pieces) × ArePieces v limit n front × (text ≡ spelling front ++ rest)
     × (items front ≡ read) × IsEnd n rest
 
--- The pieces of a whole text of version 3, of which these trees are built: the others reserve so many
--- bytes.
+-- The pieces of a whole text of version 3, of which these trees are built. The others reserve this
+-- many bytes.
 abbrev pub AreCounted : ℕ → Text → List Tree → ℕ → Type 0
 AreCounted limit text built bytes =
     (list : List Tree) × PiecesToEnd Three limit 0 text list []
     × (bytes + reserve_all (trees built) ≡ reserve_all (trees list))
     × (length built ≤ length list)
 
--- so many pieces, and their trees are built, by a reader that builds
+-- this many pieces; a reader that builds has built their trees
 abbrev pub AreMembers : DescriptionVersion → Bool → ℕ → ℕ → Text → List Tree → List Tree → ℕ → Text
     → Type 0
 AreMembers v builds limit n text old new count rest =
@@ -125,14 +125,14 @@ ReadsMembers v builds limit n text old new r =
     MatchResult r (λ x. AreMembers v builds limit n text old new x.0 x.1.now)
     (MemoryOr (IsFaultIn v limit n text))
 
--- The text behind the `[` of a nested description, which is this tree, and what follows its `]`.
+-- The text after the `[` of a nested description, which is this tree, and what follows its `]`.
 abbrev pub IsNested : DescriptionVersion → ℕ → ℕ → Text → Tree → Text → Type 0
 IsNested v limit n text tree rest =
     (inner : Pieces) × (n < limit) × ArePieces v limit (suc n) inner
     × (text ≡ spelling inner ++ right ∷ rest) × (tree ≡ pack (items inner))
 
--- The faults behind the `[` of a nested description: it is one too many, the text ends in it, or it
--- has a fault. The bracket around it begins where `start` bytes remain.
+-- The faults after the `[` of a nested description: it is one too many, the text ends in it, or it
+-- has a fault. The bracket around it begins `start` bytes before the end of the text.
 
 abbrev pub IsTooDeep : ℕ → ℕ → Text → code_fault.Fault → Type 0
 IsTooDeep limit n text f = (n ≡ limit) × IsFault (length text + 1) f (fault too_highly_nested 0)
@@ -154,7 +154,7 @@ abbrev pub IsNestedFault : DescriptionVersion → ℕ → ℕ → ℕ → Text �
 IsNestedFault v limit n start text f = IsTooDeep limit n text f
     ⊎ (IsCutOff v limit n start text f ⊎ IsBrokenInside v limit n start text f)
 
--- the same, and its tree is built, by a reader that builds
+-- a nested description, whose tree a reader that builds has built
 abbrev pub IsBuiltNested : DescriptionVersion → Bool → ℕ → ℕ → Text → List Tree → List Tree → Text
     → Type 0
 IsBuiltNested v builds limit n text old new rest =
@@ -173,7 +173,7 @@ ReadsItems v limit text r =
     MatchResult r (λ x. PiecesToEnd v limit 0 text (map item_tree x.items) []
     × IsTrue (are_of_strings x.items)) (MemoryOr (IsFaultIn v limit 0 text))
 
--- The fault of a bracket with this one inside it, which begins a text with so many bytes.
+-- The fault of a bracket with this fault inside it. The bracket begins a text with this many bytes.
 abbrev pub IsEnclosed : ℕ → code_error.ReadError → code_error.ReadError → Type 0
 IsEnclosed start errors.Memory r = r ≡ errors.Memory
 IsEnclosed start (errors.Invalid f) r =

@@ -1,4 +1,4 @@
--- How a modifier that was read stands to the rules.
+-- How a modifier that was read relates to the rules.
 use Rattle.timefd_fault.specs.ReadErrors.{IsFault}
 use Rattle.timefd_language.specs.Broken.{Misfit, IsMisfit, misfit_text, misfit_fault}
 use Rattle.timefd_language.specs.Bytes.{colon, is_word_byte, is_key_byte, OneOrMore, StopsBefore}
@@ -13,19 +13,19 @@ use Rattle.timefd_language.specs.Cut.{IsCut}
 
 pub record IsPlaced (total : ℕ) (m : code_modifier.Modifier) (p : Placed) : Type 0 where
   pub key : p.key ≡ m.key.now
-  pub key_place : p.key_index + m.key_remaining ≡ total
+  pub key_position : p.key_index + m.key_remaining ≡ total
   pub value : p.value ≡ m.value.now
-  pub value_place : p.value_index + m.value_remaining ≡ total
+  pub value_position : p.value_index + m.value_remaining ≡ total
 
 -- the word is this modifier
 pub record IsWord (word : Text) (remaining : ℕ) (m : code_modifier.Modifier) : Type 0 where
   pub key : OneOrMore is_key_byte m.key.now
   pub value : OneOrMore is_word_byte m.value.now
   pub whole : word ≡ m.key.now ++ colon ∷ m.value.now
-  pub key_place : m.key_remaining ≡ remaining
-  pub value_place : m.value_remaining + length m.key.now + 1 ≡ remaining
+  pub key_position : m.key_remaining ≡ remaining
+  pub value_position : m.value_remaining + length m.key.now + 1 ≡ remaining
 
--- the word is no modifier
+-- the word isn't a modifier
 abbrev pub IsNoWord : Text → ℕ → code_fault.Fault → Type 0
 IsNoWord word remaining f = (m : Misfit) × IsMisfit m × (word ≡ misfit_text m)
     × IsFault remaining f (misfit_fault m 0)

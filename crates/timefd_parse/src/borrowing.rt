@@ -1,4 +1,4 @@
-//! The same calls with a fault that borrows what it quotes.
+//! The calls of `parsing`, with a fault that borrows what it quotes.
 
 ghost use Rattle.std.specs.Prelude.{◌≡◌, ◌≤◌, [], List, length, IfOk, IsOk, IsFalse, MatchResult};
 ghost use Rattle.std.specs.Result.{IfErr};
@@ -11,7 +11,7 @@ ghost use Rattle.timefd_language.specs.Bytes.{is_version_three};
 ghost use Rattle.timefd_language.specs.Grammar.{Spells, nesting_limit};
 ghost use Rattle.timefd_language.specs.Broken.{FaultOf};
 ghost use Rattle.timefd_language.specs.Strings.{AreItems};
-ghost use Rattle.timefd_fault.specs.BorrowedFaults.{HasShortFault, IsLent, IsLentOf, IsMemory};
+ghost use Rattle.timefd_fault.specs.BorrowedFaults.{HasShortFault, IsBorrowed, IsBorrowedOf, IsMemory};
 ghost use Rattle.timefd_fault.specs.Placed.{IsPlaced};
 ghost use Rattle.timefd_parse.specs.Answers.{IsOutput, ReservesAtMost, HasStrings};
 
@@ -27,8 +27,8 @@ use timefd_language::description_version::DescriptionVersion;
 /// Reads a text of a version as `parse_borrowed_within` does, with a fault that borrows what it
 /// quotes. This call is this port's own.
 ///
-/// The error is `Invalid` with the fault of the text, or `Memory` where memory ran out. A text that
-/// has a fault is refused for it even then.
+/// The error is `Invalid` with the fault of the text, or `Memory` if memory ran out. A text that has
+/// a fault is refused for it even then.
 pub fn parse_all_borrowed<'a>(
     alloc: Global,
     version: DescriptionVersion,
@@ -37,25 +37,25 @@ pub fn parse_all_borrowed<'a>(
 ) -> Result<BorrowedOutput<'a>, BorrowedParseError<'a>>
     requires { limit ≤ nesting_limit }
 
-    // What is accepted is spelled so, and what is refused is refused for the fault that the rules
+    // An accepted text spells the result. A refused one is refused for the fault that the rules
     // assign.
     ensures found { IfOk result (λ output. (list : List Tree)
         × Spells version limit 0 s.now list × IsOutput version list output) }
-    ensures fault { IfErr result (IsLentOf (FaultOf version limit s.now)) }
+    ensures fault { IfErr result (IsBorrowedOf (FaultOf version limit s.now)) }
 
-    // What is spelled is accepted, unless memory runs out, and what has a fault is refused for it.
+    // A text that spells something is accepted unless memory runs out, and a text with a fault is
+    // refused for it.
     ensures spelled { (list : List Tree) → Spells version limit 0 s.now list
         → MatchResult result (IsOutput version list) IsMemory }
     ensures refused { (f : spec.Fault) → FaultOf version limit s.now f
-        → MatchResult result (λ _. ⊥) (IsLent f) }
+        → MatchResult result (λ _. ⊥) (IsBorrowed f) }
 
-    // The fault's index lies in the text or at its end, between two characters. Its words are short,
-    // so that its sentence can be written.
-    ensures place { IfErr result (IsLentOf (IsPlaced s.now)) }
+    // The fault's index lies in the text or at its end, between two characters. The words that it
+    // quotes are short, so that its sentence can be written.
+    ensures position { IfErr result (IsBorrowedOf (IsPlaced s.now)) }
     ensures words { IfErr result HasShortFault }
 
-    // No literal of an item is one of bytes, and a description reserves no more bytes than the
-    // text has.
+    // No item is a literal of bytes, and a description reserves no more bytes than the text has.
     ensures strings { IfOk result HasStrings }
     ensures reserved { IfOk result (ReservesAtMost (length s.now)) }
 
@@ -84,11 +84,11 @@ pub fn parse_items<'a>(
     requires { IsFalse (is_version_three version) }
     ensures found { IfOk result (λ items. (list : List Tree)
         × Spells version limit 0 s.now list × AreItems items.items list) }
-    ensures fault { IfErr result (IsLentOf (FaultOf version limit s.now)) }
+    ensures fault { IfErr result (IsBorrowedOf (FaultOf version limit s.now)) }
     ensures spelled { (list : List Tree) → Spells version limit 0 s.now list
         → MatchResult result (λ items. AreItems items.items list) IsMemory }
     ensures refused { (f : spec.Fault) → FaultOf version limit s.now f
-        → MatchResult result (λ _. ⊥) (IsLent f) }
+        → MatchResult result (λ _. ⊥) (IsBorrowed f) }
     ensures empty { s.now ≡ [] → IsOk result }
 {
     match items(alloc, version, s, limit) {
@@ -105,11 +105,11 @@ pub fn parse_description<'a>(
 ) -> Result<FormatDescriptionV3<'a>, BorrowedParseError<'a>>
     ensures found { IfOk result (λ d. (list : List Tree)
         × Spells Three limit 0 s.now list × (description_tree d ≡ pack list)) }
-    ensures fault { IfErr result (IsLentOf (FaultOf Three limit s.now)) }
+    ensures fault { IfErr result (IsBorrowedOf (FaultOf Three limit s.now)) }
     ensures spelled { (list : List Tree) → Spells Three limit 0 s.now list
         → MatchResult result (λ d. description_tree d ≡ pack list) IsMemory }
     ensures refused { (f : spec.Fault) → FaultOf Three limit s.now f
-        → MatchResult result (λ _. ⊥) (IsLent f) }
+        → MatchResult result (λ _. ⊥) (IsBorrowed f) }
     ensures reserved { IfOk result (λ d. reserve (description_tree d) ≤ length s.now) }
     ensures empty { s.now ≡ [] → IsOk result }
 {

@@ -1,5 +1,4 @@
-//! What stands in a bracket, one part after another: its name, its modifiers, its nested
-//! descriptions.
+//! What a bracket holds, one part after another: its name, its modifiers, its nested descriptions.
 
 ghost use Rattle.std.specs.Prelude.{ℕ, ◌≡◌, ◌∷◌, ◌++◌, List, IfSome, MatchOption, ◌<◌, length};
 ghost use Rattle.timefd_component.specs.Tree.{Tree};
@@ -17,8 +16,8 @@ use timefd_items::DescriptionBuilder;
 use timefd_language::description_version::DescriptionVersion;
 use timefd_language::text::{Class, Start, cut, start_of};
 
-/// The name of the bracket that a text begins with, and what follows the name. `None` where the text
-/// begins with no `[`, or with no word behind that and white bytes.
+/// The name of the bracket that a text begins with, and what follows the name. `None` if the text
+/// doesn't begin with `[`, or no word follows the `[` and its white bytes.
 pub fn bracket_name(text: &str) -> Option<(&str, &str)>
     ensures found { IfSome result (λ parts. BeginsNamed text.now parts.0.now parts.1.now) }
     ensures shorter { IfSome result (λ parts. length parts.1.now < length text.now) }
@@ -35,8 +34,8 @@ pub fn bracket_name(text: &str) -> Option<(&str, &str)>
     Some((name, rest))
 }
 
-/// The modifier that a text begins with, behind white bytes, and what follows it. `None` where the
-/// text begins with none, as behind the last modifier of a bracket.
+/// The modifier after the white bytes that a text begins with, and what follows it. `None` if there
+/// are no white bytes or no modifier, as after the last modifier of a bracket.
 pub fn first_modifier(text: &str) -> Option<(Modifier<'_>, &str)>
     ensures found { IfSome result (λ parts. BeginsModified text.now parts.0 parts.1.now) }
     ensures shorter { IfSome result (λ parts. length parts.1.now < length text.now) }
@@ -52,8 +51,9 @@ pub fn first_modifier(text: &str) -> Option<(Modifier<'_>, &str)>
     }
 }
 
-/// The text of the nested description that a text begins with, behind white bytes, without its
-/// brackets; and what follows its `]`. `None` where the text begins with none. No memory is taken.
+/// The nested description that a text begins with, after any white bytes: its text without the
+/// brackets, and what follows its `]`. `None` if the text doesn't begin with one. It takes no
+/// memory.
 pub fn first_nested<'a>(
     alloc: Global,
     version: DescriptionVersion,
@@ -63,8 +63,8 @@ pub fn first_nested<'a>(
     ensures shorter { IfSome result (λ parts. length parts.1.now < length text.now) }
     ensures nested { FindsNested version text.now result }
 {
-    let (_, behind) = cut(text, Class::White);
-    let Start::Opening(inside) = start_of(behind) else {
+    let (_, after) = cut(text, Class::White);
+    let Start::Opening(inside) = start_of(after) else {
         return None;
     };
     let mut builder = DescriptionBuilder::new(alloc);
@@ -74,7 +74,7 @@ pub fn first_nested<'a>(
     }
 }
 
-// What a text holds up to its end, and what follows the `]` that its end begins with.
+// The part of the text before `end`, and what follows the `]` that `end` begins with.
 fn closed<'a>(text: &'a str, end: &'a str) -> Option<(&'a str, &'a str)>
     requires { EndsWith text.now end.now }
     ensures closed { IfSome result (λ parts. (parts.0.now ++ end.now ≡ text.now)

@@ -1,6 +1,6 @@
-//! What is built of a text's pieces: trees, for version 3. A reader that doesn't build adds none:
-//! so are texts of versions 1 and 2 read, which refuse every nested description, and so is one of
-//! version 3 checked.
+//! What is built from the pieces of a text: trees, for version 3. A reader that doesn't build adds
+//! none. Texts of versions 1 and 2, which refuse every nested description, are read that way, and
+//! so is a text of version 3 that is only checked.
 
 ghost use Rattle.std.specs.Prelude.{◌≡◌, ◌≤◌, ◌∷◌, [], Bool, List, length, IsFalse, IsOk, IsTrue, OnOk};
 ghost use Rattle.timefd_items.specs.Builder.{built};
@@ -14,7 +14,7 @@ use crate::piece::Piece;
 use std::alloc::AllocError;
 use timefd_items::DescriptionBuilder;
 
-/// Adds a piece behind what is built.
+/// Adds a piece after what is built.
 #[inline(always)]
 pub fn add<'a, const BUILDS: bool>(
     builder: &mut DescriptionBuilder<'a>,
@@ -35,7 +35,7 @@ pub fn add<'a, const BUILDS: bool>(
     }
 }
 
-/// Packs the last pieces, so many, which are a nested description.
+/// Packs the last `count` pieces, which are a nested description.
 pub fn pack<'a, const BUILDS: bool>(
     builder: &mut DescriptionBuilder<'a>,
     count: usize,

@@ -1,9 +1,10 @@
-//! How much a text of a version holds. Its pieces are counted, and what needs no tree has none.
+//! How much a text of a version holds. Its pieces are counted, and a tree is built only where one
+//! is needed.
 
 ghost use Rattle.std.specs.Prelude.{ℕ, ◌≡◌, ◌≤◌, ◌<◌, [], List, length, IsFalse, MatchResult};
 ghost use Rattle.std.specs.Result.{IfErr};
 ghost use Rattle.timefd_component.specs.Tree.{Tree};
-ghost use Rattle.timefd_fault.specs.BorrowedFaults.{IsLent, IsLentOf, IsMemory};
+ghost use Rattle.timefd_fault.specs.BorrowedFaults.{IsBorrowed, IsBorrowedOf, IsMemory};
 ghost use Rattle.timefd_fault.specs.Faults.{Fault};
 ghost use Rattle.timefd_items.specs.Builder.{built};
 ghost use Rattle.timefd_language.specs.Broken.{FaultOf};
@@ -19,7 +20,7 @@ ghost use Rattle.timefd_parse.specs.Read.{AreCounted, IsFaultIn, PiecesToEnd};
 use crate::piece::Piece;
 use crate::read::next_piece;
 use std::alloc::{AllocError, Global};
-use timefd_fault::borrowed_parse_error::{BorrowedParseError, lent};
+use timefd_fault::borrowed_parse_error::{BorrowedParseError, borrowed};
 use timefd_fault::read_error::ReadError;
 use timefd_items::DescriptionBuilder;
 use timefd_language::description_version::DescriptionVersion;
@@ -38,12 +39,11 @@ pub fn count_items<'a>(
     let mut builder = DescriptionBuilder::new(alloc);
     match count_pieces(&mut builder, version, text, limit) {
         Ok(count) => Ok(count),
-        Err(error) => Err(lent(error, text.len())),
+        Err(error) => Err(borrowed(error, text.len())),
     }
 }
 
-/// How many bytes a text of version 3 reserves. Of its pieces only those are built that have nested
-/// descriptions.
+/// How many bytes a text of version 3 reserves. Only the pieces with nested descriptions are built.
 pub fn count_bytes<'a>(
     alloc: Global,
     limit: u8,
@@ -67,8 +67,8 @@ pub fn count_bytes<'a>(
     }
 }
 
-/// The error of a text of a version that was not read. A fault is found without memory, even where
-/// that ran out.
+/// The error of a text that couldn't be read. A fault of the text is found even if memory ran out,
+/// since that takes none.
 pub fn error_of<'a>(
     alloc: Global,
     version: DescriptionVersion,
@@ -77,17 +77,17 @@ pub fn error_of<'a>(
     error: ReadError<'a>,
 ) -> BorrowedParseError<'a>
     requires { MemoryOr (IsFaultIn version limit 0 text.now) error }
-    ensures fault { IsLentOf (FaultOf version limit text.now) result }
+    ensures fault { IsBorrowedOf (FaultOf version limit text.now) result }
     ensures spelled { (list : List Tree) → Spells version limit 0 text.now list → IsMemory result }
-    ensures refused { (f : Fault) → FaultOf version limit text.now f → IsLent f result }
+    ensures refused { (f : Fault) → FaultOf version limit text.now f → IsBorrowed f result }
 {
     match error {
         ReadError::Memory => checked_again(alloc, version, limit, text),
-        error => lent(error, text.len()),
+        error => borrowed(error, text.len()),
     }
 }
 
-/// The error of a text for whose trees there is no memory. It is read again without them.
+/// The error of a text when there is no memory for its trees. The text is read again without them.
 #[inline(never)]
 fn checked_again<'a>(
     alloc: Global,
@@ -95,18 +95,18 @@ fn checked_again<'a>(
     limit: u8,
     text: &'a str,
 ) -> BorrowedParseError<'a>
-    ensures fault { IsLentOf (FaultOf version limit text.now) result }
+    ensures fault { IsBorrowedOf (FaultOf version limit text.now) result }
     ensures spelled { (list : List Tree) → Spells version limit 0 text.now list → IsMemory result }
-    ensures refused { (f : Fault) → FaultOf version limit text.now f → IsLent f result }
+    ensures refused { (f : Fault) → FaultOf version limit text.now f → IsBorrowed f result }
 {
     let mut builder = DescriptionBuilder::new(alloc);
     match count_pieces(&mut builder, version, text, limit) {
         Ok(_) => BorrowedParseError::Memory(AllocError),
-        Err(error) => lent(error, text.len()),
+        Err(error) => borrowed(error, text.len()),
     }
 }
 
-/// How many pieces a text of a version has. They are checked and not built, and take no memory.
+/// How many pieces a text of a version has. They are checked but not built, and take no memory.
 #[inline(always)]
 fn count_pieces<'a>(
     builder: &mut DescriptionBuilder<'a>,
@@ -131,7 +131,7 @@ fn count_pieces<'a>(
     }
 }
 
-/// How many bytes the pieces of a text of version 3 reserve, beside those that are built.
+/// How many bytes the pieces of a text of version 3 reserve, apart from those that are built.
 #[inline(always)]
 fn bytes_beside<'a>(
     builder: &mut DescriptionBuilder<'a>,
@@ -161,7 +161,7 @@ fn bytes_beside<'a>(
     }
 }
 
-/// How many bytes a piece reserves that isn't built.
+/// How many bytes a piece reserves, if it isn't built.
 #[inline(always)]
 fn own_bytes(piece: Piece) -> usize
     ensures { result ≡ spec.own_bytes piece.entry }

@@ -1,8 +1,8 @@
-//! Quick readers of what most texts have, in front of the exact ones: brackets with a name alone, and
-//! those with modifiers in the letters of the tables, each after one space.
+//! Quick readers for what most texts have, tried before the exact ones: brackets with only a name, and
+//! brackets with modifiers that are spelled as in the tables, each after one space.
 //!
-//! Each answers `Option`. A `Some` is what the exact reader answers. A `None` says nothing of the text
-//! and changes nothing: the exact reader looks at the same bytes again.
+//! Each returns an `Option`. A `Some` is what the exact reader returns. A `None` says nothing about
+//! the text and changes nothing: the exact reader looks at the same bytes again.
 
 pub mod bare;
 mod begins;

@@ -13,20 +13,20 @@ use timefd_language::description_version::DescriptionVersion;
 use timefd_language::name::{Name, name_of};
 use timefd_language::text::{Class, cut};
 
-/// What stands in a bracket up to its first nested description, or its end.
+/// What a bracket holds before its first nested description, or before its end.
 #[derive(Clone, Copy)]
 pub struct Head<'a> {
-    /// The word that names the bracket, and how many bytes of the text remain from there on.
+    /// The word that names the bracket, and the number of bytes from there to the end of the text.
     pub word: &'a str,
     pub remaining: usize,
     /// What the word names.
     pub name: Option<Name>,
-    /// The white bytes behind all that.
+    /// The white bytes after all that.
     pub white: &'a str,
 }
 
-/// The head of the bracket that has this inside, and the rest; its modifiers are added to these, of
-/// which there are none yet.
+/// The head of a bracket, and the rest. `inside` is the text after the `[`. The modifiers of the
+/// head are added to `modifiers`, which has none yet.
 pub fn read_head<'a>(
     version: DescriptionVersion,
     inside: &'a str,

@@ -1,4 +1,4 @@
-//! What the head of a bracket is by itself, whatever is nested behind it.
+//! What the head of a bracket is by itself, whatever nested descriptions follow it.
 
 ghost use Rattle.std.specs.Prelude.{ℕ, ◌≡◌, Some, IfOk, IsTrue, List, MatchOption, ⊤};
 ghost use Rattle.timefd_language.specs.Bytes.{is_version_three};
@@ -12,12 +12,12 @@ ghost use Rattle.timefd_parse.specs.Checked.{ShowsFault};
 ghost use Rattle.timefd_parse.specs.Heads.{ShowsHead};
 ghost use Rattle.timefd_parse.specs.HeadVerdicts as judging;
 ghost use Rattle.timefd_parse.specs.HeadVerdicts.{BeginsJudged, IsPlain, IsVerdict, ReadsJudgedHead};
-ghost use Rattle.timefd_parse.specs.Judged.{JudgedComponent, ShowsPlaces};
+ghost use Rattle.timefd_parse.specs.Judged.{JudgedComponent, ShowsPositions};
 
 use crate::fast::words::after_word;
 use crate::head::{Head, read_head};
 use crate::modifiers::Modifiers;
-use crate::places::Places;
+use crate::positions::Positions;
 use timefd_fault::{Fault, Rule};
 use timefd_items::Component;
 use timefd_language::combination::refusals;
@@ -38,17 +38,17 @@ pub enum HeadVerdict<'a> {
     Refused(Fault<'a>),
 }
 
-/// A head that was read, with no more than what is wanted once its bracket is closed: this stays on
-/// the stack while what is nested is read.
+/// A head that was read, reduced to what is needed once its bracket is closed: this stays on the
+/// stack while the nested descriptions are read.
 #[derive(Clone, Copy)]
 pub struct JudgedHead<'a> {
     pub verdict: HeadVerdict<'a>,
-    /// Whether nested descriptions may stand behind it, and whether white bytes do.
+    /// Whether nested descriptions may follow it, and whether white bytes do.
     pub nests: bool,
     pub spaced: bool,
 }
 
-/// The head of the bracket that has this inside, and the rest.
+/// The head of a bracket, and the rest. `inside` is the text after the `[`.
 #[inline(never)]
 pub fn judged_head<'a>(
     version: DescriptionVersion,
@@ -82,7 +82,8 @@ fn plain_head<'a>(version: DescriptionVersion, inside: &'a str) -> Option<(Judge
     }
 }
 
-/// The same of one of the words with a space behind it, whose verdict this is.
+/// The result of `plain_head` for one of the words, with the space after it. `verdict` is what the
+/// word is.
 #[inline(always)]
 fn plainly<'a>(
     version: DescriptionVersion,
@@ -106,7 +107,7 @@ fn plainly<'a>(
     Some((judged, rest))
 }
 
-/// Whether nested descriptions may stand behind this name.
+/// Whether nested descriptions may follow this name.
 fn nests(name: Option<Name>) -> bool
     ensures { result ≡ judging.nests name }
 {
@@ -148,21 +149,21 @@ fn head_verdict<'a>(
     }
 }
 
-/// The first key that version 3 refuses with the component.
+/// The fault of the first key that version 3 refuses with the component.
 pub fn combination_fault(
     version: DescriptionVersion,
     component: Component,
-    places: &Places,
+    positions: &Positions,
 ) -> Option<Fault<'static>>
-    ensures { (total : ℕ) (ps : List Placed) → (IsTrue (is_version_three version) → ShowsPlaces
-        total places.now ps)
+    ensures { (total : ℕ) (ps : List Placed) → (IsTrue (is_version_three version) → ShowsPositions
+        total positions.now ps)
         → ShowsFault total result (rules.combination (is_version_three version) component ps) }
 {
     if !version.is_strict() {
         return None;
     }
     'refusals: for refusal in refusals(component) {
-        if let Some(remaining) = places.of(refusal.key) {
+        if let Some(remaining) = positions.of(refusal.key) {
             let rule = Rule::RefusedModifier(refusal.key.spelling(), refusal.context);
             return Some(Fault { rule, remaining });
         }
@@ -170,7 +171,7 @@ pub fn combination_fault(
     None
 }
 
-/// The component of a bracket named for one.
+/// The component of a bracket that has the name of one.
 fn component<'a>(
     version: DescriptionVersion,
     head: &Head<'a>,
@@ -193,7 +194,7 @@ fn component<'a>(
             remaining: head.remaining,
         });
     };
-    match combination_fault(version, component, &modifiers.places) {
+    match combination_fault(version, component, &modifiers.positions) {
         Some(fault) => Err(fault),
         None => Ok(component),
     }

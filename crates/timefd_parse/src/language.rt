@@ -1,12 +1,12 @@
-//! The languages of texts, and how much a text of any of them holds.
+//! The languages of texts, and how much a text of each holds.
 
 ghost use Rattle.std.specs.Prelude.{◌≡◌, ◌≤◌, [], List, IfOk, IsFalse, IsOk, MatchResult};
 ghost use Rattle.std.specs.Result.{IfErr};
 ghost use Rattle.timefd_component.specs.Tree.{Tree};
 ghost use Rattle.timefd_fault.specs.Faults as spec;
-ghost use Rattle.timefd_fault.specs.BorrowedFaults.{HasShortFault, IsLent, IsLentOf, IsMemory, IsRefusal};
+ghost use Rattle.timefd_fault.specs.BorrowedFaults.{HasShortFault, IsBorrowed, IsBorrowedOf, IsMemory, IsRefusal};
 ghost use Rattle.timefd_fault.specs.Placed.{HasPlacedFault, IsPlaced};
-ghost use Rattle.timefd_fault.specs.Told.{IsFaultOrMemory, MemoryAlone};
+ghost use Rattle.timefd_fault.specs.Reported.{IsFaultOrMemory, MemoryAlone};
 ghost use Rattle.timefd_language.specs.Bytes.{is_version_three};
 ghost use Rattle.timefd_language.specs.Grammar.{nesting_limit};
 ghost use Rattle.timefd_parse.specs.Language.{SpellsIn, FaultIn, amount, takes_memory, IsAmount, IsAssignedIn};
@@ -28,10 +28,10 @@ pub enum Language {
 }
 
 /// How much a text holds: how many items, or in version 3 how many bytes its description reserves.
-/// At most `limit` nested descriptions may stand around one another; strftime nests none.
+/// Descriptions may be nested at most `limit` deep; strftime nests none.
 ///
-/// The error is `Invalid` with the fault of the text, or `Memory` where memory ran out. A fault that
-/// quotes nothing of the text is answered even then.
+/// The error is `Invalid` with the fault of the text, or `Memory` if memory ran out. A fault that
+/// quotes nothing of the text is reported even then.
 #[inline(always)]
 pub fn amount_within(
     alloc: Global,
@@ -41,21 +41,21 @@ pub fn amount_within(
 ) -> Result<usize, ParseError>
     requires { limit ≤ nesting_limit }
 
-    // What is accepted is spelled so, and what is refused is refused for the fault that the rules
+    // An accepted text spells the result. A refused one is refused for the fault that the rules
     // assign.
     ensures found { IfOk result (λ n.
         (list : List Tree) × SpellsIn language limit text.now list × (n ≡ amount language list)) }
     ensures fault { IfErr result (IsAssignedIn language limit text.now) }
 
-    // What is spelled is accepted, unless memory runs out. What has a fault is refused for it, unless
-    // the fault quotes the text and memory runs out for that.
+    // A text that spells something is accepted unless memory runs out. A text with a fault is refused
+    // for it, unless the fault quotes the text and there is no memory for the quote.
     ensures spelled { (list : List Tree) → SpellsIn language limit text.now list
         → MatchResult result (λ n. n ≡ amount language list) MemoryAlone }
     ensures refused { (f : spec.Fault) → FaultIn language limit text.now f
         → MatchResult result (λ _. ⊥) (IsFaultOrMemory f) }
 
     // The fault's index lies in the text or at its end, between two characters.
-    ensures place { IfErr result (HasPlacedFault text.now) }
+    ensures position { IfErr result (HasPlacedFault text.now) }
 
     // The empty text takes no memory.
     ensures empty { text.now ≡ [] → IsOk result }
@@ -66,10 +66,10 @@ pub fn amount_within(
     }
 }
 
-/// How much a text holds, as `amount_within` says it, with a fault that borrows what it quotes.
+/// How much a text holds, as `amount_within` counts it, with a fault that borrows what it quotes.
 ///
-/// The error is `Invalid` with the fault of the text, or `Memory` where memory ran out. A text that
-/// has a fault is refused for it even then.
+/// The error is `Invalid` with the fault of the text, or `Memory` if memory ran out. A text that has
+/// a fault is refused for it even then.
 #[inline(always)]
 pub fn amount_all_borrowed(
     alloc: Global,
@@ -79,21 +79,22 @@ pub fn amount_all_borrowed(
 ) -> Result<usize, BorrowedParseError<'_>>
     requires { limit ≤ nesting_limit }
 
-    // What is accepted is spelled so, and what is refused is refused for the fault that the rules
+    // An accepted text spells the result. A refused one is refused for the fault that the rules
     // assign.
     ensures found { IfOk result (λ n.
         (list : List Tree) × SpellsIn language limit text.now list × (n ≡ amount language list)) }
-    ensures fault { IfErr result (IsLentOf (FaultIn language limit text.now)) }
+    ensures fault { IfErr result (IsBorrowedOf (FaultIn language limit text.now)) }
 
-    // What is spelled is accepted, unless memory runs out, and what has a fault is refused for it.
+    // A text that spells something is accepted unless memory runs out, and a text with a fault is
+    // refused for it.
     ensures spelled { (list : List Tree) → SpellsIn language limit text.now list
         → MatchResult result (λ n. n ≡ amount language list) IsMemory }
     ensures refused { (f : spec.Fault) → FaultIn language limit text.now f
-        → MatchResult result (λ _. ⊥) (IsLent f) }
+        → MatchResult result (λ _. ⊥) (IsBorrowed f) }
 
-    // The fault's index lies in the text or at its end, between two characters. Its words are short,
-    // so that its sentence can be written.
-    ensures place { IfErr result (IsLentOf (IsPlaced text.now)) }
+    // The fault's index lies in the text or at its end, between two characters. The words that it
+    // quotes are short, so that its sentence can be written.
+    ensures position { IfErr result (IsBorrowedOf (IsPlaced text.now)) }
     ensures words { IfErr result HasShortFault }
 
     // Versions 1 and 2 and strftime take no memory, and the empty text takes none in version 3.
@@ -130,11 +131,11 @@ fn version_amount(
 fn strftime_amount(text: &str) -> Result<usize, BorrowedParseError<'_>>
     ensures found { IfOk result (λ n. (list : List Tree)
         × SpellsIn Language.Strftime 0 text.now list × (n ≡ amount Language.Strftime list)) }
-    ensures fault { IfErr result (IsLentOf (FaultIn Language.Strftime 0 text.now)) }
+    ensures fault { IfErr result (IsBorrowedOf (FaultIn Language.Strftime 0 text.now)) }
     ensures spelled { (list : List Tree) → SpellsIn Language.Strftime 0 text.now list
         → MatchResult result (λ n. n ≡ amount Language.Strftime list) IsMemory }
     ensures refused { (f : spec.Fault) → FaultIn Language.Strftime 0 text.now f
-        → MatchResult result (λ _. ⊥) (IsLent f) }
+        → MatchResult result (λ _. ⊥) (IsBorrowed f) }
     ensures no_memory { IfErr result IsRefusal }
     ensures empty { text.now ≡ [] → IsOk result }
 {

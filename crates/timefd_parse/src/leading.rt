@@ -1,11 +1,11 @@
-//! The first piece of a text, as it stands there.
+//! The first piece of a text, as it is written.
 
 ghost use Rattle.std.specs.Prelude.{◌≡◌, ◌<◌, ◌++◌, [], List, length, IfOk, IfSome, MatchOption, MatchResult};
 ghost use Rattle.std.specs.Result.{IfErr};
 ghost use Rattle.timefd_component.specs.Tree.{Tree};
-ghost use Rattle.timefd_fault.specs.BorrowedFaults.{IsLentOf, IsRefusal};
+ghost use Rattle.timefd_fault.specs.BorrowedFaults.{IsBorrowedOf, IsRefusal};
 ghost use Rattle.timefd_language.specs.Grammar.{nesting_limit};
-ghost use Rattle.timefd_parse.specs.FirstPiece.{BeginsList, EndsWith, IsBehindFirst, IsFirst};
+ghost use Rattle.timefd_parse.specs.FirstPiece.{BeginsList, EndsWith, IsAfterFirst, IsFirst};
 ghost use Rattle.timefd_parse.specs.Language.{SpellsIn, FaultIn};
 ghost use Rattle.timefd_parse.specs.declared.language.Language as spec_language;
 
@@ -14,46 +14,46 @@ use crate::parsing::NESTING_LIMIT;
 use crate::read::next_piece;
 use std::alloc::Global;
 use timefd_fault::BorrowedParseError;
-use timefd_fault::borrowed_parse_error::lent;
+use timefd_fault::borrowed_parse_error::borrowed;
 use timefd_items::DescriptionBuilder;
 use timefd_language::description_version::DescriptionVersion;
-use timefd_strftime::behind_first_directive;
+use timefd_strftime::after_first_directive;
 
-/// The first piece of a text, as it stands there, and what follows it: a literal up to the next
-/// escape or bracket, an escape, a `]`, a bracket with all that it holds, or a directive of strftime.
-/// `None` of the empty text.
+/// The first piece of a text, as it is written, and what follows it. A piece is a literal up to the
+/// next escape or bracket, an escape, a `]`, a bracket with all that it holds, or a directive of
+/// strftime. `None` for the empty text.
 ///
-/// The error is the fault of the text, which begins as no piece does. No memory is taken.
+/// The error is the fault of a text that doesn't begin with a piece. It takes no memory.
 pub fn first_piece<'a>(
     alloc: Global,
     language: Language,
     text: &'a str,
 ) -> Result<Option<(&'a str, &'a str)>, BorrowedParseError<'a>>
-    // The piece and what follows it are the text.
+    // The piece and what follows it make up the text.
     ensures joined { IfOk result (λ first. IfSome first
         (λ parts. parts.0.now ++ parts.1.now ≡ text.now)) }
     ensures shorter { IfOk result (λ first. IfSome first
         (λ parts. length parts.1.now < length text.now)) }
 
-    // The piece spells one tree, and the reader goes on behind it.
+    // The piece spells one tree, and the reader continues after it.
     ensures found { IfOk result (λ first. MatchOption first (text.now ≡ [])
         (λ parts. IsFirst language text.now parts.0.now parts.1.now)) }
-    ensures fault { IfErr result (IsLentOf (FaultIn language nesting_limit text.now)) }
+    ensures fault { IfErr result (IsBorrowedOf (FaultIn language nesting_limit text.now)) }
 
-    // Of a text that is spelled the piece spells the first tree, and the rest the others.
+    // If the text spells a list of trees, the piece spells the first and the rest spells the others.
     ensures spelled { (list : List Tree) → SpellsIn language nesting_limit text.now list
         → MatchResult result (λ first. MatchOption first (list ≡ [])
         (λ parts. BeginsList language parts.0.now parts.1.now list)) (λ _. ⊥) }
     ensures memory { IfErr result IsRefusal }
 {
-    match behind_first(alloc, language, text) {
+    match after_first(alloc, language, text) {
         Ok(Some(rest)) => Ok(Some((in_front(text, rest), rest))),
         Ok(None) => Ok(None),
         Err(error) => Err(error),
     }
 }
 
-/// What stands in a text in front of what it ends with.
+/// The part of the text before `rest`, which it ends with.
 pub fn in_front<'a>(text: &'a str, rest: &'a str) -> &'a str
     requires { EndsWith text.now rest.now }
     ensures { result.now ++ rest.now ≡ text.now }
@@ -62,52 +62,52 @@ pub fn in_front<'a>(text: &'a str, rest: &'a str) -> &'a str
 }
 
 /// What follows the first piece of a text, if it has one.
-fn behind_first<'a>(
+fn after_first<'a>(
     alloc: Global,
     language: Language,
     text: &'a str,
 ) -> Result<Option<&'a str>, BorrowedParseError<'a>>
     ensures found { IfOk result (λ rest. MatchOption rest (text.now ≡ [])
-        (λ after. IsBehindFirst language text.now after.now)) }
-    ensures fault { IfErr result (IsLentOf (FaultIn language nesting_limit text.now)) }
+        (λ after. IsAfterFirst language text.now after.now)) }
+    ensures fault { IfErr result (IsBorrowedOf (FaultIn language nesting_limit text.now)) }
     ensures memory { IfErr result IsRefusal }
 {
     match language {
-        Language::Version(version) => behind_piece(alloc, version, text),
-        Language::Strftime => behind_directive(text),
+        Language::Version(version) => after_piece(alloc, version, text),
+        Language::Strftime => after_directive(text),
     }
 }
 
-/// The same of a text of this version.
+/// What follows the first piece of a text of this version, if it has one.
 #[inline(never)]
-fn behind_piece<'a>(
+fn after_piece<'a>(
     alloc: Global,
     version: DescriptionVersion,
     text: &'a str,
 ) -> Result<Option<&'a str>, BorrowedParseError<'a>>
     ensures found { IfOk result (λ rest. MatchOption rest (text.now ≡ [])
-        (λ after. IsBehindFirst (spec_language.Language.Version version) text.now after.now)) }
+        (λ after. IsAfterFirst (spec_language.Language.Version version) text.now after.now)) }
     ensures fault { IfErr result
-        (IsLentOf (FaultIn (spec_language.Language.Version version) nesting_limit text.now)) }
+        (IsBorrowedOf (FaultIn (spec_language.Language.Version version) nesting_limit text.now)) }
     ensures memory { IfErr result IsRefusal }
 {
     let mut builder = DescriptionBuilder::new(alloc);
     match next_piece::<false>(&mut builder, version, text, NESTING_LIMIT, 0) {
         Ok(Some((_, rest))) => Ok(Some(rest)),
         Ok(None) => Ok(None),
-        Err(error) => Err(lent(error, text.len())),
+        Err(error) => Err(borrowed(error, text.len())),
     }
 }
 
-/// The same of a text of strftime.
-fn behind_directive<'a>(text: &'a str) -> Result<Option<&'a str>, BorrowedParseError<'a>>
+/// What follows the first piece of a text of strftime, if it has one.
+fn after_directive<'a>(text: &'a str) -> Result<Option<&'a str>, BorrowedParseError<'a>>
     ensures found { IfOk result (λ rest. MatchOption rest (text.now ≡ [])
-        (λ after. IsBehindFirst spec_language.Language.Strftime text.now after.now)) }
+        (λ after. IsAfterFirst spec_language.Language.Strftime text.now after.now)) }
     ensures fault { IfErr result
-        (IsLentOf (FaultIn spec_language.Language.Strftime nesting_limit text.now)) }
+        (IsBorrowedOf (FaultIn spec_language.Language.Strftime nesting_limit text.now)) }
     ensures memory { IfErr result IsRefusal }
 {
-    match behind_first_directive(text) {
+    match after_first_directive(text) {
         Ok(rest) => Ok(rest),
         Err(fault) => Err(BorrowedParseError::Invalid(fault)),
     }

@@ -1,6 +1,5 @@
-//! Reads format descriptions: the texts of versions 1, 2 and 3, and of strftime. What a text
-//! spells, and which fault another has, is defined in `timefd_language`; `laws` has what holds of
-//! that.
+//! Reads format descriptions: the texts of versions 1, 2 and 3, and of strftime. `timefd_language` defines
+//! what a text spells and which fault a refused text has; `laws` states what holds of that.
 #![tactic(auto)]
 
 // The public calls: of versions, of any language, of the first piece alone, of amounts without items.
@@ -10,21 +9,22 @@ mod language;
 mod leading;
 mod parsing;
 
-// Quick readers of what most texts have, tried first.
+// Quick readers for what most texts have, tried first.
 mod fast;
 
-// A bracket's head: its name, its modifiers and where their keys stand, or its fault; what a head is by itself.
+// A bracket's head: its name, its modifiers and the positions of their keys, or its fault; what a head is by
+// itself.
 mod head;
 mod head_verdict;
 mod modifier;
 mod modifiers;
-mod places;
+mod positions;
 
 // A bracket: its parts, and what it is once it is closed.
 mod bracket;
 mod verdict;
 
-// Pieces one after another, and the trees that version 3 builds of them.
+// Pieces one after another, and the trees that version 3 builds from them.
 mod building;
 mod piece;
 mod read;

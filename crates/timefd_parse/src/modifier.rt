@@ -3,9 +3,10 @@
 ghost use Rattle.timefd_parse.specs.ReadModifiers.{ReadsModifier};
 
 use timefd_fault::{Fault, Rule};
-use timefd_language::text::{Class, behind_colon, cut};
+use timefd_language::text::{Class, after_colon, cut};
 
-/// A key and its value. A place is given by how many bytes of the text remain.
+/// A key and its value. A position is given as the number of bytes from there to the end of the
+/// text.
 #[derive(Clone, Copy)]
 pub struct Modifier<'a> {
     pub key: &'a str,
@@ -14,13 +15,14 @@ pub struct Modifier<'a> {
     pub value_remaining: usize,
 }
 
-/// The modifier that a text begins with, and the rest; none where the text begins with no word.
+/// The modifier that a text begins with, and the rest. `None` if the text begins with neither a key
+/// nor a colon.
 #[inline(always)]
 pub fn read_modifier<'a>(text: &'a str) -> Result<Option<(Modifier<'a>, &'a str)>, Fault<'a>>
     ensures { ReadsModifier text.now result }
 {
-    let (key, behind) = cut(text, Class::Key);
-    let Some(after) = behind_colon(behind) else {
+    let (key, after) = cut(text, Class::Key);
+    let Some(assigned) = after_colon(after) else {
         if key.is_empty() {
             return Ok(None);
         }
@@ -29,7 +31,7 @@ pub fn read_modifier<'a>(text: &'a str) -> Result<Option<(Modifier<'a>, &'a str)
             remaining: text.len(),
         });
     };
-    let (value, rest) = cut(after, Class::Word);
+    let (value, rest) = cut(assigned, Class::Word);
     if key.is_empty() {
         return Err(Fault {
             rule: Rule::InvalidModifier(""),
@@ -39,14 +41,14 @@ pub fn read_modifier<'a>(text: &'a str) -> Result<Option<(Modifier<'a>, &'a str)
     if value.is_empty() {
         return Err(Fault {
             rule: Rule::InvalidModifier(""),
-            remaining: behind.len(),
+            remaining: after.len(),
         });
     }
     let modifier = Modifier {
         key,
         key_remaining: text.len(),
         value,
-        value_remaining: after.len(),
+        value_remaining: assigned.len(),
     };
     Ok(Some((modifier, rest)))
 }

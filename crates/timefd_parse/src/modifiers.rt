@@ -1,4 +1,4 @@
-//! What the modifiers of a head come to, read one at a time.
+//! What the modifiers of a head set, read one at a time.
 
 ghost use Rattle.std.specs.Prelude.{ℕ, ◌≡◌, ◌++◌, ◌∷◌, [], List, Option, option_map};
 ghost use Rattle.timefd_language.specs.Bytes.{is_version_three};
@@ -9,7 +9,7 @@ ghost use Rattle.timefd_parse.specs.ReadModifiers.{IsPlaced};
 ghost use Rattle.timefd_language.specs.Values.{key_in};
 
 use crate::modifier::Modifier;
-use crate::places::Places;
+use crate::positions::Positions;
 use timefd_fault::{Fault, Rule};
 use timefd_language::description_version::DescriptionVersion;
 use timefd_language::key::{Key, key_of};
@@ -17,11 +17,12 @@ use timefd_language::name::Name;
 use timefd_language::setting::{Setting, Settings};
 use timefd_language::value::setting_of;
 
-/// What the modifiers set, and the fault of the first bad one, behind which none is looked at.
+/// What the modifiers set, the positions of their keys, and the fault of the first bad one. No
+/// modifier after a bad one is looked at.
 #[derive(Clone, Copy)]
 pub struct Modifiers<'a> {
     pub settings: Settings,
-    pub places: Places,
+    pub positions: Positions,
     pub fault: Option<Fault<'a>>,
 }
 
@@ -36,7 +37,7 @@ impl<'a> Modifiers<'a> {
     {
         Modifiers {
             settings: Settings::new(version),
-            places: Places::new(),
+            positions: Positions::new(),
             fault: None,
         }
     }
@@ -55,13 +56,13 @@ impl<'a> Modifiers<'a> {
         match self.check(version, name, modifier) {
             Ok((key, setting)) => {
                 self.settings.set(setting);
-                self.places.set(key, modifier.key_remaining);
+                self.positions.set(key, modifier.key_remaining);
             }
             Err(fault) => self.fault = Some(fault),
         }
     }
 
-    /// What a modifier sets, behind those that were taken.
+    /// What a modifier sets, after those that were taken, or its fault.
     fn check(
         &self,
         version: DescriptionVersion,
@@ -79,7 +80,7 @@ impl<'a> Modifiers<'a> {
                 remaining: modifier.key_remaining,
             });
         };
-        if version.is_strict() && self.places.of(key).is_some() {
+        if version.is_strict() && self.positions.of(key).is_some() {
             return Err(Fault {
                 rule: Rule::DuplicateModifier(key.spelling()),
                 remaining: modifier.key_remaining,
@@ -95,7 +96,7 @@ impl<'a> Modifiers<'a> {
     }
 }
 
-/// The key of the name that a word is; an unknown name has none.
+/// The key that a word spells, one of those that the name takes. An unknown name takes none.
 fn known_key(version: DescriptionVersion, name: Option<Name>, word: &str) -> Option<Key>
     ensures { option_map key_for result ≡ key_in (is_version_three version) word.now (keys_of name) }
 {

@@ -12,7 +12,7 @@ ghost use Rattle.timefd_language.specs.Grammar.{Spells, nesting_limit};
 ghost use Rattle.timefd_language.specs.Broken.{FaultOf};
 ghost use Rattle.timefd_fault.specs.Placed.{HasPlacedFault};
 ghost use Rattle.timefd_parse.specs.Answers.{IsOutput, IsAssigned, ReservesAtMost, HasStrings};
-ghost use Rattle.timefd_fault.specs.Told.{IsFaultOrMemory, MemoryAlone, Tells};
+ghost use Rattle.timefd_fault.specs.Reported.{IsFaultOrMemory, MemoryAlone, Tells};
 ghost use Rattle.timefd_fault.specs.ReadErrors.{IsFault, MemoryOr};
 ghost use Rattle.timefd_language.specs.Strings.{AreItems};
 
@@ -22,7 +22,7 @@ use timefd_fault::parse_error::ParseError;
 use timefd_items::{BorrowedFormatItem, FormatDescriptionV3};
 use timefd_language::description_version::DescriptionVersion;
 
-/// How many nested descriptions may stand around one another, at most.
+/// How deep descriptions may be nested.
 pub const NESTING_LIMIT: u8 = 127;
 
 /// What a text is read as: the output of `time`'s `parse_borrowed`.
@@ -34,35 +34,34 @@ pub enum BorrowedOutput<'a> {
     Description(FormatDescriptionV3<'a>),
 }
 
-/// Reads a text of a version: `time`'s `parse_borrowed`. What it answers borrows the text's
-/// literals.
+/// Reads a text of a version, like `time`'s `parse_borrowed`. The result borrows its literals from
+/// the text.
 ///
-/// The error is `Invalid` with the fault of the text, or `Memory` where memory ran out. A fault that
-/// quotes nothing of the text is answered even then.
+/// The error is `Invalid` with the fault of the text, or `Memory` if memory ran out. A fault that
+/// quotes nothing of the text is reported even then.
 #[inline(always)]
 pub fn parse_borrowed<'a>(
     alloc: Global,
     version: DescriptionVersion,
     s: &'a str,
 ) -> Result<BorrowedOutput<'a>, ParseError>
-    // What is accepted is spelled so, and what is refused is refused for the fault that the rules
+    // An accepted text spells the result. A refused one is refused for the fault that the rules
     // assign.
     ensures found { IfOk result (λ output. (list : List Tree)
         × Spells version nesting_limit 0 s.now list × IsOutput version list output) }
     ensures fault { IfErr result (IsAssigned version nesting_limit s.now) }
 
-    // What is spelled is accepted, unless memory runs out. What has a fault is refused for it, unless
-    // the fault quotes the text and memory runs out for that.
+    // A text that spells something is accepted unless memory runs out. A text with a fault is refused
+    // for it, unless the fault quotes the text and there is no memory for the quote.
     ensures spelled { (list : List Tree) → Spells version nesting_limit 0 s.now list
         → MatchResult result (IsOutput version list) MemoryAlone }
     ensures refused { (f : spec.Fault) → FaultOf version nesting_limit s.now f
         → MatchResult result (λ _. ⊥) (IsFaultOrMemory f) }
 
     // The fault's index lies in the text or at its end, between two characters.
-    ensures place { IfErr result (HasPlacedFault s.now) }
+    ensures position { IfErr result (HasPlacedFault s.now) }
 
-    // No literal of an item is one of bytes, and a description reserves no more bytes than the
-    // text has.
+    // No item is a literal of bytes, and a description reserves no more bytes than the text has.
     ensures strings { IfOk result HasStrings }
     ensures reserved { IfOk result (ReservesAtMost (length s.now)) }
 
@@ -72,11 +71,11 @@ pub fn parse_borrowed<'a>(
     parse_borrowed_within(alloc, version, NESTING_LIMIT, s)
 }
 
-/// Reads a text of a version as `parse_borrowed` does, with at most `limit` nested descriptions
-/// around one another. This call is this port's own.
+/// Reads a text of a version as `parse_borrowed` does, with descriptions nested at most `limit` deep.
+/// This call is this port's own.
 ///
-/// The error is `Invalid` with the fault of the text, or `Memory` where memory ran out. A fault that
-/// quotes nothing of the text is answered even then.
+/// The error is `Invalid` with the fault of the text, or `Memory` if memory ran out. A fault that
+/// quotes nothing of the text is reported even then.
 #[inline(always)]
 pub fn parse_borrowed_within<'a>(
     alloc: Global,
@@ -86,24 +85,23 @@ pub fn parse_borrowed_within<'a>(
 ) -> Result<BorrowedOutput<'a>, ParseError>
     requires { limit ≤ nesting_limit }
 
-    // What is accepted is spelled so, and what is refused is refused for the fault that the rules
+    // An accepted text spells the result. A refused one is refused for the fault that the rules
     // assign.
     ensures found { IfOk result (λ output. (list : List Tree)
         × Spells version limit 0 s.now list × IsOutput version list output) }
     ensures fault { IfErr result (IsAssigned version limit s.now) }
 
-    // What is spelled is accepted, unless memory runs out. What has a fault is refused for it, unless
-    // the fault quotes the text and memory runs out for that.
+    // A text that spells something is accepted unless memory runs out. A text with a fault is refused
+    // for it, unless the fault quotes the text and there is no memory for the quote.
     ensures spelled { (list : List Tree) → Spells version limit 0 s.now list
         → MatchResult result (IsOutput version list) MemoryAlone }
     ensures refused { (f : spec.Fault) → FaultOf version limit s.now f
         → MatchResult result (λ _. ⊥) (IsFaultOrMemory f) }
 
     // The fault's index lies in the text or at its end, between two characters.
-    ensures place { IfErr result (HasPlacedFault s.now) }
+    ensures position { IfErr result (HasPlacedFault s.now) }
 
-    // No literal of an item is one of bytes, and a description reserves no more bytes than the
-    // text has.
+    // No item is a literal of bytes, and a description reserves no more bytes than the text has.
     ensures strings { IfOk result HasStrings }
     ensures reserved { IfOk result (ReservesAtMost (length s.now)) }
 
@@ -116,26 +114,26 @@ pub fn parse_borrowed_within<'a>(
     }
 }
 
-/// Reads a text of version 1: `time`'s `parse`.
+/// Reads a text of version 1, like `time`'s `parse`.
 ///
-/// The error is `Invalid` with the fault of the text, or `Memory` where memory ran out. A fault that
-/// quotes nothing of the text is answered even then.
+/// The error is `Invalid` with the fault of the text, or `Memory` if memory ran out. A fault that
+/// quotes nothing of the text is reported even then.
 pub fn parse<'a>(alloc: Global, s: &'a str) -> Result<Vec<BorrowedFormatItem<'a>>, ParseError>
-    // What is accepted is spelled so, and what is refused is refused for the fault that the rules
+    // An accepted text spells the result. A refused one is refused for the fault that the rules
     // assign.
     ensures found { IfOk result (λ items. (list : List Tree)
         × Spells One nesting_limit 0 s.now list × AreItems items.items list) }
     ensures fault { IfErr result (IsAssigned One nesting_limit s.now) }
 
-    // What is spelled is accepted, unless memory runs out. What has a fault is refused for it, unless
-    // the fault quotes the text and memory runs out for that.
+    // A text that spells something is accepted unless memory runs out. A text with a fault is refused
+    // for it, unless the fault quotes the text and there is no memory for the quote.
     ensures spelled { (list : List Tree) → Spells One nesting_limit 0 s.now list
         → MatchResult result (λ items. AreItems items.items list) MemoryAlone }
     ensures refused { (f : spec.Fault) → FaultOf One nesting_limit s.now f
         → MatchResult result (λ _. ⊥) (IsFaultOrMemory f) }
 
     // The fault's index lies in the text or at its end, between two characters.
-    ensures place { IfErr result (HasPlacedFault s.now) }
+    ensures position { IfErr result (HasPlacedFault s.now) }
 
     // The empty text takes no memory.
     ensures empty { s.now ≡ [] → IsOk result }

@@ -10,13 +10,14 @@ ghost use Rattle.timefd_parse.specs.Pieces.{IsPiece};
 use timefd_component::reserved::reserved_bytes;
 use timefd_items::{BorrowedFormatItem, Component};
 
-/// A literal, or what a bracket is.
+/// A literal, or what a bracket means.
 #[derive(Clone, Copy)]
 pub enum Piece<'a> {
     Literal(&'a str),
-    /// A component, and how many bytes it reserves where the reader builds.
+    /// A component, and how many bytes it reserves. The number matters only if the reader builds.
     Component(Component, usize),
-    /// A bracket with nested descriptions, which is the last tree that was built, if any is.
+    /// A bracket with nested descriptions. In a reader that builds, it is the last tree that was
+    /// built.
     Compound,
 }
 
@@ -39,7 +40,7 @@ impl<'a> Piece<'a> {
     }
 }
 
-/// A component as a piece. A reader that doesn't build asks for no bytes.
+/// A component as a piece. A reader that doesn't build doesn't need its bytes.
 #[inline(always)]
 pub fn component_piece<'a, const BUILDS: bool>(component: Component) -> Piece<'a>
     ensures { (strict : Bool) (old new : List Tree) → modern component ≡ component

@@ -1,4 +1,4 @@
-//! The pieces of a text, one after another.
+//! The pieces of a text, one following another.
 
 ghost use Rattle.std.specs.Prelude.{ℕ, ◌≡◌, ◌+◌, ◌*◌, ◌≤◌, ◌<◌, ◌∷◌, [], length, IsFalse, IsTrue, MatchOption};
 ghost use Rattle.std.specs.Result.{IfErr};
@@ -35,7 +35,7 @@ fn run<'a>(version: DescriptionVersion, text: &'a str) -> (&'a str, &'a str)
     cut_run(version, text)
 }
 
-/// A `]` outside nested descriptions, where version 3 wants an escape.
+/// A `]` outside nested descriptions, where version 3 needs an escape.
 fn closing<'a>(version: DescriptionVersion, text: &'a str) -> Result<(&'a str, &'a str), Fault<'a>>
     requires { BeginsClosing text.now }
     ensures { (limit : ℕ) → ReadsEscape version limit 0 text.now result }
@@ -49,22 +49,26 @@ fn closing<'a>(version: DescriptionVersion, text: &'a str) -> Result<(&'a str, &
     Ok(text.split_at(1))
 }
 
-/// What a backslash and the text behind it begin with: an escape, or in version 1 a run.
+/// What a backslash and the text following it begin with: an escape, or in version 1 a run.
 fn backslash<'a>(
     version: DescriptionVersion,
     text: &'a str,
-    after: &'a str,
+    following: &'a str,
 ) -> Result<(&'a str, &'a str), Fault<'a>>
-    requires { text.now ≡ 92 ∷ after.now }
+    requires { text.now ≡ 92 ∷ following.now }
     ensures { (limit n : ℕ) → ReadsEscape version limit n text.now result }
 {
     if let DescriptionVersion::One = version {
         return Ok(run(version, text));
     }
-    match escaped(after) {
+    match escaped(following) {
         Some((byte, rest)) => Ok((byte, rest)),
         None => {
-            let remaining = if after.is_empty() { 1 } else { after.len() };
+            let remaining = if following.is_empty() {
+                1
+            } else {
+                following.len()
+            };
             Err(Fault {
                 rule: Rule::InvalidEscape,
                 remaining,
@@ -85,7 +89,8 @@ fn doubled<'a>(version: DescriptionVersion, inside: &'a str) -> Option<(&'a str,
     None
 }
 
-/// The fault of a bracket with this fault inside it: where something is unclosed, the bracket is.
+/// The fault of a bracket with this fault inside it: if something inside is unclosed, so is the
+/// bracket.
 fn enclosed<'a>(error: ReadError<'a>, start: usize) -> ReadError<'a>
     ensures fault { IsEnclosed start error.entry result }
     ensures invalid { IsInvalid error.entry → IsInvalid result }
@@ -112,7 +117,7 @@ fn unclosed<'a>(start: usize) -> ReadError<'a>
     })
 }
 
-/// The fault of an opening bracket inside as many nested descriptions as there may be.
+/// The fault of an opening bracket that would nest a description too deep.
 fn too_deep<'a>(remaining: usize) -> ReadError<'a>
     ensures fault { MemoryOr (λ f. IsFault remaining f (fault too_highly_nested 0)) result }
     ensures invalid { IsInvalid result }
@@ -124,12 +129,11 @@ fn too_deep<'a>(remaining: usize) -> ReadError<'a>
 }
 
 /// The piece that a text of a version begins with, and what follows it; `None` at the end of a
-/// description. So many nested descriptions stand around it, of at most `limit`. Where the reader
-/// builds, which only version 3 needs, a bracket with nested descriptions is added to the builder, and
-/// the piece is `Compound`. A reader that doesn't build takes no memory. It is this port's own.
+/// description. It is inside `around` nested descriptions, of at most `limit`. A reader that builds,
+/// which only version 3 needs, adds a bracket with nested descriptions to the builder, and the piece
+/// is `Compound`. A reader that doesn't build takes no memory. This call is this port's own.
 ///
-/// The error is `Invalid` with the fault of what the text begins with, or `Memory` where memory ran
-/// out.
+/// The error is `Invalid` with the fault of what the text begins with, or `Memory` if memory ran out.
 #[inline(always)]
 #[cycle(read)]
 pub fn next_piece<'a, const BUILDS: bool>(
@@ -162,8 +166,8 @@ pub fn next_piece<'a, const BUILDS: bool>(
                 None => Ok(Some(bracket::<BUILDS>(builder, version, inside, limit, around)?)),
             }
         }
-        Start::Backslash(after) => {
-            let (literal, rest) = backslash(version, text, after)?;
+        Start::Backslash(following) => {
+            let (literal, rest) = backslash(version, text, following)?;
             Ok(Some((Piece::Literal(literal), rest)))
         }
         Start::Other => {
@@ -173,7 +177,7 @@ pub fn next_piece<'a, const BUILDS: bool>(
     }
 }
 
-/// How many pieces a text begins with, and what stands at their end.
+/// How many pieces a text begins with, up to the end of its description, and what follows them.
 #[inline(always)]
 #[cycle(read)]
 pub fn members<'a, const BUILDS: bool>(
@@ -193,18 +197,18 @@ pub fn members<'a, const BUILDS: bool>(
     let mut count = 0;
     let mut rest = text;
     'pieces: loop {
-        let Some((piece, after)) = next_piece::<BUILDS>(builder, version, rest, limit, around)?
+        let Some((piece, following)) = next_piece::<BUILDS>(builder, version, rest, limit, around)?
         else {
             return Ok((count, rest));
         };
         add::<BUILDS>(builder, piece)?;
         count += 1;
-        rest = after;
+        rest = following;
     }
 }
 
-/// What follows the `]` of the nested description that has this behind its `[`. The bracket around
-/// it begins where `start` bytes remain.
+/// What follows the `]` of a nested description. `text` is what follows its `[`. The bracket around it
+/// begins `start` bytes before the end of the text.
 #[inline(always)]
 #[cycle(read)]
 fn nested<'a, const BUILDS: bool>(
@@ -228,14 +232,14 @@ fn nested<'a, const BUILDS: bool>(
         Ok(read) => read,
         Err(error) => return Err(enclosed(error, start)),
     };
-    let Start::Closing(after) = start_of(end) else {
+    let Start::Closing(following) = start_of(end) else {
         return Err(unclosed(start));
     };
     pack::<BUILDS>(builder, count)?;
-    Ok(after)
+    Ok(following)
 }
 
-/// The bracket that has this inside.
+/// The bracket, and what follows it. `inside` is the text following the `[`.
 #[cycle(read)]
 fn bracket<'a, const BUILDS: bool>(
     builder: &mut DescriptionBuilder<'a>,
@@ -255,18 +259,18 @@ fn bracket<'a, const BUILDS: bool>(
         return Ok((component_piece::<BUILDS>(component), rest));
     }
     let start = inside.len() + 1;
-    let (head, behind) = judged_head(version, inside)?;
-    let remaining = behind.len();
+    let (head, after) = judged_head(version, inside)?;
+    let remaining = after.len();
     let mut count = 0;
-    let mut rest = behind;
+    let mut rest = after;
     'inner: loop {
         match start_of(rest) {
             Start::Opening(text) => {
-                let after = nested::<BUILDS>(builder, version, text, limit, around, start)?;
+                let following = nested::<BUILDS>(builder, version, text, limit, around, start)?;
                 count += 1;
-                rest = cut(after, Class::White).1;
+                rest = cut(following, Class::White).1;
             }
-            Start::Closing(after) => {
+            Start::Closing(following) => {
                 let end = rest.len();
                 let span = Span { start, end };
                 let nested = Nested {
@@ -275,14 +279,14 @@ fn bracket<'a, const BUILDS: bool>(
                     count,
                 };
                 let piece = verdict::<BUILDS>(builder, version, &head, nested, span)?;
-                return Ok((piece, after));
+                return Ok((piece, following));
             }
             _ => return Err(unclosed(start)),
         }
     }
 }
 
-/// Room for the items of a text of usual length, of which one has three bytes or more on average.
+/// Room for the items of a text of usual length: one for every four bytes, and at most 16.
 #[inline(always)]
 fn first_room(text: &str) -> usize
     ensures empty { text.now ≡ [] → result ≡ 0 }
@@ -291,7 +295,8 @@ fn first_room(text: &str) -> usize
     text.len().div_ceil(4).min(16)
 }
 
-/// The same for the nodes of a description, which has one more where it has several pieces.
+/// Room for the nodes of a description: one for every three bytes, and at most 16. A description of
+/// several pieces has one node more than pieces.
 #[inline(always)]
 pub fn node_room(text: &str) -> usize
     ensures empty { text.now ≡ [] → result ≡ 0 }
@@ -315,11 +320,11 @@ pub fn items<'a>(
     let mut items = Vec::with_capacity(alloc, first_room(text))?;
     let mut rest = text;
     'pieces: loop {
-        let Some((piece, after)) = next_piece::<false>(&mut builder, version, rest, limit, 0)?
+        let Some((piece, following)) = next_piece::<false>(&mut builder, version, rest, limit, 0)?
         else {
             return Ok(items);
         };
         items.push(piece.into_item())?;
-        rest = after;
+        rest = following;
     }
 }

@@ -24,14 +24,17 @@ use timefd_language::description_version::DescriptionVersion;
 /// The nested descriptions of a bracket.
 #[derive(Clone, Copy)]
 pub struct Nested {
-    /// Whether white bytes stand before the first, and how much of the text remains from its `[` on.
+    /// Whether white bytes precede the first, and the number of bytes from its `[` to the end of the
+    /// text.
     pub spaced: bool,
     pub remaining: usize,
-    /// How many there are. A reader that builds has made a tree of each, and these are the last.
+    /// How many there are. A reader that builds has made a tree of each, and these are its last
+    /// trees.
     pub count: usize,
 }
 
-/// Where a bracket begins and where it is closed: how many bytes of the text remain.
+/// Where a bracket begins and where it is closed, as the number of bytes from there to the end of
+/// the text.
 #[derive(Clone, Copy)]
 pub struct Span {
     pub start: usize,
@@ -47,13 +50,13 @@ fn optional<'a, const BUILDS: bool>(
     span: Span,
 ) -> Result<Piece<'a>, ReadError<'a>>
     requires { IsTrue BUILDS → nested.count ≤ length (built builder.old) }
-    ensures tree { (place : ℕ) (h : spec.Head) (parts : List PlacedDescription) (base : List Tree)
+    ensures tree { (position : ℕ) (h : spec.Head) (parts : List PlacedDescription) (base : List Tree)
         → rules.bad_modifiers (is_version_three version) (format ∷ []) [] (placed h) ≡ None
         → formatted ≡ rules.is_formatted (is_version_three version) (placed h)
-        → ShowsNested span.start nested parts → place + span.end ≡ span.start
+        → ShowsNested span.start nested parts → position + span.end ≡ span.start
         → IsBuilt BUILDS base (built builder.old) (packed parts)
         → Judged span.start (is_version_three version) BUILDS base (built builder.new) result
-        (rules.optional_verdict (is_version_three version) h parts place) }
+        (rules.optional_verdict (is_version_three version) h parts position) }
     ensures invalid { IsFalse BUILDS → IfErr result IsInvalid }
 {
     if nested.count == 0 {
@@ -89,12 +92,12 @@ fn first<'a, const BUILDS: bool>(
     span: Span,
 ) -> Result<Piece<'a>, ReadError<'a>>
     requires { IsTrue BUILDS → nested.count ≤ length (built builder.old) }
-    ensures tree { (place : ℕ) (h : spec.Head) (parts : List PlacedDescription) (base : List Tree)
+    ensures tree { (position : ℕ) (h : spec.Head) (parts : List PlacedDescription) (base : List Tree)
         → rules.bad_modifiers (is_version_three version) [] [] (placed h) ≡ None
-        → ShowsNested span.start nested parts → place + span.end ≡ span.start
+        → ShowsNested span.start nested parts → position + span.end ≡ span.start
         → IsBuilt BUILDS base (built builder.old) (packed parts)
         → Judged span.start (is_version_three version) BUILDS base (built builder.new) result
-        (rules.first_verdict (is_version_three version) h parts place) }
+        (rules.first_verdict (is_version_three version) h parts position) }
     ensures invalid { IsFalse BUILDS → IfErr result IsInvalid }
 {
     if !version.is_strict() {
@@ -116,7 +119,7 @@ fn first<'a, const BUILDS: bool>(
     Ok(Piece::Compound)
 }
 
-/// The fault of nested descriptions that stand where they may not.
+/// The fault of nested descriptions where they may not be.
 fn placing_fault(nests: bool, nested: Nested, span: Span) -> Option<Fault<'static>>
     ensures { (parts : List PlacedDescription) → ShowsNested span.start nested parts
         → ShowsFault span.start result (placing nests parts) }
@@ -148,12 +151,12 @@ pub fn verdict<'a, const BUILDS: bool>(
     span: Span,
 ) -> Result<Piece<'a>, ReadError<'a>>
     requires { IsTrue BUILDS → nested.count ≤ length (built builder.old) }
-    ensures tree { (place : ℕ) (h : spec.Head) (parts : List PlacedDescription) (base : List Tree)
+    ensures tree { (position : ℕ) (h : spec.Head) (parts : List PlacedDescription) (base : List Tree)
         → IsVerdict (is_version_three version) span.start h head.now.nests head.now.verdict
         → ShowsNested span.start nested parts
-        → place + span.end ≡ span.start → IsBuilt BUILDS base (built builder.old) (packed parts)
+        → position + span.end ≡ span.start → IsBuilt BUILDS base (built builder.old) (packed parts)
         → Judged span.start (is_version_three version) BUILDS base (built builder.new) result
-        (rules.verdict (is_version_three version) h parts place) }
+        (rules.verdict (is_version_three version) h parts position) }
     ensures invalid { IsFalse BUILDS → IfErr result IsInvalid }
 {
     if let Some(fault) = placing_fault(head.nests, nested, span) {

@@ -10,7 +10,7 @@ use Rattle.timefd_print.specs.Reasons.{reason, HasCounts}
 use Rattle.timefd_print.proofs.PrintedLemmas.{printing_law}
 use Rattle.timefd_print.proofs.SpelledLemmas.{spelled_law}
 
--- what is printed where no reason was found
+-- what is printed if no reason was found
 pub answer-spells : (text : Text) (tree : Tree) (found : Option Unspelled)
     → found ≡ reason nesting_limit tree → found ≡ None
     → text ≡ printed tree → HasCounts tree → SpellsTree nesting_limit text tree

@@ -9,7 +9,7 @@ use Rattle.timefd_component.specs.Tree.{Text, Tree, component, literal, optional
 use Rattle.timefd_language.specs.declared.description_version.DescriptionVersion.TheVariants.{Three}
 use Rattle.timefd_language.specs.Bytes.{right, backslash, is_special}
 use Rattle.timefd_language.specs.Head.{Head, IsHead, head_text}
-use Rattle.timefd_language.specs.Verdict.{PlacedDescription, behind, touching, verdict}
+use Rattle.timefd_language.specs.Verdict.{PlacedDescription, after, touching, verdict}
 use Rattle.timefd_language.specs.Grammar.{Pieces, Nested, no_pieces, run, escape, closing, bracket, no_nested, spelling, nested_text, items, ArePieces, AreNested, BeginsNoRun, bracket_verdict, parts_from}
 use Rattle.timefd_language.specs.Grammar as grammar
 use Rattle.timefd_lift.specs.Plain.{IsCounted}
@@ -22,7 +22,7 @@ use Rattle.timefd_print.specs.Printed.{escaped, optional_front, nested, printed,
 use Rattle.timefd_print.specs.Reasons.{is_escape, literal_reason, component_reason}
 use Rattle.timefd_print.proofs.LiteralLemmas.{special_step, plain_escaped, literal_is, IsEscape, IsRun}
 
--- pieces behind a run or not, which spell the text and are the list
+-- pieces after a run or not, which spell the text and are the list
 pub record AreOf (limit n : ℕ) (after_run : Bool) (text : Text) (list : List Tree) (ps : Pieces) : Type 0 where
   pub are : ArePieces Three limit n ps
   pub spelled : spelling ps ≡ text
@@ -38,7 +38,7 @@ none_of limit n after_run = (
   record { are = tt; spelled = refl; same = refl; begins = λ e. tt },
 )
 
--- with nothing behind it
+-- with nothing after it
 pub alone : (limit n : ℕ) (text : Text) (list : List Tree)
     → Spelling limit n false (text ++ []) list → Spelling limit n false text list
 alone limit n text list = subst (λ x. Spelling limit n false x list) (append-nil text)
@@ -219,7 +219,7 @@ first_read : (parts : List PlacedDescription) (close : ℕ) (t : Tree) (ts : Tre
     → verdict true first_head parts close ≡ Ok (first (more_trees t ts))
 first_read [] close t ts spaced e = absurd cc
 first_read (p ∷ ps) close t ts spaced e =
-    ap (λ o. behind o (Ok (first (trees (map (λ q. pack q.trees) (p ∷ ps)))))) spaced
+    ap (λ o. after o (Ok (first (trees (map (λ q. pack q.trees) (p ∷ ps)))))) spaced
     ∙ ap (λ xs. Ok (first (trees xs))) e
     ∙ ap (λ xs. Ok (first (more_trees t xs))) (trees-listed ts)
 

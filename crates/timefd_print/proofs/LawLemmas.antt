@@ -1,4 +1,4 @@
--- What follows of the two halves.
+-- What follows from the two halves.
 use Rattle.std.proofs.Common.{ℕ, ◌≡◌, List, refl, sym, ap, subst, ◌∙◌}
 use Rattle.timefd_component.specs.Tree.{Text, Tree, pack}
 use Rattle.timefd_language.specs.declared.description_version.DescriptionVersion.TheVariants.{Three}
@@ -9,7 +9,7 @@ use Rattle.timefd_print.specs.Printed.{printed, unpacked}
 use Rattle.timefd_print.proofs.PrintedLemmas.{printing_law}
 use Rattle.timefd_print.proofs.SpelledLemmas.{spelled_law, spelled-unpacked}
 
--- what is printed of a tree that some text spells spells it
+-- if some text spells a tree, its printed text spells it
 pub printed_spells : (limit : ℕ) (text : Text) (tree : Tree) → SpellsTree limit text tree
     → SpellsTree limit (printed tree) tree
 printed_spells limit text tree s =

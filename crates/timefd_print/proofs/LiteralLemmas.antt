@@ -42,7 +42,7 @@ abbrev pub is_end : Text → Bool
 is_end [] = true
 is_end (b ∷ bytes) = false
 
--- What a literal is that has no reason against it.
+-- What a literal is, if there is no reason against it.
 
 escape_is : (bytes : Text) → is_escape bytes ≡ true
     → (b : ℕ) × (bytes ≡ b ∷ []) × (is_special b ≡ true)
@@ -93,7 +93,7 @@ escape_none after_run b e =
     ap (λ t. cond t None (cond (not (is_plain (b ∷ []))) (Some MixedLiteral) (cond after_run
     (Some NeighbouringLiterals) None))) e
 
--- a run is no escape
+-- a run isn't an escape
 pub run_no_escape : (bytes : Text) → OneOrMore (is_run_byte Three) bytes → is_escape bytes ≡ false
 run_no_escape [] some = absurd some
 run_no_escape (b ∷ []) some =
@@ -115,7 +115,7 @@ append_all test (b ∷ front) rest e =
     let p = and_parts (test b) (list_all test front) e in
     ap (λ t. t && list_all test (front ++ rest)) p.0 ∙ append_all test front rest p.1
 
--- no front of it is left out where the text is plain
+-- if the text is plain, no front of it is left out
 pub cut_plain : (text front rest : Text) (t : Bool) → IsCut (is_run_byte Three) text front rest
     → t ≡ is_end rest → t ≡ is_plain text
 cut_plain text front rest t cut is =
@@ -126,7 +126,7 @@ cut_plain text front rest t cut is =
     by [] stops = refl
     by (b ∷ bytes) stops = ap (λ x. x && is_plain bytes) (sym stops)
 
--- where no escape follows a cut, nothing does
+-- if no escape follows a cut, nothing does
 pub nothing_left : (rest : Text) → StopsBefore (is_run_byte Three) rest
     → StopsBefore is_special rest → rest ≡ []
 nothing_left [] run special = refl
@@ -135,7 +135,7 @@ nothing_left (b ∷ rest) run special = absurd (both_ways (is_run_byte Three b) 
     no_escape : (c : ℕ) → is_special c ≡ false → is_run_byte Three c ≡ true
     no_escape c e = grind (arith, nat_tests)
 
--- a cut in front, and what is left
+-- a cut at the front, and what is left
 pub cut_written : (text front rest : Text) → IsCut (is_run_byte Three) text front rest
     → escaped text ≡ front ++ escaped rest
 cut_written text front rest cut = ap escaped cut.whole ∙ plain_front front rest cut.passes
@@ -147,16 +147,16 @@ begun old new text front rest cut one =
     ap (λ x. x ++ escaped rest) one ∙ append_assoc old front (escaped rest)
     ∙ ap (λ x. old ++ x) (sym (cut_written text front rest cut))
 
--- an escape and the front behind it are written
-pub one_escape : (old first second new whole rest special behind front last : Text) (b : ℕ)
-    → is_special b ≡ true → special ≡ b ∷ [] → rest ≡ b ∷ behind
-    → IsCut (is_run_byte Three) behind front last → first ≡ old ++ backslash ∷ []
+-- an escape and the front after it are written
+pub one_escape : (old first second new whole rest special after front last : Text) (b : ℕ)
+    → is_special b ≡ true → special ≡ b ∷ [] → rest ≡ b ∷ after
+    → IsCut (is_run_byte Three) after front last → first ≡ old ++ backslash ∷ []
     → second ≡ first ++ special → new ≡ second ++ front → old ++ escaped rest ≡ whole
     → new ++ escaped last ≡ whole
-one_escape old first second new whole rest special behind front last b is one text cut a bb c so_far =
-    begun second new behind front last cut c
-    ∙ ap (λ x. x ++ escaped behind) (bb ∙ ap (λ x. x ++ special) a
+one_escape old first second new whole rest special after front last b is one text cut a bb c so_far =
+    begun second new after front last cut c
+    ∙ ap (λ x. x ++ escaped after) (bb ∙ ap (λ x. x ++ special) a
     ∙ ap (λ x. (old ++ backslash ∷ []) ++ x) one
     ∙ append_assoc old (backslash ∷ []) (b ∷ []))
-    ∙ append_assoc old (backslash ∷ b ∷ []) (escaped behind)
-    ∙ ap (λ x. old ++ x) (sym (special_step b behind is) ∙ ap escaped (sym text)) ∙ so_far
+    ∙ append_assoc old (backslash ∷ b ∷ []) (escaped after)
+    ∙ ap (λ x. old ++ x) (sym (special_step b after is) ∙ ap escaped (sym text)) ∙ so_far

@@ -1,4 +1,4 @@
--- One more member in turn.
+-- One more member.
 use Rattle.std.proofs.Common.{ℕ, ◌≡◌, ◌≢◌, ◌↔◌, IsTrue, ◌≤◌, ◌+◌, ◌-◌, Bool, true, false, List, [], ◌∷◌, ◌++◌, length, Option, Some, None, refl, sym, ap, ◌∙◌, append_assoc, arith}
 use Rattle.std.proofs.lemmas.Bool.{both_ways}
 use Rattle.timefd_component.specs.Reserved.{tree_count, trees_count}
@@ -94,7 +94,7 @@ lone_none [] left n r len more is = is
 lone_none (t ∷ []) left n r len more is = absurd (more len)
 lone_none (t ∷ u ∷ ts) left n r len more is = is
 
--- an alternative at least
+-- at least one alternative
 pub some_alternative : (ts : List Tree) (left : ℕ) (e : Bool) (r : Option Unspelled)
     → (IsTrue e ↔ (ts ≡ [])) → e ≡ false → r ≡ nested_reason left (trees ts)
     → r ≡ reason left (first (trees ts))

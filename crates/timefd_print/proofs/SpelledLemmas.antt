@@ -58,7 +58,7 @@ pack_counts (t ∷ u ∷ ts) h = h
 
 -- Brackets.
 
--- the tree is no literal, and there is no reason against it as a member
+-- the tree isn't a literal, and there is no reason against it as a member
 abbrev IsGood : ℕ → Tree → Type 0
 IsGood left tree = ((after_run : Bool) → member_reason left after_run tree ≡ None)
     × (is_run tree ≡ false) × HasCounts tree
@@ -106,7 +106,7 @@ nested_good left h p ps close tree good e =
     ((λ after_run. good.0), refl, good.1)
     (known_good left h tree) e
 
--- one more alternative in front of others
+-- one more alternative before others
 one_good : (left : ℕ) (ts : List Tree) (us : Trees) → 0 < left
     → (members_reason (left - 1) false (trees ts) ≡ None) × HaveCounts (trees ts)
     → (nested_reason left us ≡ None) × HaveCounts us

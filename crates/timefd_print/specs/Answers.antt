@@ -1,10 +1,10 @@
--- What is answered of a description.
+-- What the call answers for a description.
 use Rattle.std.specs.Prelude.{◌≡◌, Option, Some, None, ⊤}
 use Rattle.timefd_print.specs.declared.error.PrintError.{PrintError}
 use Rattle.timefd_print.specs.declared.error.PrintError.TheVariants as errors
 use Rattle.timefd_print.specs.declared.error.Unspelled.{Unspelled}
 
--- the error is the reason, or out of memory where there is none
+-- the error is the reason, or out of memory if there is none
 abbrev pub IsReason : Option Unspelled → PrintError → Type 0
 IsReason reason (errors.Unspelled other) = reason ≡ Some other
 IsReason reason (errors.Memory e) = reason ≡ None

@@ -1,4 +1,4 @@
--- What holds of the normal form.
+-- What holds for the normal form.
 use Rattle.std.specs.Prelude.{ℕ, ◌≡◌, ◌↔◌, List, None}
 use Rattle.timefd_component.specs.Tree.{Text, Tree, pack}
 use Rattle.timefd_language.specs.declared.description_version.DescriptionVersion.TheVariants.{Three}
@@ -11,7 +11,7 @@ abbrev pub SpellsTree : ℕ → Text → Tree → Type 0
 SpellsTree limit text tree = (list : List Tree) × Spells Three limit 0 text list
     × (pack list ≡ tree)
 
--- A tree without a reason against it is spelled by what is printed of it.
+-- If there is no reason against a tree, its printed text spells it.
 abbrev pub Printing : Type 0
 Printing = (limit : ℕ) (tree : Tree) → reason limit tree ≡ None → HasCounts tree
     → Spells Three limit 0 (printed tree) (unpacked tree) × (pack (unpacked tree) ≡ tree)
@@ -21,17 +21,17 @@ abbrev pub Spelled : Type 0
 Spelled = (limit : ℕ) (text : Text) (tree : Tree) → SpellsTree limit text tree
     → (reason limit tree ≡ None) × HasCounts tree
 
--- What is printed of what was read reads as the same.
+-- The printed text of a tree that was read reads as the same tree.
 abbrev pub ReadsBack : Type 0
 ReadsBack = (limit : ℕ) (text : Text) (list : List Tree) → Spells Three limit 0 text list
     → Spells Three limit 0 (printed (pack list)) list
 
--- What was printed is printed the same a second time.
+-- A printed text, read and printed a second time, stays the same.
 abbrev pub PrintedOnce : Type 0
 PrintedOnce = (limit : ℕ) (text : Text) (tree other : Tree) → SpellsTree limit text tree
     → SpellsTree limit (printed tree) other → printed other ≡ printed tree
 
--- Two texts have one tree exactly where they print alike.
+-- Two texts have the same tree exactly if they print alike.
 abbrev pub PrintAlike : Type 0
 PrintAlike = (limit : ℕ) (s t : Text) (a b : Tree) → SpellsTree limit s a → SpellsTree limit t b
     → (a ≡ b) ↔ (printed a ≡ printed b)

@@ -5,17 +5,17 @@ use Rattle.timefd_component.specs.Tree.{Text, Tree, component, literal, compound
 use Rattle.timefd_language.specs.Bytes.{right, backslash, is_special}
 use Rattle.timefd_lift.specs.Written.{component_text}
 
--- each `[`, `]` and backslash behind a backslash
+-- a backslash before each `[`, `]` and backslash
 abbrev pub escaped : Text → Text
 escaped [] = []
 escaped (b ∷ bytes) = if is_special b then backslash ∷ b ∷ escaped bytes else b ∷ escaped bytes
 
--- an optional description up to its nested one; a formatter writes it where nothing is said
+-- an optional description up to its nested one; without `format` a formatter writes it
 abbrev pub optional_front : Bool → Text
 optional_front true = codes "[optional"
 optional_front false = codes "[optional format:false"
 
--- a nested description, behind a space
+-- a nested description, after a space
 abbrev pub nested : Text → Text
 nested text = codes " [" ++ text ++ right ∷ []
 

@@ -46,7 +46,7 @@ literal_reason after_run (b ∷ bytes) =
 abbrev pub component_reason : Component → Option Unspelled
 component_reason c = if same_component (modern c) c then None else Some DeprecatedComponent
 
--- inside of a nested description, where so many may be around one another
+-- inside of a nested description, if descriptions may be nested this deep
 abbrev pub deeper : ℕ → Option Unspelled → Option Unspelled
 deeper left reason = if left == 0 then Some TooDeep else reason
 
@@ -60,7 +60,7 @@ is_none no_trees = true
 is_none (more_trees t ts) = false
 
 abbrev mutual
-  -- so many more descriptions may be nested in this one
+  -- descriptions may be nested this deep in this one
   pub reason : ℕ → Tree → Option Unspelled
   reason left (component c) = component_reason c
   reason left (literal bytes) = literal_reason false bytes
@@ -68,7 +68,7 @@ abbrev mutual
   reason left (optional format t) = deeper left (reason (left - 1) t)
   reason left (first ts) = if is_none ts then Some NoAlternative else nested_reason left ts
 
-  -- members in turn, behind a run of bytes or not
+  -- members one after another, after a run of bytes or not
   pub members_reason : ℕ → Bool → Trees → Option Unspelled
   members_reason left after_run no_trees = None
   members_reason left after_run (more_trees t ts) =
@@ -87,7 +87,7 @@ abbrev mutual
   nested_reason left no_trees = None
   nested_reason left (more_trees t ts) = deeper left (reason (left - 1) t) or nested_reason left ts
 
--- Each count is one of 16 bits, as all those of the code are.
+-- Each count fits 16 bits, as every count of the code does.
 abbrev mutual
   pub HasCounts : Tree → Type 0
   HasCounts (component c) = IsCounted c

@@ -1,8 +1,8 @@
-//! What holds of the normal form: each law is the contract of a function with an empty body.
+//! What holds for the normal form: each law is the contract of a function with an empty body.
 
 ghost use Rattle.timefd_print.specs.Laws.{PrintAlike, PrintedOnce, Printing, ReadsBack, Spelled};
 
-/// A description without a reason against it is spelled by what is printed of it.
+/// If there is no reason against a description, its printed text spells it.
 pub fn printing()
     ensures { Printing }
 {}
@@ -12,17 +12,17 @@ pub fn spelled()
     ensures { Spelled }
 {}
 
-/// What is printed of what was read reads as the same.
+/// The printed text of a description that was read reads as the same description.
 pub fn reads_back()
     ensures { ReadsBack }
 {}
 
-/// What was printed is printed the same a second time.
+/// A printed text, read and printed a second time, stays the same.
 pub fn printed_once()
     ensures { PrintedOnce }
 {}
 
-/// Two texts have one description exactly where they print alike.
+/// Two texts have the same description exactly if they print alike.
 pub fn print_alike()
     ensures { PrintAlike }
 {}

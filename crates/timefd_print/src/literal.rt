@@ -1,4 +1,4 @@
-//! Literals: why one has no text, and what is printed of it.
+//! Literals: why one has no text, and how one is printed.
 
 ghost use Rattle.std.specs.Prelude.{◌≡◌, ◌++◌, OnOk, string_bytes};
 ghost use Rattle.timefd_print.specs.Printed as spec;
@@ -9,7 +9,8 @@ use std::alloc::AllocError;
 use timefd_language::DescriptionVersion;
 use timefd_language::text::{cut_run, escaped};
 
-/// Why no text has the literal behind a run of bytes or not.
+/// Why no text has the literal, if there is a reason. `after_run` says whether a run of bytes
+/// precedes it.
 pub fn literal_reason(after_run: bool, literal: &str) -> Option<Unspelled>
     ensures { result ≡ reasons.literal_reason after_run literal.now }
 {
@@ -29,7 +30,7 @@ pub fn literal_reason(after_run: bool, literal: &str) -> Option<Unspelled>
     }
 }
 
-/// Whether it is one byte, which is escaped.
+/// Whether the literal is one byte that is escaped.
 pub fn is_escape(literal: &str) -> bool
     ensures { result ≡ reasons.is_escape literal.now }
 {
@@ -41,7 +42,7 @@ pub fn is_escape(literal: &str) -> bool
     }
 }
 
-/// Whether none of its bytes is escaped.
+/// Whether none of the literal's bytes is escaped.
 #[tactic(auto, using(crate::proofs::LiteralLemmas::cut_plain))]
 fn is_plain(literal: &str) -> bool
     ensures { result ≡ reasons.is_plain literal.now }
@@ -50,19 +51,19 @@ fn is_plain(literal: &str) -> bool
     rest.is_empty()
 }
 
-/// Appends a literal, each `[`, `]` and backslash behind a backslash.
+/// Appends a literal, with a backslash before each `[`, `]` and backslash.
 pub fn push_literal(text: &mut String, literal: &str) -> Result<(), AllocError>
     ensures { OnOk result (string_bytes text.new ≡ string_bytes text.old ++ spec.escaped
         literal.now) }
 {
     let (plain, mut rest) = cut_run(DescriptionVersion::Three, literal);
     text.push_str(plain)?;
-    while let Some((special, behind)) = escaped(rest) {
+    while let Some((special, after)) = escaped(rest) {
         text.push_str("\\")?;
         text.push_str(special)?;
-        let (plain, behind) = cut_run(DescriptionVersion::Three, behind);
+        let (plain, after) = cut_run(DescriptionVersion::Three, after);
         text.push_str(plain)?;
-        rest = behind;
+        rest = after;
     }
     Ok(())
 }

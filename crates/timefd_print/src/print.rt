@@ -18,23 +18,24 @@ use timefd_items::View;
 use timefd_parse::NESTING_LIMIT;
 
 /// The text of version 3 of a description, in its normal form: components with the modifiers that
-/// aren't the default and with the range of each year that has one, `[`, `]` and `\` of literals
-/// behind a `\`, and a space in front of each nested description. It is the text of each description
-/// that some text spells. One made by hand that none spells is refused.
+/// aren't the default and with the range of each year that has one, a `\` before each `[`, `]` and `\`
+/// of a literal, and a space before each nested description. Every description that some text spells
+/// is printed. A description that a caller has made and no text spells is refused.
 ///
-/// The error is the first reason from the left why no text spells it, or `Memory` where memory ran
-/// out. A description that no text spells is refused for it even then.
+/// The error is the first reason from the left why no text spells it, or `Memory` if memory ran out. A
+/// description that no text spells is refused for it even then.
 pub fn print_v3(alloc: Global, view: View<'_, '_>) -> Result<String, PrintError>
-    // What is answered is the normal form, which spells the description. Each count is one of 16 bits.
+    // The result is the normal form, which spells the description if each count fits 16 bits, as every
+    // count of the code does.
     ensures printed { IfOk result (λ text. string_bytes text ≡ spec.printed
         (view_tree view.entry)) }
     ensures spelled { IfOk result (λ text. HasCounts (view_tree view.entry)
         → SpellsTree nesting_limit (string_bytes text) (view_tree view.entry)) }
-    // What some text spells is printed, unless memory runs out.
+    // A description that some text spells is printed, unless memory runs out.
     ensures all { (text : Text) → SpellsTree nesting_limit text (view_tree view.entry)
         → MatchResult result (λ answer. string_bytes answer ≡ spec.printed
         (view_tree view.entry)) IsMemory }
-    // The error is the reason against it, or out of memory where there is none.
+    // The error is the reason against the description, or out of memory if there is none.
     ensures reason { IfErr result (IsReason (reason nesting_limit (view_tree view.entry))) }
 {
     if let Some(reason) = reason::reason(view, NESTING_LIMIT) {

@@ -10,7 +10,7 @@ use std::alloc::{AllocError, Global};
 use timefd_lift::push_component;
 use timefd_node_list::{Members, Shape, View};
 
-/// Appends what is printed of a description.
+/// Appends the text of a description.
 #[cycle(push)]
 #[inline(never)]
 pub fn push(alloc: Global, text: &mut String, view: View<'_, '_>) -> Result<(), AllocError>
@@ -26,7 +26,7 @@ pub fn push(alloc: Global, text: &mut String, view: View<'_, '_>) -> Result<(), 
     }
 }
 
-/// Appends what is printed of members in turn.
+/// Appends the texts of members, one after another.
 #[cycle(push)]
 #[inline(never)]
 fn push_all(alloc: Global, text: &mut String, members: Members<'_, '_>) -> Result<(), AllocError>
@@ -55,7 +55,7 @@ fn push_optional(
     text.push_str("]")
 }
 
-/// An optional description up to its nested one.
+/// The text of an optional description up to its nested one.
 fn optional_front(format: bool) -> &'static str
     ensures { result.now ≡ spec.optional_front format }
 {
@@ -81,8 +81,8 @@ fn push_first(
     text.push_str("]")
 }
 
-/// Appends each alternative behind a space. It is a call of its own, as is each that walks members: so the
-/// walk stands on the stack once for each level.
+/// Appends each alternative after a space. Every function that walks members is a call of its own, so the
+/// walk is on the stack once for each level.
 #[cycle(push)]
 #[inline(never)]
 fn push_alternatives(
@@ -99,7 +99,7 @@ fn push_alternatives(
     Ok(())
 }
 
-/// Appends a nested description behind a space.
+/// Appends a nested description after a space.
 #[cycle(push)]
 #[inline(always)]
 fn push_nested(alloc: Global, text: &mut String, view: View<'_, '_>) -> Result<(), AllocError>

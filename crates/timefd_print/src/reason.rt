@@ -10,7 +10,8 @@ use crate::literal::{is_escape, literal_reason};
 use timefd_component::Component;
 use timefd_node_list::{Members, Shape, View};
 
-/// Why no text spells the description, where so many more may be nested in it.
+/// Why no text spells the description, if there is a reason. Descriptions may be nested in it at
+/// most `left` deep.
 #[cycle(reason)]
 pub fn reason(view: View<'_, '_>, left: u8) -> Option<Unspelled>
     ensures { result ≡ spec.reason left (view_tree view.entry) }
@@ -35,7 +36,7 @@ fn compound_reason(members: Members<'_, '_>, left: u8) -> Option<Unspelled>
     }
 }
 
-/// The same of members in turn.
+/// The first reason against members, from the left.
 #[cycle(reason)]
 fn members_reason(members: Members<'_, '_>, left: u8) -> Option<Unspelled>
     ensures { result ≡ spec.members_reason left false (trees (member_trees members.entry)) }
@@ -50,7 +51,7 @@ fn members_reason(members: Members<'_, '_>, left: u8) -> Option<Unspelled>
     None
 }
 
-/// The same of a member, behind a run of bytes or not.
+/// The reason against a member. `after_run` says whether a run of bytes precedes it.
 #[cycle(reason)]
 fn member_reason(member: View<'_, '_>, after_run: bool, left: u8) -> Option<Unspelled>
     ensures { result ≡ spec.member_reason left after_run (view_tree member.entry) }
@@ -64,7 +65,7 @@ fn member_reason(member: View<'_, '_>, after_run: bool, left: u8) -> Option<Unsp
     }
 }
 
-/// Whether it is a literal that another may not follow.
+/// Whether this is a run: a literal that another run may not follow.
 fn is_run(view: View<'_, '_>) -> bool
     ensures { result ≡ spec.is_run (view_tree view.entry) }
 {
@@ -77,7 +78,7 @@ fn is_run(view: View<'_, '_>) -> bool
     }
 }
 
-/// The same of a first with these alternatives.
+/// The reason against a first with these alternatives.
 #[cycle(reason)]
 fn first_reason(alternatives: Members<'_, '_>, left: u8) -> Option<Unspelled>
     ensures { result ≡ spec.reason left (first (trees (member_trees alternatives.entry))) }
@@ -89,7 +90,7 @@ fn first_reason(alternatives: Members<'_, '_>, left: u8) -> Option<Unspelled>
     }
 }
 
-/// The same of alternatives in turn.
+/// The first reason against alternatives, from the left.
 #[cycle(reason)]
 fn alternatives_reason(alternatives: Members<'_, '_>, left: u8) -> Option<Unspelled>
     ensures { result ≡ spec.nested_reason left (trees (member_trees alternatives.entry)) }
@@ -102,7 +103,7 @@ fn alternatives_reason(alternatives: Members<'_, '_>, left: u8) -> Option<Unspel
     None
 }
 
-/// The same of a nested description.
+/// The reason against a nested description.
 #[cycle(reason)]
 fn deeper_reason(view: View<'_, '_>, left: u8) -> Option<Unspelled>
     ensures { result ≡ spec.deeper left (spec.reason (left - 1) (view_tree view.entry)) }

@@ -31,7 +31,7 @@ is_digit c h =
     let bounds = digit_from_value c h in
     ap (λ b. b && nat_le c 57) (le-leb 48 c bounds.0) ∙ le-leb c 57 bounds.1
 
--- digits in front of a text are among those that stand at its front
+-- Digits in front of a text are a part of the digits at the start.
 pub run : (ds rest : Text) → AllDigits 10 ds
     → prefix_len is_ascii_digit (ds ++ rest) ≡ length ds + prefix_len is_ascii_digit rest
 run [] rest h = omega arith
@@ -56,7 +56,7 @@ size width n some few small =
       length-replicate {A = ℕ} (width - length (decimal n)) 48,
     )
 
--- so many digits are enough, and no more are taken
+-- This many digits are enough, and no more are taken.
 exactly : (width count : ℕ) (text rest : Text) → length text ≡ width → count ≡ width
     → enough width count (text ++ rest) ≡ Some (digits_value 10 text, width)
 exactly width count text rest len is =

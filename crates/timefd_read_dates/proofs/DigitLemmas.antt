@@ -11,7 +11,7 @@ use Rattle.std.specs.Str.Parse.{digits_value}
 use Rattle.timefd_component.specs.Tree.{Text}
 use Rattle.timefd_read_dates.specs.Numbers.{IsDigitAt, IsSpaceAt, digits, enough, is_space, sign_in}
 
--- so many digits stand in the text
+-- The text has this many digits.
 pub digits_within : (text : Text) (most n : ℕ) → n ≡ min most (prefix_len is_ascii_digit text)
     → n ≤ length text
 digits_within text most n is = omega (arith, is, prefix_len-le-length is_ascii_digit text)
@@ -100,7 +100,7 @@ four_found text a b c d first second third fourth =
     let four = next_value text ((a * 10 + b) * 10 + c) d 3 fourth.0 three fourth.1 in
     ap (λ n. enough 4 n text) all ∙ ap (λ v. Some (v, 4)) (sym four)
 
--- what begins with a digit has no sign
+-- A text that begins with a digit has no sign.
 sign_none : (b n : ℕ) (bytes : Text) (minus plus : Bool) → (b == 45) ≡ minus → (b == 43) ≡ plus
     → prefix_len is_ascii_digit (b ∷ bytes) ≡ 1 + n
     → (if minus then Some true else (if plus then Some false else None)) ≡ None

@@ -1,4 +1,4 @@
--- What was written is read back: in all the digits that there may be, or where no digit follows it.
+-- What was written is read back: if it has as many digits as it may have, or no digit follows it.
 use Rattle.std.proofs.Common.{ℕ, ◌≡◌, ◌∙◌, ◌≤◌, ◌<◌, ◌+◌, ◌-◌, ◌^◌, ◌++◌, ◌==◌, ◌⊎◌, inl, inr, zero, suc, Bool, true, false, if◌then◌else◌, [], ◌∷◌, drop, length, replicate, min, take, Some, None, cond, refl, ap, arith, length-append}
 use Rattle.std.proofs.Math.Seq.{take-append_seam}
 use Rattle.std.proofs.lemmas.Bool.{eqb-true, le-leb}
@@ -13,7 +13,7 @@ use Rattle.timefd_component.specs.Texts.{filled}
 use Rattle.timefd_component.specs.Tree.{Text}
 use Rattle.timefd_modifier.specs.declared.enums.Padding.{Padding}
 use Rattle.timefd_read_dates.specs.Laws.{HasNoDigit, ReadsEnded, ReadsSigned, ReadsUnsigned}
-use Rattle.timefd_read_dates.specs.Numbers.{behind, behind_spaces, digits, enough, is_space, padded, sign_in, signed_by, with_sign, within}
+use Rattle.timefd_read_dates.specs.Numbers.{after, after_spaces, digits, enough, is_space, padded, sign_in, signed_by, with_sign, within}
 use Rattle.timefd_read_dates.specs.Inputs.{as_amount, as_count}
 use Rattle.timefd_read_dates.proofs.BackLemmas.{in_range, run, wide, zeros_digits, zeros_value}
 
@@ -25,7 +25,7 @@ taken least count text rest is few =
     (le-leb least (length text) few)
     ∙ ap (λ xs. Some (digits_value 10 xs, length text)) (take-append_seam text rest)
 
--- as many digits as there may be, or fewer where no digit follows
+-- As many digits as there may be, or fewer if no digit follows.
 pub digits_back : (least most : ℕ) (text rest : Text) → AllDigits 10 text → least ≤ length text
     → length text ≤ most → (most ≡ length text) ⊎ HasNoDigit rest
     → digits least most (text ++ rest) ≡ Some (digits_value 10 text, length text)
@@ -83,14 +83,14 @@ space_back : (k width most : ℕ) (text rest : Text) → k ≡ width - length te
 space_back k width most text rest is some all many ends =
     let spaces : min (width - 1) (prefix_len is_space (replicate k 32 ++ text ++ rest)) ≡ k =
     omega (arith, is, some, spaces_run k text rest, no_space text rest some all) in
-    ap (λ (s : ℕ). behind_spaces s width most (replicate k 32 ++ text ++ rest)) spaces
-    ∙ ap (λ xs. behind k (digits (width - k) (if k == 0 then most else width - k) xs))
+    ap (λ (s : ℕ). after_spaces s width most (replicate k 32 ++ text ++ rest)) spaces
+    ∙ ap (λ xs. after k (digits (width - k) (if k == 0 then most else width - k) xs))
     (spaces_dropped k text rest)
-    ∙ ap (λ r. behind k r) (space_by (k == 0) k width most text rest refl is all many ends)
+    ∙ ap (λ r. after k r) (space_by (k == 0) k width most text rest refl is all many ends)
 
 -- numbers
 
--- A number is filled to all the digits that it may have, or no digit follows it.
+-- A number is padded to as many digits as it may have, or no digit follows it.
 abbrev pub IsEnded : Padding → ℕ → ℕ → Text → Type 0
 IsEnded Padding.Zero width most rest = (width ≡ most) ⊎ HasNoDigit rest
 IsEnded Padding.Space width most rest = (width ≡ most) ⊎ HasNoDigit rest
@@ -148,16 +148,16 @@ reads_ended field padding width lowest highest n rest some few low high small en
 
 pub reads_signed : ReadsSigned
 reads_signed field mandatory true form n rest some low few high small ends =
-    ap (λ r. as_amount field (with_sign true (behind 1 (within 0 form.greatest r))))
+    ap (λ r. as_amount field (with_sign true (after 1 (within 0 form.greatest r))))
     (filled_back form.padding form.width form.most_signed n rest some low few (omega (arith, high, small))
     (no_digit_ends form.padding form.width form.most_signed rest ends))
-    ∙ ap (λ r. as_amount field (with_sign true (behind 1 r)))
+    ∙ ap (λ r. as_amount field (with_sign true (after 1 r)))
     (in_range 0 form.greatest n (length (filled form.padding form.width n)) (omega arith) high)
 reads_signed field mandatory false form n rest some low few high small ends =
-    ap (λ r. as_amount field (with_sign false (behind 1 (within 0 form.greatest r))))
+    ap (λ r. as_amount field (with_sign false (after 1 (within 0 form.greatest r))))
     (filled_back form.padding form.width form.most_signed n rest some low few (omega (arith, high, small))
     (no_digit_ends form.padding form.width form.most_signed rest ends))
-    ∙ ap (λ r. as_amount field (with_sign false (behind 1 r)))
+    ∙ ap (λ r. as_amount field (with_sign false (after 1 r)))
     (in_range 0 form.greatest n (length (filled form.padding form.width n)) (omega arith) high)
 
 -- signs

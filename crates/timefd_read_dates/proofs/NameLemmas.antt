@@ -7,7 +7,7 @@ use Rattle.timefd_read_dates.specs.Names.{begins, name_from, same_byte}
 byte_at : (xs : Text) (i : ℕ) → i < length xs → drop i xs ≡ get_or xs i 0 ∷ drop (i + 1) xs
 byte_at xs i h = rw add-one (drop-cons xs i 0 h)
 
--- both are cut at the same place
+-- Both texts are cut at the same position.
 step : (cs : Bool) (name text : Text) (at : ℕ) → at < length name → at < length text
     → begins cs (drop at name) (drop at text)
     ≡ (same_byte cs (get_or name at 0) (get_or text at 0)
@@ -31,7 +31,7 @@ other_byte cs name text at whole n t other so_far =
     ap (λ b. b && begins cs (drop (at + 1) name) (drop (at + 1) text)) other
     ∙ sym (step cs name text at n (omega arith)) ∙ so_far
 
--- A text that is shorter than a name does not begin with it.
+-- A text that is shorter than a name doesn't begin with it.
 pub too_short : (cs : Bool) (name text : Text) → length text < length name
     → false ≡ begins cs name text
 too_short cs [] text h = absurd (omega arith)
@@ -42,17 +42,17 @@ too_short cs (a ∷ name) (b ∷ text) h = by (same_byte cs a b) (too_short cs n
     by true e = e
     by false e = λ i. false
 
--- one name more
-pub name_next : (cs : Bool) (place : ℕ) (name : Text) (names : List Text) (text : Text)
+-- One name more.
+pub name_next : (cs : Bool) (position : ℕ) (name : Text) (names : List Text) (text : Text)
     (whole : Option (ℕ × ℕ)) → false ≡ begins cs name text
-    → name_from place cs (name ∷ names) text ≡ whole → name_from (place + 1) cs names text ≡ whole
-name_next cs place name names text whole other so_far =
-    ap (λ b. if b then Some (place, length name) else name_from (place + 1) cs names text) other
+    → name_from position cs (name ∷ names) text ≡ whole → name_from (position + 1) cs names text ≡ whole
+name_next cs position name names text whole other so_far =
+    ap (λ b. if b then Some (position, length name) else name_from (position + 1) cs names text) other
     ∙ so_far
 
-pub name_found : (cs : Bool) (place : ℕ) (name : Text) (names : List Text) (text : Text)
+pub name_found : (cs : Bool) (position : ℕ) (name : Text) (names : List Text) (text : Text)
     (whole : Option (ℕ × ℕ)) → true ≡ begins cs name text
-    → name_from place cs (name ∷ names) text ≡ whole → Some (place, length name) ≡ whole
-name_found cs place name names text whole found so_far =
-    ap (λ b. if b then Some (place, length name) else name_from (place + 1) cs names text) found
+    → name_from position cs (name ∷ names) text ≡ whole → Some (position, length name) ≡ whole
+name_found cs position name names text whole found so_far =
+    ap (λ b. if b then Some (position, length name) else name_from (position + 1) cs names text) found
     ∙ so_far

@@ -20,7 +20,7 @@ use Rattle.timefd_read_dates.specs.Readings.{amount_with, count_with}
 use Rattle.timefd_read_dates.specs.Reads.{TakesFront}
 use Rattle.timefd_read_dates.specs.Rules.{IsFour, rule_of}
 
--- What has one of these rules is modern.
+-- A component with one of these rules is modern.
 
 number_is_modern : (c : Component) (field : Count) (p : Padding) (w l h : ℕ)
     → by.Number field p w l h ≡ rule_of c → modern c ≡ c
@@ -58,7 +58,7 @@ by_sign c field form text old new r is takes =
     subst (λ rule. TakesFront (input rule text) text old new r)
     (is ∙ ap rule_of (sym (signed_is_modern c field false form is))) takes
 
--- what was found is in the range
+-- The number that was found is in the range.
 inside : (l h n len : ℕ) → l ≤ n → n ≤ h → within l h (Some (n, len)) ≡ Some (n, len)
 inside l h n len low high = rw (le-leb l n low) (rw (le-leb n h high) refl)
 
@@ -73,7 +73,7 @@ two_taken field l h n text old new found long low high takes = (
   long,
 )
 
--- the four digits of a form that has four
+-- The four digits of a form with four digits.
 pub four_taken : (field : Amount) (form : Form) (n : ℕ) (text : Text) (old new : Fields)
     → IsFour form → digits 4 4 text ≡ Some (n, 4) → sign_in text ≡ None → 4 ≤ length text → n ≤ form.greatest
     → amount_with old field (record { is_negative = false; magnitude = n })

@@ -1,4 +1,4 @@
--- What is answered is read, and what can be read is answered.
+-- Whatever is returned is read, and whatever can be read is returned.
 use Rattle.std.proofs.Common.{ℕ, ◌≡◌, ◌∙◌, ◌⊎◌, inl, inr, ◌++◌, Bool, true, false, drop, length, Option, Some, None, Result, Ok, Err, refl, sym, ap}
 use Rattle.std.specs.Prelude.{eqb, if◌then◌else◌}
 use Rattle.std.specs.Cmp.{unsigned_Decides}
@@ -64,7 +64,7 @@ is_literal bytes p q cut same =
     ∙ ap (λ x. Ok (record { rest = x; fields = p.fields })) (drop-append_seam bytes q.rest)
     ∙ ap (λ x. Ok (record { rest = q.rest; fields = x })) (sym same)
 
--- what follows, and what may be left out
+-- what follows, and what may be missing
 
 followed_is : (r : Result Point Fault) (next : Point → Result Point Fault) (q : Point)
     → followed r next ≡ Ok q → (mid : Point) × (r ≡ Ok mid) × (next mid ≡ Ok q)
@@ -81,7 +81,7 @@ perhaps_is : (p q : Point) (r : Result Point Fault) → perhaps p r ≡ Ok q
 perhaps_is p q (Ok s) e = inl e
 perhaps_is p q (Err f) e = inr (f, refl, sym (ap (point_of p) e))
 
--- what cannot be read has a fault
+-- What can't be read has a fault.
 faulty : (r : Result Point Fault) (P : Point → Type 0) → ((q : Point) → r ≡ Ok q → P q)
     → ((q : Point) → P q → ⊥) → (f : Fault) × (r ≡ Err f)
 faulty (Ok q) P is none = absurd (none q (is q refl))

@@ -36,7 +36,7 @@ sign_by c form text old None is takes = tt
 sign_by c form text old (Some r) is takes =
     quick.by_sign c Amount.Year form text (fields_with old) (fields_with r.1) (Some r.0) is takes
 
--- a component that was taken was read
+-- A component that was taken was read.
 pub component_read : (c : Component) (text : Text) (old : Numbers) (r : ℕ × Numbers)
     → TakesNumber (input (rule_of (modern c)) text) text old (Some r)
     → read (component c) (at text (fields_with old)) ≡ Ok (at (drop r.0 text) (fields_with r.1))
@@ -48,7 +48,7 @@ pub component_within : (c : Component) (text : Text) (old : Numbers) (r : ℕ ×
     → TakesNumber (input (rule_of (modern c)) text) text old (Some r) → r.0 ≤ length text
 component_within c text old r takes = takes.3
 
--- all of the text is read
+-- All of the text is read.
 pub all_read : (ts : Trees) (text rest : Text) (fields : Fields) → Ok (at rest fields) ≡ read_all ts (start text)
     → rest ≡ [] → fields_of (compound ts) text ≡ Ok fields
 all_read ts text rest fields is none =

@@ -1,4 +1,4 @@
--- Fields that are set where they stand, and what is answered of one component.
+-- Fields that are set in place, and the result of one component.
 use Rattle.std.proofs.Common.{ℕ, ◌≡◌, ◌∙◌, ◌==◌, Bool, true, false, drop, Option, Some, None, Result, Ok, refl, sym, ap, subst}
 use denote.Ref.{Bor}
 use Rattle.timefd_component.specs.Tree.{Text}

@@ -1,11 +1,11 @@
--- The fields by their names.
+-- The fields, accessed by their names.
 use Rattle.std.specs.Prelude.{ℕ, Option, Some, None}
 use Rattle.timefd_read_dates.specs.declared.fields.Fields.{Fields}
 use Rattle.timefd_read_dates.specs.declared.fields.Signed.{Signed}
 use Rattle.timefd_read_dates.specs.declared.fields.Count.{Count}
 use Rattle.timefd_read_dates.specs.declared.fields.Amount.{Amount}
 
--- nothing was read
+-- Nothing was read.
 abbrev pub no_fields : Fields
 no_fields = record {
   year = None;
@@ -36,7 +36,7 @@ no_fields = record {
   unix_nanosecond = None;
 }
 
--- what was read of a field without a sign
+-- The value that was read for a field without a sign.
 abbrev pub count : Fields → Count → Option ℕ
 count f Count.YearLastTwo = f.year_last_two
 count f Count.IsoYearLastTwo = f.iso_year_last_two
@@ -71,7 +71,7 @@ with_count f Count.Second n = record f { second = Some n }
 with_count f Count.OffsetMinute n = record f { offset_minute = Some n }
 with_count f Count.OffsetSecond n = record f { offset_second = Some n }
 
--- what was read of a field with a sign
+-- The value that was read for a field with a sign.
 abbrev pub amount : Fields → Amount → Option Signed
 amount f Amount.Year = f.year
 amount f Amount.Century = f.century

@@ -1,4 +1,4 @@
--- What a component reads at the front of a text: what it is, and how many bytes it takes.
+-- What a component reads at the start of a text: its value, and how many bytes it takes.
 use Rattle.std.specs.Prelude.{ℕ, ◌+◌, ◌-◌, ◌*◌, ◌%◌, ◌==◌, Bool, true, false, nat_le, if◌then◌else◌, length, Option, Some, None}
 use Rattle.timefd_modifier.specs.declared.enums.Padding.{Padding}
 use Rattle.timefd_modifier.specs.declared.enums.SubsecondDigits.{SubsecondDigits}
@@ -54,7 +54,7 @@ abbrev pub weekday : Bool → Bool → Text → Option (Reading × ℕ)
 weekday is_sunday_first is_one_indexed text = as_weekday is_sunday_first (first_number is_one_indexed)
     (within (first_number is_one_indexed) (first_number is_one_indexed + 6) (digits 1 1 text))
 
--- names, by their place
+-- names, by their index in the list
 
 abbrev pub as_name : Count → ℕ → Option (ℕ × ℕ) → Option (Reading × ℕ)
 as_name field first None = None
@@ -93,7 +93,7 @@ as_fraction known None = None
 as_fraction known (Some r) =
     Some (reads.Fraction (record { digits = known; nanosecond = r.0 * unit r.1 }), r.1)
 
--- Where one digit or more stand for the whole part of a second, all nine are known.
+-- If the modifier asks for one digit or more, they are the whole fraction: then all nine digits are known.
 abbrev pub fraction : SubsecondDigits → Text → Option (Reading × ℕ)
 fraction shown text = as_fraction (digits_shown shown) (digits (least_digits shown) (digits_shown shown) text)
 

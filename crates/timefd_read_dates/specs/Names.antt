@@ -1,4 +1,4 @@
--- Names at the front of a text.
+-- Names at the start of a text.
 use Rattle.std.specs.Prelude.{ℕ, ◌+◌, ◌==◌, ◌&&◌, Bool, true, false, if◌then◌else◌, List, [], ◌∷◌, length, Option, Some, None}
 use Rattle.std.specs.Char.{eq_ignore_ascii_case}
 use Rattle.timefd_component.specs.Tree.{Text}
@@ -13,21 +13,21 @@ listed Names.LongWeekdays = long_weekdays
 listed Names.UpperPeriods = periods true
 listed Names.LowerPeriods = periods false
 
--- where case makes no difference, letters of ASCII are the same in both
+-- Whether two bytes are the same. If case makes no difference, an ASCII letter is the same in both cases.
 abbrev pub same_byte : Bool → ℕ → ℕ → Bool
 same_byte true a b = a == b
 same_byte false a b = eq_ignore_ascii_case a b
 
--- whether the text begins with the name
+-- Whether the text begins with the name.
 abbrev pub begins : Bool → Text → Text → Bool
 begins is_case_sensitive [] text = true
 begins is_case_sensitive (a ∷ name) [] = false
 begins is_case_sensitive (a ∷ name) (b ∷ text) =
     same_byte is_case_sensitive a b && begins is_case_sensitive name text
 
--- the first of these names that stands at the front: its place, from this number on, and its length
+-- The first of these names that the text begins with: its index, counted from this number, and its length.
 abbrev pub name_from : ℕ → Bool → List Text → Text → Option (ℕ × ℕ)
-name_from place is_case_sensitive [] text = None
-name_from place is_case_sensitive (name ∷ names) text =
-    if begins is_case_sensitive name text then Some (place, length name)
-    else name_from (place + 1) is_case_sensitive names text
+name_from position is_case_sensitive [] text = None
+name_from position is_case_sensitive (name ∷ names) text =
+    if begins is_case_sensitive name text then Some (position, length name)
+    else name_from (position + 1) is_case_sensitive names text

@@ -1,4 +1,4 @@
--- The fields with what one component reads.
+-- How the fields take what one component reads.
 use Rattle.std.specs.Prelude.{ℕ, ◌≡◌, ◌/◌, ◌-◌, ◌^◌, ◌==◌, Bool, true, false, not, nat_le, nat_lt, if◌then◌else◌, Option, Some, None}
 use Rattle.timefd_read_dates.specs.declared.fields.Fields.{Fields}
 use Rattle.timefd_read_dates.specs.declared.fields.Signed.{Signed}
@@ -16,22 +16,22 @@ same false b = not b
 abbrev pub same_signed : Signed → Signed → Bool
 same_signed a b = if same a.is_negative b.is_negative then a.magnitude == b.magnitude else false
 
--- How many nanoseconds the last of so many digits counts. Nine digits and more count single ones.
+-- How many nanoseconds one unit of the last digit is. With nine digits or more it is one nanosecond.
 abbrev pub unit : ℕ → ℕ
 unit digits = if nat_lt digits 9 then 10 ^ (9 - digits) else 1
 
--- whether the digits that are known of both are the same
+-- Whether both fractions have the same digits, as far as the digits of both are known.
 abbrev pub fewer : Fraction → Fraction → ℕ
 fewer a b = if nat_le a.digits b.digits then a.digits else b.digits
 
 abbrev pub agree : Fraction → Fraction → Bool
 agree a b = a.nanosecond / unit (fewer a b) == b.nanosecond / unit (fewer a b)
 
--- the one of which more digits are known
+-- The fraction with more known digits.
 abbrev pub finer : Fraction → Fraction → Fraction
 finer a b = if nat_le a.digits b.digits then b else a
 
--- what was read before has to be the same
+-- What was read before has to be the same.
 abbrev pub kept : Fields → Bool → Option Fields
 kept f true = Some f
 kept f false = None
@@ -59,8 +59,8 @@ abbrev pub fraction_with : Fields → Fraction → Option Fraction → Option Fi
 fraction_with f fraction None = Some (with_fraction f fraction)
 fraction_with f fraction (Some before) = with_finer f before fraction
 
--- A field that is read twice has one value. Of parts of a second the digits that are known of both are
--- compared, and the longer part is kept.
+-- A field that is read twice has to have the same value. Fractions of a second are compared in the digits
+-- that are known of both, and the longer one is kept.
 abbrev pub with_reading : Fields → Reading → Option Fields
 with_reading f (reads.Count field n) = count_with f field n (count f field)
 with_reading f (reads.Amount field n) = amount_with f field n (amount f field)
@@ -68,7 +68,7 @@ with_reading f (reads.Period is_afternoon) = period_with f is_afternoon f.is_aft
 with_reading f (reads.Fraction fraction) = fraction_with f fraction f.subsecond
 with_reading f reads.Nothing = Some f
 
--- whether what was read agrees with what was read before, and then the fields with it
+-- Whether what was read agrees with what was read before, and the fields with it if so.
 abbrev pub Takes : Option Fields → Fields → Bool → Type 0
 Takes taken f true = taken ≡ Some f
 Takes taken f false = taken ≡ None

@@ -1,5 +1,5 @@
--- How a tree reads a text: what is left and which fields were read, or the first part that does not
--- read. Each component takes the longest front that it can, and nothing is tried twice.
+-- How a tree reads a text: what is left and which fields were read, or the first part that can't be read.
+-- Each component takes as many bytes as it can, and nothing is tried twice.
 use Rattle.std.specs.Prelude.{ℕ, ◌≡◌, ◌==◌, ◌≤◌, ◌-◌, eqb, if◌then◌else◌, drop, length, Option, Some, None, Result, Ok, Err}
 use Rattle.std.specs.Borrow.{Bor}
 use Rattle.std.specs.List.{starts_with}
@@ -17,7 +17,7 @@ use Rattle.timefd_read_dates.specs.Inputs.{input}
 use Rattle.timefd_read_dates.specs.Readings.{with_reading}
 use Rattle.timefd_read_dates.specs.Rules.{rule_of}
 
--- the text that is left, and what was read
+-- The text that is left, and the fields that were read.
 pub record Point : Type 0 where
   pub rest : Text
   pub fields : Fields
@@ -25,7 +25,7 @@ pub record Point : Type 0 where
 abbrev pub at : Text → Fields → Point
 at rest fields = record { rest = rest; fields = fields }
 
--- the fault of a part, which begins here
+-- The fault of a part that begins here.
 abbrev pub fault_at : Point → Reason → Result Point Fault
 fault_at p reason = Err (record { reason = reason; left = length p.rest })
 
@@ -37,12 +37,12 @@ abbrev pub taken : Component → Point → Option (Reading × ℕ) → Result Po
 taken c p None = fault_at p (for.Unread c)
 taken c p (Some r) = agreed c p r.1 (with_reading p.fields r.0)
 
--- a modern component reads what stands at the front, and that is no other value than was read before
+-- A modern component reads the start of the text, and no other value than was read before.
 abbrev pub read_component : Component → Point → Result Point Fault
 read_component c p = taken c p (input (rule_of c) p.rest)
 
--- What is taken is read at the front, and the fields have it. `None` says nothing of the text, and leaves them as
--- they are.
+-- What is taken is read at the start, and the fields have it. `None` says nothing about the text; the fields
+-- stay as they are.
 abbrev pub TakesFront : Option (Reading × ℕ) → Text → Fields → Fields → Option ℕ → Type 0
 TakesFront read text old new (Some len) = (reading : Reading) × (read ≡ Some (reading, len))
     × (with_reading old reading ≡ Some new) × (len ≤ length text)
@@ -53,17 +53,17 @@ read_literal bytes p = if starts_with eqb p.rest bytes
     then Ok (record { rest = drop (length bytes) p.rest; fields = p.fields })
     else fault_at p for.Literal
 
--- one part behind another
+-- One part after another.
 abbrev pub followed : Result Point Fault → (Point → Result Point Fault) → Result Point Fault
 followed (Ok p) next = next p
 followed (Err f) next = Err f
 
--- a part that may be left out: where it does not read, all is as it was in front of it
+-- A part that may be missing: if it can't be read, all is as it was in front of it.
 abbrev pub perhaps : Point → Result Point Fault → Result Point Fault
 perhaps p (Ok q) = Ok q
 perhaps p (Err f) = Ok p
 
--- an alternative, and what is done where it does not read
+-- An alternative, and what to do if it can't be read.
 abbrev pub unless_read : Result Point Fault → (Fault → Result Point Fault) → Result Point Fault
 unless_read (Ok p) others = Ok p
 unless_read (Err f) others = others f
@@ -72,7 +72,7 @@ abbrev pub earlier : Option Fault → Fault → Option Fault
 earlier None f = Some f
 earlier (Some e) f = Some e
 
--- no alternative reads: the fault is that of the first; none at all read nothing
+-- No alternative can be read: the fault is the one of the first. An empty list reads nothing.
 abbrev pub none_reads : Point → Option Fault → Result Point Fault
 none_reads p None = Ok p
 none_reads p (Some f) = Err f
@@ -89,7 +89,7 @@ abbrev mutual
   read_all no_trees p = Ok p
   read_all (more_trees t ts) p = followed (read t p) (λ q. read_all ts q)
 
-  -- of alternatives the first that reads, behind these of which the first has this fault
+  -- The first alternative that can be read, after others, of which the first has this fault.
   pub read_first : Option Fault → Trees → Point → Result Point Fault
   read_first fault no_trees p = none_reads p fault
   read_first fault (more_trees t ts) p =
@@ -98,7 +98,7 @@ abbrev mutual
 abbrev pub start : Text → Point
 start text = record { rest = text; fields = no_fields }
 
--- where the description has been read, the text ends
+-- Once the description has been read, the text has to end.
 abbrev pub ended : ℕ → Text → Fields → Result Fields ReadError
 ended size rest fields = if length rest == 0 then Ok fields
     else Err (record { reason = for.Trailing; index = size - length rest })
@@ -107,17 +107,17 @@ abbrev pub whole : ℕ → Result Point Fault → Result Fields ReadError
 whole size (Ok p) = ended size p.rest p.fields
 whole size (Err f) = Err (record { reason = f.reason; index = size - f.left })
 
--- THE answer: the fields that the whole text shows by the description, or the first fault
+-- THE result: the fields that the whole text shows by the description, or the first fault.
 abbrev pub fields_of : Tree → Text → Result Fields ReadError
 fields_of t text = whole (length text) (read t (start text))
 
--- What a reader answers to be left, with the fields afterwards, is what was to be read. Of the fields behind
--- a fault it says nothing.
+-- What a reader returns, with the fields afterwards, is what was to be read. After a fault the fields may
+-- hold anything.
 abbrev pub Gives : Result Point Fault → Fields → Result (Bor Text) Fault → Type 0
 Gives read fields (Ok rest) = read ≡ Ok (at rest.now fields)
 Gives read fields (Err f) = read ≡ Err f
 
--- What is filled in and answered is what was to be read. Of the fields behind an error it says nothing.
+-- What is returned and filled in is what was to be read. After an error the fields may hold anything.
 abbrev pub Fills : Result Fields ReadError → Fields → Result (Unit {0}) ReadError → Type 0
 Fills read fields (Ok done) = read ≡ Ok fields
 Fills read fields (Err e) = read ≡ Err e

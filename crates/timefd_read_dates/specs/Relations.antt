@@ -1,5 +1,5 @@
--- What is read of a tree, as a relation of the text and fields in front of it and behind it. It says
--- nothing of the order in which a reader tries things.
+-- What a tree reads, as a relation between the text and fields in front of it and after it. It says nothing
+-- about the order in which a reader tries things.
 use Rattle.std.specs.Prelude.{ℕ, ◌≡◌, ◌↔◌, ◌⊎◌, ◌++◌, drop, Some, Ok}
 use Rattle.timefd_component.specs.declared.component.Component.{Component}
 use Rattle.timefd_component.specs.Modern.{modern}
@@ -10,14 +10,14 @@ use Rattle.timefd_read_dates.specs.Readings.{with_reading}
 use Rattle.timefd_read_dates.specs.Reads.{Point, read}
 use Rattle.timefd_read_dates.specs.Rules.{rule_of}
 
--- a component reads what stands at the front, and no other value than was read before
+-- A component reads the start of the text, and no other value than was read before.
 abbrev pub ReadsComponent : Component → Point → Point → Type 0
 ReadsComponent c p q = (reading : Reading) × (len : ℕ)
     × (input (rule_of c) p.rest ≡ Some (reading, len))
     × (with_reading p.fields reading ≡ Some q.fields) × (q.rest ≡ drop len p.rest)
 
--- Literal text stands at the front. An optional part is read where it can be, and else leaves all as it
--- was. Of alternatives the first that can be read is.
+-- A literal reads its own text. An optional part is read if it can be, and else leaves all as it was. The
+-- first alternative that can be read is read.
 abbrev mutual
   pub Reads : Tree → Point → Point → Type 0
   Reads (component c) p q = ReadsComponent (modern c) p q
@@ -37,6 +37,6 @@ abbrev mutual
   ReadsFirst (more_trees t ts) p q =
       Reads t p q ⊎ (((s : Point) → Reads t p s → ⊥) × ReadsFirst ts p q)
 
--- What is answered is read, and what can be read is answered.
+-- Whatever is returned is read, and whatever can be read is returned.
 abbrev pub ReadsExactly : Type 0
 ReadsExactly = (t : Tree) (p q : Point) → Reads t p q ↔ (read t p ≡ Ok q)

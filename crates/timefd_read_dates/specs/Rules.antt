@@ -10,8 +10,8 @@ use Rattle.timefd_read_dates.specs.declared.rule.Rule.TheVariants as by
 use Rattle.timefd_read_dates.specs.declared.rule.Names.{Names}
 use Rattle.timefd_read_dates.specs.declared.rule.Form.{Form}
 
--- Without a sign a year has four digits, and a century two. Behind one those of the extended range may
--- have two more.
+-- Without a sign a year has four digits, and a century two. After a sign both may have two more in the
+-- extended range.
 
 abbrev pub extended_year : Padding → Form
 extended_year padding = record { padding = padding; width = 4; most = 4; most_signed = 6; greatest = 999999 }
@@ -76,11 +76,11 @@ rule_of (Ignore m) = by.Ignore m.count.value
 rule_of (End m) = by.End m.trailing_input
 rule_of deprecated = by.Deprecated
 
--- a number has a digit at least, and at most 23
+-- A number has at least one digit, and at most 23.
 abbrev pub IsForm : Form → Type 0
 IsForm f = (1 ≤ f.width) × (f.width ≤ f.most) × (f.most ≤ f.most_signed) × (f.most_signed ≤ 23)
 
--- four digits, filled with zeros
+-- Four digits, padded with zeros.
 abbrev pub IsFour : Form → Type 0
 IsFour f = (f.padding ≡ Padding.Zero) × (f.width ≡ 4) × (f.most ≡ 4)
 

@@ -12,7 +12,7 @@ abbrev pub whole_year : Option ℕ → Option Signed
 whole_year None = None
 whole_year (Some year) = Some (record { is_negative = false; magnitude = year })
 
--- The fields where these numbers were read, and nothing else.
+-- The fields if these numbers were read, and nothing else.
 abbrev pub fields_with : Numbers → Fields
 fields_with n = record no_fields {
   year = whole_year n.year;
@@ -23,7 +23,7 @@ fields_with n = record no_fields {
   second = n.second;
 }
 
--- What is taken is read at the front, and the numbers have it. `None` says nothing.
+-- What is taken is read at the start, and the numbers have it. `None` says nothing about the text.
 abbrev pub TakesNumber : Option (Reading × ℕ) → Text → Numbers → Option (ℕ × Numbers) → Type 0
 TakesNumber read text old None = ⊤
 TakesNumber read text old (Some r) = TakesFront read text (fields_with old) (fields_with r.1) (Some r.0)

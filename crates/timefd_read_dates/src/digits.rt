@@ -1,4 +1,4 @@
-//! Runs of digits and of spaces at the front of a text.
+//! Runs of digits and of spaces at the start of a text.
 
 ghost use Rattle.std.specs.Prelude.{◌≡◌, ◌≤◌, ◌<◌, ◌^◌, IfSome, None, Some, length, min, take};
 ghost use Rattle.std.specs.Char.{is_ascii_digit};
@@ -7,8 +7,7 @@ ghost use Rattle.std.specs.Str.Parse.{digits_value};
 ghost use Rattle.timefd_read_dates.specs.Numbers as spec;
 ghost use Rattle.timefd_read_dates.specs.Numbers.{IsDigitAt, IsSpaceAt, is_space};
 
-/// The digits that stand at the front, as many as there are up to `most`: their number, and how many
-/// they are.
+/// The digits at the start of the text, at most `most` of them: their value, and how many they are.
 fn leading_digits(text: &[u8], most: usize) -> (u128, usize)
     requires { most ≤ 23 }
     ensures count { result.1 ≡ min most (prefix_len is_ascii_digit text.now) }
@@ -29,7 +28,7 @@ fn leading_digits(text: &[u8], most: usize) -> (u128, usize)
     (value, count)
 }
 
-/// The digit at a place.
+/// The digit at a position.
 #[tactic(auto, using(crate::proofs::DigitLemmas::digit_found, crate::proofs::DigitLemmas::digit_lacks, crate::proofs::DigitLemmas::digit_ends))]
 fn digit_at(text: &[u8], at: usize) -> Option<u8>
     ensures { IsDigitAt text.now at result }
@@ -45,7 +44,7 @@ fn digit_at(text: &[u8], at: usize) -> Option<u8>
     }
 }
 
-/// The number of the two digits at the front.
+/// The value of the two digits at the start.
 #[tactic(auto, using(crate::proofs::DigitLemmas::two_found))]
 pub(crate) fn two_digits(text: &[u8]) -> Option<u16>
     ensures value { IfSome result (λ number. spec.digits 2 2 text.now ≡ Some (number, 2)) }
@@ -56,7 +55,7 @@ pub(crate) fn two_digits(text: &[u8]) -> Option<u16>
     Some(tens * 10 + ones)
 }
 
-/// The number of the four digits at the front.
+/// The value of the four digits at the start.
 #[tactic(auto, using(crate::proofs::DigitLemmas::four_found, crate::proofs::DigitLemmas::digit_unsigned))]
 pub(crate) fn four_digits(text: &[u8]) -> Option<u16>
     ensures value { IfSome result (λ number. spec.digits 4 4 text.now ≡ Some (number, 4)) }
@@ -70,7 +69,7 @@ pub(crate) fn four_digits(text: &[u8]) -> Option<u16>
     Some(((thousands * 10 + hundreds) * 10 + tens) * 10 + ones)
 }
 
-/// A number of so many digits, from `least` to `most`.
+/// The value of the digits at the start, from `least` to `most` of them, and how many they are.
 #[tactic(auto, using(crate::proofs::DigitLemmas::digits_within))]
 pub(crate) fn digits(text: &[u8], least: usize, most: usize) -> Option<(u128, usize)>
     requires { most ≤ 23 }
@@ -85,7 +84,7 @@ pub(crate) fn digits(text: &[u8], least: usize, most: usize) -> Option<(u128, us
     Some((value, count))
 }
 
-/// How many spaces stand at the front, up to `most`.
+/// How many spaces are at the start, up to `most`.
 pub(crate) fn leading_spaces(text: &[u8], most: usize) -> usize
     ensures { result ≡ min most (prefix_len is_space text.now) }
 {
@@ -99,7 +98,7 @@ pub(crate) fn leading_spaces(text: &[u8], most: usize) -> usize
     count
 }
 
-/// Whether a space stands at a place.
+/// Whether there is a space at a position.
 #[tactic(auto, using(crate::proofs::DigitLemmas::space_is, crate::proofs::DigitLemmas::space_ends))]
 fn is_space_at(text: &[u8], at: usize) -> bool
     ensures { IsSpaceAt text.now at result }

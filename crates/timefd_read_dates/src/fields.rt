@@ -1,10 +1,10 @@
-//! What was read of a text.
+//! The fields that were read from a text.
 
 ghost use Rattle.std.specs.Prelude.{◌≡◌};
 ghost use Rattle.timefd_read_dates.specs.Fields as spec;
 
-/// What was read of a text. A field of which no component was read is `None`. It stands for `Parsed`
-/// of `time`.
+/// What was read from a text. A field is `None` if no component for it was read. It corresponds to `Parsed`
+/// of the crate `time`.
 #[derive(Debug, Clone, Copy)]
 pub struct Fields {
     pub year: Option<Signed>,
@@ -15,22 +15,22 @@ pub struct Fields {
     /// The hundreds of the ISO week-numbering year.
     pub iso_century: Option<Signed>,
     pub iso_year_last_two: Option<u16>,
-    /// The month, from 1.
+    /// The month, counted from 1.
     pub month: Option<u16>,
-    /// The day of the month, from 1.
+    /// The day of the month, counted from 1.
     pub day: Option<u16>,
-    /// The day of the year, from 1.
+    /// The day of the year, counted from 1.
     pub ordinal: Option<u16>,
-    /// The days after Monday.
+    /// The weekday, in days after Monday.
     pub weekday: Option<u16>,
     pub iso_week: Option<u16>,
-    /// The week of the year, where weeks begin on Sunday.
+    /// The week of the year, if weeks begin on Sunday.
     pub sunday_week: Option<u16>,
-    /// The week of the year, where weeks begin on Monday.
+    /// The week of the year, if weeks begin on Monday.
     pub monday_week: Option<u16>,
     /// The hour of the 24-hour clock.
     pub hour: Option<u16>,
-    /// The hour of the 12-hour clock, from 1.
+    /// The hour of the 12-hour clock, counted from 1.
     pub hour_12: Option<u16>,
     pub is_afternoon: Option<bool>,
     pub minute: Option<u16>,
@@ -46,19 +46,19 @@ pub struct Fields {
     pub unix_nanosecond: Option<Signed>,
 }
 
-/// A number with its sign, which 0 may have too: of half an hour behind UTC the hours are -0.
+/// A number with its sign. 0 may have a sign too: half an hour west of UTC has the hours -0.
 #[derive(Debug, Clone, Copy)]
 pub struct Signed {
     pub is_negative: bool,
     pub magnitude: u128,
 }
 
-/// A part of a second of which so many digits are known.
+/// A part of a second, known to some number of digits.
 #[derive(Debug, Clone, Copy)]
 pub struct Fraction {
     /// How many digits are known, from 1 to 9.
     pub digits: u16,
-    /// The nanoseconds, with 0 for each digit that is not known.
+    /// The nanoseconds, with 0 for each digit that isn't known.
     pub nanosecond: u128,
 }
 
@@ -127,7 +127,7 @@ pub const NO_FIELDS: Fields = Fields {
 };
 
 impl Fields {
-    /// What was read of a field without a sign.
+    /// The value that was read for a field without a sign.
     pub(crate) fn count(&self, field: Count) -> Option<u16>
         ensures { result ≡ spec.count self.now field }
     {
@@ -150,7 +150,7 @@ impl Fields {
         }
     }
 
-    /// Sets this field.
+    /// Sets a field without a sign.
     pub(crate) fn set_count(&mut self, field: Count, number: u16)
         ensures { self.new ≡ spec.with_count self.old field number }
     {
@@ -174,7 +174,7 @@ impl Fields {
         }
     }
 
-    /// What was read of a field with a sign.
+    /// The value that was read for a field with a sign.
     pub(crate) fn amount(&self, field: Amount) -> Option<Signed>
         ensures { result ≡ spec.amount self.now field }
     {
@@ -191,7 +191,7 @@ impl Fields {
         }
     }
 
-    /// Sets this field.
+    /// Sets a field with a sign.
     pub(crate) fn set_amount(&mut self, field: Amount, number: Signed)
         ensures { self.new ≡ spec.with_amount self.old field number }
     {

@@ -1,4 +1,4 @@
-//! What a component reads at the front of a text.
+//! What a component reads at the start of a text.
 
 ghost use Rattle.std.specs.Prelude.{◌≡◌, ◌≤◌, IfSome, length};
 ghost use Rattle.timefd_read_dates.specs.Inputs as spec;
@@ -12,7 +12,7 @@ use crate::reading::{Reading, unit};
 use crate::rule::{Form, Names, Rule};
 use timefd_modifier::{Padding, SubsecondDigits, TrailingInput};
 
-/// What is read by the rule at the front of the text, and how many bytes it takes.
+/// What is read by the rule at the start of the text, and how many bytes it takes.
 pub(crate) fn input(rule: Rule, text: &[u8]) -> Option<(Reading, usize)>
     requires { IsRule rule }
     ensures value { result ≡ spec.input rule text.now }
@@ -97,7 +97,7 @@ fn weekday(text: &[u8], is_sunday_first: bool, is_one_indexed: bool) -> Option<(
     }
 }
 
-/// The days after Monday, of those after Monday or Sunday.
+/// The days after Monday, from the days after the first day of the week.
 fn after_monday(is_sunday_first: bool, days: u16) -> u16
     requires { days ≤ 6 }
     ensures { result ≡ spec.after_monday is_sunday_first days }
@@ -121,7 +121,7 @@ fn name(
     ensures within { IfSome result (λ r. r.1 ≤ length text.now) }
 {
     match leading_name(text, names, is_case_sensitive) {
-        Some((place, len)) => Some((Reading::Count(field, first + place as u16), len)),
+        Some((position, len)) => Some((Reading::Count(field, first + position as u16), len)),
         None => None,
     }
 }
@@ -131,7 +131,7 @@ fn period(text: &[u8], names: Names, is_case_sensitive: bool) -> Option<(Reading
     ensures within { IfSome result (λ r. r.1 ≤ length text.now) }
 {
     match leading_name(text, names, is_case_sensitive) {
-        Some((place, len)) => Some((Reading::Period(place == 1), len)),
+        Some((position, len)) => Some((Reading::Period(position == 1), len)),
         None => None,
     }
 }
@@ -197,7 +197,7 @@ fn least_digits(shown: SubsecondDigits) -> usize
     }
 }
 
-/// So many bytes of any kind.
+/// Reads `count` bytes of any kind.
 fn ignored(text: &[u8], count: usize) -> Option<(Reading, usize)>
     ensures value { result ≡ spec.ignored count text.now }
     ensures within { IfSome result (λ r. r.1 ≤ length text.now) }

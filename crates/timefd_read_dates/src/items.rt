@@ -12,8 +12,8 @@ use crate::part::{read_component, read_literal};
 use crate::view::{earlier, none_reads};
 use timefd_format_item::BorrowedFormatItem;
 
-/// Reads an item at the front of what is left, and answers what is left behind it. Where it does not
-/// read, the fields of the items in front of the fault may have been read.
+/// Reads an item at the start of `rest`, and returns what follows it. After an `Err`, fields of the items in
+/// front of the fault may have been read.
 #[cycle(items)]
 fn read<'t>(
     item: &BorrowedFormatItem<'_>,
@@ -32,7 +32,7 @@ fn read<'t>(
     }
 }
 
-/// Reads an item that may be left out. Where it does not read, the fields are as they were.
+/// Reads an item that may be missing. If it can't be read, the fields are as they were.
 #[cycle(items)]
 #[inline(never)]
 fn read_optional<'t>(
@@ -53,7 +53,7 @@ fn read_optional<'t>(
     }
 }
 
-/// Reads items in turn.
+/// Reads items, one after another.
 #[cycle(items)]
 pub(crate) fn read_all<'t>(
     items: &[BorrowedFormatItem<'_>],
@@ -66,14 +66,14 @@ pub(crate) fn read_all<'t>(
     let mut left = rest;
     'items: for item in items {
         match read(item, left, fields) {
-            Ok(behind) => left = behind,
+            Ok(after) => left = after,
             Err(fault) => return Err(fault),
         }
     }
     Ok(left)
 }
 
-/// Reads the first alternative that reads. Where none does, the fault is that of the first one.
+/// Reads the first alternative that can be read. If none can, the fault is the one of the first alternative.
 #[cycle(items)]
 #[inline(never)]
 fn read_first<'t>(

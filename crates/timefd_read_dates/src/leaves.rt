@@ -1,5 +1,5 @@
-//! Reads by components and literals in turn, as most descriptions of version 3 are: they are found
-//! once, and then read by as often as wanted.
+//! Reads by components and literals, one after another. Most descriptions of version 3 are just that: their
+//! leaves are found once, and then used for as many texts as wanted.
 
 ghost use Rattle.std.specs.Prelude.{◌≡◌, IfOk, IfSome, map};
 ghost use Rattle.timefd_component.specs.Tree.{compound, trees};
@@ -14,8 +14,8 @@ use crate::part::{read_front, read_literal};
 use std::alloc::{AllocError, Global};
 use timefd_node_list::{Leaf, Members, Shape, View};
 
-/// The components and literals that a description of version 3 is, where it is those in turn and no
-/// more. `None` of any other description. An `Err` says that memory ran out.
+/// The components and literals of a description of version 3, if it is just a sequence of them. `None` for
+/// any other description. An `Err` says that memory ran out.
 pub fn leaves_in_turn<'v>(
     alloc: Global,
     view: View<'v, '_>,
@@ -58,7 +58,7 @@ fn leaf_of<'v>(view: View<'v, '_>) -> Option<Leaf<'v>>
     }
 }
 
-/// Reads components and literals in turn, and answers what is left behind them.
+/// Reads components and literals, one after another, and returns what follows them.
 pub(crate) fn read_all<'t>(
     leaves: &[Leaf<'_>],
     rest: &'t [u8],
@@ -70,7 +70,7 @@ pub(crate) fn read_all<'t>(
     let mut left = rest;
     'leaves: for leaf in leaves {
         match read_leaf(*leaf, left, fields) {
-            Ok(behind) => left = behind,
+            Ok(after) => left = after,
             Err(fault) => return Err(fault),
         }
     }

@@ -1,4 +1,4 @@
-//! Reads dates and times back by format descriptions: which fields a text shows.
+//! Reads dates and times back by format descriptions: finds the fields that a text shows.
 #![tactic(auto)]
 
 mod digits;

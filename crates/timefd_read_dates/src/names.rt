@@ -1,11 +1,11 @@
-//! Names at the front of a text.
+//! Names at the start of a text.
 
 ghost use Rattle.std.specs.Prelude.{◌≡◌, ◌≤◌, IfSome, IsTrue, length, map};
 ghost use Rattle.timefd_read_dates.specs.Names as spec;
 
 use crate::rule::Names;
 
-/// The place of the first name of the list that stands at the front, and its length.
+/// The index of the first name of the list that the text begins with, and its length in bytes.
 pub(crate) fn leading_name(
     text: &[u8],
     names: Names,
@@ -13,7 +13,7 @@ pub(crate) fn leading_name(
 ) -> Option<(usize, usize)>
     ensures value { result ≡ spec.name_from 0 is_case_sensitive (spec.listed names) text.now }
     ensures within { IfSome result (λ r. r.1 ≤ length text.now) }
-    ensures place { IfSome result (λ r. r.0 ≤ 12) }
+    ensures position { IfSome result (λ r. r.0 ≤ 12) }
 {
     first_of(text, listed(names), is_case_sensitive)
 }
@@ -60,15 +60,15 @@ fn first_of(text: &[u8], names: &[&'static str], is_case_sensitive: bool) -> Opt
     ensures value { result ≡ spec.name_from 0 is_case_sensitive (map (λ name. name.now) names.now)
         text.now }
     ensures within { IfSome result (λ r. r.1 ≤ length text.now) }
-    ensures place { IfSome result (λ r. r.0 ≤ length names.now) }
+    ensures position { IfSome result (λ r. r.0 ≤ length names.now) }
 {
-    let mut place = 0;
-    'names: while place < names.len() {
-        let name = names[place].as_bytes();
+    let mut position = 0;
+    'names: while position < names.len() {
+        let name = names[position].as_bytes();
         if begins(text, name, is_case_sensitive) {
-            return Some((place, name.len()));
+            return Some((position, name.len()));
         }
-        place += 1;
+        position += 1;
     }
     None
 }

@@ -1,4 +1,4 @@
-//! Numbers at the front of a text.
+//! Numbers at the start of a text.
 
 ghost use Rattle.std.specs.Prelude.{◌≡◌, ◌≤◌, IfSome, length};
 ghost use Rattle.timefd_read_dates.specs.Numbers as spec;
@@ -9,7 +9,7 @@ use crate::fields::Signed;
 use crate::rule::Form;
 use timefd_modifier::Padding;
 
-/// A number that is filled to a width, or not at all, of at most so many digits.
+/// A number that is padded to a width, or not at all, of at most `most` digits, and how many bytes it takes.
 pub(crate) fn padded(
     text: &[u8],
     padding: Padding,
@@ -25,12 +25,12 @@ pub(crate) fn padded(
     match padding {
         Padding::Zero => digits(text, width, most),
         Padding::None => digits(text, 1, most),
-        Padding::Space => behind_spaces(text, width, most),
+        Padding::Space => after_spaces(text, width, most),
     }
 }
 
 #[tactic(auto, using(crate::proofs::DigitLemmas::spaces_within))]
-fn behind_spaces(text: &[u8], width: usize, most: usize) -> Option<(u128, usize)>
+fn after_spaces(text: &[u8], width: usize, most: usize) -> Option<(u128, usize)>
     requires some { 1 ≤ width }
     requires width { width ≤ most }
     requires most { most ≤ 23 }
@@ -46,7 +46,7 @@ fn behind_spaces(text: &[u8], width: usize, most: usize) -> Option<(u128, usize)
     }
 }
 
-/// What is in the range.
+/// The number that was found, if it is in the range.
 pub(crate) fn within(
     found: Option<(u128, usize)>,
     lowest: u128,
@@ -66,7 +66,7 @@ pub(crate) fn within(
     }
 }
 
-/// The sign at the front, whether it is a minus.
+/// The sign at the start: whether it is a minus. `None` if there is no sign.
 fn sign_in(text: &[u8]) -> Option<bool>
     ensures sign { result ≡ spec.sign_in text.now }
     ensures there { IfSome result (λ is_negative. 1 ≤ length text.now) }
@@ -78,7 +78,7 @@ fn sign_in(text: &[u8]) -> Option<bool>
     }
 }
 
-/// A number with its sign, which has to stand where it is mandatory.
+/// A number with its sign, and how many bytes it takes. The sign may be missing unless it is mandatory.
 #[inline(always)]
 pub(crate) fn signed(text: &[u8], is_mandatory: bool, form: Form) -> Option<(Signed, usize)>
     requires { IsForm form }

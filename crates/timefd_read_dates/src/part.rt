@@ -1,4 +1,4 @@
-//! One part of a description at the front of what is left of a text.
+//! Reads one part of a description at the start of what is left of a text.
 
 ghost use Rattle.std.specs.List.{starts_with};
 ghost use Rattle.std.specs.Prelude.{◌≡◌, ◌≤◌, IfSome, eqb, length};
@@ -26,8 +26,8 @@ fn fault(rest: &[u8], reason: Reason) -> Fault
     }
 }
 
-/// Reads a component, of a deprecated one the component that it stands for. What is left is answered. It is
-/// a call of its own, so that what calls itself for nested parts takes little stack.
+/// Reads a component, or the modern one that replaces a deprecated one, and returns what is left. It isn't
+/// inlined, so that the recursion for nested parts takes little stack.
 #[inline(never)]
 pub(crate) fn read_component<'t>(
     component: Component,
@@ -40,7 +40,8 @@ pub(crate) fn read_component<'t>(
     read_modern(component.modern(), rest, fields)
 }
 
-/// The same where it stands. Most components are short numbers, which are taken at once.
+/// Reads a component like `read_component`, inlined. Most components are short numbers, which are taken at
+/// once.
 #[inline(always)]
 pub(crate) fn read_front<'t>(
     component: Component,
@@ -89,7 +90,7 @@ fn read_modern<'t>(
     }
 }
 
-/// Takes the number that was found at the front.
+/// Takes the number that was found at the start.
 #[tactic(auto, using(crate::proofs::TakeLemmas::count_read, crate::proofs::TakeLemmas::count_contradicts))]
 fn read_count<'t>(
     component: Component,
@@ -114,7 +115,7 @@ fn read_count<'t>(
     }
 }
 
-/// Takes the number with its sign that was found at the front.
+/// Takes the signed number that was found at the start.
 #[tactic(auto, using(crate::proofs::TakeLemmas::amount_read, crate::proofs::TakeLemmas::amount_contradicts))]
 fn read_amount<'t>(
     component: Component,
@@ -180,7 +181,7 @@ pub(crate) fn read_literal<'t>(
     }
 }
 
-/// Whether a text begins with a literal. Most have one byte.
+/// Whether a text begins with a literal. Most literals have one byte.
 #[inline(always)]
 pub(crate) fn begins(text: &[u8], literal: &[u8]) -> bool
     ensures { result ≡ starts_with eqb text.now literal.now }

@@ -1,4 +1,5 @@
-//! Numbers as most are, which are taken at once: two digits, or the four of a year. All else goes by its rule.
+//! Takes the most frequent numbers at once: those of two digits, and years of four. All others go by their
+//! rule.
 
 ghost use Rattle.std.specs.Prelude.{false};
 ghost use Rattle.timefd_component.specs.Modern.{modern};
@@ -15,8 +16,8 @@ use crate::rule::{Form, Rule, rule_of};
 use timefd_component::Component;
 use timefd_modifier::Padding;
 
-/// How many bytes a component takes at the front, where these are a number of two digits or of four that
-/// agrees with the fields. `None` says nothing of the text, and leaves the fields as they are.
+/// How many bytes a component takes at the start, if they are a number of two digits or of four that agrees
+/// with the fields. `None` says nothing about the text; the fields stay as they are.
 #[inline(always)]
 #[tactic(auto, using(crate::proofs::QuickLemmas::by_number, crate::proofs::QuickLemmas::by_sign))]
 pub(crate) fn take_quickly(component: Component, text: &[u8], fields: &mut Fields) -> Option<usize>
@@ -61,7 +62,7 @@ fn take_two(
     }
 }
 
-/// Takes the four digits of a year that has no sign.
+/// Takes the four digits of a year without a sign.
 #[inline(always)]
 fn take_year(field: Amount, form: Form, text: &[u8], fields: &mut Fields) -> Option<usize>
     ensures { TakesFront (as_amount field (signed false form text.now)) text.now fields.old fields.new

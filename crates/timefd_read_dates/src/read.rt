@@ -1,4 +1,4 @@
-//! The public calls.
+//! The public functions.
 
 ghost use Rattle.std.specs.Prelude.{◌≡◌, Result, length, map};
 ghost use Rattle.timefd_component.specs.Tree.{compound, trees};
@@ -14,9 +14,9 @@ use crate::{items, leaves, view};
 use timefd_format_item::BorrowedFormatItem;
 use timefd_node_list::{Leaf, View};
 
-/// The fields that a text shows by a description of version 3. The error is the first part that
-/// does not read, and the byte index where it begins. It takes no memory, and stack as deep as the
-/// description is nested.
+/// The fields that a text shows by a description of version 3. The error reports the first part that can't be
+/// read, and the byte index where it begins. Allocates no memory, and takes stack in proportion to the
+/// nesting of the description.
 pub fn read_fields(view: View<'_, '_>, text: &str) -> Result<Fields, ReadError>
     ensures { result ≡ spec.fields_of (view_tree view.entry) text.now }
 {
@@ -27,7 +27,8 @@ pub fn read_fields(view: View<'_, '_>, text: &str) -> Result<Fields, ReadError>
     }
 }
 
-/// The same, put in place of what these fields hold. An error leaves no certain fields.
+/// Does what `read_fields` does, and overwrites `fields` with the result. After an error, `fields` may hold
+/// anything.
 pub fn fill_fields(view: View<'_, '_>, text: &str, fields: &mut Fields) -> Result<(), ReadError>
     ensures { Fills (spec.fields_of (view_tree view.entry) text.now) fields.new result }
 {
@@ -37,7 +38,7 @@ pub fn fill_fields(view: View<'_, '_>, text: &str, fields: &mut Fields) -> Resul
     answer(bytes, read, fields)
 }
 
-/// The fields that a text shows by items of version 1 or 2, or of strftime, in the same way.
+/// The fields that a text shows by items of version 1 or 2, or of strftime. Errors are as in `read_fields`.
 pub fn read_item_fields(items: &[BorrowedFormatItem<'_>], text: &str) -> Result<Fields, ReadError>
     ensures { result ≡ spec.fields_of (compound (trees (item_trees items.now))) text.now }
 {
@@ -48,7 +49,8 @@ pub fn read_item_fields(items: &[BorrowedFormatItem<'_>], text: &str) -> Result<
     }
 }
 
-/// The same, put in place of what these fields hold. An error leaves no certain fields.
+/// Does what `read_item_fields` does, and overwrites `fields` with the result. After an error, `fields` may
+/// hold anything.
 pub fn fill_item_fields(
     items: &[BorrowedFormatItem<'_>],
     text: &str,
@@ -63,8 +65,9 @@ pub fn fill_item_fields(
     answer(bytes, read, fields)
 }
 
-/// The fields that a text shows by components and literals in turn, put in place of what these
-/// fields hold. An error leaves no certain fields. It takes no memory, and the same stack always.
+/// Finds the fields that a text shows by components and literals, one after another, and overwrites `fields`
+/// with them. After an error, `fields` may hold anything. Allocates no memory, and takes a constant amount of
+/// stack.
 pub fn fill_leaf_fields(
     leaves: &[Leaf<'_>],
     text: &str,
@@ -79,7 +82,7 @@ pub fn fill_leaf_fields(
     answer(bytes, read, fields)
 }
 
-/// What is answered where so much is left and these fields were read.
+/// The result, from what is left of the text and the fields that were read.
 fn answer(text: &[u8], read: Result<&[u8], Fault>, fields: &Fields) -> Result<(), ReadError>
     ensures { (reached : Result spec.Point Fault) → spec.Gives reached fields.now read.entry
         → Fills (spec.whole (length text.now) reached) fields.now result }

@@ -1,4 +1,4 @@
-//! What one component reads, and the fields with it.
+//! What one component reads, and how the fields take it.
 
 ghost use Rattle.std.specs.Bool.{IsFalse};
 ghost use Rattle.std.specs.Prelude.{◌≡◌, ◌≤◌, ◌^◌};
@@ -13,13 +13,13 @@ use crate::fields::{Amount, Count, Fields, Fraction, Signed};
 pub(crate) enum Reading {
     Count(Count, u16),
     Amount(Amount, Signed),
-    /// Whether it is after noon.
+    /// Whether it is in the afternoon.
     Period(bool),
     Fraction(Fraction),
     Nothing,
 }
 
-/// Sets the field of what was read. It is false where that was read before as another value.
+/// Sets the field for what was read. Returns false if another value was read for it before.
 pub(crate) fn take(fields: &mut Fields, reading: Reading) -> bool
     ensures { Takes (spec.with_reading fields.old reading) fields.new result }
 {
@@ -32,7 +32,7 @@ pub(crate) fn take(fields: &mut Fields, reading: Reading) -> bool
     }
 }
 
-/// Sets a field without a sign, where it agrees.
+/// Sets a field without a sign, unless another value was read for it before. Returns whether it did.
 #[inline(always)]
 #[tactic(auto, using(crate::proofs::TakeLemmas::count_kept, crate::proofs::TakeLemmas::count_set))]
 pub(crate) fn take_count(fields: &mut Fields, field: Count, number: u16) -> bool
@@ -49,7 +49,7 @@ pub(crate) fn take_count(fields: &mut Fields, field: Count, number: u16) -> bool
     }
 }
 
-/// Sets a field with a sign, where it agrees.
+/// Sets a field with a sign, unless another value was read for it before. Returns whether it did.
 #[inline(always)]
 #[tactic(auto, using(crate::proofs::TakeLemmas::amount_kept, crate::proofs::TakeLemmas::amount_set))]
 pub(crate) fn take_amount(fields: &mut Fields, field: Amount, number: Signed) -> bool
@@ -103,7 +103,7 @@ fn take_finer(fields: &mut Fields, before: Fraction, fraction: Fraction) -> bool
     }
 }
 
-/// Whether the digits that are known of both are the same.
+/// Whether both fractions have the same digits, as far as the digits of both are known.
 fn agree(a: Fraction, b: Fraction) -> bool
     ensures { result ≡ spec.agree a b }
 {
@@ -115,14 +115,14 @@ fn agree(a: Fraction, b: Fraction) -> bool
     a.nanosecond / unit == b.nanosecond / unit
 }
 
-/// The one of which more digits are known.
+/// The fraction with more known digits.
 fn finer(a: Fraction, b: Fraction) -> Fraction
     ensures { result ≡ spec.finer a b }
 {
     if a.digits <= b.digits { b } else { a }
 }
 
-/// How many nanoseconds the last of so many digits counts.
+/// How many nanoseconds one unit of the last digit is, for a fraction with this many digits.
 pub fn unit(digits: u16) -> u128
     ensures value { result ≡ spec.unit digits }
     ensures some { 1 ≤ result }

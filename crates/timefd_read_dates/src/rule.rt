@@ -11,7 +11,7 @@ use timefd_modifier::{Padding, SubsecondDigits, TrailingInput};
 /// How a component is read.
 #[derive(Clone, Copy)]
 pub(crate) enum Rule {
-    /// A number in a range, filled to a width or not at all.
+    /// A number in a range, padded to a width or not at all.
     Number {
         field: Count,
         padding: Padding,
@@ -19,12 +19,12 @@ pub(crate) enum Rule {
         lowest: u16,
         highest: u16,
     },
-    /// A digit for the days after Monday or Sunday, from 1 or from 0 on.
+    /// A digit for the weekday, which counts from Monday or Sunday, and from 1 or 0.
     Weekday {
         is_sunday_first: bool,
         is_one_indexed: bool,
     },
-    /// A name, whose place in its list counts from `first` on.
+    /// A name. Its index in its list counts from `first`.
     Name {
         field: Count,
         names: Names,
@@ -42,13 +42,13 @@ pub(crate) enum Rule {
         is_mandatory: bool,
         form: Form,
     },
-    /// Digits of a fraction of a second.
+    /// The digits of a fraction of a second.
     Fraction(SubsecondDigits),
-    /// So many bytes of any kind.
+    /// This many bytes of any kind.
     Ignore(u16),
     /// The end of the text.
     End(TrailingInput),
-    /// No modern component: it reads nothing.
+    /// A component that isn't modern: it reads nothing.
     Deprecated,
 }
 
@@ -67,11 +67,11 @@ pub(crate) enum Names {
 #[derive(Clone, Copy)]
 pub(crate) struct Form {
     pub padding: Padding,
-    /// The width to which it is filled.
+    /// The width to which it is padded.
     pub width: usize,
     /// The most digits without a sign.
     pub most: usize,
-    /// The most digits behind a sign.
+    /// The most digits after a sign.
     pub most_signed: usize,
     /// The greatest magnitude.
     pub greatest: u128,
@@ -271,7 +271,7 @@ fn extended_century(padding: Padding) -> Form
     }
 }
 
-/// Two digits.
+/// The form of two digits.
 fn two(padding: Padding, greatest: u128) -> Form
     ensures { result ≡ spec.two padding greatest }
 {
@@ -284,7 +284,7 @@ fn two(padding: Padding, greatest: u128) -> Form
     }
 }
 
-/// Digits that are not filled.
+/// The form of digits that aren't padded.
 fn stamp(most: usize, greatest: u128) -> Form
     ensures { result ≡ spec.stamp most greatest }
 {

@@ -1,5 +1,5 @@
-//! Years of four digits, and months, days, hours, minutes and seconds of two: what most texts show. All else is read
-//! into fields.
+//! Years of four digits, and months, days, hours, minutes and seconds of two: most texts show only these. All
+//! other texts are read into fields.
 
 ghost use Rattle.std.specs.Prelude.{◌≡◌, ◌≤◌, IfSome, Ok, Some, drop, false, length, map};
 ghost use Rattle.timefd_component.specs.Modern.{modern};
@@ -23,7 +23,7 @@ use timefd_component::Component;
 use timefd_modifier::Padding;
 use timefd_node_list::Leaf;
 
-/// Numbers that were read of a text, and nothing else was.
+/// The numbers that were read from a text that shows nothing else.
 #[derive(Clone, Copy)]
 pub struct Numbers {
     /// The year, from 0 to 9999.
@@ -46,7 +46,7 @@ pub const NO_NUMBERS: Numbers = Numbers {
 };
 
 impl Numbers {
-    /// The fields of a text that shows these and no more.
+    /// The fields of a text that shows these numbers and nothing else.
     #[inline(always)]
     pub fn fields(self) -> Fields
         ensures { result ≡ fields_with self }
@@ -62,7 +62,7 @@ impl Numbers {
         }
     }
 
-    /// These with one more, where it was not read before.
+    /// Adds one more number. `None` if that field was read before.
     #[inline(always)]
     fn with(self, field: Count, number: u16) -> Option<Numbers>
         ensures { IfSome result (λ after. count_with (fields_with self) field number
@@ -117,7 +117,7 @@ impl Numbers {
         }
     }
 
-    /// These with a year, where none was read before.
+    /// Adds a year. `None` if one was read before.
     #[inline(always)]
     fn with_year(self, year: u16) -> Option<Numbers>
         ensures { IfSome result (λ after. amount_with (fields_with self) Amount.Year
@@ -147,7 +147,8 @@ fn whole_year(year: Option<u16>) -> Option<Signed>
     }
 }
 
-/// The numbers that a whole text shows by components and literals in turn. `None` says nothing of the text.
+/// The numbers that a whole text shows by components and literals, one after another. `None` says nothing
+/// about the text.
 #[inline(always)]
 #[tactic(auto, using(crate::proofs::ShortLemmas::all_read))]
 pub fn numbers_shown(leaves: &[Leaf<'_>], text: &[u8]) -> Option<Numbers>
@@ -167,7 +168,7 @@ pub fn numbers_shown(leaves: &[Leaf<'_>], text: &[u8]) -> Option<Numbers>
     if left.is_empty() { Some(numbers) } else { None }
 }
 
-// Whether it may be read: so a description with other components is left alone at once.
+// Whether the leaf may be read here: so a description with other components is given up at once.
 #[inline(always)]
 fn is_short(leaf: &Leaf<'_>) -> bool {
     match leaf {
@@ -190,7 +191,8 @@ fn is_number(component: Component) -> bool {
     )
 }
 
-/// How many bytes a component or literal takes at the front, and the numbers with its own. `None` says nothing.
+/// How many bytes a component or literal takes at the start, and the numbers with what it reads. `None` says
+/// nothing about the text.
 #[inline(always)]
 #[tactic(auto, using(crate::proofs::ShortLemmas::component_read, crate::proofs::ShortLemmas::component_within))]
 pub fn take_leaf(leaf: &Leaf<'_>, text: &[u8], numbers: Numbers) -> Option<(usize, Numbers)>

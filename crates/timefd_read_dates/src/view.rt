@@ -11,8 +11,8 @@ use crate::fields::Fields;
 use crate::part::{read_component, read_literal};
 use timefd_node_list::{Members, Shape, View};
 
-/// Reads a description at the front of what is left, and answers what is left behind it. Where it does
-/// not read, the fields of the members in front of the fault may have been read.
+/// Reads a description at the start of `rest`, and returns what follows it. After an `Err`, fields of the
+/// members in front of the fault may have been read.
 #[cycle(view)]
 #[inline(always)]
 pub(crate) fn read<'t>(
@@ -31,7 +31,7 @@ pub(crate) fn read<'t>(
     }
 }
 
-/// Reads a member that may be left out. Where it does not read, the fields are as they were.
+/// Reads a member that may be missing. If it can't be read, the fields are as they were.
 #[cycle(view)]
 #[inline(never)]
 fn read_optional<'t>(
@@ -52,7 +52,7 @@ fn read_optional<'t>(
     }
 }
 
-/// Reads members in turn.
+/// Reads members, one after another.
 #[cycle(view)]
 #[inline(never)]
 fn read_all<'t>(
@@ -66,14 +66,14 @@ fn read_all<'t>(
     let mut left = rest;
     'members: for member in members.in_turn() {
         match read(member, left, fields) {
-            Ok(behind) => left = behind,
+            Ok(after) => left = after,
             Err(fault) => return Err(fault),
         }
     }
     Ok(left)
 }
 
-/// Reads the first alternative that reads. Where none does, the fault is that of the first one.
+/// Reads the first alternative that can be read. If none can, the fault is the one of the first alternative.
 #[cycle(view)]
 #[inline(never)]
 fn read_first<'t>(
@@ -108,7 +108,7 @@ pub(crate) fn earlier(before: Option<Fault>, fault: Fault) -> Option<Fault>
     }
 }
 
-/// What is answered where no alternative reads: none at all read nothing.
+/// The result if no alternative can be read: an empty list of alternatives reads nothing.
 pub(crate) fn none_reads<'t>(
     rest: &'t [u8],
     fields: &Fields,

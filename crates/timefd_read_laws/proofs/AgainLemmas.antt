@@ -1,4 +1,4 @@
--- What is written of what was read of a text is read as the same.
+-- A moment that was read from a text and is written again gives the same moment.
 use Rattle.std.proofs.Common.{◌≡◌, ◌∙◌, Bool, true, false, Option, Some, None, Result, Ok, Err, IfSome, refl, sym, ap, subst}
 use Rattle.std.specs.Prelude.{is_some}
 use Rattle.timefd_component.specs.Tree.{Text, Tree}
@@ -36,14 +36,14 @@ use Rattle.timefd_read_laws.proofs.StampedAgainLemmas.{stamped_again}
 use Rattle.timefd_read_laws.proofs.StepLemmas.{in_ok}
 use Rattle.timefd_read_laws.proofs.TreeLemmas.{reads_back}
 
--- A part that was read is known, and is this one.
+-- A part that was read is known, and is this value.
 part_is : {A : Type 0} (P : A → Type 0) (Is : Result A ValueError → Type 0) (b : Bool) (x : Option A) (a : A)
     → ((e : A) → Is (Ok e) → P e) → b ≡ true → IsPart b Is (Ok x) → IfSome x (λ e. e ≡ a) → P a
 part_is P Is true (Some e) a f is h same = subst P same (f e h)
 part_is P Is true None a f is h same = absurd h
 part_is P Is false x a f is h same = absurd (clash true (sym is) refl)
 
--- the same is known of both
+-- both are known and are the same, or neither is known
 both_known : {A : Type 0} (b : Bool) (IsSame : A → A → Type 0) (Is : Result A ValueError → Type 0) (x y : Option A)
     (a : A) → IsPart b Is (Ok x) → IfSome x (λ e. e ≡ a) → IsKnown b IsSame a y → BothKnown IsSame x y
 both_known false IsSame Is None None a h same k = tt
@@ -65,16 +65,16 @@ fields_again m d t o tree f again h = reads_back m d t o tree again h.is_of h.se
 
 module _ (m : Moment) (d : Date) (t : Time) (o : UtcOffset) (tree : Tree) (f : Fields) (again : Text)
     (h : IsWrittenAgain m d t o tree f again) (none : instant_read f ≡ None) where
-  abbrev anew : Fields
-  anew = fields_shown d t o (shows tree)
+  abbrev rewritten : Fields
+  rewritten = fields_shown d t o (shows tree)
 
-  parts_same : parts f ≡ parts anew
+  parts_same : parts f ≡ parts rewritten
   parts_same = same_shown d t o f (shows tree) h.same_parts
 
   was : IsMomentByParts f (Ok m)
   was = subst (λ (u : Option UnixTime). IsMomentBy u f (Ok m)) none h.moment
 
-  back : IsReadBack d t o tree anew
+  back : IsReadBack d t o tree rewritten
   back = record {
     moment = m;
     text = again;
@@ -84,33 +84,33 @@ module _ (m : Moment) (d : Date) (t : Time) (o : UtcOffset) (tree : Tree) (f : F
     read = fields_again m d t o tree f again h;
   }
 
-  same : (k : Kind) → has_kind k anew ≡ has_kind k f
-  same k = same_kind k anew f (sym parts_same)
+  same : (k : Kind) → has_kind k rewritten ≡ has_kind k f
+  same k = same_kind k rewritten f (sym parts_same)
 
-  date : has_date anew ≡ true → IsDetermined (date_way anew)
+  date : has_date rewritten ≡ true → IsDetermined (date_way rewritten)
   date e =
-      part_is (λ _. IsDetermined (date_way anew)) (IsDateByParts f) (has_date f) m.date d
-      (λ x is. same_date f anew parts_same is.1) (sym (same kind.Date) ∙ e) was.0 h.is_of.0
+      part_is (λ _. IsDetermined (date_way rewritten)) (IsDateByParts f) (has_date f) m.date d
+      (λ x is. same_date f rewritten parts_same is.1) (sym (same kind.Date) ∙ e) was.0 h.is_of.0
 
-  time : has_time anew ≡ true → IsDetermined (clock_read anew) × HasNoMoreTime anew t
+  time : has_time rewritten ≡ true → IsDetermined (clock_read rewritten) × HasNoMoreTime rewritten t
   time e =
-      let agrees = part_is (λ x. IsDetermined (clock_read anew) × TimeAgrees f x) (IsTimeByParts f) (has_time f) m.time t
-      (λ x is. (same_time f anew parts_same is.1, is.0)) (sym (same kind.Time) ∙ e) was.1 h.is_of.1 in (
+      let agrees = part_is (λ x. IsDetermined (clock_read rewritten) × TimeAgrees f x) (IsTimeByParts f) (has_time f) m.time t
+      (λ x is. (same_time f rewritten parts_same is.1, is.0)) (sym (same kind.Time) ∙ e) was.1 h.is_of.1 in (
         agrees.0,
         subst (λ (s : Shows). HasNoMoreTime (fields_shown d t o s) t) h.same_parts
             (time_again d t o f (whole_read tree h.text f h.read) agrees.1),
       )
 
-  offset : has_offset anew ≡ true → IsDetermined (shift_read anew) × HasNoMoreOffset anew o
+  offset : has_offset rewritten ≡ true → IsDetermined (shift_read rewritten) × HasNoMoreOffset rewritten o
   offset e =
-      let agrees = part_is (λ x. IsDetermined (shift_read anew) × OffsetAgrees f x) (IsOffsetOf f) (has_offset f) m.offset o
-      (λ x is. (same_offset f anew parts_same is.1, is.0)) (sym (same kind.Offset) ∙ e) was.2 h.is_of.2 in (
+      let agrees = part_is (λ x. IsDetermined (shift_read rewritten) × OffsetAgrees f x) (IsOffsetOf f) (has_offset f) m.offset o
+      (λ x is. (same_offset f rewritten parts_same is.1, is.0)) (sym (same kind.Offset) ∙ e) was.2 h.is_of.2 in (
         agrees.0,
         subst (λ (s : Shows). HasNoMoreOffset (fields_shown d t o s) o) h.same_parts
             (offset_again d t o f agrees.1),
       )
 
-  same_moment : (r : Result Moment ValueError) → AnswersParts anew d t o r → AnswersSame m r
+  same_moment : (r : Result Moment ValueError) → AnswersParts rewritten d t o r → AnswersSame m r
   same_moment (Ok n) k = (
     both_known (has_date f) of_date.IsSame (IsDateByParts f) m.date n.date d was.0 h.is_of.0
         (subst (λ (b : Bool). IsKnown b of_date.IsSame d n.date) (same kind.Date) k.0),
@@ -121,11 +121,11 @@ module _ (m : Moment) (d : Date) (t : Time) (o : UtcOffset) (tree : Tree) (f : F
   )
   same_moment (Err e) k = absurd k
 
-  answer : (r : Result Moment ValueError) → IsMomentOf anew r → AnswersSame m r
+  answer : (r : Result Moment ValueError) → IsMomentOf rewritten r → AnswersSame m r
   answer r is =
-      let without : instant_read anew ≡ None =
-      none_is (instant_read anew) (sym (same_stamp f anew parts_same) ∙ ap is_some none) in
-      same_moment r (moment_read_back d t o tree anew r back without date time offset is)
+      let without : instant_read rewritten ≡ None =
+      none_is (instant_read rewritten) (sym (same_stamp f rewritten parts_same) ∙ ap is_some none) in
+      same_moment r (moment_read_back d t o tree rewritten r back without date time offset is)
 
 -- The moment of the new text, without a timestamp or with one.
 pub shows_back : ShowsBack

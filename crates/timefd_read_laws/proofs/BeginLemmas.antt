@@ -1,4 +1,4 @@
--- What a text of a component begins with.
+-- What the text of a component begins with.
 use Rattle.std.proofs.Common.{ℕ, ◌≡◌, ◌<◌, ◌+◌, ◌-◌, ◌/◌, ◌++◌, ◌&&◌, ◌||◌, zero, suc, Bool, true, false, not, nat_le}
 use Rattle.std.proofs.Common.{if◌then◌else◌, List, [], ◌∷◌, get_or, length, Option, Some, None, Result, Ok, Err, IfOk, refl}
 use Rattle.std.proofs.Common.{sym, ap, arith}
@@ -30,7 +30,7 @@ use Rattle.timefd_read_laws.specs.Bounds.{IsBounded}
 use Rattle.timefd_settled.specs.Settled.{component_begin, signed_begin}
 use Rattle.timefd_read_laws.proofs.RowLemmas.{of_year}
 
--- what is known of a text that something follows, of which so much is known
+-- a text begins as `begin` says if what follows it is as `known` says
 abbrev pub Begins : Bound → Bound → Text → Type 0
 Begins known begin text = (rest : Text) → IsBounded known rest → IsBounded begin (text ++ rest)
 
@@ -94,7 +94,7 @@ unknown : (known : Bound) (r : Result Field Lack)
 unknown known (Ok f) = λ rest h. tt
 unknown known (Err l) = tt
 
--- what begins with a sign where one is mandatory
+-- a field that begins with a sign if one is mandatory
 abbrev BeginsSigned : Bound → Bool → Field → Type 0
 BeginsSigned known mandatory f = Begins known (signed_begin mandatory) (field_text f)
 

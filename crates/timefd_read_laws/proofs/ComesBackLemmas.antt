@@ -1,4 +1,4 @@
--- What was read by a settled description is written, and read as the same.
+-- What a settled description reads is written, and read as the same again.
 use Rattle.std.proofs.Common.{◌≡◌, ◌∙◌, true, false, Option, Some, None, Ok, IfSome, refl, sym, ap, arith, unwrap_or}
 use Rattle.timefd_component.specs.Modern.{modern}
 use Rattle.timefd_component.specs.Tree.{Text, Tree, component, literal, compound, optional, first, Trees, no_trees, more_trees}
@@ -21,7 +21,7 @@ use Rattle.timefd_read_laws.proofs.AgainLemmas.{fields_again, shows_back}
 use Rattle.timefd_read_laws.proofs.ComponentReadLemmas.{component_read}
 use Rattle.timefd_read_laws.proofs.WrittenLemmas.{writes_again}
 
--- Of a settled description all is read that is written, and nothing else.
+-- A settled description that reads everything it writes reads nothing else.
 
 mutual
   tree_parts : (t : Tree) (known : Bound) (p q : Point) → settled t known ≡ true → ReadsWritten t p q
@@ -48,7 +48,7 @@ same_parts : (tree : Tree) (text : Text) (f : Fields) → is_settled tree ≡ tr
 same_parts tree text f e h =
     ap parts (sym h.fields) ∙ tree_parts tree Bound.End (start text) h.end e h.reads
 
--- a date, a time and an offset that are the moment's where it has them
+-- a date, a time and an offset: those of the moment, if it has them
 
 abbrev pub any_date : Date
 any_date = record {
@@ -86,7 +86,7 @@ kept : (m : Moment) (d : Date) (t : Time) (o : UtcOffset) (tree : Tree) (text : 
     → is_settled tree ≡ true → IsReadWritten tree text f → IsMomentOf f (Ok m) → IsOf m d t o → HasText m tree
     → IsKept m tree
 kept m d t o tree text f e h is of has =
-    let anew : IsWrittenAgain m d t o tree f has.0 = record {
+    let rewritten : IsWrittenAgain m d t o tree f has.0 = record {
       text = text;
       settles = e;
       read = h.read;
@@ -95,13 +95,13 @@ kept m d t o tree text f e h is of has =
       is_of = of;
       wrote = has.1;
     } in
-    let again = fields_again m d t o tree f has.0 anew in
+    let again = fields_again m d t o tree f has.0 rewritten in
     record {
       again = has.0;
       fields = fields_shown d t o (shows tree);
       wrote = has.1;
       read = again;
-      same = λ r r_is. shows_back m d t o tree f (fields_shown d t o (shows tree)) has.0 r anew again r_is;
+      same = λ r r_is. shows_back m d t o tree f (fields_shown d t o (shows tree)) has.0 r rewritten again r_is;
     }
 
 pub comes_back : ComesBack

@@ -1,4 +1,4 @@
--- What the reading of each component does to the fields, and to the parts that were read.
+-- What reading a component does to the fields, and to the parts that were read.
 use Rattle.std.proofs.Common.{ℕ, ◌≡◌, ◌-◌, ◌==◌, Bool, true, false, nat_le, length, Option, Some, None, Ok, refl, subst}
 use Rattle.timefd_component.specs.declared.component.Component.{Component}
 use Rattle.timefd_component.specs.declared.component.Component.TheVariants as of
@@ -14,7 +14,7 @@ use Rattle.timefd_read_laws.specs.Shown.{with_component}
 use Rattle.timefd_read_laws.proofs.FractionReadLemmas.{fraction_read}
 use Rattle.timefd_read_laws.proofs.GrowLemmas.{Range, any, same_grows}
 use Rattle.timefd_read_laws.proofs.GrowLemmas as range
-use Rattle.timefd_read_laws.proofs.PlaceLemmas as place
+use Rattle.timefd_read_laws.proofs.PositionLemmas as position
 use Rattle.timefd_read_laws.proofs.ReadRowLemmas.{Leaves, Placed, amount, count, name, placed, signed_within, year}
 use Rattle.timefd_read_laws.proofs.RowLemmas.{equal}
 use Rattle.timefd_read_laws.proofs.StepLemmas.{either_took, end_kept, nothing_kept}
@@ -33,14 +33,14 @@ range_of _ = any
 
 module _ (p q : Point) where
   weekday : (c : Component) (is_sunday_first : Bool) (first : ℕ) (x : Option (ℕ × ℕ))
-      → taken c p (as_weekday is_sunday_first first x) ≡ Ok q → Placed place.weekday p q any
+      → taken c p (as_weekday is_sunday_first first x) ≡ Ok q → Placed position.weekday p q any
   weekday c b first None e = absurd cc
   weekday c b first (Some r) e =
-      placed place.weekday p q c equal any r.1 (after_monday b (r.0 - first)) tt (λ a found same. tt) e
+      placed position.weekday p q c equal any r.1 (after_monday b (r.0 - first)) tt (λ a found same. tt) e
 
-  period : (c : Component) (x : Option (ℕ × ℕ)) → taken c p (as_period x) ≡ Ok q → Placed place.is_afternoon p q any
+  period : (c : Component) (x : Option (ℕ × ℕ)) → taken c p (as_period x) ≡ Ok q → Placed position.is_afternoon p q any
   period c None e = absurd cc
-  period c (Some r) e = placed place.is_afternoon p q c same any r.1 (r.0 == 1) tt (λ a found eq. tt) e
+  period c (Some r) e = placed position.is_afternoon p q c same any r.1 (r.0 == 1) tt (λ a found eq. tt) e
 
   kept : p.fields ≡ q.fields → Leaves (parts p.fields) kind.Nothing any p.fields q.fields
   kept e = subst (λ (f : Fields). Leaves (parts p.fields) kind.Nothing any p.fields f) e (record {
@@ -52,61 +52,61 @@ module _ (p q : Point) where
 
   pub component_read : (c : Component) → read_component c p ≡ Ok q
       → Leaves (with_component c (parts p.fields)) (kind_of c) (range_of c) p.fields q.fields
-  component_read (of.Day c) e = count place.day (of.Day c) p q _ _ (λ f n. refl) e
-  component_read (of.MonthShort c) e = name place.month (of.MonthShort c) p q _ 1 _ (λ f n. refl) e
-  component_read (of.MonthLong c) e = name place.month (of.MonthLong c) p q _ 1 _ (λ f n. refl) e
-  component_read (of.MonthNumerical c) e = count place.month (of.MonthNumerical c) p q _ _ (λ f n. refl) e
-  component_read (of.Ordinal c) e = count place.ordinal (of.Ordinal c) p q _ _ (λ f n. refl) e
-  component_read (of.WeekdayShort c) e = name place.weekday (of.WeekdayShort c) p q _ 0 _ (λ f n. refl) e
-  component_read (of.WeekdayLong c) e = name place.weekday (of.WeekdayLong c) p q _ 0 _ (λ f n. refl) e
+  component_read (of.Day c) e = count position.day (of.Day c) p q _ _ (λ f n. refl) e
+  component_read (of.MonthShort c) e = name position.month (of.MonthShort c) p q _ 1 _ (λ f n. refl) e
+  component_read (of.MonthLong c) e = name position.month (of.MonthLong c) p q _ 1 _ (λ f n. refl) e
+  component_read (of.MonthNumerical c) e = count position.month (of.MonthNumerical c) p q _ _ (λ f n. refl) e
+  component_read (of.Ordinal c) e = count position.ordinal (of.Ordinal c) p q _ _ (λ f n. refl) e
+  component_read (of.WeekdayShort c) e = name position.weekday (of.WeekdayShort c) p q _ 0 _ (λ f n. refl) e
+  component_read (of.WeekdayLong c) e = name position.weekday (of.WeekdayLong c) p q _ 0 _ (λ f n. refl) e
   component_read (of.WeekdaySunday c) e = weekday (of.WeekdaySunday c) true (first_number c.one_indexed) _ e
   component_read (of.WeekdayMonday c) e = weekday (of.WeekdayMonday c) false (first_number c.one_indexed) _ e
-  component_read (of.WeekNumberIso c) e = count place.iso_week (of.WeekNumberIso c) p q _ _ (λ f n. refl) e
-  component_read (of.WeekNumberSunday c) e = count place.sunday_week (of.WeekNumberSunday c) p q _ _ (λ f n. refl) e
-  component_read (of.WeekNumberMonday c) e = count place.monday_week (of.WeekNumberMonday c) p q _ _ (λ f n. refl) e
+  component_read (of.WeekNumberIso c) e = count position.iso_week (of.WeekNumberIso c) p q _ _ (λ f n. refl) e
+  component_read (of.WeekNumberSunday c) e = count position.sunday_week (of.WeekNumberSunday c) p q _ _ (λ f n. refl) e
+  component_read (of.WeekNumberMonday c) e = count position.monday_week (of.WeekNumberMonday c) p q _ _ (λ f n. refl) e
   component_read (of.CalendarYearFullExtendedRange c) e =
-      year place.year (of.CalendarYearFullExtendedRange c) p q _ (range.year 999999) 999999 _
+      year position.year (of.CalendarYearFullExtendedRange c) p q _ (range.year 999999) 999999 _
       (signed_within c.padding 4 4 6 999999 (sign_in p.rest) c.sign_is_mandatory p.rest) (λ f h. h) (λ f n. refl) e
   component_read (of.CalendarYearFullStandardRange c) e =
-      year place.year (of.CalendarYearFullStandardRange c) p q _ (range.year 9999) 9999 _
+      year position.year (of.CalendarYearFullStandardRange c) p q _ (range.year 9999) 9999 _
       (signed_within c.padding 4 4 4 9999 (sign_in p.rest) c.sign_is_mandatory p.rest) (λ f h. h) (λ f n. refl) e
   component_read (of.CalendarYearCenturyExtendedRange c) e =
-      year place.century (of.CalendarYearCenturyExtendedRange c) p q _ (range.century 9999) 9999 _
+      year position.century (of.CalendarYearCenturyExtendedRange c) p q _ (range.century 9999) 9999 _
       (signed_within c.padding 2 2 4 9999 (sign_in p.rest) c.sign_is_mandatory p.rest) (λ f h. h) (λ f n. refl) e
   component_read (of.CalendarYearCenturyStandardRange c) e =
-      year place.century (of.CalendarYearCenturyStandardRange c) p q _ (range.century 99) 99 _
+      year position.century (of.CalendarYearCenturyStandardRange c) p q _ (range.century 99) 99 _
       (signed_within c.padding 2 2 2 99 (sign_in p.rest) c.sign_is_mandatory p.rest) (λ f h. h) (λ f n. refl) e
   component_read (of.IsoYearFullExtendedRange c) e =
-      year place.iso_year (of.IsoYearFullExtendedRange c) p q _ (range.iso_year 999999) 999999 _
+      year position.iso_year (of.IsoYearFullExtendedRange c) p q _ (range.iso_year 999999) 999999 _
       (signed_within c.padding 4 4 6 999999 (sign_in p.rest) c.sign_is_mandatory p.rest) (λ f h. h) (λ f n. refl) e
   component_read (of.IsoYearFullStandardRange c) e =
-      year place.iso_year (of.IsoYearFullStandardRange c) p q _ (range.iso_year 9999) 9999 _
+      year position.iso_year (of.IsoYearFullStandardRange c) p q _ (range.iso_year 9999) 9999 _
       (signed_within c.padding 4 4 4 9999 (sign_in p.rest) c.sign_is_mandatory p.rest) (λ f h. h) (λ f n. refl) e
   component_read (of.IsoYearCenturyExtendedRange c) e =
-      year place.iso_century (of.IsoYearCenturyExtendedRange c) p q _ (range.iso_century 9999) 9999 _
+      year position.iso_century (of.IsoYearCenturyExtendedRange c) p q _ (range.iso_century 9999) 9999 _
       (signed_within c.padding 2 2 4 9999 (sign_in p.rest) c.sign_is_mandatory p.rest) (λ f h. h) (λ f n. refl) e
   component_read (of.IsoYearCenturyStandardRange c) e =
-      year place.iso_century (of.IsoYearCenturyStandardRange c) p q _ (range.iso_century 99) 99 _
+      year position.iso_century (of.IsoYearCenturyStandardRange c) p q _ (range.iso_century 99) 99 _
       (signed_within c.padding 2 2 2 99 (sign_in p.rest) c.sign_is_mandatory p.rest) (λ f h. h) (λ f n. refl) e
   component_read (of.CalendarYearLastTwo c) e =
-      count place.year_last_two (of.CalendarYearLastTwo c) p q _ _ (λ f n. refl) e
-  component_read (of.IsoYearLastTwo c) e = count place.iso_year_last_two (of.IsoYearLastTwo c) p q _ _ (λ f n. refl) e
-  component_read (of.Hour12 c) e = count place.hour_12 (of.Hour12 c) p q _ _ (λ f n. refl) e
-  component_read (of.Hour24 c) e = count place.hour (of.Hour24 c) p q _ _ (λ f n. refl) e
-  component_read (of.Minute c) e = count place.minute (of.Minute c) p q _ _ (λ f n. refl) e
-  component_read (of.Second c) e = count place.second (of.Second c) p q _ _ (λ f n. refl) e
-  component_read (of.OffsetMinute c) e = count place.offset_minute (of.OffsetMinute c) p q _ _ (λ f n. refl) e
-  component_read (of.OffsetSecond c) e = count place.offset_second (of.OffsetSecond c) p q _ _ (λ f n. refl) e
+      count position.year_last_two (of.CalendarYearLastTwo c) p q _ _ (λ f n. refl) e
+  component_read (of.IsoYearLastTwo c) e = count position.iso_year_last_two (of.IsoYearLastTwo c) p q _ _ (λ f n. refl) e
+  component_read (of.Hour12 c) e = count position.hour_12 (of.Hour12 c) p q _ _ (λ f n. refl) e
+  component_read (of.Hour24 c) e = count position.hour (of.Hour24 c) p q _ _ (λ f n. refl) e
+  component_read (of.Minute c) e = count position.minute (of.Minute c) p q _ _ (λ f n. refl) e
+  component_read (of.Second c) e = count position.second (of.Second c) p q _ _ (λ f n. refl) e
+  component_read (of.OffsetMinute c) e = count position.offset_minute (of.OffsetMinute c) p q _ _ (λ f n. refl) e
+  component_read (of.OffsetSecond c) e = count position.offset_second (of.OffsetSecond c) p q _ _ (λ f n. refl) e
   component_read (of.Period c) e = period (of.Period c) _ e
   component_read (of.Subsecond c) e = fraction_read c p q e
-  component_read (of.OffsetHour c) e = amount place.offset_hour (of.OffsetHour c) p q _ _ (λ f n. refl) e
-  component_read (of.UnixTimestampSecond c) e = amount place.unix_second (of.UnixTimestampSecond c) p q _ _ (λ f n. refl) e
+  component_read (of.OffsetHour c) e = amount position.offset_hour (of.OffsetHour c) p q _ _ (λ f n. refl) e
+  component_read (of.UnixTimestampSecond c) e = amount position.unix_second (of.UnixTimestampSecond c) p q _ _ (λ f n. refl) e
   component_read (of.UnixTimestampMillisecond c) e =
-      amount place.unix_millisecond (of.UnixTimestampMillisecond c) p q _ _ (λ f n. refl) e
+      amount position.unix_millisecond (of.UnixTimestampMillisecond c) p q _ _ (λ f n. refl) e
   component_read (of.UnixTimestampMicrosecond c) e =
-      amount place.unix_microsecond (of.UnixTimestampMicrosecond c) p q _ _ (λ f n. refl) e
+      amount position.unix_microsecond (of.UnixTimestampMicrosecond c) p q _ _ (λ f n. refl) e
   component_read (of.UnixTimestampNanosecond c) e =
-      amount place.unix_nanosecond (of.UnixTimestampNanosecond c) p q _ _ (λ f n. refl) e
+      amount position.unix_nanosecond (of.UnixTimestampNanosecond c) p q _ _ (λ f n. refl) e
   component_read (of.Ignore c) e =
       kept (either_took (taken (of.Ignore c) p) _ (nat_le c.count.value (length p.rest)) q e (p.fields ≡ q.fields) refl
       (λ h. nothing_kept (of.Ignore c) p q c.count.value h))

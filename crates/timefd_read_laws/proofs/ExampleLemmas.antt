@@ -1,4 +1,4 @@
--- Worked examples.
+-- Examples.
 use Rattle.std.proofs.Common.{ℕ, ◌≡◌, ◌∙◌, ◌-◌, ◌++◌, false, true, codes, length, replicate, Some, Result, Ok, refl, sym}
 use Rattle.std.proofs.Common.{ap, arith, Err, is_ok}
 use Rattle.std.proofs.lemmas.Bool.{eq-eqb}
@@ -27,7 +27,7 @@ use Rattle.timefd_read_laws.specs.WrittenExamples.{WrittenExample, date_and, hou
 use Rattle.timefd_read_laws.specs.WrittenExamples.{standard_year, year_again}
 use Rattle.timefd_read_laws.proofs.WrittenLemmas.{plain_reads_written}
 
--- what is written of these numbers, and behind them
+-- what is written for these numbers, and after them
 abbrev pub of_numbers : ℕ → ℕ → ℕ → Result Text Unshown → Result Text Unshown
 of_numbers y m d more = followed
     (text_of (CalendarYearFullExtendedRange (record { padding = Padding.Zero; sign_is_mandatory = false }))
@@ -79,7 +79,7 @@ offset_example = (refl, refl, tt)
 pub stamp_example : StampExample
 stamp_example = (refl, refl)
 
--- The date has what was read, of these years.
+-- The date agrees with what was read, for these years.
 pub date_agrees : (d : Date) (k years : ℕ) → is_year (Some (with_sign false k)) years ≡ true → d.years ≡ years
     → d.month ≡ 11 → d.day ≡ 23 → DateAgrees (record date_fields { year = Some (with_sign false k) }) d
 date_agrees d k years is y m n DatePart.Day = eq-eqb 23 d.day (sym n)

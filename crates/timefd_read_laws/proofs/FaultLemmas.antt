@@ -1,4 +1,4 @@
--- A text is read as one list of fields, or has one fault, which is answered.
+-- A text is read as exactly one list of fields, or has exactly one fault, which reading returns.
 use Rattle.std.proofs.Common.{ℕ, ◌≡◌, ◌∙◌, ◌⊎◌, inl, inr, ◌++◌, ◌-◌, ◌==◌, Bool, true, false, [], ◌∷◌, drop, length, Option, Some, None, Result, Ok, Err, refl, sym, ap, subst, arith, append_assoc, length-append}
 use Rattle.std.specs.Prelude.{eqb, is_some, if◌then◌else◌, ⊤}
 use Rattle.std.specs.Cmp.{unsigned_Decides}
@@ -12,7 +12,7 @@ use Rattle.timefd_read_dates.specs.declared.fault.Reason.{Reason}
 use Rattle.timefd_read_dates.specs.declared.fault.Reason.TheVariants as for
 use Rattle.timefd_read_dates.specs.declared.fields.Fields.{Fields}
 use Rattle.timefd_read_dates.specs.Inputs.{input}
-use Rattle.timefd_read_dates.specs.Laws.{IsBehind}
+use Rattle.timefd_read_dates.specs.Laws.{IsAfter}
 use Rattle.timefd_read_dates.specs.Readings.{with_reading}
 use Rattle.timefd_read_dates.specs.Reads.{Point, agreed, at, earlier, ended, fault_at, fields_of, followed, read, read_all, read_first, read_literal, start, taken, unless_read, whole}
 use Rattle.timefd_read_dates.specs.Relations.{Reads, ReadsAll, ReadsComponent, ReadsFirst}
@@ -23,7 +23,7 @@ use Rattle.std.proofs.lemmas.Bool.{eqb-true}
 use Rattle.timefd_read_moment.proofs.ShownLemmas.{clash}
 use Rattle.timefd_read_laws.specs.Faults.{FaultsExactly, FieldsExactly, HasFault, HasOneAnswer, IsOtherwise, IsUnread, NoneReads, OneAnswer, ReadsWhole, Stops, StopsAmong, Trails, stands}
 
--- what is answered is one thing
+-- reading returns only one result
 
 abbrev in_ok : {A E : Type 0} → A → Result A E → A
 in_ok a (Ok b) = b
@@ -42,7 +42,7 @@ faulty : {E : Type 0} (r : Result Point E) (P : Point → Type 0) → ((q : Poin
 faulty (Ok q) P is none = absurd (none q (is q refl))
 faulty (Err e) P is none = (e, refl)
 
--- What reads is no fault.
+-- What is read has no fault.
 excludes : (t : Tree) (p q s : Point) (r : Reason) → read t p ≡ fault_at q r → Reads t p s → ⊥
 excludes t p q s r f is = unfaulty (read t p) s _ f ((reads_exactly t p s).0 is)
 
@@ -130,7 +130,7 @@ module _ (bytes : Text) (p : Point) where
     ),
   )
 
--- what stops is answered as a fault
+-- if a description stops, reading returns that as a fault
 
 none_first : (f : _) (ts : Trees) (p : Point) → NoneReads ts p → read_first (Some f) ts p ≡ Err f
 none_first f no_trees p none = refl
@@ -157,7 +157,7 @@ mutual
       ap (λ x. followed x (λ m. read_all ts m)) ((reads_exactly t p s.0).0 s.1)
       ∙ stopped_among ts s.0 q r s.2
 
--- Each description is read at a place, or stops.
+-- From each position a description is read, or stops.
 
 abbrev IsAnswered : Tree → Point → Type 0
 IsAnswered t p = ((q : Point) × Reads t p q) ⊎ ((q : Point) × (r : Reason) × Stops t p q r)
@@ -187,10 +187,10 @@ next_answered t ts p (inl a) others = inl (a.0, inl a.1)
 next_answered t ts p (inr a) (inl b) = inl (b.0, inr ((λ s is. not_read t p a.0 s a.1 a.2 is), b.1))
 next_answered t ts p (inr a) (inr none) = inr ((λ s is. not_read t p a.0 s a.1 a.2 is), none)
 
-behind_answered : (t : Tree) (ts : Trees) (p : Point) → IsAnswered t p → ((q : Point) → IsAnsweredAll ts q)
+after_answered : (t : Tree) (ts : Trees) (p : Point) → IsAnswered t p → ((q : Point) → IsAnsweredAll ts q)
     → IsAnsweredAll (more_trees t ts) p
-behind_answered t ts p (inr a) others = inr (a.0, a.1, inl a.2)
-behind_answered t ts p (inl a) others = by (others a.0)
+after_answered t ts p (inr a) others = inr (a.0, a.1, inl a.2)
+after_answered t ts p (inl a) others = by (others a.0)
   where
     by : IsAnsweredAll ts a.0 → IsAnsweredAll (more_trees t ts) p
     by (inl b) = inl (b.0, (a.0, a.1, b.1))
@@ -207,16 +207,16 @@ mutual
 
   answered_all : (ts : Trees) (p : Point) → IsAnsweredAll ts p
   answered_all no_trees p = inl (p, refl)
-  answered_all (more_trees t ts) p = behind_answered t ts p (answered t p) (λ q. answered_all ts q)
+  answered_all (more_trees t ts) p = after_answered t ts p (answered t p) (λ q. answered_all ts q)
 
   answered_first : (ts : Trees) (p : Point) → IsAnsweredFirst ts p
   answered_first no_trees p = inr tt
   answered_first (more_trees t ts) p = next_answered t ts p (answered t p) (answered_first ts p)
 
--- What is read, or stops, is behind a front.
+-- A description is read up to, or stops at, a position after a front of the text.
 
 reads_front : (t : Tree) (p q : Point) → Reads t p q → (front : Text) × (p.rest ≡ front ++ q.rest)
-reads_front t p q is = subst (IsBehind p) ((reads_exactly t p q).0 is) (reads_fronts t p)
+reads_front t p q is = subst (IsAfter p) ((reads_exactly t p q).0 is) (reads_fronts t p)
 
 mutual
   stops_front : (t : Tree) (p q : Point) (r : Reason) → Stops t p q r → (front : Text) × (p.rest ≡ front ++ q.rest)
@@ -263,7 +263,7 @@ index_of text front rest cut = omega (arith, ap length cut, length-append front 
 
 fault_answered : (t : Tree) (text : Text) (e : ReadError) → HasFault t text e → fields_of t text ≡ Err e
 fault_answered t text e h = by h.why ∙ ap (λ n. Err (record { reason = e.reason; index = n }))
-    (index_of text h.front h.rest h.cut ∙ sym h.place)
+    (index_of text h.front h.rest h.cut ∙ sym h.position)
   where
     by : Stops t (start text) (at h.rest h.fields) e.reason ⊎ Trails t text (at h.rest h.fields) e.reason
         → fields_of t text ≡ Err (record { reason = e.reason; index = length text - length h.rest })
@@ -279,7 +279,7 @@ has_fault : (t : Tree) (text front rest : Text) (f : Fields) (r : Reason) → te
     → (Stops t (start text) (at rest f) r ⊎ Trails t text (at rest f) r) → (e : ReadError) × HasFault t text e
 has_fault t text front rest f r cut why = (
   record { reason = r; index = length front },
-  record { front = front; rest = rest; fields = f; cut = cut; place = refl; why = why },
+  record { front = front; rest = rest; fields = f; cut = cut; position = refl; why = why },
 )
 
 abbrev IsWholeOrFault : Tree → Text → Type 0

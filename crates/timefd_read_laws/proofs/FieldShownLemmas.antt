@@ -1,4 +1,4 @@
--- Each component shows something of a moment of which its field was read.
+-- Each component shows something for a moment if its field was read.
 use Rattle.std.proofs.Common.{ℕ, ◌≡◌, ◌∙◌, ◌≤◌, ◌+◌, ◌*◌, ◌/◌, ◌==◌, ◌||◌, Bool, true, nat_le, if◌then◌else◌}
 use Rattle.std.proofs.Common.{Option, Some, None, Result, Ok, Err, refl, ap, subst, arith, is_ok}
 use Rattle.std.proofs.lemmas.Bool.{eqb-true, le-leb}
@@ -40,7 +40,7 @@ instant_by x y z c =
 if_ok : {A E : Type 0} (b : Bool) (a : A) (e : E) → b ≡ true → is_ok (if b then Ok a else Err e) ≡ true
 if_ok b a e is = ap (λ x. is_ok (if x then Ok a else Err e)) is
 
--- A year that was read is no greater than what was read.
+-- The year of the date is no greater than the year that was read.
 
 part_small : (x : Option Signed) (negative : Bool) (whole part n : ℕ) → IsAtMost n x
     → is_shown x negative whole part ≡ true → part ≤ n

@@ -70,7 +70,7 @@ nine_digits n h =
       value = zeros_value k (decimal n) ∙ of.1;
     }
 
--- The first of them are those of the number that is cut there.
+-- The first of the nine digits are those of the number that is cut off there.
 cut_by : (a b ds : Text) (n k : ℕ) → AreNine n ds → ds ≡ a ++ b → length b ≡ k
     → digits_value 10 a ≡ n / 10 ^ k
 cut_by a b ds n k h e is =
@@ -101,7 +101,7 @@ first_len k n h small =
       length-append (take k ds) (drop k ds),
     )
 
--- So many digits are read as the number that is cut behind them, whatever follows.
+-- The first k digits are read as the number that is cut off after them, whatever follows.
 pub first_digits : (k n : ℕ) (rest : Text) → k ≤ 9 → n ≤ 999999999
     → digits k k (take k (filled Padding.Zero 9 n) ++ rest)
     ≡ Some (digits_value 10 (take k (filled Padding.Zero 9 n)), length (take k (filled Padding.Zero 9 n)))
@@ -119,9 +119,9 @@ pub first_value : (k n : ℕ) → k ≤ 9 → n ≤ 999999999
 first_value k n h small =
     let ds = filled Padding.Zero 9 n in
     let is = nine_digits n small in
-    let behind : length (drop k ds) ≡ 9 - k = omega (arith, is.nine, length-drop k ds) in
+    let after : length (drop k ds) ≡ 9 - k = omega (arith, is.nine, length-drop k ds) in
     let value : digits_value 10 (take k ds) ≡ n / unit k =
-    cut_by (take k ds) (drop k ds) ds n (9 - k) is (sym (take-append-drop k ds)) behind
+    cut_by (take k ds) (drop k ds) ds n (9 - k) is (sym (take-append-drop k ds)) after
     ∙ ap (λ (x : ℕ). n / x) (sym (unit_is k)) in
     λ i. value i * unit (first_len k n h small i)
 

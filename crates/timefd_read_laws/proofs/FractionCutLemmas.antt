@@ -1,4 +1,4 @@
--- A number of nanoseconds that is cut behind some digits.
+-- A number of nanoseconds that is cut off after some digits.
 use Rattle.std.proofs.Common.{ℕ, ◌≡◌, ◌∙◌, ◌≤◌, ◌<◌, ◌-◌, ◌*◌, ◌/◌, ◌^◌, ◌==◌, Bool, true, false, nat_le, if◌then◌else◌}
 use Rattle.std.proofs.Common.{Option, None, Some, refl, sym, ap, subst, arith}
 use Rattle.std.proofs.Math.Nat.{div-div-eq-div-mul, mul-div_cancel, pow-le-pow_right}
@@ -10,7 +10,7 @@ use Rattle.timefd_read_dates.specs.Readings.{agree, finer, fraction_with, unit, 
 use Rattle.timefd_read_laws.specs.Shown.{cut, cut_where, more_digits}
 use Rattle.timefd_read_laws.proofs.FractionBackLemmas.{unit_is}
 
--- Cut twice is cut behind fewer digits.
+-- Cutting twice is the same as cutting after the fewer digits.
 
 some_power : (k : ℕ) → 0 < 10 ^ k
 some_power k =
@@ -55,7 +55,7 @@ same_cut f a b n = by (nat_le a b) refl
         ap (λ c. if c then Some (with_fraction f (cut a n)) else None)
         (same_at a b b n (omega (arith, leb-false a b (sym e))) (omega arith))
 
--- The digits of a second beside those that were read before.
+-- The digits of a second together with those that were read before.
 pub fraction_kept : (f : Fields) (x : Fraction) (a : Option ℕ) (k n : ℕ) → x ≡ cut k n
     → fraction_with f x (cut_where a n) ≡ Some (with_fraction f (cut (more_digits a k) n))
 fraction_kept f x None k n e = ap (λ y. Some (with_fraction f y)) e

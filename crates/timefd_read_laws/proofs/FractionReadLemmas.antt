@@ -1,4 +1,4 @@
--- What the reading of a fraction leaves.
+-- The fields after a fraction was read.
 use Rattle.std.proofs.Common.{ℕ, ◌≡◌, ◌∙◌, ◌*◌, ◌%◌, nat_le, min, Bool, true, false, if◌then◌else◌, take, Option, Some, None}
 use Rattle.std.proofs.Common.{Ok, refl, ap, subst, arith}
 use Rattle.std.specs.Prelude.{⊤}
@@ -26,7 +26,7 @@ use Rattle.timefd_read_laws.proofs.GrowLemmas.{any, by_subsecond, kind_more}
 use Rattle.timefd_read_laws.proofs.ReadRowLemmas.{Leaves}
 use Rattle.timefd_read_laws.proofs.StepLemmas.{IsWhole, agreed_is}
 
--- the finer one of what is read and what was read before
+-- the finer of the fraction that is read and the one that was read before
 abbrev later : Fraction → Option Fraction → Fraction
 later read None = read
 later read (Some before) = finer before read
@@ -56,7 +56,7 @@ later_digits : (read : Fraction) (before : Option Fraction)
 later_digits read None = refl
 later_digits read (Some before) = finer_digits before read (nat_le before.digits read.digits)
 
--- with so many digits
+-- the fields after a fraction of k digits was read
 abbrev Timed : ℕ → Point → Point → Type 0
 Timed k p q = Leaves (record (parts p.fields) { subsecond = Some (more_digits (digits_of p.fields.subsecond) k) })
     kind.Time any p.fields q.fields
@@ -75,7 +75,7 @@ fraction_is p q read whole e =
       knows = record { kind = known; range = tt };
     })
 
--- so many digits were found that a number of them has no more
+-- the number that was found has no more than k digits after the point
 abbrev HasLen : ℕ → Option (ℕ × ℕ) → Type 0
 HasLen k None = ⊤
 HasLen k (Some r) = r.0 * unit r.1 % unit k ≡ 0

@@ -1,4 +1,4 @@
--- Of what a field is known, and that it stays so with one field more, as does how great a year is.
+-- The kinds that are known from fields stay known with one more field. So do the bounds of years.
 use Rattle.std.proofs.Common.{ℕ, ◌≡◌, ◌∙◌, ◌≤◌, Bool, true, Option, Some, None, sym, ap, subst, ◌||◌}
 use Rattle.std.specs.Prelude.{is_some, ⊤}
 use Rattle.std.proofs.lemmas.Bool.{or_left, or_right}
@@ -52,7 +52,7 @@ in_hour f e = in_clock f (one (has_hour f) (is_some f.minute) (is_some f.second)
 pub by_subsecond : (f : Fields) → is_some f.subsecond ≡ true → has_time f ≡ true
 by_subsecond f e = or_right ((has_hour f || is_some f.minute) || is_some f.second) (is_some f.subsecond) e
 
--- all that is known
+-- all the kinds that are known
 
 pub record Kinds : Type 0 where
   pub date : Bool
@@ -77,7 +77,7 @@ is_known of.Offset k = k.offset
 is_known of.Instant k = k.stamp
 is_known of.Nothing k = true
 
--- with one field more of a kind
+-- with one more field of a kind
 pub kind_more : (k : Kind) (f g : Fields) → has_kind k g ≡ true → but k (kinds f) ≡ but k (kinds g)
     → (j : Kind) → has_kind j f ≡ true → has_kind j g ≡ true
 kind_more of.Date f g e same of.Date h = e
@@ -87,7 +87,7 @@ kind_more of.Instant f g e same of.Instant h = e
 kind_more of.Nothing f g e same of.Nothing h = h
 kind_more k f g e same j h = sym (ap (is_known j) same) ∙ h
 
--- how great years are
+-- bounds of years
 
 pub record Years : Type 0 where
   pub year : Option Signed
@@ -117,7 +117,7 @@ InRange (century n) y = IsAtMost n y.century
 InRange (iso_year n) y = IsAtMost n y.iso_year
 InRange (iso_century n) y = IsAtMost n y.iso_century
 
--- where none was read of a field, it may have any value afterwards
+-- if a field wasn't read before, it may have any value afterwards
 
 none_at_most : (n : ℕ) (x : Option Signed) → x ≡ None → IsAtMost n x → ⊥
 none_at_most n x e h = subst (IsAtMost n) e h
@@ -142,7 +142,7 @@ pub iso_century_more : (y z : Years) → y.iso_century ≡ None
 iso_century_more y z e same (iso_century n) h = absurd (none_at_most n y.iso_century e h)
 iso_century_more y z e same r h = subst (InRange r) same h
 
--- What was known stays so.
+-- What was known stays known.
 
 pub record Grows (f g : Fields) : Type 0 where
   pub kind : (k : Kind) → has_kind k f ≡ true → has_kind k g ≡ true
@@ -157,7 +157,7 @@ both_grow f g h a b = record {
   range = λ r e. b.range r (a.range r e);
 }
 
--- Of a kind, and in a range of years.
+-- Something of a kind is known, and the years are in a range.
 pub record Knows (k : Kind) (r : Range) (f : Fields) : Type 0 where
   pub kind : has_kind k f ≡ true
   pub range : InRange r (years f)

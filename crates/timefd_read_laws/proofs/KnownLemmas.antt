@@ -1,4 +1,4 @@
--- What fields determine rests on which of them there are.
+-- Whether fields determine a value depends only on which fields there are.
 use Rattle.std.proofs.Common.{ℕ, ◌≡◌, ◌∙◌, ◌&&◌, ◌||◌, not, Bool, true, false, if◌then◌else◌, Option, Some, None, Result}
 use Rattle.std.proofs.Common.{Ok, Err, refl, sym, ap, is_ok}
 use Rattle.std.specs.Prelude.{is_some}
@@ -64,7 +64,7 @@ some_monday_week : (y w d : Option ℕ) → is_some (monday_week y w d) ≡ is_s
 some_monday_week (Some y) (Some w) (Some d) = refl
 some_monday_week y w d = refl
 
--- of two ways
+-- either of two ways
 either_way : {W : Type 0} (either : Option W → Option W → Option W) (a b : Option W)
     → ((w : W) → is_some (either (Some w) b) ≡ true) → is_some (either None b) ≡ is_some b
     → is_some (either a b) ≡ is_some a || is_some b
@@ -224,7 +224,7 @@ stamp_known_is f =
 pub same_stamp : (f g : Fields) → parts f ≡ parts g → is_some (instant_read f) ≡ is_some (instant_read g)
 same_stamp f g e = stamp_known_is f ∙ ap stamp_known e ∙ sym (stamp_known_is g)
 
--- So it is of which kinds something was read.
+-- The kinds that were read depend only on which fields there are.
 
 abbrev date_shown : Shows → Bool
 date_shown s =

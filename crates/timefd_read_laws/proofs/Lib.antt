@@ -6,7 +6,7 @@ pub mod FractionCutLemmas
 pub mod BoundLemmas
 pub mod RowLemmas
 pub mod GrowLemmas
-pub mod PlaceLemmas
+pub mod PositionLemmas
 pub mod WidthRowLemmas
 pub mod SecondRowLemmas
 pub mod TableLemmas

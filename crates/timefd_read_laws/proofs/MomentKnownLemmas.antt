@@ -1,4 +1,4 @@
--- What is known of a moment that was read.
+-- What is known about a moment that was read.
 use Rattle.std.proofs.Common.{◌≡◌, ◌∙◌, Bool, true, false, Option, Some, None, Result, Ok, refl, sym, ap, subst}
 use Rattle.std.specs.Prelude.{is_some, ⊤}
 use Rattle.timefd_format.specs.declared.field.Kind.{Kind}
@@ -25,7 +25,7 @@ use Rattle.timefd_read_laws.proofs.GrowLemmas.{has_kind}
 use Rattle.timefd_read_laws.proofs.KnownLemmas.{some_instant}
 use Rattle.timefd_read_laws.proofs.RestLemmas.{within_again}
 
--- a date with all that was read of it
+-- the moment has a date, which agrees with everything that was read
 pub record HasDate (m : Moment) (f : Fields) : Type 0 where
   pub date : Date
   pub is : m.date ≡ Some date
@@ -39,7 +39,7 @@ pub record HasOffset (m : Moment) : Type 0 where
   pub offset : UtcOffset
   pub is : m.offset ≡ Some offset
 
--- all three, of an instant in the years of UTC
+-- the moment has all three parts, and is an instant in the years of UTC
 pub record HasInstant (m : Moment) (f : Fields) : Type 0 where
   pub date : Date
   pub agrees : DateAgrees f date
@@ -64,7 +64,7 @@ of_instant m f of.Offset h = record { offset = h.offset; is = h.is_offset }
 of_instant m f of.Instant h = h
 of_instant m f of.Nothing h = tt
 
--- Where a value is wanted, it is known.
+-- If a value is needed, it is known.
 pub value_known : {A : Type 0} (Is : A → Type 0) (b : Bool) (x : Option A) (P : Type 0) → b ≡ true → IsKnownIf b Is x
     → ((a : A) → x ≡ Some a → Is a → P) → P
 value_known Is true (Some a) P e h k = k a refl h
@@ -74,7 +74,7 @@ value_known Is false x P e h k = absurd (clash true (sym e) refl)
 no_stamp : (x : Option UnixTime) → x ≡ None → is_some x ≡ true → ⊥
 no_stamp x none some = clash (is_some x) (ap is_some none) some
 
--- Without a timestamp each part is known of which something was read.
+-- Without a timestamp, a part is known if something was read about it.
 pub by_parts : (m : Moment) (f : Fields) (k : Kind) → instant_read f ≡ None → HasValuesBy None m f → has_kind k f ≡ true
     → Has k m f
 by_parts m f of.Date none h e =
@@ -95,7 +95,7 @@ by_parts m f of.Instant none h e =
     (some_instant f.subsecond f.unix_nanosecond f.unix_microsecond f.unix_millisecond f.unix_second ∙ e))
 by_parts m f of.Nothing none h e = tt
 
--- So it is with the parts of a moment that was answered.
+-- The same holds for the parts of a moment that reading gave.
 part_known : {A : Type 0} (Is : Result A ValueError → Type 0) (b : Bool) (x : Option A) → IsPart b Is (Ok x)
     → IsKnownIf b (λ a. Is (Ok a)) x
 part_known Is false x h = tt
@@ -124,7 +124,7 @@ by_instant m f u (s, (agrees, at), known) = record {
       ap (λ n. is_within (unix_at n)) at.0.0 ∙ within_again u.is_negative u.nanoseconds at.0.1;
 }
 
--- A moment that was read has all that was read of it.
+-- A moment that was read has every part that something was read about.
 pub moment_known : (m : Moment) (f : Fields) (k : Kind) → IsMomentOf f (Ok m) → has_kind k f ≡ true → Has k m f
 moment_known m f k h e = by (instant_read f) refl h
   where

@@ -15,7 +15,7 @@ use Rattle.timefd_read_dates.specs.Rules.{period_names}
 use Rattle.timefd_read_dates.proofs.BackLemmas.{in_range}
 use Rattle.timefd_read_dates.proofs.EndedLemmas.{digits_back}
 
--- what holds of each number below this
+-- the property holds of each number below this
 abbrev Below : ℕ → (ℕ → Type 0) → Type 0
 Below zero P = ⊤
 Below (suc k) P = P zero × Below k (λ n. P (suc n))
@@ -25,7 +25,7 @@ below zero P all n h = absurd (omega (arith, h))
 below (suc k) P all zero h = all.0
 below (suc k) P all (suc n) h = below k (λ i. P (suc i)) all.1 n (omega (arith, h))
 
--- The name at this place is the first that stands at the front.
+-- The name with this index is the first of the list that the text begins with.
 abbrev IsBack : Bool → List Text → Text → ℕ → Type 0
 IsBack is_case_sensitive names rest n =
     name_from 0 is_case_sensitive names (get_or names n [] ++ rest) ≡ Some (n, length (get_or names n []))
@@ -75,17 +75,17 @@ pub less_first : (b : Bool) (n : ℕ) → from_one b n - first_number b ≡ n
 less_first true n = omega arith
 less_first false n = omega arith
 
-abbrev pub period_place : Bool → ℕ
-period_place true = 1
-period_place false = 0
+abbrev pub period_position : Bool → ℕ
+period_position true = 1
+period_position false = 0
 
-pub place_is : (b : Bool) → (period_place b == 1) ≡ b
-place_is true = refl
-place_is false = refl
+pub position_is : (b : Bool) → (period_position b == 1) ≡ b
+position_is true = refl
+position_is false = refl
 
 pub period_back : (is_uppercase is_case_sensitive is_afternoon : Bool) (rest : Text)
     → name_from 0 is_case_sensitive (listed (period_names is_uppercase)) (period_text is_uppercase is_afternoon ++ rest)
-    ≡ Some (period_place is_afternoon, length (period_text is_uppercase is_afternoon))
+    ≡ Some (period_position is_afternoon, length (period_text is_uppercase is_afternoon))
 period_back true true true rest = refl
 period_back true true false rest = refl
 period_back true false true rest = refl

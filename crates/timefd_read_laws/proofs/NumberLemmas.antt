@@ -10,7 +10,7 @@ use Rattle.timefd_read_dates.proofs.EndedLemmas as ended
 use Rattle.timefd_settled.specs.Bounds.{number_bound}
 use Rattle.timefd_read_laws.specs.Bounds.{IsBounded}
 
--- A number has no more digits than its width, where there is no room for more; or no digit follows it.
+-- Either there is no room for more digits than the width, or no digit follows the number.
 abbrev pub IsEnded : Padding → ℕ → ℕ → Text → Type 0
 IsEnded padding width most rest = ((width ≡ most) × IsBounded (number_bound padding) rest) ⊎ HasNoDigit rest
 

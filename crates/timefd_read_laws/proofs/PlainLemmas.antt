@@ -1,4 +1,4 @@
--- What is read of a whole text. Of a plain description that is all that is written.
+-- What is read from a whole text. With a plain description that is everything that is written.
 use Rattle.std.proofs.Common.{◌≡◌, ◌∙◌, ◌-◌, ◌==◌, inl, inr, Bool, true, false, if◌then◌else◌, length, Result, Ok, Err}
 use Rattle.std.proofs.Common.{refl, sym, ap, subst, is_ok}
 use Rattle.timefd_component.specs.declared.component.Component.{Component}
@@ -17,7 +17,7 @@ use Rattle.timefd_read_laws.specs.Shown.{with_tree, with_trees}
 use Rattle.timefd_read_laws.proofs.ComponentReadLemmas.{component_read}
 use Rattle.timefd_read_laws.proofs.StepLemmas.{IsWhole, in_ok}
 
--- What was read of the whole text was read up to its end.
+-- If the whole text was read, it was read up to its end.
 
 ended_is : (f g : Fields) (error : ReadError) (b : Bool) → (if b then Ok f else Err error) ≡ Ok g → f ≡ g
 ended_is f g error true e = ap (in_ok f) e
@@ -28,7 +28,7 @@ pub record IsReadWhole (t : Tree) (text : Text) (f : Fields) : Type 0 where
   pub fields : end.fields ≡ f
   pub reads : Reads t (start text) end
 
--- where nothing comes of a fault
+-- if a fault leads to no result
 end_of : {E : Type 0} (g : Result Point E → Result Fields ReadError) (r : Result Point E) (f : Fields)
     (P : Type 0) → ((x : E) → is_ok (g (Err x)) ≡ false) → ((p : Point) → r ≡ Ok p → g (Ok p) ≡ Ok f → P)
     → g r ≡ Ok f → P
@@ -67,7 +67,8 @@ parts_read tree text f plain e =
     let h = read_whole tree text f e in
     ap parts (sym h.fields) ∙ tree_parts tree (start text) h.end plain h.reads
 
--- What holds of the reading of each component, of none, and of one behind another, holds of the reading of a tree.
+-- What holds of reading a component, of reading nothing, and of reading one after another, holds of reading a
+-- tree.
 module _ (R : Fields → Fields → Type 0) (none : (f : Fields) → R f f) (both : (f g h : Fields) → R f g → R g h → R f h)
     (one : (c : Component) (p q : Point) → read_component c p ≡ Ok q → R p.fields q.fields) where
   same_point : (p q : Point) → q ≡ p → R p.fields q.fields

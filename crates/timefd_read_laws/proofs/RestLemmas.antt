@@ -1,4 +1,4 @@
--- The digits of a second that a timestamp lacks are those of the fraction that was read, and else 0.
+-- The digits of a second that a timestamp lacks are those of the fraction that was read, or 0 without one.
 use Rattle.std.proofs.Common.{ℕ, ◌≡◌, ◌∙◌, ◌≤◌, ◌+◌, ◌-◌, ◌*◌, ◌/◌, ◌%◌, ◌⊎◌, inl, inr, Bool, true, false, nat_le, nat_lt}
 use Rattle.std.proofs.Common.{if◌then◌else◌, Option, Some, None, min, refl, sym, ap, subst, arith}
 use Rattle.std.specs.Prelude.{is_some}
@@ -13,7 +13,7 @@ use Rattle.timefd_read_dates.specs.declared.fields.Signed.{Signed}
 use Rattle.timefd_read_dates.specs.Readings.{unit}
 use Rattle.timefd_read_moment.specs.StampLaws.{HasDigitsBy, HasRest}
 use Rattle.timefd_read_moment.specs.Stamped.{has_digits}
-use Rattle.timefd_read_moment.specs.Stamps.{behind_second, by_second, by_unit, fraction_read, in_second, instant_by}
+use Rattle.timefd_read_moment.specs.Stamps.{after_second, by_second, by_unit, fraction_read, in_second, instant_by}
 use Rattle.timefd_read_moment.specs.Stamps.{is_finer, stamp_magnitude, within_second}
 use Rattle.timefd_read_moment.specs.Times.{nanosecond_read}
 use Rattle.timefd_read_moment.proofs.StampedLemmas.{unix_at}
@@ -22,7 +22,7 @@ use Rattle.timefd_read_laws.specs.Shown.{cut_where, if_shown}
 use Rattle.timefd_read_laws.proofs.StepLemmas.{IsWhole}
 use Rattle.timefd_read_laws.proofs.ValueBackLemmas.{whole_units}
 
--- Over plain numbers: so many nanoseconds before or behind 1970, counted as those of dates are.
+-- On plain numbers: m nanoseconds before or after the start of 1970, counted like those of dates.
 
 abbrev pub counted : Bool → ℕ → ℕ
 counted b m = if b then unix_start * 1000000000 - m else unix_start * 1000000000 + m
@@ -35,14 +35,14 @@ in_years : (b : Bool) (m : ℕ) → within b m ≡ true → m ≤ unix_start * 1
 in_years true m e = omega (arith, leb-true _ _ e)
 in_years false m e = omega (arith, ltb-true _ _ e)
 
--- The nanoseconds of the second are these, or there are none.
+-- The nanoseconds of the second are those of the fraction, or 0.
 abbrev IsRest : ℕ → ℕ → Type 0
 IsRest n fraction = (n ≡ fraction % 1000000000) ⊎ (n ≡ 0)
 
-behind_rest : (b : Bool) (w fraction q n : ℕ) → q * 1000000000 + n ≡ counted b (behind_second b w fraction)
-    → within b (behind_second b w fraction) ≡ true → n ≤ 999999999 → fraction ≤ 1000000000 → IsRest n fraction
-behind_rest false w fraction q n e h few small = inl (omega (arith, e, few, small))
-behind_rest true w fraction q n e h few small = by (nat_le fraction (w * 1000000000)) refl
+after_rest : (b : Bool) (w fraction q n : ℕ) → q * 1000000000 + n ≡ counted b (after_second b w fraction)
+    → within b (after_second b w fraction) ≡ true → n ≤ 999999999 → fraction ≤ 1000000000 → IsRest n fraction
+after_rest false w fraction q n e h few small = inl (omega (arith, e, few, small))
+after_rest true w fraction q n e h few small = by (nat_le fraction (w * 1000000000)) refl
   where
     by : (t : Bool) → nat_le fraction (w * 1000000000) ≡ t → IsRest n fraction
     by true is = inl (omega (arith, e, few, small, leb-true _ _ is, in_years true _ h))
@@ -63,7 +63,7 @@ no_millionth : (b : Bool) (k q n : ℕ) → q * 1000000000 + n ≡ counted b (k 
 no_millionth true k q n e h = omega (arith, e, in_years true _ h)
 no_millionth false k q n e h = omega (arith, e)
 
--- A fraction that was read is the second's where its digits are.
+-- A fraction that was read is that of the second, if its digits are.
 
 fraction_small : (fraction : Option Fraction) → fraction_read fraction ≤ 1000000000
 fraction_small fraction = omega arith
@@ -85,7 +85,7 @@ fraction_rest (Some x) n few whole h rest =
 
 -- timestamps
 
--- what an instant is that was read
+-- what holds of an instant that was read
 abbrev Ends : Option Fraction → UnixTime → ℕ → ℕ → Type 0
 Ends fraction u q n = (q * 1000000000 + n ≡ count u) × (is_within u ≡ true) × (n ≤ 999999999) × IsWhole fraction
     × (has_digits fraction n ≡ true)
@@ -94,9 +94,9 @@ second_rest : (fraction : Option Fraction) (s : Signed) (q n : ℕ) → Ends fra
     → nanosecond_read fraction ≡ n
 second_rest fraction s q n (e, h, few, whole, has) =
     fraction_rest fraction n few whole has
-    (behind_rest s.is_negative (stamp_magnitude s) (fraction_read fraction) q n e h few (fraction_small fraction))
+    (after_rest s.is_negative (stamp_magnitude s) (fraction_read fraction) q n e h few (fraction_small fraction))
 
--- by a smaller unit than seconds
+-- with a smaller unit than seconds
 unit_rest : (fraction : Option Fraction) (k size : ℕ) (s : Signed) (q n : ℕ) → Ends fraction (by_unit fraction k size s) q n
     → (q * 1000000000 + n ≡ counted s.is_negative (stamp_magnitude s * size)
     → within s.is_negative (stamp_magnitude s * size) ≡ true → n % size ≡ 0)
@@ -132,7 +132,7 @@ digits_kept fraction None None None (Some k) u q n e at h few whole has =
     second_rest fraction k q n (ends_of fraction u _ q n (at, h, few, whole, has) e)
 digits_kept fraction None None None None u q n e at h few whole has = absurd cc
 
--- Of what is shown of them the same holds.
+-- The same holds of the fields that are shown.
 
 fraction_again : (fraction : Option Fraction) (n : ℕ) → IsWhole fraction → nanosecond_read fraction ≡ n
     → nanosecond_read (cut_where (digits_of fraction) n) ≡ n

@@ -1,4 +1,4 @@
--- What one component reads, and the fields with it.
+-- What one component reads, and the fields after it.
 use Rattle.std.proofs.Common.{ℕ, ◌≡◌, ◌∙◌, ◌≤◌, ◌<◌, ◌/◌, ◌++◌, ◌==◌, Bool, true, false, ◌||◌, nat_le, if◌then◌else◌}
 use Rattle.std.proofs.Common.{length, Option, Some, None, Result, Ok, Err, IfOk, IfSome, refl, sym, ap, subst}
 use Rattle.std.proofs.Math.Seq.{drop-append_seam}
@@ -27,20 +27,20 @@ use Rattle.timefd_read_laws.specs.Bounds.{IsBounded}
 use Rattle.timefd_read_laws.specs.Laws.{at}
 use Rattle.timefd_read_laws.specs.Shown.{IsOf, Shows, fields_shown, if_shown, with_component}
 
--- The text of a component is read with its fields, and no more of what stands behind it.
+-- The text of a component is read as its fields, and nothing of what follows is read.
 abbrev pub Row : Date → Time → UtcOffset → Shows → Component → Text → Type 0
 Row d t o s c text = (rest : Text) → IsBounded (bound_of c) rest
     → read_component c (at d t o s (text ++ rest)) ≡ Ok (at d t o (with_component c s) rest)
 
--- Behind it is what follows the text.
-pub behind : (c : Component) (d : Date) (t : Time) (o : UtcOffset) (s v : Shows) (text rest : Text)
+-- After reading the text, the rest is what follows it.
+pub after : (c : Component) (d : Date) (t : Time) (o : UtcOffset) (s v : Shows) (text rest : Text)
     (r : Option Fields) → r ≡ Some (fields_shown d t o v)
     → agreed c (at d t o s (text ++ rest)) (length text) r ≡ Ok (at d t o v rest)
-behind c d t o s v text rest r e =
+after c d t o s v text rest r e =
     ap (agreed c (at d t o s (text ++ rest)) (length text)) e
     ∙ ap (λ (xs : Text). Ok (at d t o v xs)) (drop-append_seam text rest)
 
--- What is read once more has to be the same.
+-- A field that is read twice has to have the same value.
 abbrev pub merged : {A : Type 0} → (A → A → Bool) → Fields → (A → Fields) → A → Option A → Option Fields
 merged is_same f set n None = Some (set n)
 merged is_same f set n (Some before) = kept f (is_same before n)
@@ -65,7 +65,7 @@ same_number a =
     ap (λ b. if b then a.magnitude == a.magnitude else false) (same_sign a.is_negative)
     ∙ eq-eqb a.magnitude a.magnitude refl
 
--- What a moment has is what these have.
+-- The parts that a moment has are these.
 
 pub of_date : (P : Field → Type 0) (known : Option Date) (d : Date) (g : Date → Result Field Lack)
     → IfSome known (λ e. e ≡ d) → IfOk (g d) P → IfOk (on_date known g) P
@@ -98,7 +98,7 @@ pub no_plus : (mandatory : Bool) (n : ℕ) → (mandatory || nat_le 10000 n) ≡
 no_plus true n e = absurd (clash true e refl)
 no_plus false n e = (refl, leb-false 10000 n e)
 
--- The text of a field is read with the fields of its component, and no more.
+-- The text of a field is read as the fields of its component, and nothing of what follows is read.
 abbrev pub IsRow : Date → Time → UtcOffset → Shows → Component → Field → Type 0
 IsRow d t o s c f = Row d t o s c (field_text f)
 

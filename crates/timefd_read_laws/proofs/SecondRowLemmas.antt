@@ -23,7 +23,7 @@ use Rattle.timefd_read_laws.specs.Laws.{at}
 use Rattle.timefd_read_laws.specs.Shown.{Shows, cut_where, fields_shown, more_digits, with_component}
 use Rattle.timefd_read_laws.proofs.FractionBackLemmas.{first_digits, first_value, trimmed_back, trimmed_value}
 use Rattle.timefd_read_laws.proofs.FractionCutLemmas.{fraction_kept}
-use Rattle.timefd_read_laws.proofs.RowLemmas.{behind}
+use Rattle.timefd_read_laws.proofs.RowLemmas.{after}
 
 -- the digits of a second
 
@@ -35,14 +35,14 @@ module _ (d : Date) (t : Time) (o : UtcOffset) (s : Shows) where
       ≡ Ok (at d t o (with_component (Subsecond p) s) rest)
   fraction_by p k least most text rest v shown is value =
       ap (λ x. taken (Subsecond p) (at d t o s (text ++ rest)) (as_fraction k x)) is
-      ∙ behind (Subsecond p) d t o s (with_component (Subsecond p) s) text rest _
+      ∙ after (Subsecond p) d t o s (with_component (Subsecond p) s) text rest _
       (fraction_kept (fields_shown d t o s) (record { digits = k; nanosecond = v * unit (length text) })
       s.subsecond k t.nanosecond (ap (λ (x : ℕ). record { digits = k; nanosecond = x }) value)
       ∙ ap (λ (j : ℕ). Some (record (fields_shown d t o s) {
         subsecond = cut_where (Some (more_digits s.subsecond j)) t.nanosecond;
       })) (sym shown))
 
-  -- so many digits, and no more
+  -- exactly k digits
   digits_row : (p : SubsecondFields) (k : ℕ) → k ≤ 9 → digits_shown p.digits ≡ k → (rest : Text)
       → taken (Subsecond p) (at d t o s (take k (filled Padding.Zero 9 t.nanosecond) ++ rest))
       (as_fraction k (digits k k (take k (filled Padding.Zero 9 t.nanosecond) ++ rest)))

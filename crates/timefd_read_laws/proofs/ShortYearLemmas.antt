@@ -1,4 +1,4 @@
--- What can be written where the same fields were read as are written.
+-- What can be written if the fields that were read are the fields that are written.
 use Rattle.std.proofs.Common.{◌≡◌, ◌∙◌, ◌||◌, true, false, Option, IfSome, Ok, refl, subst, arith, ℕ, ◌/◌, Bool}
 use Rattle.std.proofs.Common.{nat_le, Result, Err, IfErr, sym, is_ok, unwrap_or}
 use Rattle.std.proofs.lemmas.Bool.{cond_both}
@@ -68,7 +68,7 @@ module _ (d : Date) (t : Time) (o : UtcOffset) where
           ),
         )
 
--- What each component shows of short years.
+-- What each component shows if years are short.
 
 module _ (m : Moment) (f : Fields) (short : IfSome m.date HasShortYears) where
   years_short : (h : HasDate m f) → HasShortYears h.date
@@ -93,7 +93,7 @@ module _ (m : Moment) (f : Fields) (short : IfSome m.date HasShortYears) where
       (year_shown 9999 2 100 c.padding c.sign_is_mandatory (iso_years h.date) (years_short h).1)
   field_short c h = component_shown m f c h tt
 
--- each component that is written is of a kind that was read
+-- something was read of the kind of each component that is written
 pub kinds_read : (m : Moment) (tree : Tree) (f : Fields) → parts f ≡ shows tree → IsMomentOf f (Ok m)
     → Each (λ c. Has (kind_of (modern c)) m f) tree
 kinds_read m tree f same is =
@@ -113,7 +113,7 @@ writes_short_years m tree text f read same is short =
     (λ c h. text_ok (modern c) (field m (modern c)) (field_short m f short (modern c) h)) tree
     (kinds_read m tree f same is)))
 
--- an error is that a year is too long
+-- the only error is that a year is too long
 
 abbrev IsLong : {A : Type 0} → Result A Lack → Type 0
 IsLong r = IfErr r (λ l. l ≡ Lack.YearTooLong)

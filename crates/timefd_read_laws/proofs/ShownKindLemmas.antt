@@ -1,4 +1,4 @@
--- Of which kinds is what a component shows.
+-- The kinds of what a component shows.
 use Rattle.std.proofs.Common.{◌≡◌, true, refl, ap, subst}
 use Rattle.std.specs.Prelude.{is_some, ⊤}
 use Rattle.timefd_component.specs.declared.component.Component.{Component}
@@ -15,10 +15,10 @@ use Rattle.timefd_moment.specs.declared.offset.UtcOffset.{UtcOffset}
 use Rattle.timefd_read_dates.specs.declared.fields.Fields.{Fields}
 use Rattle.timefd_read_laws.specs.Shown.{Shows, fields_shown, with_component}
 use Rattle.timefd_read_laws.proofs.GrowLemmas.{kind_more, by_subsecond, has_kind}
-use Rattle.timefd_read_laws.proofs.PlaceLemmas as place
-use Rattle.timefd_read_laws.proofs.PlaceLemmas.{Place}
+use Rattle.timefd_read_laws.proofs.PositionLemmas as position
+use Rattle.timefd_read_laws.proofs.PositionLemmas.{WriteCursor}
 
--- no deprecated component
+-- the component isn't deprecated
 
 abbrev pub IsCurrent : Component → Type 0
 IsCurrent (of.Month c) = ⊥
@@ -47,67 +47,67 @@ modern_current (of.UnixTimestamp c) = replaced _ (timestamp_replaced c.precision
 modern_current (of.Year c) = replaced _ (year_replaced c.iso_week_based c.repr c.range c)
 modern_current _ = tt
 
--- what is shown of any moment
+-- what is shown for any moment
 module _ (d : Date) (t : Time) (o : UtcOffset) where
   abbrev pub as_fields : Shows → Fields
   as_fields s = fields_shown d t o s
 
-  -- one kind more
+  -- one more kind
   pub record Kept (k : Kind) (s v : Shows) : Type 0 where
     pub grows : (j : Kind) → has_kind j (as_fields s) ≡ true → has_kind j (as_fields v) ≡ true
     pub here : has_kind k (as_fields v) ≡ true
 
-  -- of a field
-  shown : {A : Type 0} (place : Place A) (s : Shows) → Kept place.kind s (place.put_in s true)
-  shown place s =
-      let g = place.set (as_fields s) (place.value d t o) in
-      let is = place.is_set (as_fields s) (place.value d t o) in
-      let here : has_kind place.kind g ≡ true = place.known g (ap is_some is.0) in
-      let same = (place.is_shown d t o s).0 in
+  -- the kind of a field
+  shown : {A : Type 0} (position : WriteCursor A) (s : Shows) → Kept position.kind s (position.put_in s true)
+  shown position s =
+      let g = position.set (as_fields s) (position.value d t o) in
+      let is = position.is_set (as_fields s) (position.value d t o) in
+      let here : has_kind position.kind g ≡ true = position.known g (ap is_some is.0) in
+      let same = (position.is_shown d t o s).0 in
       record {
         grows = λ j h. subst (λ (f : Fields). has_kind j f ≡ true) same
-            (kind_more place.kind (as_fields s) g here is.1 j h);
-        here = subst (λ (f : Fields). has_kind place.kind f ≡ true) same here;
+            (kind_more position.kind (as_fields s) g here is.1 j h);
+        here = subst (λ (f : Fields). has_kind position.kind f ≡ true) same here;
       }
 
   pub component_shows : (c : Component) → IsCurrent c → (s : Shows) → Kept (kind_of c) s (with_component c s)
-  component_shows (of.Day c) is s = shown place.day s
-  component_shows (of.MonthShort c) is s = shown place.month s
-  component_shows (of.MonthLong c) is s = shown place.month s
-  component_shows (of.MonthNumerical c) is s = shown place.month s
-  component_shows (of.Ordinal c) is s = shown place.ordinal s
-  component_shows (of.WeekdayShort c) is s = shown place.weekday s
-  component_shows (of.WeekdayLong c) is s = shown place.weekday s
-  component_shows (of.WeekdaySunday c) is s = shown place.weekday s
-  component_shows (of.WeekdayMonday c) is s = shown place.weekday s
-  component_shows (of.WeekNumberIso c) is s = shown place.iso_week s
-  component_shows (of.WeekNumberSunday c) is s = shown place.sunday_week s
-  component_shows (of.WeekNumberMonday c) is s = shown place.monday_week s
-  component_shows (of.CalendarYearFullExtendedRange c) is s = shown place.year s
-  component_shows (of.CalendarYearFullStandardRange c) is s = shown place.year s
-  component_shows (of.CalendarYearCenturyExtendedRange c) is s = shown place.century s
-  component_shows (of.CalendarYearCenturyStandardRange c) is s = shown place.century s
-  component_shows (of.IsoYearFullExtendedRange c) is s = shown place.iso_year s
-  component_shows (of.IsoYearFullStandardRange c) is s = shown place.iso_year s
-  component_shows (of.IsoYearCenturyExtendedRange c) is s = shown place.iso_century s
-  component_shows (of.IsoYearCenturyStandardRange c) is s = shown place.iso_century s
-  component_shows (of.CalendarYearLastTwo c) is s = shown place.year_last_two s
-  component_shows (of.IsoYearLastTwo c) is s = shown place.iso_year_last_two s
-  component_shows (of.Hour12 c) is s = shown place.hour_12 s
-  component_shows (of.Hour24 c) is s = shown place.hour s
-  component_shows (of.Minute c) is s = shown place.minute s
-  component_shows (of.Second c) is s = shown place.second s
-  component_shows (of.OffsetMinute c) is s = shown place.offset_minute s
-  component_shows (of.OffsetSecond c) is s = shown place.offset_second s
-  component_shows (of.Period c) is s = shown place.is_afternoon s
+  component_shows (of.Day c) is s = shown position.day s
+  component_shows (of.MonthShort c) is s = shown position.month s
+  component_shows (of.MonthLong c) is s = shown position.month s
+  component_shows (of.MonthNumerical c) is s = shown position.month s
+  component_shows (of.Ordinal c) is s = shown position.ordinal s
+  component_shows (of.WeekdayShort c) is s = shown position.weekday s
+  component_shows (of.WeekdayLong c) is s = shown position.weekday s
+  component_shows (of.WeekdaySunday c) is s = shown position.weekday s
+  component_shows (of.WeekdayMonday c) is s = shown position.weekday s
+  component_shows (of.WeekNumberIso c) is s = shown position.iso_week s
+  component_shows (of.WeekNumberSunday c) is s = shown position.sunday_week s
+  component_shows (of.WeekNumberMonday c) is s = shown position.monday_week s
+  component_shows (of.CalendarYearFullExtendedRange c) is s = shown position.year s
+  component_shows (of.CalendarYearFullStandardRange c) is s = shown position.year s
+  component_shows (of.CalendarYearCenturyExtendedRange c) is s = shown position.century s
+  component_shows (of.CalendarYearCenturyStandardRange c) is s = shown position.century s
+  component_shows (of.IsoYearFullExtendedRange c) is s = shown position.iso_year s
+  component_shows (of.IsoYearFullStandardRange c) is s = shown position.iso_year s
+  component_shows (of.IsoYearCenturyExtendedRange c) is s = shown position.iso_century s
+  component_shows (of.IsoYearCenturyStandardRange c) is s = shown position.iso_century s
+  component_shows (of.CalendarYearLastTwo c) is s = shown position.year_last_two s
+  component_shows (of.IsoYearLastTwo c) is s = shown position.iso_year_last_two s
+  component_shows (of.Hour12 c) is s = shown position.hour_12 s
+  component_shows (of.Hour24 c) is s = shown position.hour s
+  component_shows (of.Minute c) is s = shown position.minute s
+  component_shows (of.Second c) is s = shown position.second s
+  component_shows (of.OffsetMinute c) is s = shown position.offset_minute s
+  component_shows (of.OffsetSecond c) is s = shown position.offset_second s
+  component_shows (of.Period c) is s = shown position.is_afternoon s
   component_shows (of.Subsecond c) is s =
       let g = as_fields (with_component (of.Subsecond c) s) in
       record { grows = kind_more kind.Time (as_fields s) g (by_subsecond g refl) refl; here = by_subsecond g refl }
-  component_shows (of.OffsetHour c) is s = shown place.offset_hour s
-  component_shows (of.UnixTimestampSecond c) is s = shown place.unix_second s
-  component_shows (of.UnixTimestampMillisecond c) is s = shown place.unix_millisecond s
-  component_shows (of.UnixTimestampMicrosecond c) is s = shown place.unix_microsecond s
-  component_shows (of.UnixTimestampNanosecond c) is s = shown place.unix_nanosecond s
+  component_shows (of.OffsetHour c) is s = shown position.offset_hour s
+  component_shows (of.UnixTimestampSecond c) is s = shown position.unix_second s
+  component_shows (of.UnixTimestampMillisecond c) is s = shown position.unix_millisecond s
+  component_shows (of.UnixTimestampMicrosecond c) is s = shown position.unix_microsecond s
+  component_shows (of.UnixTimestampNanosecond c) is s = shown position.unix_nanosecond s
   component_shows (of.Ignore c) is s = record { grows = λ j h. h; here = refl }
   component_shows (of.End c) is s = record { grows = λ j h. h; here = refl }
   component_shows _ is s = absurd is

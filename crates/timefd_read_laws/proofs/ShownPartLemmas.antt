@@ -1,4 +1,4 @@
--- The parts of what is shown.
+-- The parts of the fields that are shown.
 use Rattle.std.proofs.Common.{ℕ, ◌≡◌, ◌/◌, ◌%◌, ◌∙◌, Bool, true, false, nat_le, Option, Some, None, refl, sym}
 use Rattle.std.specs.Prelude.{is_some}
 use Rattle.timefd_moment.specs.declared.date.Date.{Date}
@@ -51,7 +51,7 @@ parts_shown d t o s = λ i. record {
   unix_nanosecond = some_shown s.unix_nanosecond (with_sign (unix_time d t o).is_negative (unix_time d t o).nanoseconds) i;
 }
 
--- The parts that were read are those of what is shown of them.
+-- The parts that were read are the parts of the fields that are shown for them.
 pub same_shown : (d : Date) (t : Time) (o : UtcOffset) (f : Fields) (s : Shows) → parts f ≡ s
     → parts f ≡ parts (fields_shown d t o s)
 same_shown d t o f s e = e ∙ sym (parts_shown d t o s)

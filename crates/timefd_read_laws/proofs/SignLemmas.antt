@@ -5,7 +5,7 @@ use Rattle.timefd_component.specs.Texts.{filled}
 use Rattle.timefd_component.specs.Tree.{Text}
 use Rattle.timefd_format.specs.Fields.{sign_of, sign_text}
 use Rattle.timefd_modifier.specs.declared.enums.Padding.{Padding}
-use Rattle.timefd_read_dates.specs.Numbers.{behind, padded, signed, signed_by, within}
+use Rattle.timefd_read_dates.specs.Numbers.{after, padded, signed, signed_by, within}
 use Rattle.timefd_read_dates.specs.Numbers as numbers
 use Rattle.timefd_read_dates.proofs.BackLemmas.{in_range, wide}
 use Rattle.timefd_read_moment.proofs.ShownLemmas.{clash}
@@ -13,7 +13,7 @@ use Rattle.timefd_read_laws.specs.Shown.{with_sign}
 use Rattle.timefd_read_dates.proofs.EndedLemmas.{no_sign_filled}
 use Rattle.timefd_read_laws.proofs.NumberLemmas.{IsEnded, filled_back}
 
--- the numbers of a form: a width, the most digits without a sign and with one, the greatest number
+-- the bounds of a form: its width, the most digits without a sign and with one, the greatest number
 pub record Has (w m s g n : ℕ) : Type 0 where
   pub some : 1 ≤ w
   pub low : w ≤ m
@@ -22,18 +22,18 @@ pub record Has (w m s g n : ℕ) : Type 0 where
   pub high : n ≤ g
   pub small : g < 10 ^ s
 
--- behind its sign
-behind_sign : (p : Padding) (w m s g n : ℕ) (negative : Bool) (rest : Text) → Has w m s g n
+-- a number after its sign
+after_sign : (p : Padding) (w m s g n : ℕ) (negative : Bool) (rest : Text) → Has w m s g n
     → IsEnded p w s rest
-    → numbers.with_sign negative (behind 1 (within 0 g (padded p w s (filled p w n ++ rest))))
+    → numbers.with_sign negative (after 1 (within 0 g (padded p w s (filled p w n ++ rest))))
     ≡ Some (with_sign negative n, 1 + length (filled p w n))
-behind_sign p w m s g n negative rest h ends =
-    ap (λ r. numbers.with_sign negative (behind 1 (within 0 g r)))
+after_sign p w m s g n negative rest h ends =
+    ap (λ r. numbers.with_sign negative (after 1 (within 0 g r)))
     (filled_back p w s n rest h.some (omega (arith, h.low, h.most)) h.few (omega (arith, h.high, h.small)) ends)
-    ∙ ap (λ r. numbers.with_sign negative (behind 1 r))
+    ∙ ap (λ r. numbers.with_sign negative (after 1 r))
     (in_range 0 g n (length (filled p w n)) (omega arith) h.high)
 
--- the bounds of a number without a sign
+-- what bounds a number with a sign also bounds one without
 ended_before : (p : Padding) (w m s : ℕ) (rest : Text) → w ≤ m → m ≤ s → IsEnded p w s rest
     → IsEnded p w m rest
 ended_before p w m s rest a b (inl ends) = inl (omega (arith, a, b, ends.0), ends.1)
@@ -54,17 +54,17 @@ without_sign p w m s g n rest h below ends =
 one_more : (b : ℕ) (xs : Text) → 1 + length xs ≡ length (b ∷ xs)
 one_more b xs = omega arith
 
--- A number is read back with its sign. Without one it has no more digits than such a number may have.
+-- A number is read back with its sign. Without a sign it has no more digits than are allowed then.
 pub sign_back : (p : Padding) (w m s g n : ℕ) (mandatory negative has_plus : Bool) (rest : Text)
     → Has w m s g n → (has_plus ≡ false → (mandatory ≡ false) × (n < 10 ^ m)) → IsEnded p w s rest
     → signed mandatory (record { padding = p; width = w; most = m; most_signed = s; greatest = g })
     ((sign_text (sign_of negative has_plus) ++ filled p w n) ++ rest)
     ≡ Some (with_sign negative n, length (sign_text (sign_of negative has_plus) ++ filled p w n))
 sign_back p w m s g n mandatory true has_plus rest h plain ends =
-    behind_sign p w m s g n true rest h ends
+    after_sign p w m s g n true rest h ends
     ∙ ap (λ (k : ℕ). Some (with_sign true n, k)) (one_more 45 (filled p w n))
 sign_back p w m s g n mandatory false true rest h plain ends =
-    behind_sign p w m s g n false rest h ends
+    after_sign p w m s g n false rest h ends
     ∙ ap (λ (k : ℕ). Some (with_sign false n, k)) (one_more 43 (filled p w n))
 sign_back p w m s g n true false false rest h plain ends = absurd (clash true (plain refl).0 refl)
 sign_back p w m s g n false false false rest h plain ends =

@@ -96,7 +96,7 @@ one = decimal_digit 1 (omega arith)
 half_text : texts_of half 500000000 ≡ Ok (codes "-1.5")
 half_text = λ i. with_digits (one i) (nine i)
 
--- the moment has what was read
+-- the moment agrees with what was read
 agrees : (d : Date) (t : Time) (o : UtcOffset) → IsHalfBefore d t o → MomentAgrees stamp_fields d t o
 agrees d t o h (part.Date DatePart.Day) = refl
 agrees d t o h (part.Time TimePart.Subsecond) = ap (has_digits stamp_fields.subsecond) h.6

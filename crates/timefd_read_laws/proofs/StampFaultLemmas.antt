@@ -1,4 +1,4 @@
--- The errors of moments name what was read, or what was not: beside a timestamp, and without.
+-- The errors of moments name what was read, or what wasn't: with a timestamp, and without one.
 use Rattle.std.proofs.Common.{ℕ, ◌≡◌, ◌∙◌, ◌/◌, ◌==◌, ◌||◌, ◌⊎◌, inl, inr, Bool, true, false, nat_lt, if◌then◌else◌, List, [], ◌∷◌, Option, Some, None, Result, Ok, Err, refl, sym, ap, subst, arith}
 use Rattle.std.specs.Prelude.{IfSome, is_some, ⊤}
 use Rattle.timefd_read_dates.specs.declared.fields.Fields.{Fields}
@@ -79,7 +79,7 @@ module _ (f : Fields) (d : Date) (t : Time) (o : UtcOffset) where
   moment_unread h (part.Offset p) e = offset_unread f o p (zone_of f o (has_offset f) refl h) e
   moment_unread h (part.Instant p) e = stamp_unread p e
 
--- the finest timestamp was read, where one was
+-- the finest timestamp was read, if any was
 finest_was : (f : Fields) (n us ms s : Option Signed) (u : UnixTime) → f.unix_nanosecond ≡ n → f.unix_microsecond ≡ us
     → f.unix_millisecond ≡ ms → f.unix_second ≡ s → instant_by f.subsecond n us ms s ≡ Some u
     → is_read f (part.Instant (finest_of n us ms)) ≡ true
@@ -136,7 +136,7 @@ stamped_names f u (error.Contradiction p) has is = by (is_read f p) refl
         (stamp_was f (has_offset f)
         (finest_was f f.unix_nanosecond f.unix_microsecond f.unix_millisecond f.unix_second u refl refl refl refl has))
 
--- of a part of a moment, where something was read of it
+-- a part of a moment, if something was read about it
 part_names : {A : Type 0} (b : Bool) (Is : Result A ValueError → Type 0) (f : Fields) (e : ValueError)
     → IsPart b Is (Err e) → (Is (Err e) → NamesRead f e) → NamesRead f e
 part_names false Is f e is names = absurd is

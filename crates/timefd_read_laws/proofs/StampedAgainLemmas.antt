@@ -1,4 +1,4 @@
--- What is written of a moment that was read with a timestamp is read as that moment.
+-- A moment that was read with a timestamp and is written again is read as that moment.
 use Rattle.std.proofs.Common.{ℕ, ◌≡◌, ◌∙◌, Bool, true, false, Option, Some, None, Result, Ok, Err, refl, sym, ap, subst}
 use Rattle.std.specs.Prelude.{is_some}
 use Rattle.timefd_component.specs.Tree.{Text, Tree}
@@ -40,7 +40,7 @@ use Rattle.timefd_read_laws.proofs.ShownPartLemmas.{same_shown}
 use Rattle.timefd_read_laws.proofs.StampedBackLemmas.{moment_is}
 use Rattle.timefd_read_laws.proofs.StepLemmas.{IsWhole}
 
--- What was answered is what was read, with its offset and all digits of its second.
+-- The values that were given are those that were read, with the offset and all digits of the second.
 is_read : (f : Fields) (u : UnixTime) (d : Date) (t : Time) (o : UtcOffset) → IsWhole f.subsecond
     → instant_read f ≡ Some u → MomentAgrees f d t o → IsAt f u d t o → IsRead f d t o
 is_read f u d t o whole e agrees at = (
@@ -53,7 +53,7 @@ is_read f u d t o whole e agrees at = (
 
 -- The offset that is written.
 
--- by its two cases
+-- by the two cases of a result
 pub each_result : {S E : Type 0} (r : Result S E) (P Q : Result S E → Type 0) → ((s : S) → r ≡ Ok s → P (Ok s) → Q (Ok s))
     → ((e : E) → P (Err e) → ⊥) → P r → Q r
 each_result (Ok s) P Q f g h = f s refl h
@@ -74,21 +74,21 @@ zone_again f g o true same agrees h =
     shift_is g o agrees (same_offset f g same (has_determined f o h))
 zone_again f g o false same agrees h = h
 
--- What is shown of a moment that was read is what is read of it.
+-- The fields that are shown for a moment that was read are read as that moment.
 shown_again : (f : Fields) (d : Date) (t : Time) (o : UtcOffset) → IsWhole f.subsecond → IsRead f d t o
     → parts f ≡ parts (fields_shown d t o (parts f)) → IsRead (fields_shown d t o (parts f)) d t o
 shown_again f d t o whole is same =
-    let anew = fields_shown d t o (parts f) in
-    let more : HasNoMoreOffset anew o = offset_again d t o f (λ p. is.0 (part.Offset p)) in
-    let known : has_offset f ≡ has_offset anew = same_kind kind.Offset f anew same in (
+    let rewritten = fields_shown d t o (parts f) in
+    let more : HasNoMoreOffset rewritten o = offset_again d t o f (λ p. is.0 (part.Offset p)) in
+    let known : has_offset f ≡ has_offset rewritten = same_kind kind.Offset f rewritten same in (
       moment_is d t o (parts f) more,
-      subst (λ (b : Bool). HasShift (zone_if b anew) o) known
-          (zone_again f anew o (has_offset f) same (offset_agrees d t o (parts f) more) is.1),
+      subst (λ (b : Bool). HasShift (zone_if b rewritten) o) known
+          (zone_again f rewritten o (has_offset f) same (offset_agrees d t o (parts f) more) is.1),
       is.2,
       digits_again f.subsecond f.unix_nanosecond f.unix_microsecond f.unix_millisecond _ _ _ t.nanosecond whole is.3,
     )
 
--- The moment that was answered.
+-- The moment that was given.
 
 these_known : (d : Date) (t : Time) (o : UtcOffset) (x : Option Date) (y : Option Time) (z : Option UtcOffset)
     → AreThese d t o x y z → BothKnown of_date.IsSame (Some d) x × BothKnown of_time.IsSame (Some t) y
@@ -104,7 +104,7 @@ same_known : (d : Date) (t : Time) (o : UtcOffset) (r : Result Moment ValueError
 same_known d t o (Ok n) h = these_known d t o n.date n.time n.offset h
 same_known d t o (Err e) h = absurd h
 
--- with all three of a moment that was read
+-- a moment that was read has all three parts
 record Stands (f : Fields) (u : UnixTime) (m : Moment) (d : Date) (t : Time) (o : UtcOffset) : Type 0 where
   agrees : MomentAgrees f d t o
   at : IsAt f u d t o
@@ -121,28 +121,28 @@ stands f u m d t o (s, is, known) of =
 
 module _ (m : Moment) (d : Date) (t : Time) (o : UtcOffset) (tree : Tree) (f : Fields) (again : Text)
     (h : IsWrittenAgain m d t o tree f again) (u : UnixTime) (stamp : instant_read f ≡ Some u) where
-  abbrev pub anew : Fields
-  anew = fields_shown d t o (shows tree)
+  abbrev pub rewritten : Fields
+  rewritten = fields_shown d t o (shows tree)
 
-  same : parts f ≡ parts anew
+  same : parts f ≡ parts rewritten
   same = same_shown d t o f (shows tree) h.same_parts
 
   was : Stands f u m d t o
   was = stands f u m d t o (subst (λ (x : Option UnixTime). IsMomentBy x f (Ok m)) stamp h.moment) h.is_of
 
-  read_anew : IsRead anew d t o
-  read_anew =
+  read_rewritten : IsRead rewritten d t o
+  read_rewritten =
       let whole = whole_read tree h.text f h.read in
       subst (λ (s : Shows). parts f ≡ parts (fields_shown d t o s) → IsRead (fields_shown d t o s) d t o) h.same_parts
       (shown_again f d t o whole (is_read f u d t o whole stamp was.agrees was.at)) same
 
-  stamped_by : (r : Result Moment ValueError) (x : Option UnixTime) → instant_read anew ≡ x → is_some x ≡ true
-      → IsMomentOf anew r → AnswersSame m r
+  stamped_by : (r : Result Moment ValueError) (x : Option UnixTime) → instant_read rewritten ≡ x → is_some x ≡ true
+      → IsMomentOf rewritten r → AnswersSame m r
   stamped_by r (Some v) e some is =
       subst (λ (n : Moment). AnswersSame n r) (sym was.all)
-      (same_known d t o r (stamped_moment_back anew v d t o r e read_anew is))
+      (same_known d t o r (stamped_moment_back rewritten v d t o r e read_rewritten is))
   stamped_by r None e some is = absurd (clash true (sym some) refl)
 
-  pub stamped_again : (r : Result Moment ValueError) → IsMomentOf anew r → AnswersSame m r
+  pub stamped_again : (r : Result Moment ValueError) → IsMomentOf rewritten r → AnswersSame m r
   stamped_again r is =
-      stamped_by r (instant_read anew) refl (sym (same_stamp f anew same) ∙ ap is_some stamp) is
+      stamped_by r (instant_read rewritten) refl (sym (same_stamp f rewritten same) ∙ ap is_some stamp) is

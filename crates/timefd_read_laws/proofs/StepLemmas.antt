@@ -1,4 +1,4 @@
--- What is known of an answer, and of the fields that are read with one part more.
+-- What is known about a result, and about the fields that are read with one more part.
 use Rattle.std.proofs.Common.{ℕ, ◌≡◌, ◌%◌, ◌==◌, Bool, true, false, if◌then◌else◌, length, Option, Some, None}
 use Rattle.std.proofs.Common.{Result, Ok, Err, refl, ap, subst, is_ok}
 use Rattle.std.specs.Prelude.{⊤}
@@ -13,7 +13,7 @@ use Rattle.timefd_read_dates.specs.Reads.{Point, agreed, taken}
 use Rattle.timefd_read_moment.proofs.ShownLemmas.{clash}
 use Rattle.timefd_read_laws.proofs.RowLemmas.{merged}
 
--- answers
+-- results
 
 abbrev pub in_ok : {A E : Type 0} → A → Result A E → A
 in_ok a (Ok b) = b
@@ -23,24 +23,24 @@ abbrev fields_in : {E : Type 0} → Fields → Result Point E → Fields
 fields_in f (Ok p) = p.fields
 fields_in f (Err e) = f
 
--- what is behind the digits of a second that are known is 0
+-- everything after the known digits of a second is 0
 abbrev pub IsWhole : Option Fraction → Type 0
 IsWhole None = ⊤
 IsWhole (Some f) = f.nanosecond % unit f.digits ≡ 0
 
--- What was taken was found.
+-- If something was read, it was found.
 pub either_took : {B E : Type 0} (g : Option B → Result Point E) (x : Option B) (b : Bool) (q : Point)
     → g (if b then x else None) ≡ Ok q → (P : Type 0) → is_ok (g None) ≡ false → (g x ≡ Ok q → P) → P
 either_took g x true q e P none k = k e
 either_took g x false q e P none k = absurd (clash (is_ok (g None)) none (ap is_ok e))
 
--- what is taken agrees with what was read before
+-- what is read agrees with what was read before
 pub agreed_is : (c : Component) (p q : Point) (len : ℕ) (r : Option Fields) → agreed c p len r ≡ Ok q
     → r ≡ Some q.fields
 agreed_is c p q len None e = absurd cc
 agreed_is c p q len (Some f) e = ap (λ r. Some (fields_in f r)) e
 
--- What is read once more is the same, so the fields stay; else they are those with it.
+-- A field that is read twice has the same value, so the fields stay. Otherwise the field is set.
 pub merged_is : {A : Type 0} (P : Fields → Type 0) (is_same : A → A → Bool) (f g : Fields) (set : A → Fields) (n : A)
     (before found : Option A) → (before ≡ None → P (set n)) → ((a : A) → before ≡ Some a → is_same a n ≡ true → P f)
     → before ≡ found → merged is_same f set n found ≡ Some g → P g
@@ -51,7 +51,7 @@ merged_is P is_same f g set n before (Some a) first again is e = by (is_same a n
     by true same e = subst P (same_Some f g e) (again a is same)
     by false same e = absurd (none-some g e)
 
--- nothing: the fields stay
+-- a component without a field: the fields stay
 
 pub nothing_kept : (c : Component) (p q : Point) (len : ℕ) → agreed c p len (Some p.fields) ≡ Ok q
     → p.fields ≡ q.fields

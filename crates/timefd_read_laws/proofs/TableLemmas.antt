@@ -1,4 +1,4 @@
--- What is written of each component is read back.
+-- The text that is written for each component is read back.
 use Rattle.std.proofs.Common.{ℕ, ◌≡◌, ◌∙◌, ◌≤◌, ◌<◌, ◌^◌, ◌-◌, ◌/◌, ◌%◌, inl, inr, true, false, nat_le, [], Result, Ok}
 use Rattle.std.proofs.Common.{Err, IfOk, refl, ap, arith, subst}
 use Rattle.timefd_component.specs.declared.component.Component.{Component}
@@ -24,11 +24,11 @@ use Rattle.timefd_read_laws.specs.Laws.{ComponentBack}
 use Rattle.timefd_read_laws.specs.Shown.{IsOf, Shows}
 use Rattle.timefd_read_laws.proofs.BoundLemmas.{in_month, iso_week_in, nanoseconds_in, ordinal_first, ordinal_last}
 use Rattle.timefd_read_laws.proofs.BoundLemmas.{seconds_in}
-use Rattle.timefd_read_laws.proofs.NameBackLemmas.{less_first, period_back, period_place, place_is, weekday_back}
+use Rattle.timefd_read_laws.proofs.NameBackLemmas.{less_first, period_back, period_position, position_is, weekday_back}
 use Rattle.timefd_read_laws.proofs.NameBackLemmas.{long_months_back, long_weekdays_back, short_months_back}
 use Rattle.timefd_read_laws.proofs.NameBackLemmas.{short_weekdays_back}
 use Rattle.timefd_read_laws.proofs.RowLemmas.{IsRow, by_date, by_instant, by_offset, by_time, Row, of_year}
-use Rattle.timefd_read_laws.proofs.PlaceLemmas as place
+use Rattle.timefd_read_laws.proofs.PositionLemmas as position
 use Rattle.timefd_read_laws.proofs.SecondRowLemmas.{end_row, fraction_row}
 use Rattle.timefd_read_laws.proofs.SignLemmas.{Has}
 use Rattle.timefd_read_laws.proofs.WidthRowLemmas.{name_row, number_row, period_row, signed_row, stamp_row, two_digits}
@@ -49,28 +49,28 @@ module _ (m : Moment) (d : Date) (t : Time) (o : UtcOffset) (s : Shows) (is : Is
   -- The table.
   pub back : (c : Component) → IfOk (field m c) (IsRow d t o s c)
   back (of.Day p) = by_date m d t o s is (of.Day p)
-      (two_digits d t o s place.day (of.Day p) _ p.padding 1 31 d.day (λ f n. refl) refl (omega (arith, d.exists))
+      (two_digits d t o s position.day (of.Day p) _ p.padding 1 31 d.day (λ f n. refl) refl (omega (arith, d.exists))
       (omega (arith, d.exists, in_month d.years d.month)) (omega arith))
   back (of.MonthShort p) = by_date m d t o s is (of.MonthShort p)
-      (λ rest ends. name_row d t o s place.month (of.MonthShort p) _ 1 (name_at short_months (d.month - 1)) rest _
+      (λ rest ends. name_row d t o s position.month (of.MonthShort p) _ 1 (name_at short_months (d.month - 1)) rest _
       (d.month - 1) (λ f n. refl) (omega (arith, d.exists))
       (short_months_back p.case_sensitive (d.month - 1) rest (omega (arith, d.exists))))
   back (of.MonthLong p) = by_date m d t o s is (of.MonthLong p)
-      (λ rest ends. name_row d t o s place.month (of.MonthLong p) _ 1 (name_at long_months (d.month - 1)) rest _
+      (λ rest ends. name_row d t o s position.month (of.MonthLong p) _ 1 (name_at long_months (d.month - 1)) rest _
       (d.month - 1) (λ f n. refl) (omega (arith, d.exists))
       (long_months_back p.case_sensitive (d.month - 1) rest (omega (arith, d.exists))))
   back (of.MonthNumerical p) = by_date m d t o s is (of.MonthNumerical p)
-      (two_digits d t o s place.month (of.MonthNumerical p) _ p.padding 1 12 d.month (λ f n. refl) refl
+      (two_digits d t o s position.month (of.MonthNumerical p) _ p.padding 1 12 d.month (λ f n. refl) refl
       (omega (arith, d.exists)) (omega (arith, d.exists)) (omega arith))
   back (of.Ordinal p) = by_date m d t o s is (of.Ordinal p)
-      (number_row d t o s place.ordinal (of.Ordinal p) _ p.padding 3 1 366 (date_ordinal d) (λ f n. refl) refl
+      (number_row d t o s position.ordinal (of.Ordinal p) _ p.padding 3 1 366 (date_ordinal d) (λ f n. refl) refl
       (omega arith) (omega arith) (ordinal_first d) (ordinal_last d) (omega arith))
   back (of.WeekdayShort p) = by_date m d t o s is (of.WeekdayShort p)
-      (λ rest ends. name_row d t o s place.weekday
+      (λ rest ends. name_row d t o s position.weekday
       (of.WeekdayShort p) _ 0 (name_at short_weekdays (days_from_monday d)) rest _ (days_from_monday d) (λ f n. refl)
       (omega arith) (short_weekdays_back p.case_sensitive (days_from_monday d) rest (omega arith)))
   back (of.WeekdayLong p) = by_date m d t o s is (of.WeekdayLong p)
-      (λ rest ends. name_row d t o s place.weekday
+      (λ rest ends. name_row d t o s position.weekday
       (of.WeekdayLong p) _ 0 (name_at long_weekdays (days_from_monday d)) rest _ (days_from_monday d) (λ f n. refl)
       (omega arith) (long_weekdays_back p.case_sensitive (days_from_monday d) rest (omega arith)))
   back (of.WeekdaySunday p) = by_date m d t o s is (of.WeekdaySunday p)
@@ -86,109 +86,109 @@ module _ (m : Moment) (d : Date) (t : Time) (o : UtcOffset) (s : Shows) (is : Is
       (ap (after_monday false) (less_first p.one_indexed (days_from_monday d)) ∙ omega arith)
       (weekday_back p.one_indexed (days_from_monday d) rest (omega arith)))
   back (of.WeekNumberIso p) = by_date m d t o s is (of.WeekNumberIso p)
-      (two_digits d t o s place.iso_week (of.WeekNumberIso p) _ p.padding 1 53 (iso_week d) (λ f n. refl) refl
+      (two_digits d t o s position.iso_week (of.WeekNumberIso p) _ p.padding 1 53 (iso_week d) (λ f n. refl) refl
       (iso_week_in d).0 (iso_week_in d).1 (omega arith))
   back (of.WeekNumberSunday p) = by_date m d t o s is (of.WeekNumberSunday p)
-      (two_digits d t o s place.sunday_week (of.WeekNumberSunday p) _ p.padding 0 53 (sunday_week d) (λ f n. refl) refl
+      (two_digits d t o s position.sunday_week (of.WeekNumberSunday p) _ p.padding 0 53 (sunday_week d) (λ f n. refl) refl
       (omega arith) (omega (arith, ordinal_last d)) (omega arith))
   back (of.WeekNumberMonday p) = by_date m d t o s is (of.WeekNumberMonday p)
-      (two_digits d t o s place.monday_week (of.WeekNumberMonday p) _ p.padding 0 53 (monday_week d) (λ f n. refl) refl
+      (two_digits d t o s position.monday_week (of.WeekNumberMonday p) _ p.padding 0 53 (monday_week d) (λ f n. refl) refl
       (omega arith) (omega (arith, ordinal_last d)) (omega arith))
   back (of.CalendarYearFullExtendedRange p) = by_date m d t o s is (of.CalendarYearFullExtendedRange p)
       (of_year (IsRow d t o s (of.CalendarYearFullExtendedRange p)) 999999 4 1 p.padding p.sign_is_mandatory d.years
-      (λ few rest ends. year_row d t o s place.year (of.CalendarYearFullExtendedRange p) _ p.padding 4 6 999999 1 d.years
+      (λ few rest ends. year_row d t o s position.year (of.CalendarYearFullExtendedRange p) _ p.padding 4 6 999999 1 d.years
       p.sign_is_mandatory (λ f n. refl) refl (has 4 6 999999 (magnitude d.years / 1) (omega arith) (omega arith)
       (omega arith) (omega (arith, few)) (omega arith)) (λ short. omega (arith, short)) rest (inr ends)))
   back (of.CalendarYearFullStandardRange p) = by_date m d t o s is (of.CalendarYearFullStandardRange p)
       (of_year (IsRow d t o s (of.CalendarYearFullStandardRange p)) 9999 4 1 p.padding p.sign_is_mandatory d.years
-      (λ few rest ends. year_row d t o s place.year (of.CalendarYearFullStandardRange p) _ p.padding 4 4 9999 1 d.years
+      (λ few rest ends. year_row d t o s position.year (of.CalendarYearFullStandardRange p) _ p.padding 4 4 9999 1 d.years
       p.sign_is_mandatory (λ f n. refl) refl (has 4 4 9999 (magnitude d.years / 1) (omega arith) (omega arith)
       (omega arith) (omega (arith, few)) (omega arith)) (λ short. omega (arith, short)) rest (inl (refl, ends))))
   back (of.CalendarYearCenturyExtendedRange p) = by_date m d t o s is (of.CalendarYearCenturyExtendedRange p)
       (of_year (IsRow d t o s (of.CalendarYearCenturyExtendedRange p)) 999999 2 100 p.padding p.sign_is_mandatory d.years
-      (λ few rest ends. year_row d t o s place.century
+      (λ few rest ends. year_row d t o s position.century
       (of.CalendarYearCenturyExtendedRange p) _ p.padding 2 4 9999 100 d.years p.sign_is_mandatory (λ f n. refl) refl
       (has 2 4 9999 (magnitude d.years / 100) (omega arith) (omega arith) (omega arith) (omega (arith, few))
       (omega arith)) (λ short. omega (arith, short)) rest (inr ends)))
   back (of.CalendarYearCenturyStandardRange p) = by_date m d t o s is (of.CalendarYearCenturyStandardRange p)
       (of_year (IsRow d t o s (of.CalendarYearCenturyStandardRange p)) 9999 2 100 p.padding p.sign_is_mandatory d.years
-      (λ few rest ends. year_row d t o s place.century
+      (λ few rest ends. year_row d t o s position.century
       (of.CalendarYearCenturyStandardRange p) _ p.padding 2 2 99 100 d.years p.sign_is_mandatory (λ f n. refl) refl
       (has 2 2 99 (magnitude d.years / 100) (omega arith) (omega arith) (omega arith) (omega (arith, few)) (omega arith))
       (λ short. omega (arith, short)) rest (inl (refl, ends))))
   back (of.IsoYearFullExtendedRange p) = by_date m d t o s is (of.IsoYearFullExtendedRange p)
       (of_year (IsRow d t o s (of.IsoYearFullExtendedRange p)) 999999 4 1 p.padding p.sign_is_mandatory (iso_years d)
-      (λ few rest ends. year_row d t o s place.iso_year
+      (λ few rest ends. year_row d t o s position.iso_year
       (of.IsoYearFullExtendedRange p) _ p.padding 4 6 999999 1 (iso_years d) p.sign_is_mandatory (λ f n. refl) refl
       (has 4 6 999999 (magnitude (iso_years d) / 1) (omega arith) (omega arith) (omega arith) (omega (arith, few))
       (omega arith)) (λ short. omega (arith, short)) rest (inr ends)))
   back (of.IsoYearFullStandardRange p) = by_date m d t o s is (of.IsoYearFullStandardRange p)
       (of_year (IsRow d t o s (of.IsoYearFullStandardRange p)) 9999 4 1 p.padding p.sign_is_mandatory (iso_years d)
-      (λ few rest ends. year_row d t o s place.iso_year
+      (λ few rest ends. year_row d t o s position.iso_year
       (of.IsoYearFullStandardRange p) _ p.padding 4 4 9999 1 (iso_years d) p.sign_is_mandatory (λ f n. refl) refl
       (has 4 4 9999 (magnitude (iso_years d) / 1) (omega arith) (omega arith) (omega arith) (omega (arith, few))
       (omega arith)) (λ short. omega (arith, short)) rest (inl (refl, ends))))
   back (of.IsoYearCenturyExtendedRange p) = by_date m d t o s is (of.IsoYearCenturyExtendedRange p)
       (of_year (IsRow d t o s (of.IsoYearCenturyExtendedRange p)) 999999 2 100 p.padding p.sign_is_mandatory (iso_years d)
-      (λ few rest ends. year_row d t o s place.iso_century
+      (λ few rest ends. year_row d t o s position.iso_century
       (of.IsoYearCenturyExtendedRange p) _ p.padding 2 4 9999 100 (iso_years d) p.sign_is_mandatory (λ f n. refl) refl
       (has 2 4 9999 (magnitude (iso_years d) / 100) (omega arith) (omega arith) (omega arith) (omega (arith, few))
       (omega arith)) (λ short. omega (arith, short)) rest (inr ends)))
   back (of.IsoYearCenturyStandardRange p) = by_date m d t o s is (of.IsoYearCenturyStandardRange p)
       (of_year (IsRow d t o s (of.IsoYearCenturyStandardRange p)) 9999 2 100 p.padding p.sign_is_mandatory (iso_years d)
-      (λ few rest ends. year_row d t o s place.iso_century
+      (λ few rest ends. year_row d t o s position.iso_century
       (of.IsoYearCenturyStandardRange p) _ p.padding 2 2 99 100 (iso_years d) p.sign_is_mandatory (λ f n. refl) refl
       (has 2 2 99 (magnitude (iso_years d) / 100) (omega arith) (omega arith) (omega arith) (omega (arith, few))
       (omega arith)) (λ short. omega (arith, short)) rest (inl (refl, ends))))
   back (of.CalendarYearLastTwo p) = by_date m d t o s is (of.CalendarYearLastTwo p)
-      (two_digits d t o s place.year_last_two (of.CalendarYearLastTwo p) _ p.padding 0 99 (magnitude d.years % 100)
+      (two_digits d t o s position.year_last_two (of.CalendarYearLastTwo p) _ p.padding 0 99 (magnitude d.years % 100)
       (λ f n. refl) refl (omega arith) (omega arith) (omega arith))
   back (of.IsoYearLastTwo p) = by_date m d t o s is (of.IsoYearLastTwo p)
-      (two_digits d t o s place.iso_year_last_two (of.IsoYearLastTwo p) _ p.padding 0 99 (magnitude (iso_years d) % 100)
+      (two_digits d t o s position.iso_year_last_two (of.IsoYearLastTwo p) _ p.padding 0 99 (magnitude (iso_years d) % 100)
       (λ f n. refl) refl (omega arith) (omega arith) (omega arith))
   back (of.Hour12 p) = by_time m d t o s is (of.Hour12 p)
-      (two_digits d t o s place.hour_12 (of.Hour12 p) _ p.padding 1 12 (hour_of_twelve t.hour) (λ f n. refl) refl
+      (two_digits d t o s position.hour_12 (of.Hour12 p) _ p.padding 1 12 (hour_of_twelve t.hour) (λ f n. refl) refl
       (omega arith) (omega arith) (omega arith))
   back (of.Hour24 p) = by_time m d t o s is (of.Hour24 p)
-      (two_digits d t o s place.hour (of.Hour24 p) _ p.padding 0 23 t.hour (λ f n. refl) refl (omega arith) t.hours
+      (two_digits d t o s position.hour (of.Hour24 p) _ p.padding 0 23 t.hour (λ f n. refl) refl (omega arith) t.hours
       (omega arith))
   back (of.Minute p) = by_time m d t o s is (of.Minute p)
-      (two_digits d t o s place.minute (of.Minute p) _ p.padding 0 59 t.minute (λ f n. refl) refl (omega arith) t.minutes
+      (two_digits d t o s position.minute (of.Minute p) _ p.padding 0 59 t.minute (λ f n. refl) refl (omega arith) t.minutes
       (omega arith))
   back (of.Second p) = by_time m d t o s is (of.Second p)
-      (two_digits d t o s place.second (of.Second p) _ p.padding 0 59 t.second (λ f n. refl) refl (omega arith) t.seconds
+      (two_digits d t o s position.second (of.Second p) _ p.padding 0 59 t.second (λ f n. refl) refl (omega arith) t.seconds
       (omega arith))
   back (of.OffsetMinute p) = by_offset m d t o s is (of.OffsetMinute p)
-      (two_digits d t o s place.offset_minute (of.OffsetMinute p) _ p.padding 0 59 (o.seconds / 60 % 60)
+      (two_digits d t o s position.offset_minute (of.OffsetMinute p) _ p.padding 0 59 (o.seconds / 60 % 60)
       (λ f n. refl) refl (omega arith) (omega arith) (omega arith))
   back (of.OffsetSecond p) = by_offset m d t o s is (of.OffsetSecond p)
-      (two_digits d t o s place.offset_second (of.OffsetSecond p) _ p.padding 0 59 (o.seconds % 60) (λ f n. refl) refl
+      (two_digits d t o s position.offset_second (of.OffsetSecond p) _ p.padding 0 59 (o.seconds % 60) (λ f n. refl) refl
       (omega arith) (omega arith) (omega arith))
   back (of.Period p) = by_time m d t o s is (of.Period p)
       (λ rest ends. period_row d t o s (of.Period p) (period_text p.is_uppercase (nat_le 12 t.hour)) rest _
-      (period_place (nat_le 12 t.hour)) (place_is (nat_le 12 t.hour))
+      (period_position (nat_le 12 t.hour)) (position_is (nat_le 12 t.hour))
       (period_back p.is_uppercase p.case_sensitive (nat_le 12 t.hour) rest))
   back (of.Subsecond p) = by_time m d t o s is (of.Subsecond p) (fraction_row d t o s p.digits p refl)
   back (of.OffsetHour p) = by_offset m d t o s is (of.OffsetHour p) (λ rest ends.
-      signed_row d t o s place.offset_hour (of.OffsetHour p) _ p.padding 2 2 2 25 (o.seconds / 3600) p.sign_is_mandatory
+      signed_row d t o s position.offset_hour (of.OffsetHour p) _ p.padding 2 2 2 25 (o.seconds / 3600) p.sign_is_mandatory
       o.is_negative p.sign_is_mandatory (λ f n. refl) refl (has 2 2 25 (o.seconds / 3600) (omega arith) (omega arith)
       (omega arith) (omega (arith, o.within)) (omega arith)) (λ e. (e, omega (arith, o.within))) rest (inl (refl, ends)))
   back (of.UnixTimestampSecond p) = by_instant m d t o s is (of.UnixTimestampSecond p)
-      (λ inside. stamp_row d t o s place.unix_second (of.UnixTimestampSecond p) _ 14 99999999999999
+      (λ inside. stamp_row d t o s position.unix_second (of.UnixTimestampSecond p) _ 14 99999999999999
       (whole_seconds (unix_time d t o)) p.sign_is_mandatory (unix_time d t o).is_negative
       (λ f n. refl) refl (omega arith) (omega arith) (omega (arith, seconds_in (unix_time d t o) inside)) (omega arith))
   back (of.UnixTimestampMillisecond p) = by_instant m d t o s is (of.UnixTimestampMillisecond p)
-      (λ inside. stamp_row d t o s place.unix_millisecond (of.UnixTimestampMillisecond p) _ 17 99999999999999999
+      (λ inside. stamp_row d t o s position.unix_millisecond (of.UnixTimestampMillisecond p) _ 17 99999999999999999
       ((unix_time d t o).nanoseconds / 1000000) p.sign_is_mandatory (unix_time d t o).is_negative
       (λ f n. refl) refl (omega arith) (omega arith) (omega (arith, nanoseconds_in (unix_time d t o) inside))
       (omega arith))
   back (of.UnixTimestampMicrosecond p) = by_instant m d t o s is (of.UnixTimestampMicrosecond p)
-      (λ inside. stamp_row d t o s place.unix_microsecond (of.UnixTimestampMicrosecond p) _ 20 99999999999999999999
+      (λ inside. stamp_row d t o s position.unix_microsecond (of.UnixTimestampMicrosecond p) _ 20 99999999999999999999
       ((unix_time d t o).nanoseconds / 1000) p.sign_is_mandatory (unix_time d t o).is_negative
       (λ f n. refl) refl (omega arith) (omega arith) (omega (arith, nanoseconds_in (unix_time d t o) inside))
       (omega arith))
   back (of.UnixTimestampNanosecond p) = by_instant m d t o s is (of.UnixTimestampNanosecond p)
-      (λ inside. stamp_row d t o s place.unix_nanosecond (of.UnixTimestampNanosecond p) _ 23 99999999999999999999999
+      (λ inside. stamp_row d t o s position.unix_nanosecond (of.UnixTimestampNanosecond p) _ 23 99999999999999999999999
       (unix_time d t o).nanoseconds p.sign_is_mandatory (unix_time d t o).is_negative
       (λ f n. refl) refl (omega arith) (omega arith) (omega (arith, nanoseconds_in (unix_time d t o) inside))
       (omega arith))

@@ -1,4 +1,4 @@
--- What is written of a settled description is read back.
+-- The text that is written for a settled description is read back.
 use Rattle.std.proofs.Common.{◌≡◌, inl, ◌+◌, ◌++◌, true, false, if◌then◌else◌, [], ◌∷◌, length, Result, Ok, Err, IfOk}
 use Rattle.std.proofs.Common.{refl, sym, ap, subst}
 use Rattle.std.specs.Char.{is_ascii_digit}
@@ -77,7 +77,7 @@ mutual
   begins_first m known no_trees = λ rest h. h
   begins_first m known (more_trees t ts) = begins m known t
 
--- what is known is enough
+-- what is known about the rest is enough for what is needed
 
 enough : (want known : Bound) (rest : Text) → is_enough want known ≡ true → IsBounded known rest
     → IsBounded want rest
@@ -90,7 +90,7 @@ enough want known rest e h = absurd (clash true (sym e) refl)
 -- trees
 
 module _ (m : Moment) (d : Date) (t : Time) (o : UtcOffset) (is : IsOf m d t o) where
-  -- a text is read by what is between two points
+  -- reading the text leads from one point to the other
   abbrev Back : Bound → (Point → Point → Type 0) → Shows → Shows → Text → Type 0
   Back known Read s v text = (rest : Text) → IsBounded known rest
       → Read (at d t o s (text ++ rest)) (at d t o v rest)
@@ -112,7 +112,7 @@ module _ (m : Moment) (d : Date) (t : Time) (o : UtcOffset) (is : IsOf m d t o) 
   both_read u us known mid s v w (Ok a) (Err e) f g k = tt
   both_read u us known mid s v w (Err e) y f g k = tt
 
-  -- and by all that this is a part of
+  -- the same holds for a relation that includes this one
   also_read : (Read More : Point → Point → Type 0) → ((p q : Point) → Read p q → More p q) → (known : Bound) (s v : Shows)
       (x : Result Text Unshown) → IfOk x (Back known Read s v) → IfOk x (Back known More s v)
   also_read Read More more known s v (Ok a) f = λ rest h. more _ _ (f rest h)

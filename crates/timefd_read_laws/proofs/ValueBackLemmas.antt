@@ -29,7 +29,7 @@ use Rattle.timefd_read_laws.proofs.RowLemmas.{same_sign}
 use Rattle.timefd_read_laws.proofs.TreeLemmas.{reads_back}
 use Rattle.timefd_read_laws.proofs.StepLemmas.{IsWhole}
 
--- Each field that is shown is the moment's.
+-- Each field that is shown has the value of the moment.
 
 pub shown_count : (b : Bool) (n : ℕ) → is_count (if_shown b n) n ≡ true
 shown_count true n = eq-eqb n n refl
@@ -72,7 +72,7 @@ date_agrees d t o s DatePart.IsoYear =
     shown_amount s.iso_year (is_before_zero (iso_years d)) (magnitude (iso_years d))
     (magnitude (iso_years d) / 1) (magnitude (iso_years d)) (omega arith)
 
--- of finer parts what isn't shown is 0
+-- finer parts that aren't shown are 0
 
 zero_without : (b : Bool) (n : ℕ) → IsZeroWithout (if_shown b n) n → is_count_or_zero (if_shown b n) n ≡ true
 zero_without true n h = eq-eqb n n refl

@@ -1,4 +1,4 @@
--- The errors of dates, times of day and offsets name what was read, or what was not.
+-- The errors of dates, times of day and offsets name what was read, or what wasn't.
 use Rattle.std.proofs.Common.{ℕ, ◌≡◌, ◌∙◌, ◌≤◌, ◌<◌, ◌+◌, ◌/◌, ◌%◌, ◌==◌, ◌&&◌, ◌||◌, ◌⊎◌, inl, inr, Bool, true, false, nat_le, nat_lt, if◌then◌else◌, List, [], ◌∷◌, Option, Some, None, Result, Ok, Err, IsTrue, refl, sym, ap, subst, arith}
 use Rattle.std.specs.Prelude.{IfSome, is_some, ⊤}
 use Rattle.std.proofs.lemmas.Bool.{eq-eqb, ltb-true}
@@ -28,15 +28,15 @@ use Rattle.timefd_read_moment.specs.Years.{years_of_century, years_read}
 use Rattle.timefd_read_moment.proofs.ShownLemmas.{clash}
 use Rattle.timefd_read_laws.specs.ValueFaults.{NamesRead, date_is_read, offset_is_read, time_is_read}
 
--- What a test tells.
+-- What a test shows.
 
--- what holds either way
+-- what holds in both cases
 pub chosen : {A : Type 0} (P : A → Type 0) (b : Bool) (x y : A) → (b ≡ true → P x) → (b ≡ false → P y)
     → P (if b then x else y)
 chosen P true x y p q = p refl
 chosen P false x y p q = q refl
 
--- A part that isn't the first one that is otherwise is not named.
+-- The first part that a value disagrees with is really one that it disagrees with.
 pub first_is : {A : Type 0} (has : A → Bool) (ps : List A) (p : A) → first_false has ps ≡ Some p → has p ≡ false
 first_is has [] p e = absurd cc
 first_is has (q ∷ ps) p e = by (has q) refl e (λ f. first_is has ps p f)
@@ -46,7 +46,8 @@ first_is has (q ∷ ps) p e = by (has q) refl e (λ f. first_is has ps p f)
     by true is e more = more e
     by false is e more = let same : q ≡ p = cc in sym (ap has same) ∙ is
 
--- What is named is read: each value has what wasn't read, and where there is none a part is named that was.
+-- The part that is named was read: each value agrees with parts that weren't read, and if there is no value,
+-- a part that was read is named.
 pub named_read : {A P : Type 0} (Has : A → Type 0) (has : A → P → Bool) (ps : List P) (fault : Option P)
     (is_read : P → Bool) (p : P) → IsNamed Has (λ a. first_false (has a) ps) fault p
     → ((a : A) → Has a → is_read p ≡ false → has a p ≡ true) → IfSome fault (λ q. is_read q ≡ true)
@@ -146,7 +147,7 @@ no_last_two None None n e k = absurd (clash false refl k)
 no_last_two None (Some c) None e k = refl
 no_last_two None (Some c) (Some n) e k = absurd (clash true e refl)
 
--- what is wanted beside what was read
+-- what is missing besides what was read
 module _ (f : Fields) (y iy : Option ℕ) (no_date : calendar y f.month f.day ≡ None)
     (no_iso : iso_week iy f.iso_week f.weekday ≡ None) (no_sunday : sunday_week y f.sunday_week f.weekday ≡ None)
     (no_monday : monday_week y f.monday_week f.weekday ≡ None)
@@ -287,7 +288,7 @@ date_names f (error.Contradiction (part.Instant p)) is = absurd is.2
 
 -- Times of day.
 
--- the numbers of the time that has what was read
+-- the numbers of the time that agrees with what was read
 record TimeOf (f : Fields) (t : Time) : Type 0 where
   minute : number f.minute ≡ t.minute
   second : number f.second ≡ t.second
@@ -321,7 +322,7 @@ time_unread f t TimePart.Minute h e = zero_unread f.minute _ e (time_of f t h).m
 time_unread f t TimePart.Second h e = zero_unread f.second _ e (time_of f t h).second
 time_unread f t TimePart.Subsecond h e = fraction_unread f.subsecond _ e (time_of f t h).nanosecond
 
--- an hour that no day has was read as one of the 24-hour clock
+-- an hour after 23 was read as an hour of the 24-hour clock
 hour_was : (h h12 : Option ℕ) (p : Option Bool) (n : ℕ) → hour_read h h12 p ≡ Some n → nat_lt 23 n ≡ true
     → is_some h ≡ true
 hour_was (Some h) h12 p n e great = refl
@@ -369,7 +370,7 @@ fault_at_hour f (Some h) is =
 time_fault_read : (f : Fields) → TimeWas f (time_fault (clock_read f))
 time_fault_read f = fault_at_hour f (hour_read f.hour f.hour_12 f.is_afternoon) refl
 
--- what is left out was not read
+-- what is left out wasn't read
 left_out : (o : Option ℕ) (b : Bool) → is_left_out o b ≡ true → is_some o ≡ false
 left_out None b e = refl
 left_out (Some n) b e = absurd (clash false refl e)
@@ -421,7 +422,7 @@ time_names f (error.Contradiction (part.Instant p)) is = absurd is.2
 
 -- Offsets.
 
--- the numbers of the offset that has what was read
+-- the numbers of the offset that agrees with what was read
 pub record OffsetOf (f : Fields) (o : UtcOffset) : Type 0 where
   pub minute : number f.offset_minute ≡ o.seconds / 60 % 60
   pub second : number f.offset_second ≡ o.seconds % 60

@@ -28,7 +28,7 @@ use Rattle.timefd_read_laws.proofs.MomentKnownLemmas.{Has, moment_known}
 use Rattle.timefd_read_laws.proofs.PlainLemmas.{all_read, each_read, read_whole}
 use Rattle.timefd_read_laws.proofs.ReadRowLemmas.{Leaves}
 
--- each component that is written
+-- the property holds of each component that is written
 abbrev mutual
   pub Each : (Component → Type 0) → Tree → Type 0
   Each P (component c) = P c
@@ -58,7 +58,7 @@ mutual
   each_of_more P Q f no_trees h = tt
   each_of_more P Q f (more_trees t ts) h = (each_more P Q f t h.0, each_of_more P Q f ts h.1)
 
--- what is known behind what was read
+-- what is known after something was read
 
 abbrev KnowsOf : Fields → Component → Type 0
 KnowsOf f c = Knows (kind (modern c)) (range_of (modern c)) f
@@ -109,7 +109,8 @@ followed_ok (Ok a) (Ok b) e h = refl
 followed_ok (Ok a) (Err u) e h = absurd (clash true (sym h) refl)
 followed_ok (Err u) b e h = absurd (clash true (sym e) refl)
 
--- What holds of the text of each component, of any other, and of one behind another, holds of the text of a tree.
+-- What holds of the text of each component, of any other text, and of one text after another, holds of the
+-- text of a tree.
 module _ (P : Result Text Unshown → Type 0) (any : (text : Text) → P (Ok text))
     (both_texts : (a b : Result Text Unshown) → P a → P b → P (followed a b)) (m : Moment) where
   mutual
@@ -134,7 +135,7 @@ pub has_text : (r : Result Text Unshown) → is_ok r ≡ true → (text : Text) 
 has_text (Ok text) e = (text, refl)
 has_text (Err u) e = absurd (clash true (sym e) refl)
 
--- of a moment that has each kind of which something was read
+-- a moment that has each kind that something was read about can be written
 pub written_of : (m : Moment) (tree : Tree) (text : Text) (f : Fields)
     → ((k : Kind) → has_kind k f ≡ true → Has k m f) → IsReadWritten tree text f → HasText m tree
 written_of m tree text f has h =

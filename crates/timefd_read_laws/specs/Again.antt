@@ -1,4 +1,4 @@
--- What is written of what was read of a text is read as the same.
+-- A moment that was read from a text and is written again gives the same moment.
 use Rattle.std.specs.Prelude.{ℕ, ◌≡◌, ◌&&◌, ⊤, Bool, true, false, Option, Some, None, is_some, Result, Ok, Err}
 use Rattle.timefd_component.specs.Tree.{Text, Tree, component, literal, compound, optional, first, Trees, no_trees, more_trees}
 use Rattle.timefd_format.specs.Written.{written}
@@ -21,7 +21,7 @@ abbrev pub digits_of : Option Fraction → Option ℕ
 digits_of None = None
 digits_of (Some fraction) = Some fraction.digits
 
--- which fields were read, and how many digits of a second
+-- which fields were read, and how many digits of a second's fraction
 abbrev pub parts : Fields → Shows
 parts f = record {
   year = is_some f.year;
@@ -52,7 +52,7 @@ parts f = record {
   unix_nanosecond = is_some f.unix_nanosecond;
 }
 
--- a description without optional parts and alternatives, as all of versions 1 and 2 and of strftime are
+-- a description without optional parts and alternatives, like all of versions 1 and 2 and of strftime
 abbrev mutual
   pub is_plain : Tree → Bool
   is_plain (component c) = true
@@ -65,14 +65,14 @@ abbrev mutual
   are_plain no_trees = true
   are_plain (more_trees t ts) = is_plain t && are_plain ts
 
--- Of a plain description all that is written is read, and nothing else.
+-- A plain description reads everything that it writes, and nothing else.
 abbrev pub PartsRead : Type 0
 PartsRead = (tree : Tree) (text : Text) (f : Fields) → is_plain tree ≡ true → fields_of tree text ≡ Ok f
     → parts f ≡ shows tree
 
--- A settled description read a text as a moment, and wrote that moment. Of optional parts and alternatives
--- those were read that are written. The date, the time and the offset are the moment's where it has them:
--- with a timestamp it has all three.
+-- A settled description read a text as a moment, and wrote that moment. The optional parts and alternatives
+-- that were read are those that are written. The date, the time and the offset are those of the moment, if it
+-- has them; with a timestamp it has all three.
 pub record IsWrittenAgain (m : Moment) (d : Date) (t : Time) (o : UtcOffset) (tree : Tree) (f : Fields)
     (again : Text) : Type 0 where
   pub text : Text
@@ -83,12 +83,12 @@ pub record IsWrittenAgain (m : Moment) (d : Date) (t : Time) (o : UtcOffset) (tr
   pub is_of : IsOf m d t o
   pub wrote : written m tree ≡ Ok again
 
--- The fields that are read of the new text are those of the moment.
+-- The fields that are read from the new text are those of the moment.
 abbrev pub FieldsAgain : Type 0
 FieldsAgain = (m : Moment) (d : Date) (t : Time) (o : UtcOffset) (tree : Tree) (f : Fields) (again : Text)
     → IsWrittenAgain m d t o tree f again → fields_of tree again ≡ Ok (fields_shown d t o (shows tree))
 
--- both are known and the same, or neither is known
+-- both are known and are the same, or neither is known
 abbrev pub BothKnown : {A : Type 0} → (A → A → Type 0) → Option A → Option A → Type 0
 BothKnown IsSame None None = ⊤
 BothKnown IsSame None (Some b) = ⊥
@@ -100,7 +100,7 @@ AnswersSame m (Ok n) = BothKnown of_date.IsSame m.date n.date × BothKnown of_ti
     × BothKnown of_offset.IsSame m.offset n.offset
 AnswersSame m (Err e) = ⊥
 
--- The moment that is answered of the new text is the one that was answered of the text.
+-- The new text gives the same moment as the text that was read.
 abbrev pub ShowsBack : Type 0
 ShowsBack = (m : Moment) (d : Date) (t : Time) (o : UtcOffset) (tree : Tree) (f g : Fields) (again : Text)
     (r : Result Moment ValueError) → IsWrittenAgain m d t o tree f again → fields_of tree again ≡ Ok g

@@ -1,4 +1,4 @@
--- What is left of a text is as a bound wants it.
+-- The rest of a text meets a bound.
 use Rattle.std.specs.Prelude.{◌≡◌, [], ⊤}
 use Rattle.timefd_component.specs.Tree.{Text}
 use Rattle.timefd_read_dates.specs.Laws.{HasNoDigit}

@@ -1,4 +1,4 @@
--- Worked examples, by which no law has premises that nothing meets.
+-- Examples. They show that the premises of the laws can be met.
 use Rattle.std.specs.Prelude.{◌≡◌, true, false, [], ◌∷◌, codes, Some, None, Ok}
 use Rattle.timefd_component.specs.declared.component.Component.TheVariants.{CalendarYearFullExtendedRange}
 use Rattle.timefd_component.specs.declared.component.Component.TheVariants.{CalendarYearFullStandardRange, Day, Hour24}
@@ -46,7 +46,7 @@ iso_date = compound (trees (year ∷ literal (codes "-") ∷ month Padding.Zero 
 abbrev pub basic_date : Tree
 basic_date = compound (trees (four_digits ∷ month Padding.Zero ∷ day Padding.Zero ∷ []))
 
--- `[year][month][day]`, of which the year may have six digits
+-- `[year][month][day]`, where the year may have six digits
 abbrev pub touching_date : Tree
 touching_date = compound (trees (year ∷ month Padding.Zero ∷ day Padding.Zero ∷ []))
 
@@ -104,11 +104,11 @@ IsHalfBefore d t o = (d.years ≡ 1001969) × (d.month ≡ 12) × (d.day ≡ 31)
 abbrev pub all : Date → Time → UtcOffset → Moment
 all d t o = record { date = Some d; time = Some t; offset = Some o }
 
--- a date alone
+-- only a date
 abbrev pub only : Date → Moment
 only d = record { date = Some d; time = None; offset = None }
 
--- The twenty-third of November 2026 is written so, and read back.
+-- The twenty-third of November 2026 is written like this, and read back.
 abbrev pub DateExample : Type 0
 DateExample = ((d : Date) → d.years ≡ 1002026 → d.month ≡ 11 → d.day ≡ 23
     → written (only d) iso_date ≡ Ok (codes "2026-11-23"))
@@ -123,7 +123,7 @@ abbrev pub TimeExample : Type 0
 TimeExample = (is_settled clock ≡ true) × (fields_of clock (codes "05:36:07.012") ≡ Ok clock_fields)
     × IsDetermined (clock_read clock_fields)
 
--- the sign of half an hour behind UTC
+-- the sign of an offset of half an hour behind UTC
 abbrev pub OffsetExample : Type 0
 OffsetExample = (is_settled offset ≡ true) × (fields_of offset (codes "-00:30") ≡ Ok offset_fields)
     × IsDetermined (shift_read offset_fields)
@@ -137,8 +137,8 @@ abbrev pub AgainExample : Type 0
 AgainExample = (d : Date) (t : Time) (o : UtcOffset) → d.years ≡ 1002026 → d.month ≡ 11 → d.day ≡ 23
     → IsWrittenAgain (only d) d t o iso_date date_fields (codes "2026-11-23")
 
--- Seconds before 1970 are read with a zero in front, and their fraction with one behind. They are written
--- without both, and are the same moment.
+-- Seconds before 1970 are read with a zero in front, and their fraction with a zero at the end. They are
+-- written without both zeros, and are the same moment.
 abbrev pub StampAgainExample : Type 0
 StampAgainExample = (d : Date) (t : Time) (o : UtcOffset) → IsHalfBefore d t o
     → IsWrittenAgain (all d t o) d t o stamp_clock stamp_fields (codes "-1.5")

@@ -18,13 +18,15 @@ use Rattle.timefd_read_laws.specs.Shown.{IsOf, Shows, fields_shown, shows, with_
 abbrev pub at : Date → Time → UtcOffset → Shows → Text → Point
 at d t o s text = record { rest = text; fields = fields_shown d t o s }
 
--- What is written of a component is read back, and no more: the fields are those of the moment.
+-- The text that is written for a component is read back, and nothing after it. The fields are those of the
+-- moment.
 abbrev pub ComponentBack : Type 0
 ComponentBack = (m : Moment) (d : Date) (t : Time) (o : UtcOffset) (c : Component) (s : Shows)
     (text rest : Text) → IsOf m d t o → shown m c ≡ Ok text → IsBounded (bound_of (modern c)) rest
     → read (component c) (at d t o s (text ++ rest)) ≡ Ok (at d t o (with_component (modern c) s) rest)
 
--- What is written of a settled description is read back: the fields are those that it shows, of the moment.
+-- The text that is written for a settled description is read back. The fields are those that the description
+-- shows, with the values of the moment.
 abbrev pub ReadsBack : Type 0
 ReadsBack = (m : Moment) (d : Date) (t : Time) (o : UtcOffset) (tree : Tree) (text : Text) → IsOf m d t o
     → is_settled tree ≡ true → written m tree ≡ Ok text

@@ -1,5 +1,5 @@
--- What can be written where the same fields were read as are written, whichever optional parts and alternatives
--- were read.
+-- What can be written if the fields that were read are the fields that are written, whichever optional parts
+-- and alternatives were read.
 use Rattle.std.specs.Prelude.{◌≡◌, ◌≤◌, IfErr, IfSome, Ok}
 use Rattle.timefd_component.specs.Tree.{Text, Tree}
 use Rattle.timefd_format.specs.declared.field.Lack.{Lack}
@@ -14,16 +14,17 @@ use Rattle.timefd_read_laws.specs.Again.{parts}
 use Rattle.timefd_read_laws.specs.Shown.{shows}
 use Rattle.timefd_read_laws.specs.Written.{HasText}
 
--- A moment that was read lacks no part: at most a component shows too few digits of its year.
+-- A moment that was read has every part that is needed. The only error left is that a year is too long for
+-- its component.
 abbrev pub LacksYearsAlone : Type 0
 LacksYearsAlone = (m : Moment) (tree : Tree) (text : Text) (f : Fields) → fields_of tree text ≡ Ok f
     → parts f ≡ shows tree → IsMomentOf f (Ok m) → IfErr (written m tree) (λ u. u.lack ≡ Lack.YearTooLong)
 
--- the year, and that of its ISO week
+-- the year and the ISO week-numbering year have at most four digits
 abbrev pub HasShortYears : Date → Type 0
 HasShortYears d = (magnitude d.years ≤ 9999) × (magnitude (iso_years d) ≤ 9999)
 
--- Where they have four digits at most, the moment can be written.
+-- A moment whose years have at most four digits can be written.
 abbrev pub WritesShortYears : Type 0
 WritesShortYears = (m : Moment) (tree : Tree) (text : Text) (f : Fields) → fields_of tree text ≡ Ok f
     → parts f ≡ shows tree → IsMomentOf f (Ok m) → IfSome m.date HasShortYears → HasText m tree

@@ -1,4 +1,4 @@
--- Which fields a description shows, and what they are of a moment.
+-- Which fields a description shows, and their values for a moment.
 use Rattle.std.specs.Prelude.{ℕ, ◌≡◌, ◌*◌, ◌/◌, ◌%◌, Bool, true, false, nat_le, if◌then◌else◌, Option, Some, None, IfSome}
 use Rattle.timefd_component.specs.declared.component.Component.{Component}
 use Rattle.timefd_component.specs.declared.component.Component.TheVariants as of
@@ -17,11 +17,11 @@ use Rattle.timefd_read_dates.specs.declared.fields.Signed.{Signed}
 use Rattle.timefd_read_dates.specs.Readings.{unit}
 use Rattle.timefd_read_moment.specs.Stamped.{whole_seconds}
 
--- what is known of a moment is of this date, this time of day and this offset
+-- the parts that a moment has are this date, this time of day and this offset
 abbrev pub IsOf : Moment → Date → Time → UtcOffset → Type 0
 IsOf m d t o = IfSome m.date (λ e. e ≡ d) × IfSome m.time (λ u. u ≡ t) × IfSome m.offset (λ p. p ≡ o)
 
--- Which fields are shown, and how many digits of a second.
+-- Which fields are shown, and how many digits of a second's fraction.
 pub record Shows : Type 0 where
   pub year : Bool
   pub century : Bool
@@ -80,13 +80,13 @@ shows_nothing = record {
   unix_nanosecond = false;
 }
 
--- What they are.
+-- The values of the fields.
 
 abbrev pub if_shown : {A : Type 0} → Bool → A → Option A
 if_shown true a = Some a
 if_shown false a = None
 
--- A part of a number has the sign of the whole one.
+-- A part of a number has the sign of the whole number.
 
 abbrev pub with_sign : Bool → ℕ → Signed
 with_sign is_negative n = record { is_negative = is_negative; magnitude = n }
@@ -94,7 +94,7 @@ with_sign is_negative n = record { is_negative = is_negative; magnitude = n }
 abbrev pub year_part : ℕ → ℕ → Signed
 year_part years unit = with_sign (is_before_zero years) (magnitude years / unit)
 
--- so many nanoseconds, cut behind so many digits
+-- n nanoseconds, cut off after this many digits of a second's fraction
 abbrev pub cut : ℕ → ℕ → Fraction
 cut digits n = record { digits = digits; nanosecond = n / unit digits * unit digits }
 
@@ -102,7 +102,7 @@ abbrev pub cut_where : Option ℕ → ℕ → Option Fraction
 cut_where None n = None
 cut_where (Some digits) n = Some (cut digits n)
 
--- the fields of a moment, of those that are shown
+-- the values of a moment for the fields that are shown
 abbrev pub fields_shown : Date → Time → UtcOffset → Shows → Fields
 fields_shown d t o s = record {
   year = if_shown s.year (year_part d.years 1);
@@ -137,13 +137,13 @@ fields_shown d t o s = record {
       if_shown s.unix_nanosecond (with_sign (unix_time d t o).is_negative (unix_time d t o).nanoseconds);
 }
 
--- Which fields they are.
+-- Which fields are shown.
 
 abbrev pub more_digits : Option ℕ → ℕ → ℕ
 more_digits None b = b
 more_digits (Some a) b = if nat_le a b then b else a
 
--- a modern component beside what is shown already
+-- what is shown with one more modern component
 abbrev pub with_component : Component → Shows → Shows
 with_component (of.Day m) s = record s { day = true }
 with_component (of.MonthShort m) s = record s { month = true }
@@ -185,7 +185,7 @@ with_component (of.Ignore m) s = s
 with_component (of.End m) s = s
 with_component deprecated s = s
 
--- a description, of which a formatter writes the first alternatives
+-- what is shown with one more description; of alternatives a formatter writes the first
 abbrev mutual
   pub with_tree : Tree → Shows → Shows
   with_tree (component c) s = with_component (modern c) s

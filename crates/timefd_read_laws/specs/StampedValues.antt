@@ -1,4 +1,4 @@
--- What is read of a text with a timestamp that was written of a moment.
+-- What is read from a text with a timestamp that was written for a moment.
 use Rattle.std.specs.Prelude.{◌≡◌, IsTrue, Some, Result, Ok}
 use Rattle.timefd_component.specs.Tree.{Tree}
 use Rattle.timefd_moment.specs.declared.date.Date.{Date}
@@ -20,7 +20,7 @@ use Rattle.timefd_read_moment.specs.Times as of_time
 use Rattle.timefd_read_moment.specs.Values.{IsDateOf, IsInstantOf, IsMomentOf, IsTimeOf}
 use Rattle.timefd_read_laws.specs.Values.{HasNoMoreOffset, IsReadBack}
 
--- The offset is the one that was read, or UTC where none was. What is finer than what was read is 0, and the
+-- The offset is the one that was read, or UTC if none was. Everything finer than what was read is 0, and the
 -- instant is in the years of UTC.
 abbrev pub IsStampedBack : Date → Time → UtcOffset → Tree → Fields → Type 0
 IsStampedBack d t o tree f = IsReadBack d t o tree f × HasShift (zone_read f) o × HasNoMoreOffset f o

@@ -1,4 +1,4 @@
--- What the error of a value names: a part that is missing was not read, and one that contradicts was.
+-- The part that the error of a value names: a missing part wasn't read, and a contradicting part was.
 use Rattle.std.specs.Prelude.{◌≡◌, Bool, true, false, is_some, Err}
 use Rattle.timefd_read_dates.specs.declared.fields.Fields.{Fields}
 use Rattle.timefd_read_moment.specs.declared.error.ValueError.{ValueError}
@@ -54,12 +54,12 @@ is_read f (Time p) = time_is_read f p
 is_read f (Offset p) = offset_is_read f p
 is_read f (Instant p) = instant_is_read f p
 
--- What is missing was not read, and what contradicts was.
+-- A missing part wasn't read, and a contradicting part was.
 abbrev pub NamesRead : Fields → ValueError → Type 0
 NamesRead f (Missing p) = is_read f p ≡ false
 NamesRead f (Contradiction p) = is_read f p ≡ true
 
--- So of the errors of a date, a time of day, an offset and a moment.
+-- This holds for the errors of a date, a time of day, an offset and a moment.
 pub record ErrorsNameRead : Type 0 where
   pub date : (f : Fields) (e : ValueError) → IsDateOf f (Err e) → NamesRead f e
   pub time : (f : Fields) (e : ValueError) → IsTimeOf f (Err e) → NamesRead f e

@@ -1,4 +1,4 @@
--- What is read of a text that was written of a moment, as a date, a time, an offset and an instant.
+-- What is read from a text that was written for a moment: as a date, a time, an offset and an instant.
 use Rattle.std.specs.Prelude.{ℕ, ◌≡◌, ◌/◌, ◌%◌, ⊤, true, Option, Some, None, Result, Ok}
 use Rattle.timefd_component.specs.Tree.{Text, Tree}
 use Rattle.timefd_format.specs.Written.{written}
@@ -27,8 +27,7 @@ use Rattle.timefd_read_moment.specs.Ways.{IsDetermined, date_way}
 use Rattle.timefd_settled.specs.Settled.{is_settled}
 use Rattle.timefd_read_laws.specs.Shown.{IsOf}
 
--- The text was written of this date, time and offset by a settled description, which read it back as these
--- fields.
+-- A settled description wrote the text for this date, time and offset, and read it back as these fields.
 pub record IsReadBack (d : Date) (t : Time) (o : UtcOffset) (tree : Tree) (f : Fields) : Type 0 where
   pub moment : Moment
   pub text : Text
@@ -37,7 +36,7 @@ pub record IsReadBack (d : Date) (t : Time) (o : UtcOffset) (tree : Tree) (f : F
   pub wrote : written moment tree ≡ Ok text
   pub read : fields_of tree text ≡ Ok f
 
--- What the description doesn't show of finer parts is 0.
+-- Finer parts that the description doesn't show are 0.
 
 abbrev pub IsZeroWithout : Option ℕ → ℕ → Type 0
 IsZeroWithout None n = n ≡ 0
@@ -55,7 +54,7 @@ abbrev pub HasNoMoreOffset : Fields → UtcOffset → Type 0
 HasNoMoreOffset f o = IsZeroWithout f.offset_minute (o.seconds / 60 % 60)
     × IsZeroWithout f.offset_second (o.seconds % 60)
 
--- The laws, where no timestamp was read.
+-- The laws for texts without a timestamp.
 
 abbrev pub DateReadBack : Type 0
 DateReadBack = (d : Date) (t : Time) (o : UtcOffset) (tree : Tree) (f : Fields) (r : Result Date ValueError)

@@ -1,4 +1,4 @@
--- Worked examples of what was read and is written, and of what was read and can't be.
+-- Examples of what was read and is written, and of what was read but can't be written.
 use Rattle.std.specs.Prelude.{◌≡◌, true, false, [], ◌∷◌, codes, Some, Ok, Err}
 use Rattle.timefd_component.specs.declared.component.Component.{Component}
 use Rattle.timefd_component.specs.declared.component.Component.TheVariants.{CalendarYearFullStandardRange, Hour24, Minute}
@@ -23,7 +23,7 @@ hour = Hour24 (record { padding = Padding.Zero })
 abbrev pub standard_year : Component
 standard_year = CalendarYearFullStandardRange (record { padding = Padding.Zero; sign_is_mandatory = false })
 
--- `[year]-[month]-[day]` and more
+-- `[year]-[month]-[day]` and then something more
 abbrev pub date_and : Tree → Tree
 date_and more = compound (trees (year ∷ literal (codes "-") ∷ month Padding.Zero ∷ literal (codes "-")
     ∷ day Padding.Zero ∷ more ∷ []))
@@ -51,7 +51,8 @@ abbrev pub OptionalExample : Type 0
 OptionalExample = IsReadWritten (date_and (optional true short_clock)) (codes "2026-11-23 05:36")
     (record date_fields { hour = Some 5; minute = Some 36 })
 
--- An optional part that was left out in the text is written all the same: the moment lacks its time.
+-- A formatter still has to write an optional part that was left out of the text, but the moment has no time
+-- of day.
 abbrev pub LeftOutExample : Type 0
 LeftOutExample = (d : Date) → d.years ≡ 1002026 → d.month ≡ 11 → d.day ≡ 23
     → (fields_of (date_and (optional true short_clock)) (codes "2026-11-23") ≡ Ok date_fields)
@@ -59,7 +60,8 @@ LeftOutExample = (d : Date) → d.years ≡ 1002026 → d.month ≡ 11 → d.day
     × (written (only d) (date_and (optional true short_clock))
     ≡ Err (record { component = hour; lack = Lack.NoTime }))
 
--- The same fields are read as are written, and the year is too long for the part that was left out.
+-- The fields that are read are the fields that are written, but the year is too long for the part that was
+-- left out.
 abbrev pub LongYearExample : Type 0
 LongYearExample = (d : Date) → d.years ≡ 1012026 → d.month ≡ 11 → d.day ≡ 23
     → (fields_of (date_and (optional true year_again)) (codes "+12026-11-23") ≡ Ok long_year_fields)
@@ -68,7 +70,8 @@ LongYearExample = (d : Date) → d.years ≡ 1012026 → d.month ≡ 11 → d.da
     × (written (only d) (date_and (optional true year_again))
     ≡ Err (record { component = standard_year; lack = Lack.YearTooLong }))
 
--- So it isn't enough that the same fields are read as are written: what is written itself has to be read.
+-- So it isn't enough that the fields that are read are the fields that are written: every part that is
+-- written has to be read itself.
 abbrev pub NeedsAllRead : Type 0
 NeedsAllRead = ((m : Moment) (tree : Tree) (text : Text) (f : Fields) → fields_of tree text ≡ Ok f
     → parts f ≡ shows tree → IsMomentOf f (Ok m) → HasText m tree) → ⊥

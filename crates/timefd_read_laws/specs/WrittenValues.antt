@@ -11,14 +11,14 @@ use Rattle.timefd_read_moment.specs.Stamps.{instant_read}
 use Rattle.timefd_read_moment.specs.Values.{IsDateOf, IsTimeOf}
 use Rattle.timefd_read_laws.specs.Written.{HasText, IsReadWritten}
 
--- Where a value is wanted, it is known and of this kind.
+-- If a value is needed, it is known and has this property.
 abbrev pub IsKnownIf : {A : Type 0} → Bool → (A → Type 0) → Option A → Type 0
 IsKnownIf false Is x = ⊤
 IsKnownIf true Is None = ⊥
 IsKnownIf true Is (Some a) = Is a
 
--- Each part of the moment of which something was read is one that is answered of the fields. With a timestamp
--- all three are wanted, and where no offset was read, UTC.
+-- If something was read about a part of the moment, that part is the one that the fields give. With a
+-- timestamp all three parts are needed, with UTC if no offset was read.
 abbrev pub HasValuesBy : Option UnixTime → Moment → Fields → Type 0
 HasValuesBy None m f = IsKnownIf (has_date f) (λ d. IsDateOf f (Ok d)) m.date
     × IsKnownIf (has_time f) (λ t. IsTimeOf f (Ok t)) m.time
@@ -29,7 +29,7 @@ HasValuesBy (Some u) m f = IsKnownIf true (λ d. IsDateOf f (Ok d)) m.date
 abbrev pub HasValues : Moment → Fields → Type 0
 HasValues m f = HasValuesBy (instant_read f) m f
 
--- The values that were answered can be written. A moment may have more than these.
+-- The values that were read can be written. The moment may have more than these.
 abbrev pub WritesValues : Type 0
 WritesValues = (m : Moment) (tree : Tree) (text : Text) (f : Fields) → IsReadWritten tree text f → HasValues m f
     → HasText m tree

@@ -1,20 +1,20 @@
-//! What holds of texts that are written of what was read.
+//! Laws about a moment that was read from a text and is written again.
 
 ghost use Rattle.timefd_read_laws.specs.Again.{FieldsAgain, PartsRead, ShowsBack};
 
-/// By a description without optional parts and alternatives all is read that it writes, and nothing else.
+/// A description without optional parts and alternatives reads everything that it writes, and nothing else.
 pub fn parts_read()
     ensures { PartsRead }
 {}
 
-/// Of a moment that was read a settled description writes a text which it reads as the fields of that
+/// For a moment that was read, a settled description writes a text that it reads as the fields of that
 /// moment.
 pub fn fields_again()
     ensures { FieldsAgain }
 {}
 
-/// Of a moment that was read a settled description writes a text of which the same moment is answered. So it
-/// is with timestamps too, before 1970, beside the digits of a second, and at an offset that was read.
+/// For a moment that was read, a settled description writes a text that gives the same moment again. That
+/// holds for timestamps too: before 1970, with the digits of a second, and with an offset that was read.
 pub fn shows_back()
     ensures { ShowsBack }
 {}

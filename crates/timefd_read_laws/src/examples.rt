@@ -1,4 +1,4 @@
-//! Worked examples, by which no law has premises that nothing meets.
+//! Examples. They show that the premises of the laws can be met.
 
 ghost use Rattle.timefd_read_laws.specs.Examples.{AgainExample, DateExample, OffsetExample, TimeExample};
 ghost use Rattle.timefd_read_laws.specs.Examples.{StampAgainExample, StampExample};
@@ -13,7 +13,7 @@ pub fn time_example()
     ensures { TimeExample }
 {}
 
-/// The sign of half an hour behind UTC is read back.
+/// The sign of an offset of half an hour behind UTC is read back.
 pub fn offset_example()
     ensures { OffsetExample }
 {}
@@ -28,7 +28,7 @@ pub fn again_example()
     ensures { AgainExample }
 {}
 
-/// Of a timestamp before 1970, read as "-01.50", the moment is written as "-1.5".
+/// A timestamp before 1970 that was read from "-01.50" is written as "-1.5".
 pub fn stamp_again_example()
     ensures { StampAgainExample }
 {}

@@ -1,15 +1,15 @@
-//! What holds of texts that are not read: which part doesn't read, and where.
+//! Laws about texts that can't be read: which part of the description stops, and where.
 
 ghost use Rattle.timefd_read_laws.specs.Faults.{FaultsExactly, FieldsExactly, OneAnswer};
 ghost use Rattle.timefd_read_laws.specs.ValueFaults.{ErrorsNameRead};
 
-/// The error that is answered is the text's fault: all in front of its byte index is read, and there the
-/// description stops for its reason, or has ended.
+/// The error is the fault of the text: everything before its byte index is read, and there the description
+/// stops for the reason of the error, or has ended.
 pub fn faults_exactly()
     ensures { FaultsExactly }
 {}
 
-/// The fields that are answered are those as which the whole text is read.
+/// The fields that reading returns are those that the whole text is read as.
 pub fn fields_exactly()
     ensures { FieldsExactly }
 {}
@@ -19,8 +19,8 @@ pub fn one_answer()
     ensures { OneAnswer }
 {}
 
-/// The error of a date, a time of day, an offset or a moment names what was read: a part that is missing
-/// wasn't, and one that contradicts was.
+/// The error of a date, a time of day, an offset or a moment names the right part: a missing part wasn't
+/// read, and a contradicting part was.
 pub fn errors_name_read()
     ensures { ErrorsNameRead }
 {}

@@ -1,13 +1,15 @@
-//! What holds of texts that were written, and are read.
+//! Laws about texts that were written and are read.
 
 ghost use Rattle.timefd_read_laws.specs.Laws.{ComponentBack, ReadsBack};
 
-/// What is written of a component is read back, and no more: the fields are those of the moment.
+/// The text that is written for a component is read back, and nothing after it. The fields are those of the
+/// moment.
 pub fn component_back()
     ensures { ComponentBack }
 {}
 
-/// What is written of a settled description is read back: the fields are those that it shows, of the moment.
+/// The text that is written for a settled description is read back. The fields are those that the description
+/// shows, with the values of the moment.
 pub fn reads_back()
     ensures { ReadsBack }
 {}

@@ -1,4 +1,5 @@
-//! What is written of a moment is read back as that moment; what is not read has one fault.
+//! Laws of reading: a text that is written for a moment is read back as that moment, and a text that can't be
+//! read has exactly one fault.
 #![tactic(auto)]
 
 pub mod again_laws;

@@ -1,4 +1,4 @@
-//! Worked examples of what was read and is written, and of what can't be written.
+//! Examples of what was read and is written, and of what was read but can't be written.
 
 ghost use Rattle.timefd_read_laws.specs.WrittenExamples.{LeftOutExample, LongYearExample, NeedsAllRead};
 ghost use Rattle.timefd_read_laws.specs.WrittenExamples.{OptionalExample, WrittenExample};
@@ -13,18 +13,19 @@ pub fn optional_example()
     ensures { OptionalExample }
 {}
 
-/// An optional part that was left out in the text can't be written: the moment lacks its time.
+/// An optional part that was left out of the text can't be written: the moment has no time of day.
 pub fn left_out_example()
     ensures { LeftOutExample }
 {}
 
-/// A year of five digits was read, and an optional part that shows four was left out: that can't be written,
-/// though the same fields are read as are written.
+/// A year of five digits was read, and an optional part that shows four digits was left out. That can't be
+/// written, although the fields that are read are the fields that are written.
 pub fn long_year_example()
     ensures { LongYearExample }
 {}
 
-/// Not each moment that was read can be written, even where the same fields are read as are written.
+/// Not every moment that was read can be written, even if the fields that are read are the fields that are
+/// written.
 pub fn needs_all_read()
     ensures { NeedsAllRead }
 {}

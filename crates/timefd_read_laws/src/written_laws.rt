@@ -1,16 +1,16 @@
-//! That what was read can be written.
+//! Laws about when a moment that was read can be written.
 
 ghost use Rattle.timefd_read_laws.specs.ShortYears.{LacksYearsAlone, WritesShortYears};
 ghost use Rattle.timefd_read_laws.specs.Written.{ComesBack, PlainReadsWritten, WritesAgain, WritesPlainAgain};
 ghost use Rattle.timefd_read_laws.specs.WrittenValues.{WritesValues};
 
-/// By a description without optional parts and alternatives all is read that it writes.
+/// A description without optional parts and alternatives reads everything that it writes.
 pub fn plain_reads_written()
     ensures { PlainReadsWritten }
 {}
 
-/// A moment that was read can be written, where all was read that is written: no component lacks a part of
-/// the moment, or shows no year of so many digits.
+/// A moment that was read can be written if everything that is written was read: the moment has every part
+/// that a component needs, and no year is too long for its component.
 pub fn writes_again()
     ensures { WritesAgain }
 {}
@@ -20,24 +20,25 @@ pub fn writes_plain_again()
     ensures { WritesPlainAgain }
 {}
 
-/// A date, a time of day and an offset that were read can be written, together or alone.
+/// A date, a time of day and an offset that were read can be written, together or one by one.
 pub fn writes_values()
     ensures { WritesValues }
 {}
 
-/// Where the same fields were read as are written, whichever optional parts and alternatives were read, a
-/// moment that was read lacks no part: at most a component shows no year of so many digits.
+/// If the fields that were read are the fields that are written, whichever optional parts and alternatives
+/// were read, a moment that was read has every part that is needed. The only error left is that a year is
+/// too long for its component.
 pub fn lacks_years_alone()
     ensures { LacksYearsAlone }
 {}
 
-/// Where the same fields were read as are written, a moment whose years have four digits at most can be
-/// written.
+/// If the fields that were read are the fields that are written, a moment whose years have at most four
+/// digits can be written.
 pub fn writes_short_years()
     ensures { WritesShortYears }
 {}
 
-/// Of a moment that was read a settled description writes a text, of which the same moment is answered.
+/// For a moment that was read, a settled description writes a text that gives the same moment again.
 pub fn comes_back()
     ensures { ComesBack }
 {}

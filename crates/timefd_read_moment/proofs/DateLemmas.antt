@@ -1,4 +1,4 @@
--- The date of fields.
+-- The date that fields determine.
 use Rattle.std.proofs.Common.{ℕ, ◌≡◌, ◌∙◌, true, false, Option, Some, None, Result, Ok, Err, sym, ap, subst}
 use Rattle.timefd_read_dates.specs.declared.fields.Fields.{Fields}
 use Rattle.timefd_moment.specs.declared.date.Date.{Date}
@@ -24,7 +24,7 @@ pub agreed : (f : Fields) (w : DateWay) (d : Date) (o : Option DatePart) → dat
     → o ≡ first_false (date_has f d) date_parts → o ≡ None → IsDateByParts f (Ok d)
 agreed f w d o e is none = (date_agrees f d (sym is ∙ none), determined f w e)
 
--- the date was found, and has the part otherwise
+-- a date was found, but differs in this part
 pub contradicted : (f : Fields) (w : DateWay) (e : Date) (o : Option DatePart) (p : DatePart)
     → date_way f ≡ Ok w → Selects (WayHas w) (Some e) → o ≡ first_false (date_has f e) date_parts
     → o ≡ Some p → has_way w e ≡ true → IsDateByParts f (Err (error.Contradiction (part.Date p)))
@@ -40,7 +40,7 @@ contradicted f w e o p way one is some has = (
   ),
 )
 
--- what was found is another date: none has the fields of the way
+-- what was found is another date, so no date has the fields of the way
 pub strayed : (f : Fields) (w : DateWay) (e : Date) (o : Option DatePart) (p q : DatePart)
     → date_way f ≡ Ok w → Selects (WayHas w) (Some e) → o ≡ first_false (date_has f e) date_parts
     → o ≡ Some p → has_way w e ≡ false → q ≡ way_fault f w
@@ -68,7 +68,7 @@ unfound f w q way none fault = (
   ),
 )
 
--- what makes the day makes the date
+-- if a condition selects a date, so does a stronger one
 narrowed : (Is Was : Date → Type 0) (r : Option Date) → ((d : Date) → Is d → Was d)
     → Selects Was r → Selects Is r
 narrowed Is Was (Some e) was one = λ d h. one d (was d h)

@@ -1,4 +1,4 @@
--- Which date a day is, and which day a date is.
+-- The date of a day, and the day of a date.
 use Rattle.std.proofs.Common.{ℕ, ◌≡◌, ◌∙◌, ◌+◌, ◌-◌, ◌*◌, ◌/◌, ◌%◌, ◌≤◌, Bool, true, false, nat_lt, Option, Some, None, if◌then◌else◌, refl, sym, ap, arith}
 use Rattle.std.proofs.lemmas.Bool.{le-leb, lt-ltb, ltb-true, ltb-false}
 use Rattle.timefd_moment.specs.declared.date.Date.{Date}
@@ -20,9 +20,9 @@ pub within : (d : Date) → (366 ≤ day_number d) × (day_number d ≤ 73048499
 within d =
     let begins = calendar.years_more 0 (d.years - 1) d.years (omega (arith, d.exists.0)) in
     let ends = calendar.years_more d.years (1999999 - d.years) 2000000 (omega (arith, d.exists.1)) in
-    let place = calendar.in_year d.years d.month d.day d.exists.2 d.exists.3 d.exists.5 in (
+    let position = calendar.in_year d.years d.month d.day d.exists.2 d.exists.3 d.exists.5 in (
       omega (arith, begins, from_one d),
-      omega (arith, ends, place, from_one d, calendar.days_before 2000000),
+      omega (arith, ends, position, from_one d, calendar.days_before 2000000),
     )
 
 pub counted : (n : ℕ) → count (midnight n) ≡ (n * 86400 + 100000) * 1000000000
@@ -39,7 +39,7 @@ inside n h k = by (nat_lt n 365962028) refl
     by true e = rw (sym e) (le-leb _ _ (omega (arith, h)))
     by false e = rw (sym e) (lt-ltb _ _ (omega (arith, k)))
 
--- a clock of UTC shows the day that it is
+-- a clock in UTC shows the day itself
 day_at : (b : Bool) (n day second nano off : ℕ) → off ≡ 0 → second ≤ 86399 → nano ≤ 999999999
     → (if b then day * 86400 + second + 100000 + off else day * 86400 + second + 100000 - off) * 1000000000 + nano
     ≡ (n * 86400 + 100000) * 1000000000 → day ≡ n
@@ -52,7 +52,7 @@ day_of n d t o h =
     day_at o.is_negative n (day_number d) (day_second t) t.nanosecond o.seconds h.1
     (omega (arith, t.hours, t.minutes, t.seconds)) t.nanoseconds (h.0 ∙ counted n)
 
--- the date that a clock of UTC shows is that of the day
+-- the date that a clock in UTC shows is that of the day
 pub found : (n : ℕ) (date : Option Date) (time : Option Time) (offset : Option UtcOffset)
     → all_at date time offset (midnight n) → Selects (λ d. day_number d ≡ n) date
 found n None time offset h = absurd h
@@ -71,13 +71,13 @@ unfound n out = λ d same.
     clash (is_within (midnight n)) out
     (inside n (omega (arith, bounds.0, same)) (omega (arith, bounds.1, same)))
 
--- Which day the fields of a way make.
+-- The day that the fields of a way determine.
 
 pub ordinal : (y n : ℕ) (d : Date) → y ≡ d.years → n ≡ date_ordinal d
     → day_number d ≡ ordinal_day y n
-ordinal y n d years place =
+ordinal y n d years position =
     let first : days_of_years y ≡ days_of_years d.years = ap days_of_years years in
-    omega (arith, first, place, from_one d)
+    omega (arith, first, position, from_one d)
 
 pub iso : (y w n : ℕ) (d : Date) → y ≡ iso_years d → w ≡ iso_week d → n ≡ days_from_monday d
     → day_number d ≡ iso_week_day y w n

@@ -1,4 +1,4 @@
--- The instant that was read of a timestamp is that of the moment.
+-- The instant that was read from a timestamp is that of the moment.
 use Rattle.std.proofs.Common.{ℕ, ◌≡◌, ◌∙◌, ◌+◌, ◌-◌, ◌*◌, ◌/◌, ◌%◌, ◌≤◌, ◌⊎◌, inl, inr, ◌==◌, ◌||◌, Bool, true, false, nat_le, nat_lt, Option, Some, None, if◌then◌else◌, refl, sym, ap, subst, arith}
 use Rattle.std.proofs.Math.Nat.{min-eq_left}
 use Rattle.std.proofs.lemmas.Bool.{eqb-true, leb-true, ltb-true, ltb-false}
@@ -18,12 +18,12 @@ use Rattle.timefd_read_moment.specs.Locals.{Shows}
 use Rattle.timefd_read_moment.specs.Shown.{is_shown}
 use Rattle.timefd_read_moment.specs.StampLaws.{HasDigitsBy, HasRest, IsRead}
 use Rattle.timefd_read_moment.specs.Stamped.{whole_seconds}
-use Rattle.timefd_read_moment.specs.Stamps.{behind_second, by_nanosecond, by_second, by_unit, fraction_read, in_second, instant_by, instant_read, is_finer, stamp_magnitude, within_second}
+use Rattle.timefd_read_moment.specs.Stamps.{after_second, by_nanosecond, by_second, by_unit, fraction_read, in_second, instant_by, instant_read, is_finer, stamp_magnitude, within_second}
 use Rattle.timefd_read_moment.specs.Times.{nanosecond_read}
 use Rattle.timefd_read_moment.proofs.OffsetLemmas.{sign_is}
 use Rattle.timefd_read_moment.proofs.YearLemmas.{both}
 
--- so many nanoseconds before or behind 1970 end in the second's fraction
+-- `n` is the fraction of the second, in nanoseconds, at `m` nanoseconds before or after 1970
 abbrev IsFraction : Bool → ℕ → ℕ → Type 0
 IsFraction true m n = (m + n) % 1000000000 ≡ 0
 IsFraction false m n = m % 1000000000 ≡ n
@@ -31,11 +31,11 @@ IsFraction false m n = m % 1000000000 ≡ n
 abbrev IsSign : Bool → Bool → ℕ → Type 0
 IsSign a b m = (m ≡ 0) ⊎ (a ≡ b)
 
--- Over plain numbers.
+-- On plain numbers.
 
 seconds_are : (m n fraction : ℕ) (a b : Bool) → IsFraction b m n → n ≤ 999999999 → fraction ≡ n
     → IsSign a b m
-    → behind_second a (if b then (m + 999999999) / 1000000000 else m / 1000000000) fraction ≡ m
+    → after_second a (if b then (m + 999999999) / 1000000000 else m / 1000000000) fraction ≡ m
 seconds_are m n fraction true true is small e s = omega (arith, is, small, e)
 seconds_are m n fraction true false is small e (inl z) = omega (arith, is, small, e, z)
 seconds_are m n fraction true false is small e (inr s) = absurd cc
@@ -66,7 +66,7 @@ whole_millions : (b : Bool) (m n : ℕ) → IsFraction b m n → n % 1000000 ≡
 whole_millions true m n is z = omega (arith, is, z)
 whole_millions false m n is z = omega (arith, is, z)
 
--- what was read of a timestamp is the instant's
+-- what was read from a timestamp agrees with the instant
 shown_is : (s : Signed) (b : Bool) (m part : ℕ) → is_shown (Some s) b m part ≡ true
     → (s.magnitude ≡ part) × IsSign s.is_negative b m
 shown_is s b m part e =
@@ -151,7 +151,7 @@ by_second_is : (s : Signed) (u : UnixTime) (fraction : Option Fraction) (n : ℕ
 by_second_is s u fraction n small is few rest e =
     let h = shown_is s u.is_negative u.nanoseconds (whole_seconds u) e in
     let whole = not_capped s (whole_seconds u) h.0 (whole_small u.is_negative u.nanoseconds small) in (
-      ap (λ (k : ℕ). behind_second s.is_negative k (fraction_read fraction)) whole
+      ap (λ (k : ℕ). after_second s.is_negative k (fraction_read fraction)) whole
           ∙ seconds_are u.nanoseconds n (fraction_read fraction) s.is_negative u.is_negative is few
           (fraction_is fraction n rest few) h.1,
       h.1,
@@ -216,7 +216,7 @@ counted_alike false true m n e (inl z) = omega (arith, e, z)
 counted_alike false true m n e (inr s) = absurd cc
 counted_alike false false m n e s = omega (arith, e)
 
--- the same instant is within the same years
+-- equal instants are within the same years
 within_by : (a b : Bool) (m n : ℕ) → m ≡ n → IsSign a b n
     → (if b then nat_le n (31619087596800 * 1000000000) else nat_lt n (31494784780800 * 1000000000)) ≡ true
     → (if a then nat_le m (31619087596800 * 1000000000) else nat_lt m (31494784780800 * 1000000000)) ≡ true

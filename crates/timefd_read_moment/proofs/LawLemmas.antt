@@ -1,4 +1,4 @@
--- Fields that determine a value are those of one at most, and it is answered.
+-- Fields that determine a value agree with at most one, and the result is that one.
 use Rattle.std.proofs.Common.{ℕ, ◌≡◌, ◌∙◌, ◌/◌, ◌%◌, ◌≤◌, ◌⊎◌, inl, inr, Bool, true, false, Option, Result, Ok, Err, refl, sym, subst, arith}
 use Rattle.timefd_read_dates.specs.declared.fields.Fields.{Fields}
 use Rattle.timefd_moment.specs.declared.date.Date.{Date}
@@ -28,7 +28,7 @@ use Rattle.timefd_read_moment.proofs.OffsetLemmas.{shift_has}
 use Rattle.timefd_read_moment.proofs.TimeLemmas.{clock_has}
 use Rattle.timefd_read_moment.proofs.WayLemmas.{one_way, way_has}
 
--- what is missing determines nothing
+-- if a part is missing, nothing is determined
 undetermined : {A E : Type 0} (r : Result A E) (e : E) → r ≡ Err e → IsDetermined r → ⊥
 undetermined {A = A} {E = E} r e is h = subst (λ (x : Result A E). IsDetermined x) is h
 
@@ -68,7 +68,7 @@ sign_by a b c n k same p q (inr s) (inl z) =
     positive b n p (same ∙ z) ∙ sym (positive c k q z)
 sign_by a b c n k same p q (inr s) (inr t) = sym s ∙ t
 
--- two offsets that have the numbers of a shift are one
+-- two offsets that have the numbers of a shift are the same
 pub one_shift : (s : Shift) (o p : UtcOffset) → ShiftHas s o → ShiftHas s p → of_offset.IsSame o p
 one_shift s o p x y =
     let same = seconds_of s.hour s.minute s.second o.seconds p.seconds x.0 x.1 x.2 y.0 y.1 y.2 in (

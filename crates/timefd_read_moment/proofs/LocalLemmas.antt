@@ -1,4 +1,4 @@
--- What a clock shows of an instant.
+-- What a clock shows at an instant.
 use Rattle.std.proofs.Common.{ℕ, ◌≡◌, ◌∙◌, ◌+◌, ◌-◌, ◌*◌, ◌≤◌, ◌<◌, Bool, true, false, nat_le, nat_lt, Option, Some, None, if◌then◌else◌, refl, arith}
 use Rattle.std.proofs.lemmas.Bool.{le-leb, leb-true, lt-ltb}
 use Rattle.timefd_moment.specs.declared.date.Date.{Date}
@@ -26,7 +26,7 @@ inside : (b : Bool) (n c : ℕ) → (if b then (365962028 * 86400 + 100000) * 10
 inside true n c e h k = le-leb _ _ (omega (arith, e, h))
 inside false n c e h k = lt-ltb _ _ (omega (arith, e, k))
 
--- the clock is so far from UTC
+-- the clock is this far from UTC
 ahead : (a b : Bool) (l n z s c : ℕ)
     → (if a then l + z else l - z) * 1000000000 + n
     ≡ (if b then c - s * 1000000000 else c + s * 1000000000)

@@ -1,4 +1,4 @@
--- The offset from UTC of fields.
+-- The offset from UTC that fields determine.
 use Rattle.std.proofs.Common.{ℕ, ◌≡◌, ◌∙◌, ◌/◌, ◌%◌, ◌⊎◌, inl, inr, ◌==◌, ◌||◌, Bool, true, false, Option, Some, None, Result, Ok, Err, if◌then◌else◌, refl, sym, ap, subst}
 use Rattle.std.proofs.lemmas.Bool.{eqb-true, or_cases}
 use Rattle.timefd_read_dates.specs.declared.fields.Fields.{Fields}

@@ -1,4 +1,4 @@
--- Where no part is otherwise, all agree.
+-- If no part differs, all agree.
 use Rattle.std.proofs.Common.{ℕ, zero, suc, ◌≡◌, ◌∙◌, Bool, true, false, List, [], ◌∷◌, Option, Some, None, if◌then◌else◌, refl, sym, ap, subst}
 use Rattle.std.specs.Prelude.{⊤}
 use Rattle.timefd_read_dates.specs.declared.fields.Fields.{Fields}
@@ -38,8 +38,8 @@ some_false has (q ∷ ps) p e = by (has q) refl (some_false has ps p) e
   where
     by : (t : Bool) → has q ≡ t → (first_false has ps ≡ Some p → has p ≡ false)
         → (if t then first_false has ps else Some q) ≡ Some p → has p ≡ false
-    by true is behind h = behind h
-    by false is behind h = ap has (sym (ap (value_of q) h)) ∙ is
+    by true is after h = after h
+    by false is after h = ap has (sym (ap (value_of q) h)) ∙ is
 
 pub clash : (b : Bool) → b ≡ false → b ≡ true → ⊥
 clash true e g = absurd cc
@@ -81,7 +81,7 @@ same_numbers f y m n a b DatePart.IsoYearLastTwo = refl
 same_numbers f y m n a b DatePart.IsoCentury = refl
 same_numbers f y m n a b DatePart.IsoYear = refl
 
--- what is found of the numbers of a date is the same of each that is the same
+-- what depends only on the numbers of a date is the same for equal dates
 pub same_by : (g : Date → Bool)
     → ((y m n : ℕ) (a b : IsDay y m n) → g (dated y m n a) ≡ g (dated y m n b)) → (e d : Date)
     → IsSame e d → g e ≡ g d
@@ -99,12 +99,12 @@ pub same_parts : (f : Fields) (p : DatePart) (e d : Date) → IsSame e d → dat
 same_parts f p e d s =
     same_by (λ (x : Date). date_has f x p) (λ y m n a b. same_numbers f y m n a b p) e d s
 
--- and so the first part that is otherwise is the same
+-- and so the first part that differs is the same
 pub first_of_same : (f : Fields) (e d : Date) → IsSame e d
     → first_false (date_has f e) date_parts ≡ first_false (date_has f d) date_parts
 first_of_same f e d s = λ i. first_false (λ p. same_parts f p e d s i) date_parts
 
--- the date that was looked at has another value of the part, and so has each that is the same
+-- if a part of the date differs, so does that part of each equal date
 pub date_otherwise : (f : Fields) (e d : Date) (p : DatePart)
     → first_false (date_has f e) date_parts ≡ Some p → IsSame e d → date_has f d p ≡ false
 date_otherwise f e d p off s = sym (same_parts f p e d s) ∙ some_false (date_has f e) date_parts p off

@@ -1,4 +1,4 @@
--- What was read of a moment with its timestamp is that moment.
+-- What was read from a moment with its timestamp gives back that moment.
 use Rattle.std.proofs.Common.{ℕ, ◌≡◌, ◌∙◌, ◌+◌, ◌-◌, ◌*◌, inl, inr, Bool, true, false, Option, Some, None, Result, Ok, Err, if◌then◌else◌, refl, sym, ap, subst}
 use Rattle.timefd_read_dates.specs.declared.fields.Fields.{Fields}
 use Rattle.timefd_moment.specs.declared.date.Date.{Date}
@@ -33,7 +33,7 @@ one_zone : (r : Result Shift OffsetPart) (o p : UtcOffset) → HasShift r o → 
 one_zone (Ok s) o p x y = one_shift s o p x y
 one_zone (Err q) o p x y = absurd x
 
--- what is shown at the instant is the moment
+-- what the clock shows at the instant is the moment
 one_stamped : (f : Fields) (u : UnixTime) (d : Date) (t : Time) (o : UtcOffset) (s : Stamped)
     → instant_read f ≡ Some u → IsRead f d t o → IsStamped f u (Ok s)
     → AreThese d t o (Some s.date) (Some s.time) (Some s.offset)
@@ -132,7 +132,7 @@ instant_back f d t o r none way clock shift x y z is =
     instant_of f d t o r (λ k. date_answered f d k way x) (λ k. time_answered f t k clock y)
     (λ k. offset_back f o k shift z) (subst (λ (k : Option UnixTime). IsInstantBy k f r) none is)
 
--- A part is the one that its fields determine, or not known.
+-- A value is the one that its fields determine, or isn't known.
 part_of : {A : Type 0} (b : Bool) (IsSame : A → A → Type 0) (a : A) (Is : Result A ValueError → Type 0)
     (r : Result (Option A) ValueError) → (b ≡ true → (x : Result A ValueError) → Is x → Answers IsSame a x)
     → IsPart b Is r → (o : Option A) → r ≡ Ok o → IsKnown b IsSame a o

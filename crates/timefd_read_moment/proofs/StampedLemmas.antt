@@ -1,4 +1,4 @@
--- The moment of a timestamp, with all else that was read.
+-- The moment of a timestamp, compared with all else that was read.
 use Rattle.std.proofs.Common.{ℕ, ◌≡◌, ◌∙◌, ◌+◌, ◌-◌, ◌*◌, ◌≤◌, Bool, true, false, nat_le, nat_lt, Option, Some, None, Result, Ok, Err, if◌then◌else◌, sym, ap, subst, arith}
 use Rattle.timefd_read_dates.specs.declared.fields.Fields.{Fields}
 use Rattle.timefd_moment.specs.declared.date.Date.{Date}
@@ -32,7 +32,7 @@ use Rattle.timefd_read_moment.proofs.ShownLemmas.{true_at}
 determined : (f : Fields) (s : Shift) → zone_read f ≡ Ok s → IsDetermined (zone_read f)
 determined f s e = subst (λ (r : Result Shift OffsetPart). IsDetermined r) (sym e) tt
 
--- One date and time are shown at an instant.
+-- Only one date and time are shown at an instant.
 
 same_local : (a b : Bool) (l m n k s r : ℕ) → (if a then l + s else l - s) * 1000000000 + n
     ≡ (if b then m + r else m - r) * 1000000000 + k
@@ -72,7 +72,7 @@ one_local d e t v o q same h =
     v.minutes v.seconds in
     (law.one_date d e day.0, (clock.0, clock.1, clock.2, at.1))
 
--- What is shown of the same is the same.
+-- Equal times show the same.
 
 same_time : (f : Fields) (p : TimePart) (t u : Time) → of_time.IsSame t u
     → time_shows f t p ≡ time_shows f u p
@@ -83,7 +83,7 @@ same_time f TimePart.Minute t u s = ap (λ (n : ℕ). is_count f.minute n) s.1
 same_time f TimePart.Second t u s = ap (λ (n : ℕ). is_count f.second n) s.2
 same_time f TimePart.Subsecond t u s = ap (λ (n : ℕ). has_digits f.subsecond n) s.3
 
--- the instant of so many nanoseconds
+-- the instant with this count of nanoseconds
 abbrev pub unix_at : ℕ → UnixTime
 unix_at n =
     if nat_lt n (unix_start * 1000000000) then (record {
@@ -144,7 +144,7 @@ agreed f u s d t o p e has shows is none = (
   (shows, subst (λ (r : Result Shift OffsetPart). HasShift r o) (sym e) has),
 )
 
--- What the clock shows is the same moment, and so the first part that is otherwise.
+-- What the clock shows is the same moment, and so the first part that differs is the same.
 first_of_same : (f : Fields) (d e : Date) (t v : Time) (o q : UtcOffset) → of_date.IsSame d e
     → of_time.IsSame t v → of_offset.IsSame o q → utc_nanoseconds d t o ≡ utc_nanoseconds e v q
     → first_false (moment_has f d t o) moment_parts ≡ first_false (moment_has f e v q) moment_parts
@@ -168,7 +168,7 @@ contradicted f u s d t o first p e has one shows is some = (
   ),
 )
 
--- no clock is so far from UTC
+-- no clock is that far from UTC
 pub unshifted : (f : Fields) (u : UnixTime) (s : Shift) (p : OffsetPart) → zone_read f ≡ Ok s
     → Selects (ShiftHas s) (Err p) → shift_fault s ≡ Some p
     → IsStamped f u (Err (error.Contradiction (part.Offset p)))

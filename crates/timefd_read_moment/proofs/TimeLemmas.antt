@@ -1,4 +1,4 @@
--- The time of day of fields.
+-- The time of day that fields determine.
 use Rattle.std.proofs.Common.{ℕ, ◌≡◌, ◌∙◌, ◌+◌, ◌%◌, ◌≤◌, Bool, true, false, nat_le, Option, Some, None, Result, Ok, Err, if◌then◌else◌, refl, sym, ap, subst, arith}
 use Rattle.std.proofs.lemmas.Bool.{eqb-true, leb-true, leb-false}
 use Rattle.timefd_read_dates.specs.declared.fields.Fields.{Fields}
@@ -21,7 +21,7 @@ use Rattle.timefd_read_moment.proofs.YearLemmas.{Known}
 determined : (f : Fields) (c : Clock) → clock_read f ≡ Ok c → IsDetermined (clock_read f)
 determined f c e = subst (λ (r : Result Clock TimePart). IsDetermined r) (sym e) tt
 
--- the hour of twelve and the period are those of one hour
+-- the hour of twelve and the period determine one hour
 twelve : (b t : Bool) (h n : ℕ) → n ≤ 23 → t ≡ nat_le 12 n → h ≡ (n + 11) % 12 + 1 → same b t ≡ true
     → h % 12 + (if b then 12 else 0) ≡ n
 twelve true true h n k t e s = omega (arith, leb-true _ _ (sym t), k, e)

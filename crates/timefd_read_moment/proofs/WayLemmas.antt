@@ -1,4 +1,4 @@
--- A date that agrees with fields has those of their way, and is the only one.
+-- A date that agrees with the fields has the fields of their way, and is the only one that does.
 use Rattle.std.proofs.Common.{ℕ, ◌≡◌, ◌∙◌, ◌+◌, ◌-◌, ◌≤◌, ◌==◌, ◌&&◌, Bool, true, false, nat_le, nat_lt, Option, Some, None, Result, Ok, Err, if◌then◌else◌, refl, sym, ap, subst, arith}
 use Rattle.std.specs.Prelude.{⊤, is_some}
 use Rattle.std.proofs.lemmas.Bool.{eq-eqb, eqb-true}
@@ -72,11 +72,11 @@ way_of_agreed f years iso_years d k i a =
     let monday = monday_week years f.monday_week f.weekday in
     let sunday = sunday_week years f.sunday_week f.weekday in
     let iso = iso_week iso_years f.iso_week f.weekday in
-    let place = ordinal years f.ordinal in
+    let position = ordinal years f.ordinal in
     has_first (calendar years f.month f.day)
-    (or_else place (or_else iso (or_else sunday monday))) d
+    (or_else position (or_else iso (or_else sunday monday))) d
     (has_calendar years f.month f.day d k (a DatePart.Month) (a DatePart.Day))
-    (has_first place (or_else iso (or_else sunday monday)) d
+    (has_first position (or_else iso (or_else sunday monday)) d
     (has_ordinal years f.ordinal d k (a DatePart.Ordinal))
     (has_first iso (or_else sunday monday) d
     (has_iso_week iso_years f.iso_week f.weekday d i (a DatePart.IsoWeek) (a DatePart.Weekday))
@@ -114,7 +114,7 @@ way_has f w d e a =
     (years_known f.iso_year f.iso_century f.iso_year_last_two (of.iso_years d) (iso_within d)
     (a DatePart.IsoYear) (a DatePart.IsoCentury) (a DatePart.IsoYearLastTwo)) a)
 
--- two dates that have the fields of a way are one
+-- two dates that have the fields of a way are the same
 pub one_way : (w : DateWay) (d e : Date) → WayHas w d → WayHas w e → IsSame d e
 one_way (by.Calendar y m n) d e h k = (sym h.0 ∙ k.0, sym h.1 ∙ k.1, sym h.2 ∙ k.2)
 one_way (by.Ordinal y n) d e h k =

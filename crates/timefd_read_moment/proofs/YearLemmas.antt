@@ -1,4 +1,4 @@
--- A year that was read is the one that shows it.
+-- A year that was read is the year that it was read from.
 use Rattle.std.proofs.Common.{ℕ, ◌≡◌, ◌∙◌, ◌+◌, ◌-◌, ◌*◌, ◌/◌, ◌%◌, ◌≤◌, ◌⊎◌, inl, inr, ◌==◌, ◌&&◌, ◌||◌, Bool, true, false, nat_lt, min, Option, Some, None, if◌then◌else◌, refl, sym, arith}
 use Rattle.std.specs.Prelude.{⊤}
 use Rattle.std.proofs.Math.Nat.{min-eq_left}
@@ -13,7 +13,7 @@ pub both : (a b : Bool) → (a && b) ≡ true → (a ≡ true) × (b ≡ true)
 both true b e = (refl, e)
 both false b e = absurd cc
 
--- the sign counts but at zero
+-- the sign counts, except for zero
 signed : (a t : Bool) (m n : ℕ) → t ≡ nat_lt n 1000000 → n ≤ 2000000 → min m 1000000 ≡ m
     → m ≡ (if t then 1000000 - n else n - 1000000) → (m ≡ 0) ⊎ (same a t ≡ true) → years_of a m ≡ n
 signed true true m n t h k e s = omega (arith, ltb-true _ _ (sym t), h, k, e)

@@ -1,4 +1,4 @@
--- The date and the time of day of fields.
+-- The date and the time of day that fields determine.
 use Rattle.std.specs.Prelude.{◌⊎◌, Result, Ok, Err}
 use Rattle.timefd_read_dates.specs.declared.fields.Fields.{Fields}
 use Rattle.timefd_moment.specs.declared.date.Date.{Date}
@@ -6,7 +6,7 @@ use Rattle.timefd_moment.specs.declared.time.Time.{Time}
 use Rattle.timefd_read_moment.specs.declared.error.ValueError.{ValueError}
 use Rattle.timefd_read_moment.specs.Values.{IsDateOf, IsTimeOf}
 
--- The date and the time. The error is that of the date, else of the time.
+-- The date and the time. The error is that of the date, or else that of the time.
 abbrev pub IsDateTimeOf : Fields → Result (Date × Time) ValueError → Type 0
 IsDateTimeOf f (Ok r) = IsDateOf f (Ok r.0) × IsTimeOf f (Ok r.1)
 IsDateTimeOf f (Err e) =

@@ -1,4 +1,4 @@
--- The date of the fields of a date.
+-- The date that its own fields determine.
 use Rattle.std.specs.Prelude.{◌≡◌, Option, Some, None, Result, Ok, Err}
 use Rattle.timefd_read_dates.specs.declared.fields.Fields.{Fields}
 use Rattle.timefd_moment.specs.declared.date.Date.{Date}
@@ -15,7 +15,7 @@ use Rattle.timefd_read_moment.specs.Ways.{IsDetermined, WayHas, date_way}
 abbrev pub IsSame : Date → Date → Type 0
 IsSame d e = (d.years ≡ e.years) × (d.month ≡ e.month) × (d.day ≡ e.day)
 
--- No date but this one is of the kind.
+-- This date, or none, is the only one of the kind.
 abbrev pub Selects : (Date → Type 0) → Option Date → Type 0
 Selects Is (Some e) = (d : Date) → Is d → IsSame e d
 Selects Is None = (d : Date) → Is d → ⊥
@@ -26,13 +26,13 @@ IsMissing f (part.Time p) = ⊥
 IsMissing f (part.Offset p) = ⊥
 IsMissing f (part.Instant p) = ⊥
 
--- it has the fields that determine one
+-- the date has the fields that determine one
 abbrev pub HasWay : Result DateWay DatePart → Date → Type 0
 HasWay (Ok w) d = WayHas w d
 HasWay (Err p) d = ⊥
 
--- The first part that the date of these fields has otherwise. Where no date has them, the part that makes
--- it so.
+-- The first part in which the date of these fields differs from what was read. If no date has them, the
+-- part at fault.
 abbrev pub IsAtFault : Fields → Part → Type 0
 IsAtFault f (part.Date p) =
     IsNamed (HasWay (date_way f)) (λ d. first_false (date_has f d) date_parts) (date_fault f (date_way f)) p
@@ -40,8 +40,8 @@ IsAtFault f (part.Time p) = ⊥
 IsAtFault f (part.Offset p) = ⊥
 IsAtFault f (part.Instant p) = ⊥
 
--- The date that has all that was read, where that determines one. Else what was not read is told, or that
--- no date has all of it, and the part at fault.
+-- The date that agrees with all that was read, if the fields determine one. Otherwise the error names
+-- what was not read, or the part at fault if no date agrees with all of it.
 abbrev pub IsDateByParts : Fields → Result Date ValueError → Type 0
 IsDateByParts f (Ok d) = DateAgrees f d × IsDetermined (date_way f)
 IsDateByParts f (Err (error.Missing part)) = IsMissing f part

@@ -1,16 +1,16 @@
--- Days, counted from 1 January of the year -1,000,000 on.
+-- Days, counted from 1 January of the year -1,000,000.
 use Rattle.std.specs.Prelude.{ℕ, ◌+◌, ◌-◌, ◌*◌, ◌%◌, true, false, nat_lt, if◌then◌else◌}
 use Rattle.timefd_moment.specs.declared.unix_time.UnixTime.{UnixTime}
 use Rattle.timefd_moment.specs.Calendar.{days_of_years, weekday_of_day}
 use Rattle.timefd_moment.specs.Laws.{first_monday}
 
 abbrev pub ordinal_day : ℕ → ℕ → ℕ
-ordinal_day years place = days_of_years years + place - 1
+ordinal_day years position = days_of_years years + position - 1
 
 abbrev pub iso_week_day : ℕ → ℕ → ℕ → ℕ
 iso_week_day years week weekday = first_monday years + 7 * week + weekday - 7
 
--- the first Sunday of a year, and its first Monday, begin week 1
+-- Week 1 begins on the first Sunday of a year, or on its first Monday.
 
 abbrev pub sunday_in : ℕ → ℕ
 sunday_in first = first + 6 - weekday_of_day first

@@ -1,4 +1,4 @@
--- The part that makes it so that no value has what was read.
+-- The part at fault if no value has what was read.
 use Rattle.std.specs.Prelude.{ℕ, ◌≡◌, ◌==◌, ◌||◌, Bool, false, nat_lt, if◌then◌else◌, Option, Some, None, Result, Ok, Err}
 use Rattle.timefd_read_dates.specs.declared.fields.Fields.{Fields}
 use Rattle.timefd_read_dates.specs.declared.fields.Signed.{Signed}
@@ -18,8 +18,8 @@ abbrev pub is_above : Option ℕ → ℕ → Bool
 is_above None most = false
 is_above (Some n) most = nat_lt most n
 
--- Years are those from -999,999 to 999,999. A part of the year that no date has is at fault before the
--- others.
+-- Years are those from -999,999 to 999,999. If a part of the year is out of range, it is at fault before
+-- the others.
 
 abbrev pub year_fault : Fields → DatePart → DatePart
 year_fault f other =
@@ -33,7 +33,7 @@ iso_year_fault f other =
     else (if is_beyond f.iso_century 9999 then DatePart.IsoCentury
     else (if is_above f.iso_year_last_two 99 then DatePart.IsoYearLastTwo else other))
 
--- months are those from 1 to 12, and weekdays from Monday those from 0 to 6
+-- months are from 1 to 12, and weekdays from Monday on are from 0 to 6
 
 abbrev pub month_fault : ℕ → DatePart
 month_fault m = if (m == 0) || nat_lt 12 m then DatePart.Month else DatePart.Day
@@ -41,8 +41,9 @@ month_fault m = if (m == 0) || nat_lt 12 m then DatePart.Month else DatePart.Day
 abbrev pub weekday_fault : ℕ → DatePart → DatePart
 weekday_fault n week = if nat_lt 6 n then DatePart.Weekday else week
 
--- Where no date has the fields of a way: the year, the month or the weekday, where that is none; else the
--- day, the ordinal or the week, which the year, or the month of the year, doesn't have.
+-- The part at fault if no date has the fields of a way: the year, the month or the weekday, if it is out
+-- of range; otherwise the day, the ordinal or the week, which this year, or this month of the year,
+-- doesn't have.
 abbrev pub way_fault : Fields → DateWay → DatePart
 way_fault f (by.Calendar y m n) = year_fault f (month_fault m)
 way_fault f (by.Ordinal y n) = year_fault f DatePart.Ordinal
@@ -77,13 +78,13 @@ abbrev pub offset_fault : Result Shift OffsetPart → Option OffsetPart
 offset_fault (Ok s) = shift_fault s
 offset_fault (Err p) = None
 
--- what is answered in place of a value
+-- the error of a result
 abbrev pub fault_of : {A P : Type 0} → Result A P → Option P
 fault_of (Ok a) = None
 fault_of (Err p) = Some p
 
--- The part that a contradiction names. What has the fields that determine a value has it otherwise, before
--- any other part. Where nothing has them, it makes that so.
+-- The part that a contradiction names. If a value has the fields that determine it, this is the first part
+-- in which it differs from what was read. If no value has them, this is the part at fault.
 abbrev pub IsNamed : {A P : Type 0} → (A → Type 0) → (A → Option P) → Option P → P → Type 0
 IsNamed {A = A} Has otherwise fault p =
     ((a : A) → Has a → otherwise a ≡ Some p) × (((a : A) → Has a → ⊥) → fault ≡ Some p)

@@ -1,4 +1,4 @@
--- Of what something was read.
+-- Which parts of a moment something was read of.
 use Rattle.std.specs.Prelude.{Bool, ◌||◌, is_some}
 use Rattle.timefd_read_dates.specs.declared.fields.Fields.{Fields}
 

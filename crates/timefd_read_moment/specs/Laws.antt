@@ -1,4 +1,4 @@
--- What holds of the values of fields.
+-- Laws about the values that fields determine.
 use Rattle.std.specs.Prelude.{◌≡◌, None, Result, Ok, Err}
 use Rattle.timefd_read_dates.specs.declared.fields.Fields.{Fields}
 use Rattle.timefd_moment.specs.declared.date.Date.{Date}
@@ -15,7 +15,7 @@ use Rattle.timefd_read_moment.specs.Stamps.{instant_read}
 use Rattle.timefd_read_moment.specs.Values.{IsDateOf, IsTimeOf}
 use Rattle.timefd_read_moment.specs.Ways.{IsDetermined, date_way}
 
--- Fields that determine a value are those of one at most.
+-- Fields that determine a value agree with at most one.
 
 abbrev pub OneDate : Type 0
 OneDate = (f : Fields) (d e : Date) → IsDetermined (date_way f) → DateAgrees f d → DateAgrees f e
@@ -29,8 +29,8 @@ abbrev pub OneOffset : Type 0
 OneOffset = (f : Fields) (o p : UtcOffset) → IsDetermined (shift_read f) → OffsetAgrees f o
     → OffsetAgrees f p → of_offset.IsSame o p
 
--- Where the fields of a value determine one, it is answered: nothing else meets the contract. Those of a
--- timestamp have a law of their own.
+-- If the fields read from a value determine one, the result is that value: nothing else satisfies the
+-- contract. Fields with a timestamp have laws of their own.
 
 abbrev pub Answers : {A : Type 0} → (A → A → Type 0) → A → Result A ValueError → Type 0
 Answers IsSame a (Ok b) = IsSame a b

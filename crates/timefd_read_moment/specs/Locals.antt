@@ -1,4 +1,4 @@
--- What a clock shows of an instant.
+-- What a clock shows at an instant.
 use Rattle.std.specs.Prelude.{ℕ, ◌≡◌, ◌+◌, ◌-◌, ◌*◌, if◌then◌else◌, Option, Some, None, IsTrue}
 use Rattle.timefd_moment.specs.declared.date.Date.{Date}
 use Rattle.timefd_moment.specs.declared.time.Time.{Time}
@@ -7,12 +7,13 @@ use Rattle.timefd_moment.specs.declared.unix_time.UnixTime.{UnixTime}
 use Rattle.timefd_moment.specs.Instants.{count, is_within}
 use Rattle.timefd_moment.specs.Moments.{utc_nanoseconds}
 
--- the nanoseconds that a clock counts, of those in UTC
+-- the nanoseconds that a clock counts, from those in UTC
 abbrev pub on_clock : UtcOffset → ℕ → ℕ
 on_clock o n =
     if o.is_negative then n - o.seconds * 1000000000 else n + o.seconds * 1000000000
 
--- The clock at the offset shows this date and time at the instant, which is in the years of UTC.
+-- The clock at the offset shows this date and time at the instant, and the instant's year in UTC is
+-- within range.
 abbrev pub Shows : UnixTime → UtcOffset → Date → Time → Type 0
 Shows u o d t = (utc_nanoseconds d t o ≡ count u) × IsTrue (is_within u)
 

@@ -1,4 +1,4 @@
--- The offset from UTC of fields.
+-- The offset from UTC that fields determine.
 use Rattle.std.specs.Prelude.{◌≡◌, ◌⊎◌, ◌/◌, ◌%◌, if◌then◌else◌, Option, Some, None, is_some, Result, Ok, Err}
 use Rattle.timefd_read_dates.specs.declared.fields.Fields.{Fields}
 use Rattle.timefd_read_dates.specs.declared.fields.Signed.{Signed}
@@ -26,7 +26,7 @@ shift_at f (Some h) =
       second = number f.offset_second;
     })
 
--- the numbers of the offset that the fields determine, or what was not read
+-- the numbers of the offset that the fields determine, or the part that was not read
 abbrev pub shift_read : Fields → Result Shift OffsetPart
 shift_read f = shift_at f f.offset_hour
 
@@ -37,7 +37,7 @@ ShiftHas s o = (s.hour ≡ o.seconds / 3600) × (s.minute ≡ o.seconds / 60 % 6
 abbrev pub IsSame : UtcOffset → UtcOffset → Type 0
 IsSame o p = (o.seconds ≡ p.seconds) × (o.is_negative ≡ p.is_negative)
 
--- the one offset of this kind; where there is none, a part that none has
+-- the only offset of this kind; or a part that no offset has, if there is none of the kind
 abbrev pub Selects : (UtcOffset → Type 0) → Result UtcOffset OffsetPart → Type 0
 Selects Is (Ok o) = (p : UtcOffset) → Is p → IsSame o p
 Selects Is (Err part) = (p : UtcOffset) → Is p → ⊥
@@ -48,13 +48,13 @@ IsMissing f (part.Time p) = ⊥
 IsMissing f (part.Offset p) = shift_read f ≡ Err p
 IsMissing f (part.Instant p) = ⊥
 
--- it has the fields that determine one
+-- the offset has the fields that determine one
 abbrev pub HasShift : Result Shift OffsetPart → UtcOffset → Type 0
 HasShift (Ok s) o = ShiftHas s o
 HasShift (Err p) o = ⊥
 
--- The first part that the offset of these numbers has otherwise. Where no offset has them, the first that
--- none has.
+-- The first part in which the offset of these numbers differs from what was read. If no offset has them,
+-- the first number that none has.
 abbrev pub IsAtFault : Fields → Part → Type 0
 IsAtFault f (part.Date p) = ⊥
 IsAtFault f (part.Time p) = ⊥
@@ -63,8 +63,8 @@ IsAtFault f (part.Offset p) =
     (offset_fault (shift_read f)) p
 IsAtFault f (part.Instant p) = ⊥
 
--- The offset that has all that was read, where that determines one. Else what was not read is told, or
--- that no offset has all of it, and the part at fault.
+-- The offset that agrees with all that was read, if the fields determine one. Otherwise the error names
+-- what was not read, or the part at fault if no offset agrees with all of it.
 abbrev pub IsOffsetOf : Fields → Result UtcOffset ValueError → Type 0
 IsOffsetOf f (Ok o) = OffsetAgrees f o × IsDetermined (shift_read f)
 IsOffsetOf f (Err (error.Missing p)) = IsMissing f p

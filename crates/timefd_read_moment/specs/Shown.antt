@@ -1,4 +1,4 @@
--- Which parts of a value are as they were read.
+-- Compares the parts of a value with what was read.
 use Rattle.std.specs.Prelude.{ℕ, ◌/◌, ◌%◌, ◌==◌, Bool, true, ◌&&◌, ◌||◌, nat_le, IsTrue, List, [], ◌∷◌, if◌then◌else◌, Option, Some, None}
 use Rattle.timefd_read_dates.specs.declared.fields.Fields.{Fields}
 use Rattle.timefd_read_dates.specs.declared.fields.Signed.{Signed}
@@ -12,8 +12,8 @@ use Rattle.timefd_read_moment.specs.declared.part.DatePart.{DatePart}
 use Rattle.timefd_read_moment.specs.declared.part.TimePart.{TimePart}
 use Rattle.timefd_read_moment.specs.declared.part.OffsetPart.{OffsetPart}
 
--- What was read of a number is this one. Where nothing was read there is nothing to compare, but minutes,
--- seconds and their digits are then 0.
+-- The number is as it was read. If it wasn't read, there is nothing to compare, except that minutes,
+-- seconds and their digits have to be 0 then.
 abbrev pub is_count : Option ℕ → ℕ → Bool
 is_count None n = true
 is_count (Some k) n = k == n
@@ -26,7 +26,7 @@ abbrev pub is_flag : Option Bool → Bool → Bool
 is_flag None b = true
 is_flag (Some a) b = same a b
 
--- A part of a number is shown with the sign of the whole one. Zero may have either sign.
+-- A part of a number is read with the sign of the whole number. Zero may have either sign.
 abbrev pub is_shown : Option Signed → Bool → ℕ → ℕ → Bool
 is_shown None is_negative whole part = true
 is_shown (Some s) is_negative whole part =
@@ -73,7 +73,8 @@ offset_has f o OffsetPart.Hour = is_shown f.offset_hour o.is_negative o.seconds 
 offset_has f o OffsetPart.Minute = is_count_or_zero f.offset_minute (o.seconds / 60 % 60)
 offset_has f o OffsetPart.Second = is_count_or_zero f.offset_second (o.seconds % 60)
 
--- every part that was read is the value's, and the finer parts of times and offsets that weren't are 0
+-- The value agrees with every part that was read, and the finer parts of times and offsets that weren't
+-- read are 0.
 
 abbrev pub DateAgrees : Fields → Date → Type 0
 DateAgrees f d = (part : DatePart) → IsTrue (date_has f d part)

@@ -1,4 +1,4 @@
--- What holds of the values of fields with a timestamp.
+-- Laws about the values of fields with a timestamp.
 use Rattle.std.specs.Prelude.{ℕ, ◌≡◌, ◌%◌, ⊤, Bool, true, false, Option, Some, None, IsTrue, Result, Ok, Err}
 use Rattle.timefd_read_dates.specs.declared.fields.Fields.{Fields}
 use Rattle.timefd_read_dates.specs.declared.fields.Fraction.{Fraction}
@@ -24,8 +24,8 @@ use Rattle.timefd_read_moment.specs.Times.{clock_read, nanosecond_read}
 use Rattle.timefd_read_moment.specs.Values.{IsDateOf, IsInstantOf, IsMomentOf, IsTimeOf}
 use Rattle.timefd_read_moment.specs.Ways.{IsDetermined, date_way}
 
--- A fraction with more digits than the timestamp is the whole one of the second. Without it the digits
--- behind those of the timestamp are 0.
+-- A fraction with more digits than the timestamp has all digits of the second. Without one, the digits
+-- after those of the timestamp are 0.
 abbrev pub HasRest : Bool → Option Fraction → ℕ → ℕ → Type 0
 HasRest true fraction unit n = nanosecond_read fraction ≡ n
 HasRest false fraction unit n = n % unit ≡ 0
@@ -41,7 +41,8 @@ abbrev pub HasDigits : Fields → Time → Type 0
 HasDigits f t =
     HasDigitsBy f.subsecond f.unix_nanosecond f.unix_microsecond f.unix_millisecond t.nanosecond
 
--- The moment has all that was read, at the offset that was read, and lies in the years of UTC.
+-- The moment agrees with all that was read, its offset is the one that was read, and its year in UTC is
+-- within range.
 abbrev pub IsRead : Fields → Date → Time → UtcOffset → Type 0
 IsRead f d t o = MomentAgrees f d t o × HasShift (zone_read f) o × IsTrue (is_within (unix_time d t o))
     × HasDigits f t
@@ -55,7 +56,8 @@ abbrev pub AnswersMoment : Date → Time → UtcOffset → Result Moment ValueEr
 AnswersMoment d t o (Ok m) = AreThese d t o m.date m.time m.offset
 AnswersMoment d t o (Err e) = ⊥
 
--- What was read of a moment with its timestamp is that moment: nothing else meets the contracts.
+-- If everything was read from one moment, the results are those of that moment: nothing else satisfies
+-- the contracts.
 
 abbrev pub StampedDateBack : Type 0
 StampedDateBack = (f : Fields) (u : UnixTime) (d : Date) (t : Time) (o : UtcOffset)
@@ -77,14 +79,15 @@ StampedInstantBack = (f : Fields) (u : UnixTime) (d : Date) (t : Time) (o : UtcO
     (r : Result UnixTime ValueError) → instant_read f ≡ Some u → IsRead f d t o → IsInstantOf f r
     → r ≡ Ok (unix_time d t o)
 
--- Without a timestamp the instant is that of the date, the time and the offset that the fields determine.
+-- Without a timestamp, the instant is that of the date, the time and the offset that the fields
+-- determine.
 abbrev pub InstantBack : Type 0
 InstantBack = (f : Fields) (d : Date) (t : Time) (o : UtcOffset) (r : Result UnixTime ValueError)
     → instant_read f ≡ None → IsDetermined (date_way f) → IsDetermined (clock_read f)
     → IsDetermined (shift_read f) → DateAgrees f d → TimeAgrees f t → OffsetAgrees f o → IsInstantOf f r
     → r ≡ Ok (unix_time d t o)
 
--- A part of which nothing was read is not known; else it is this one.
+-- If no part of the value was read, it isn't known; otherwise it is this one.
 abbrev pub IsKnown : {A : Type 0} → Bool → (A → A → Type 0) → A → Option A → Type 0
 IsKnown false IsSame a None = ⊤
 IsKnown false IsSame a (Some b) = ⊥
@@ -96,7 +99,7 @@ AnswersParts f d t o (Ok m) = IsKnown (has_date f) of_date.IsSame d m.date
     × IsKnown (has_time f) of_time.IsSame t m.time × IsKnown (has_offset f) of_offset.IsSame o m.offset
 AnswersParts f d t o (Err e) = ⊥
 
--- Without a timestamp the moment has each part of which something was read, where fields determine them.
+-- Without a timestamp, the moment has each part that something was read of, if the fields determine it.
 abbrev pub MomentBack : Type 0
 MomentBack = (f : Fields) (d : Date) (t : Time) (o : UtcOffset) (r : Result Moment ValueError)
     → instant_read f ≡ None → (has_date f ≡ true → IsDetermined (date_way f) × DateAgrees f d)

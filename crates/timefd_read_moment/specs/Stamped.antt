@@ -1,4 +1,4 @@
--- The moment of a timestamp, with all else that was read.
+-- The moment of a timestamp, compared with all else that was read.
 use Rattle.std.specs.Prelude.{ℕ, ◌≡◌, ◌+◌, ◌/◌, ◌==◌, Bool, true, false, List, [], ◌∷◌, nat_le, if◌then◌else◌, Option, Some, None, IsTrue, Result, Ok, Err}
 use Rattle.timefd_read_dates.specs.declared.fields.Fields.{Fields}
 use Rattle.timefd_read_dates.specs.declared.fields.Fraction.{Fraction}
@@ -41,12 +41,12 @@ stamp_has f u InstantPart.Microsecond =
 stamp_has f u InstantPart.Nanosecond =
     is_shown f.unix_nanosecond u.is_negative u.nanoseconds u.nanoseconds
 
--- the digits that were read are those of the nanoseconds
+-- the nanoseconds begin with the digits that were read
 abbrev pub has_digits : Option Fraction → ℕ → Bool
 has_digits None n = true
 has_digits (Some f) n = f.nanosecond / unit f.digits == n / unit f.digits
 
--- Beside a timestamp nothing is known of what wasn't read.
+-- Beside a timestamp, a part that wasn't read may have any value.
 abbrev pub time_shows : Fields → Time → TimePart → Bool
 time_shows f t TimePart.Hour = is_count f.hour t.hour
 time_shows f t TimePart.Hour12 = is_count f.hour_12 (hour_of_twelve t.hour)
@@ -55,14 +55,14 @@ time_shows f t TimePart.Minute = is_count f.minute t.minute
 time_shows f t TimePart.Second = is_count f.second t.second
 time_shows f t TimePart.Subsecond = has_digits f.subsecond t.nanosecond
 
--- what was read of a part is the moment's
+-- a part of the moment is as it was read
 abbrev pub moment_has : Fields → Date → Time → UtcOffset → Part → Bool
 moment_has f d t o (part.Date p) = date_has f d p
 moment_has f d t o (part.Time p) = time_shows f t p
 moment_has f d t o (part.Offset p) = offset_has f o p
 moment_has f d t o (part.Instant p) = stamp_has f (unix_time d t o) p
 
--- every part that was read is the moment's
+-- every part of the moment is as it was read
 abbrev pub MomentAgrees : Fields → Date → Time → UtcOffset → Type 0
 MomentAgrees f d t o = (p : Part) → IsTrue (moment_has f d t o p)
 
@@ -79,7 +79,7 @@ moment_parts =
     ∷ part.Instant InstantPart.Millisecond ∷ part.Instant InstantPart.Microsecond
     ∷ part.Instant InstantPart.Nanosecond ∷ []
 
--- The offset that was read. Where nothing was read of one, the clock is in UTC.
+-- The offset that was read. Without one, the clock is in UTC.
 
 abbrev pub utc_shift : Shift
 utc_shift = record { is_negative = false; hour = 0; minute = 0; second = 0 }
@@ -91,7 +91,7 @@ zone_if false f = Ok utc_shift
 abbrev pub zone_read : Fields → Result Shift OffsetPart
 zone_read f = zone_if (has_offset f) f
 
--- the clock of the offset that was read shows this at the instant
+-- the clock at the offset that was read shows this at the instant
 abbrev pub IsAt : Fields → UnixTime → Date → Time → UtcOffset → Type 0
 IsAt f u d t o = Shows u o d t × HasShift (zone_read f) o
 
@@ -101,8 +101,8 @@ IsMissing f (part.Time p) = ⊥
 IsMissing f (part.Offset p) = zone_read f ≡ Err p
 IsMissing f (part.Instant p) = ⊥
 
--- Where no clock shows anything at the instant: the offset, where none has these numbers; else the
--- timestamp, which lies outside the years.
+-- The part at fault if no clock shows anything at the instant: the offset, if none has these numbers;
+-- otherwise the timestamp, whose year is out of range.
 
 abbrev pub part_or_stamp : Fields → Option OffsetPart → Part
 part_or_stamp f (Some p) = part.Offset p
@@ -112,16 +112,16 @@ abbrev pub stamp_fault : Fields → Result Shift OffsetPart → Option Part
 stamp_fault f (Ok s) = Some (part_or_stamp f (shift_fault s))
 stamp_fault f (Err p) = None
 
--- The first part that what the clock shows at the instant has otherwise. Where it shows nothing, the part
--- that makes it so.
+-- The first part in which the clock at the instant differs from what was read. If no clock shows
+-- anything, the part at fault.
 abbrev pub IsAtFault : Fields → UnixTime → Part → Type 0
 IsAtFault f u p =
     ((d : Date) (t : Time) (o : UtcOffset) → IsAt f u d t o
     → first_false (moment_has f d t o) moment_parts ≡ Some p)
     × (((d : Date) (t : Time) (o : UtcOffset) → IsAt f u d t o → ⊥) → stamp_fault f (zone_read f) ≡ Some p)
 
--- What the clock shows at the instant has all that was read. Else an offset is wanted, or that what the
--- clock shows is otherwise, and the part at fault.
+-- What the clock shows at the instant agrees with all that was read. Otherwise the error names a part of
+-- the offset that was not read, or the part at fault.
 abbrev pub IsStamped : Fields → UnixTime → Result Stamped ValueError → Type 0
 IsStamped f u (Ok s) = MomentAgrees f s.date s.time s.offset × IsAt f u s.date s.time s.offset
 IsStamped f u (Err (error.Missing p)) = IsMissing f p

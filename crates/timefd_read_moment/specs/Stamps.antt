@@ -1,4 +1,4 @@
--- The instant of the timestamps that were read.
+-- The instant that the timestamps of a text determine.
 use Rattle.std.specs.Prelude.{ℕ, ◌+◌, ◌-◌, ◌*◌, ◌/◌, ◌%◌, min, Bool, false, nat_lt, if◌then◌else◌, Option, Some, None}
 use Rattle.timefd_read_dates.specs.declared.fields.Fields.{Fields}
 use Rattle.timefd_read_dates.specs.declared.fields.Fraction.{Fraction}
@@ -7,25 +7,26 @@ use Rattle.timefd_moment.specs.declared.unix_time.UnixTime.{UnixTime}
 use Rattle.timefd_read_moment.specs.declared.part.InstantPart.{InstantPart}
 use Rattle.timefd_read_moment.specs.Times.{nanosecond_read}
 
--- a timestamp that is too far from 1970 becomes one that no moment has
+-- the distance from 1970, capped where it is too far for any moment
 abbrev pub stamp_magnitude : Signed → ℕ
 stamp_magnitude s = min s.magnitude 100000000000000000000000
 
--- nanoseconds of a fraction that was read, 0 where none was
+-- the nanoseconds of the fraction that was read, or 0
 abbrev pub fraction_read : Option Fraction → ℕ
 fraction_read fraction = min (nanosecond_read fraction) 1000000000
 
--- a fraction was read with more digits than these
+-- a fraction with more digits than these was read
 abbrev pub is_finer : Option Fraction → ℕ → Bool
 is_finer None digits = false
 is_finer (Some f) digits = nat_lt digits f.digits
 
--- Seconds are rounded down: before 1970 too the fraction counts onwards from them.
-abbrev pub behind_second : Bool → ℕ → ℕ → ℕ
-behind_second is_negative seconds fraction =
+-- Seconds are rounded down. So the fraction counts forward from them, before 1970 too.
+abbrev pub after_second : Bool → ℕ → ℕ → ℕ
+after_second is_negative seconds fraction =
     if is_negative then seconds * 1000000000 - fraction else seconds * 1000000000 + fraction
 
--- Smaller units are rounded towards 1970: the fraction stands for what lies within their second.
+-- Units smaller than a second are rounded towards 1970. A finer fraction replaces all that is smaller
+-- than a second.
 abbrev pub within_second : Bool → ℕ → ℕ → ℕ
 within_second is_negative whole fraction =
     if is_negative then whole / 1000000000 * 1000000000 + (1000000000 - fraction) % 1000000000
@@ -38,13 +39,13 @@ in_second is_finer is_negative whole fraction =
 abbrev pub by_second : Option Fraction → Signed → UnixTime
 by_second fraction s = record {
   is_negative = s.is_negative;
-  nanoseconds = behind_second s.is_negative (stamp_magnitude s) (fraction_read fraction);
+  nanoseconds = after_second s.is_negative (stamp_magnitude s) (fraction_read fraction);
 }
 
 abbrev pub by_nanosecond : Signed → UnixTime
 by_nanosecond s = record { is_negative = s.is_negative; nanoseconds = stamp_magnitude s }
 
--- of units of which a second has so many digits
+-- the instant of a timestamp in a unit that is this many digits of a second
 abbrev pub by_unit : Option Fraction → ℕ → ℕ → Signed → UnixTime
 by_unit fraction digits unit s = record {
   is_negative = s.is_negative;
@@ -52,8 +53,8 @@ by_unit fraction digits unit s = record {
       in_second (is_finer fraction digits) s.is_negative (stamp_magnitude s * unit) (fraction_read fraction);
 }
 
--- The finest timestamp counts. The digits of a second that it lacks are those of the fraction that was
--- read, and else 0.
+-- The finest timestamp counts. Digits of the second that it lacks are taken from the fraction that was
+-- read, and are 0 without one.
 abbrev pub instant_by : Option Fraction → Option Signed → Option Signed → Option Signed → Option Signed
     → Option UnixTime
 instant_by fraction (Some n) us ms s = Some (by_nanosecond n)

@@ -1,4 +1,4 @@
--- The time of day of the fields of a time of day.
+-- The time of day that its own fields determine.
 use Rattle.std.specs.Prelude.{ℕ, ◌≡◌, ◌+◌, ◌%◌, Bool, false, ◌||◌, if◌then◌else◌, Option, Some, None, is_some, Result, Ok, Err}
 use Rattle.timefd_read_dates.specs.declared.fields.Fields.{Fields}
 use Rattle.timefd_read_dates.specs.declared.fields.Fraction.{Fraction}
@@ -18,7 +18,7 @@ hour_by_period None is_afternoon = None
 hour_by_period (Some h) None = None
 hour_by_period (Some h) (Some is_afternoon) = Some (h % 12 + (if is_afternoon then 12 else 0))
 
--- the hour, by either clock
+-- the hour, read by either clock
 abbrev pub hour_read : Option ℕ → Option ℕ → Option Bool → Option ℕ
 hour_read (Some h) hour_12 is_afternoon = Some h
 hour_read None hour_12 is_afternoon = hour_by_period hour_12 is_afternoon
@@ -39,12 +39,12 @@ nanosecond_read (Some f) = f.nanosecond
 abbrev pub has_second : Fields → Bool
 has_second f = is_some f.second || is_some f.subsecond
 
--- what is coarser wasn't read, though what is finer was
+-- the coarser part wasn't read, though the finer one was
 abbrev pub is_left_out : Option ℕ → Bool → Bool
 is_left_out None is_finer_read = is_finer_read
 is_left_out (Some n) is_finer_read = false
 
--- Nothing is read without what is coarser. An hour alone is a whole hour.
+-- Nothing is read without the parts that are coarser. An hour alone is a whole hour.
 abbrev pub clock_from : Fields → ℕ → Result Clock TimePart
 clock_from f h =
     if is_left_out f.minute (has_second f) then Err TimePart.Minute
@@ -59,7 +59,7 @@ abbrev pub clock_at : Fields → Option ℕ → Result Clock TimePart
 clock_at f (Some h) = clock_from f h
 clock_at f None = Err (lack_of_hour f)
 
--- the numbers of the time that the fields determine, or what was not read
+-- the numbers of the time that the fields determine, or the part that was not read
 abbrev pub clock_read : Fields → Result Clock TimePart
 clock_read f = clock_at f (hour_read f.hour f.hour_12 f.is_afternoon)
 
@@ -71,7 +71,7 @@ abbrev pub IsSame : Time → Time → Type 0
 IsSame t u = (t.hour ≡ u.hour) × (t.minute ≡ u.minute) × (t.second ≡ u.second)
     × (t.nanosecond ≡ u.nanosecond)
 
--- the one time of this kind; where there is none, a part that none has
+-- the only time of this kind; or a part that no time has, if there is none of the kind
 abbrev pub Selects : (Time → Type 0) → Result Time TimePart → Type 0
 Selects Is (Ok t) = (u : Time) → Is u → IsSame t u
 Selects Is (Err part) = (u : Time) → Is u → ⊥
@@ -82,13 +82,13 @@ IsMissing f (part.Time p) = clock_read f ≡ Err p
 IsMissing f (part.Offset p) = ⊥
 IsMissing f (part.Instant p) = ⊥
 
--- it has the fields that determine one
+-- the time has the fields that determine one
 abbrev pub HasClock : Result Clock TimePart → Time → Type 0
 HasClock (Ok c) t = ClockHas c t
 HasClock (Err p) t = ⊥
 
--- The first part that the time of these numbers has otherwise. Where no time has them, the first that none
--- has.
+-- The first part in which the time of these numbers differs from what was read. If no time has them, the
+-- first number that none has.
 abbrev pub IsAtFault : Fields → Part → Type 0
 IsAtFault f (part.Date p) = ⊥
 IsAtFault f (part.Time p) =
@@ -96,8 +96,8 @@ IsAtFault f (part.Time p) =
 IsAtFault f (part.Offset p) = ⊥
 IsAtFault f (part.Instant p) = ⊥
 
--- The time that has all that was read, where that determines one. Else what was not read is told, or that
--- no time has all of it, and the part at fault.
+-- The time that agrees with all that was read, if the fields determine one. Otherwise the error names what
+-- was not read, or the part at fault if no time agrees with all of it.
 abbrev pub IsTimeByParts : Fields → Result Time ValueError → Type 0
 IsTimeByParts f (Ok t) = TimeAgrees f t × IsDetermined (clock_read f)
 IsTimeByParts f (Err (error.Missing p)) = IsMissing f p

@@ -1,4 +1,4 @@
--- The values of fields: with a timestamp by its instant, and else by their parts.
+-- The values that fields determine: by the instant of a timestamp, or else by their parts.
 use Rattle.std.specs.Prelude.{◌≡◌, ◌⊎◌, ⊤, Bool, true, false, Option, Some, None, Result, Ok, Err}
 use Rattle.timefd_read_dates.specs.declared.fields.Fields.{Fields}
 use Rattle.timefd_moment.specs.declared.date.Date.{Date}
@@ -16,7 +16,7 @@ use Rattle.timefd_read_moment.specs.Stamped.{IsStamped}
 use Rattle.timefd_read_moment.specs.Stamps.{instant_read}
 use Rattle.timefd_read_moment.specs.Times.{IsTimeByParts}
 
--- With a timestamp the date is that of its moment.
+-- With a timestamp, the date is that of its moment.
 
 abbrev pub IsDateBy : Option UnixTime → Fields → Result Date ValueError → Type 0
 IsDateBy None f r = IsDateByParts f r
@@ -36,7 +36,7 @@ IsTimeBy (Some u) f (Err e) = IsStamped f u (Err e)
 abbrev pub IsTimeOf : Fields → Result Time ValueError → Type 0
 IsTimeOf f r = IsTimeBy (instant_read f) f r
 
--- A part of which nothing was read is not known; else it is the one that the fields determine.
+-- If no part of the value was read, it isn't known; otherwise it is the one that the fields determine.
 abbrev pub IsPart : {A : Type 0} → Bool → (Result A ValueError → Type 0)
     → Result (Option A) ValueError → Type 0
 IsPart false Is (Ok None) = ⊤
@@ -55,19 +55,20 @@ IsTimeIn f r = IsPart (has_time f) (IsTimeByParts f) r
 abbrev pub IsOffsetIn : Fields → Result (Option UtcOffset) ValueError → Type 0
 IsOffsetIn f r = IsPart (has_offset f) (IsOffsetOf f) r
 
--- the error of the time, where there is one, else of the offset
+-- the error of the time, or else that of the offset
 abbrev pub IsErrorAfterDate : Fields → ValueError → Type 0
 IsErrorAfterDate f e =
     IsTimeIn f (Err e) ⊎ (((time : Option Time) × IsTimeIn f (Ok time)) × IsOffsetIn f (Err e))
 
--- The moment has all that was read. The error is that of the date, else of the time, else of the offset.
+-- The moment agrees with all that was read. The error is that of the date, or else that of the time, or
+-- else that of the offset.
 abbrev pub IsMomentByParts : Fields → Result Moment ValueError → Type 0
 IsMomentByParts f (Ok m) =
     IsDateIn f (Ok m.date) × IsTimeIn f (Ok m.time) × IsOffsetIn f (Ok m.offset)
 IsMomentByParts f (Err e) =
     IsDateIn f (Err e) ⊎ (((date : Option Date) × IsDateIn f (Ok date)) × IsErrorAfterDate f e)
 
--- With a timestamp all three are known.
+-- With a timestamp, all three are known.
 abbrev pub IsMomentBy : Option UnixTime → Fields → Result Moment ValueError → Type 0
 IsMomentBy None f r = IsMomentByParts f r
 IsMomentBy (Some u) f (Ok m) = (s : Stamped) × IsStamped f u (Ok s)
@@ -77,8 +78,8 @@ IsMomentBy (Some u) f (Err e) = IsStamped f u (Err e)
 abbrev pub IsMomentOf : Fields → Result Moment ValueError → Type 0
 IsMomentOf f r = IsMomentBy (instant_read f) f r
 
--- The instant of fields: that of their date, time and offset. The error is that of the date, else of the
--- time, else of the offset.
+-- The instant that fields determine: that of their date, time and offset. The error is that of the date,
+-- or else that of the time, or else that of the offset.
 
 abbrev IsInstantErrorAfterDate : Fields → ValueError → Type 0
 IsInstantErrorAfterDate f e =

@@ -8,7 +8,7 @@ use Rattle.timefd_read_moment.specs.declared.way.DateWay.{DateWay}
 use Rattle.timefd_read_moment.specs.declared.way.DateWay.TheVariants as by
 use Rattle.timefd_read_moment.specs.Years.{years_read}
 
--- The fields of a way, where all were read.
+-- The fields of a way, if all of them were read.
 
 abbrev pub calendar : Option ℕ → Option ℕ → Option ℕ → Option DateWay
 calendar None month day = None
@@ -17,7 +17,7 @@ calendar (Some y) (Some m) None = None
 calendar (Some y) (Some m) (Some d) = Some (by.Calendar y m d)
 
 abbrev pub ordinal : Option ℕ → Option ℕ → Option DateWay
-ordinal None place = None
+ordinal None position = None
 ordinal (Some y) None = None
 ordinal (Some y) (Some n) = Some (by.Ordinal y n)
 
@@ -43,7 +43,7 @@ abbrev pub or_else : Option DateWay → Option DateWay → Option DateWay
 or_else (Some way) other = Some way
 or_else None other = other
 
--- A date is determined by year, month and day, by year and ordinal, by ISO year, ISO week and weekday, and
+-- A date is determined by year, month and day; by year and ordinal; by ISO year, ISO week and weekday; or
 -- by year, week from Sunday or from Monday, and weekday.
 abbrev pub way_of : Fields → Option ℕ → Option ℕ → Option DateWay
 way_of f years iso_years =
@@ -51,7 +51,7 @@ way_of f years iso_years =
     (or_else (iso_week iso_years f.iso_week f.weekday)
     (or_else (sunday_week years f.sunday_week f.weekday) (monday_week years f.monday_week f.weekday))))
 
--- What is wanted beside what was read.
+-- The part that is missing, given what was read.
 
 abbrev pub lack_of_year : Fields → DatePart
 lack_of_year f =
@@ -77,7 +77,7 @@ abbrev pub way_in : Fields → Option ℕ → Option ℕ → Result DateWay Date
 way_in f years iso_years =
     unless (lack f (is_some years) (is_some iso_years)) (way_of f years iso_years)
 
--- the first way in which the fields determine a date, or what was not read
+-- the first way in which the fields determine a date, or the part that was not read
 abbrev pub date_way : Fields → Result DateWay DatePart
 date_way f = way_in f (years_read f.year f.century f.year_last_two)
     (years_read f.iso_year f.iso_century f.iso_year_last_two)

@@ -1,4 +1,4 @@
-//! Which parts of a moment are as they were read, beside a timestamp.
+//! Compares the parts of a moment with what was read beside a timestamp.
 
 ghost use Rattle.std.specs.Prelude.{◌≡◌};
 ghost use Rattle.timefd_read_moment.specs.Shown.{first_false};
@@ -9,7 +9,7 @@ use crate::shown::{date_has, is_count, is_flag, is_shown, offset_has};
 use timefd_moment::{Date, Time, UnixTime, UtcOffset};
 use timefd_read_dates::{Fields, Fraction, unit};
 
-/// The first part of a moment that was read otherwise.
+/// The first part of a moment that differs from what was read.
 pub(crate) fn contradiction(
     fields: &Fields,
     date: Date,
@@ -95,7 +95,7 @@ fn time_shows(fields: &Fields, time: Time, part: TimePart) -> bool
     }
 }
 
-/// Whether the digits that were read are those of the nanoseconds.
+/// Whether the nanoseconds begin with the digits that were read.
 fn has_digits(read: Option<Fraction>, nanosecond: u32) -> bool
     ensures { result ≡ spec.has_digits read nanosecond }
 {

@@ -1,4 +1,4 @@
-//! The date and the time of day of fields.
+//! The date and the time of day that fields determine.
 
 ghost use Rattle.timefd_read_moment.specs.DateTimes.{IsDateTimeOf};
 
@@ -8,8 +8,8 @@ use crate::times::time;
 use timefd_moment::{Date, Time};
 use timefd_read_dates::Fields;
 
-/// The date and the time of day that have all that was read. An `Err` is that of the date, else that
-/// of the time. It stands for `PrimitiveDateTime::try_from` of `Parsed` of `time`.
+/// The date and the time of day that agree with all that was read. An `Err` is that of the date, or
+/// else that of the time. Corresponds to `PrimitiveDateTime::try_from` for `Parsed` in `time`.
 pub fn date_time(fields: &Fields) -> Result<(Date, Time), ValueError>
     ensures { IsDateTimeOf fields.now result }
 {

@@ -1,4 +1,4 @@
-//! The date of fields.
+//! The date that fields determine.
 
 ghost use Rattle.std.specs.Prelude.{◌≡◌, ◌≤◌, ◌+ℤ◌, pos, Ok};
 ghost use Rattle.timefd_read_moment.specs.Dates.{IsDateByParts, Selects};
@@ -18,11 +18,13 @@ use crate::year::at_most;
 use timefd_moment::Date;
 use timefd_read_dates::Fields;
 
-/// The date that has all that was read. It is determined by year, month and day; by year and
-/// ordinal; by ISO year, ISO week and weekday; or by year, week from Sunday or from Monday, and
-/// weekday. Century and last two digits stand for a year. With a timestamp it is that of the
-/// [`moment`](crate::moment). An `Err` tells what was not read, or that no date has all that was
-/// read. It stands for `Date::try_from` of `Parsed` of `time`.
+/// The date that agrees with all that was read. A date is determined by year, month and day; by
+/// year and ordinal; by ISO year, ISO week and weekday; or by year, week from Sunday or from
+/// Monday, and weekday. A century with the last two digits of a year counts as the year. With a
+/// timestamp, the date is that of the [`moment`](crate::moment).
+///
+/// An `Err` says which part was not read, or that no date agrees with all that was read.
+/// Corresponds to `Date::try_from` for `Parsed` in `time`.
 pub fn date(fields: &Fields) -> Result<Date, ValueError>
     ensures { IsDateOf fields.now result }
 {
@@ -35,7 +37,7 @@ pub fn date(fields: &Fields) -> Result<Date, ValueError>
     }
 }
 
-/// The date that the fields of one determine.
+/// The date that the date's own fields determine, without a timestamp.
 pub(crate) fn date_by_parts(fields: &Fields) -> Result<Date, ValueError>
     ensures { IsDateByParts fields.now result }
 {
@@ -65,7 +67,7 @@ fn compared(fields: &Fields, way: DateWay) -> Result<Date, ValueError>
     }
 }
 
-/// The date that has the fields of a way, where one has.
+/// The date with the fields of a way. `None` if there is none.
 fn date_in(way: DateWay) -> Option<Date>
     requires { way_years way ≤ 2000000 }
     ensures { Selects (WayHas way) result }

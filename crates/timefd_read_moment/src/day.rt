@@ -1,4 +1,4 @@
-//! The date of a day that is counted from 1 January of the year -1,000,000 on.
+//! The date of a day. Days are counted from 1 January of the year -1,000,000.
 
 ghost use Rattle.std.specs.Prelude.{◌≡◌, ◌≤◌};
 ghost use Rattle.timefd_moment.specs.Calendar.{days_of_years};
@@ -8,7 +8,7 @@ ghost use Rattle.timefd_read_moment.specs.Days as spec;
 
 use timefd_moment::{Date, Moment, UnixTime};
 
-/// How many days lie before a year.
+/// The number of days before a year.
 #[tactic(auto, using(timefd_moment::proofs::CalendarLemmas::days_before))]
 fn first_day(years: u32) -> u32
     requires { years ≤ 2000000 }
@@ -18,7 +18,7 @@ fn first_day(years: u32) -> u32
     365 * years + (years + 3) / 4 + (years + 399) / 400 - (years + 99) / 100
 }
 
-/// The day at a place in the year, from 1.
+/// The day with this number in the year, counted from 1.
 pub(crate) fn ordinal_day(years: u32, ordinal: u16) -> u32
     requires { years ≤ 2000000 }
     ensures value { result ≡ spec.ordinal_day years ordinal }
@@ -27,7 +27,7 @@ pub(crate) fn ordinal_day(years: u32, ordinal: u16) -> u32
     (first_day(years) + ordinal as u32).saturating_sub(1)
 }
 
-/// The day of a week of ISO 8601, so many days after its Monday.
+/// The day that is `weekday` days after the Monday of an ISO 8601 week.
 pub(crate) fn iso_week_day(years: u32, week: u16, weekday: u16) -> u32
     requires { years ≤ 2000000 }
     ensures value { result ≡ spec.iso_week_day years week weekday }
@@ -38,7 +38,8 @@ pub(crate) fn iso_week_day(years: u32, week: u16, weekday: u16) -> u32
     (first_monday + 7 * week as u32 + weekday as u32).saturating_sub(7)
 }
 
-/// The day of a week from Sunday, where the first Sunday of the year begins week 1.
+/// The day that is `weekday` days after Monday, in a week that begins on Sunday. The first Sunday
+/// of the year begins week 1.
 pub(crate) fn sunday_week_day(years: u32, week: u16, weekday: u16) -> u32
     requires { years ≤ 2000000 }
     ensures value { result ≡ spec.sunday_week_day years week weekday }
@@ -49,7 +50,8 @@ pub(crate) fn sunday_week_day(years: u32, week: u16, weekday: u16) -> u32
     (first_sunday + 7 * week as u32 + (weekday as u32 + 1) % 7).saturating_sub(7)
 }
 
-/// The day of a week from Monday, where the first Monday of the year begins week 1.
+/// The day that is `weekday` days after Monday, in a week that begins on Monday. The first Monday
+/// of the year begins week 1.
 pub(crate) fn monday_week_day(years: u32, week: u16, weekday: u16) -> u32
     requires { years ≤ 2000000 }
     ensures value { result ≡ spec.monday_week_day years week weekday }
@@ -60,7 +62,7 @@ pub(crate) fn monday_week_day(years: u32, week: u16, weekday: u16) -> u32
     (first_monday + 7 * week as u32 + weekday as u32).saturating_sub(7)
 }
 
-/// The start of a day, in UTC.
+/// The start of a day in UTC.
 fn midnight(day: u32) -> UnixTime
     requires { day ≤ 800000000 }
     ensures { result ≡ spec.midnight day }
@@ -80,7 +82,7 @@ fn midnight(day: u32) -> UnixTime
     }
 }
 
-/// The date of a day, where a year from -999,999 to 999,999 has it.
+/// The date of a day. `None` if its year is not from -999,999 to 999,999.
 pub(crate) fn date_of_day(day: u32) -> Option<Date>
     requires { day ≤ 800000000 }
     ensures { Selects (λ d. day_number d ≡ day) result }

@@ -1,5 +1,5 @@
-//! What is found of a date by a calculation. Each stands by itself: most texts show none of it, and what looks
-//! at every part stays small.
+//! Values that are calculated from a date. Each is a function that isn't inlined: most texts show none of
+//! these values, and so the function that compares every part stays small.
 
 ghost use Rattle.std.specs.Prelude.{◌≡◌};
 ghost use Rattle.timefd_moment.specs.Moments as spec;
@@ -14,7 +14,7 @@ pub(crate) fn ordinal(date: Date) -> u32
     date.ordinal() as u32
 }
 
-/// The days after Monday.
+/// The number of days after Monday.
 #[inline(never)]
 pub(crate) fn weekday(date: Date) -> u32
     ensures { result ≡ spec.days_from_monday date }
@@ -29,7 +29,7 @@ pub(crate) fn iso_week(date: Date) -> u32
     date.iso_week() as u32
 }
 
-/// The week of the year, where weeks begin on Sunday.
+/// The week of the year. Weeks begin on Sunday.
 #[inline(never)]
 pub(crate) fn sunday_week(date: Date) -> u32
     ensures { result ≡ spec.sunday_week date }
@@ -37,7 +37,7 @@ pub(crate) fn sunday_week(date: Date) -> u32
     date.sunday_based_week() as u32
 }
 
-/// The week of the year, where weeks begin on Monday.
+/// The week of the year. Weeks begin on Monday.
 #[inline(never)]
 pub(crate) fn monday_week(date: Date) -> u32
     ensures { result ≡ spec.monday_week date }
@@ -45,7 +45,7 @@ pub(crate) fn monday_week(date: Date) -> u32
     date.monday_based_week() as u32
 }
 
-/// The ISO week-numbering year, from the year -1,000,000 on.
+/// The ISO week-numbering year, counted from the year -1,000,000.
 #[inline(never)]
 pub(crate) fn iso_years(date: Date) -> u32
     ensures { result ≡ spec.iso_years date }

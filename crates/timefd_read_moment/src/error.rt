@@ -1,4 +1,4 @@
-//! Why fields are no value.
+//! Why fields determine no value.
 
 ghost use Rattle.std.specs.Prelude.{◌≡◌};
 ghost use Rattle.timefd_read_moment.specs.Sentences as spec;
@@ -7,13 +7,14 @@ use crate::part::{DatePart, InstantPart, OffsetPart, Part, TimePart};
 use std::error::Error;
 use std::fmt;
 
-/// Why fields are no value.
+/// Why fields determine no value.
 #[derive(Debug, Clone, Copy, PartialEq, Eq)]
 pub enum ValueError {
-    /// The fields determine no value: this was not read.
+    /// This part was not read, and without it the fields determine no value.
     Missing(Part),
-    /// No value has all that was read. This is the first part that the value which the fields determine
-    /// has otherwise; or the part that makes it so that there is none.
+    /// No value agrees with all that was read. This is the first part in which the value that the
+    /// fields determine differs from what was read. If they determine no value, it is the part at
+    /// fault.
     Contradiction(Part),
 }
 

@@ -1,4 +1,4 @@
-//! The part that makes it so that no date has the fields of a way.
+//! The part at fault if no date has the fields of a way.
 
 ghost use Rattle.std.specs.Prelude.{◌≡◌};
 ghost use Rattle.timefd_read_moment.specs.Faults as spec;
@@ -7,8 +7,8 @@ use crate::part::DatePart;
 use crate::way::DateWay;
 use timefd_read_dates::{Fields, Signed};
 
-/// The part of the year, the month or the weekday that no date has. Where there is none, it is the day,
-/// the ordinal or the week.
+/// The part at fault if no date has these fields: a part of the year, the month or the weekday if its
+/// number is out of range; otherwise the day, the ordinal or the week.
 pub(crate) fn way_fault(fields: &Fields, way: DateWay) -> DatePart
     ensures { result ≡ spec.way_fault fields.now way }
 {

@@ -1,4 +1,4 @@
-//! The instant of fields.
+//! The instant that fields determine.
 
 ghost use Rattle.timefd_read_moment.specs.Values.{IsInstantByParts, IsInstantOf};
 
@@ -11,8 +11,9 @@ use crate::times::time_by_parts;
 use timefd_moment::UnixTime;
 use timefd_read_dates::Fields;
 
-/// The instant that has all that was read. It is determined by a timestamp, or by a date, a time of
-/// day and an offset. An `Err` tells what was not read, or that no instant has all that was read.
+/// The instant that agrees with all that was read. It is determined by a timestamp, or by a date, a
+/// time of day and an offset. An `Err` says which part was not read, or that no instant agrees with
+/// all that was read.
 pub fn instant(fields: &Fields) -> Result<UnixTime, ValueError>
     ensures { IsInstantOf fields.now result }
 {

@@ -1,11 +1,11 @@
-//! Of what something was read.
+//! Which parts of a moment something was read of.
 
 ghost use Rattle.std.specs.Prelude.{◌≡◌};
 ghost use Rattle.timefd_read_moment.specs.Known as spec;
 
 use timefd_read_dates::Fields;
 
-/// Whether something was read of a date.
+/// Whether any part of a date was read.
 pub(crate) fn has_date(fields: &Fields) -> bool
     ensures { result ≡ spec.has_date fields.now }
 {
@@ -39,7 +39,7 @@ fn has_week(fields: &Fields) -> bool
         || fields.monday_week.is_some()
 }
 
-/// Whether something was read of a time of day.
+/// Whether any part of a time of day was read.
 pub(crate) fn has_time(fields: &Fields) -> bool
     ensures { result ≡ spec.has_time fields.now }
 {
@@ -55,7 +55,7 @@ fn has_hour(fields: &Fields) -> bool
     fields.hour.is_some() || fields.hour_12.is_some() || fields.is_afternoon.is_some()
 }
 
-/// Whether something was read of an offset.
+/// Whether any part of an offset was read.
 pub(crate) fn has_offset(fields: &Fields) -> bool
     ensures { result ≡ spec.has_offset fields.now }
 {

@@ -1,5 +1,5 @@
-//! The date, the time of day, the offset from UTC and the instant that fields determine, which were read
-//! of a text.
+//! The date, the time of day, the offset from UTC and the instant that fields determine. The fields were
+//! read from a text.
 #![tactic(auto)]
 
 mod agreed;

@@ -1,4 +1,4 @@
-//! What a clock shows of an instant.
+//! What a clock shows at an instant.
 
 ghost use Rattle.std.specs.Prelude.{◌≡◌, ◌≤◌, ◌*◌};
 ghost use Rattle.timefd_moment.specs.Instants.{count};
@@ -7,11 +7,11 @@ ghost use Rattle.timefd_read_moment.specs.Locals.{IsShownAt};
 
 use timefd_moment::{Date, Moment, Time, UnixTime, UtcOffset};
 
-// The start of 1970, in nanoseconds from some 28 hours before the year -1,000,000 on.
+// The start of 1970, in nanoseconds counted from about 28 hours before the year -1,000,000.
 const UNIX_START: u128 = (365_962_028 * 86_400 + 100_000) * 1_000_000_000;
 
-/// The date and the time that a clock at the offset shows of an instant. `None` where the year is
-/// none from -999,999 to 999,999, on the clock or in UTC.
+/// The date and the time that a clock at the offset shows at an instant. `None` if the year is not
+/// from -999,999 to 999,999, on the clock or in UTC.
 pub(crate) fn shown_at(unix: UnixTime, offset: UtcOffset) -> Option<(Date, Time)>
     ensures { IsShownAt unix offset result }
 {
@@ -62,7 +62,7 @@ fn count_of(unix: UnixTime) -> u128
     }
 }
 
-/// The instant of so many nanoseconds.
+/// The instant with this count of nanoseconds.
 fn counted(nanoseconds: u128) -> UnixTime
     ensures { count result ≡ nanoseconds }
 {

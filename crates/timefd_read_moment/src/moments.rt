@@ -1,4 +1,4 @@
-//! The moment of fields.
+//! The moment that fields determine.
 
 ghost use Rattle.timefd_read_moment.specs.Values.{IsDateIn, IsMomentByParts, IsMomentOf, IsOffsetIn, IsTimeIn};
 
@@ -12,11 +12,14 @@ use crate::times::time_by_parts;
 use timefd_moment::{Date, Moment, Time, UtcOffset};
 use timefd_read_dates::Fields;
 
-/// The moment that has all that was read. A date, a time of day or an offset of which nothing was
-/// read is not known, but with a timestamp all three are: it is that instant, on a clock at the
-/// offset that was read, and else in UTC. The digits of a second that were not read are 0. An `Err`
-/// tells what was not read, or that no moment has all that was read. It stands for the
-/// `OffsetDateTime::try_from` of `Parsed` of `time`, and for those of less.
+/// The moment that agrees with all that was read. A date, a time of day or an offset is `None` if
+/// no part of it was read. With a timestamp all three are known: the moment is that instant, on a
+/// clock at the offset that was read, or in UTC without one. The digits of a second that were not
+/// read are 0.
+///
+/// An `Err` says which part was not read, or that no moment agrees with all that was read.
+/// Corresponds to `OffsetDateTime::try_from` for `Parsed` in `time`, and to those of the types with
+/// fewer parts.
 pub fn moment(fields: &Fields) -> Result<Moment, ValueError>
     ensures { IsMomentOf fields.now result }
 {

@@ -1,4 +1,4 @@
-//! The moment of numbers that were read without fields.
+//! The moment of numbers that were read without fields. This is the fast way for common texts.
 
 ghost use Rattle.std.specs.Prelude.{◌≡◌, ◌+◌, IfSome, Ok};
 ghost use Rattle.timefd_read_dates.specs.Short.{fields_with};
@@ -9,7 +9,8 @@ use crate::times::number;
 use timefd_moment::{Date, Moment, Time};
 use timefd_read_dates::Numbers;
 
-/// The moment of a whole date, of an hour and what is finer, or of both. `None` says nothing.
+/// The moment of a whole date, of a time from the hour on, or of both. `None` says nothing about
+/// the numbers; the fields decide then.
 #[inline(always)]
 #[tactic(auto, using(crate::proofs::NumberLemmas::both_known))]
 pub fn moment_of_numbers(numbers: Numbers) -> Option<Moment>

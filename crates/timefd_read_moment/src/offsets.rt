@@ -1,4 +1,4 @@
-//! The offset from UTC of fields.
+//! The offset from UTC that fields determine.
 
 ghost use Rattle.std.specs.Prelude.{◌≡◌, Ok, IfOk};
 ghost use Rattle.timefd_read_moment.specs.Faults.{fault_of, shift_fault};
@@ -21,9 +21,10 @@ pub(crate) struct Shift {
     pub second: u16,
 }
 
-/// The offset that has all that was read. It is determined by its hour, whose sign it has. Minutes
-/// and seconds that were not read are 0. An `Err` tells what was not read, or that no offset has all
-/// that was read. It stands for `UtcOffset::try_from` of `Parsed` of `time`.
+/// The offset that agrees with all that was read. It is determined by its hour, which also has its
+/// sign. Minutes and seconds that were not read are 0. An `Err` says which part was not read, or
+/// that no offset agrees with all that was read. Corresponds to `UtcOffset::try_from` for `Parsed`
+/// in `time`.
 pub fn offset(fields: &Fields) -> Result<UtcOffset, ValueError>
     ensures { IsOffsetOf fields.now result }
 {
@@ -46,7 +47,7 @@ fn compared(fields: &Fields, shift: Shift) -> Result<UtcOffset, ValueError>
     }
 }
 
-/// The offset of these numbers. An `Err` is the first that none has.
+/// The offset of these numbers. An `Err` is the first number that no offset has.
 pub(crate) fn offset_of(shift: Shift) -> Result<UtcOffset, OffsetPart>
     ensures found { IfOk result (λ offset. spec.ShiftHas shift offset) }
     ensures one { Selects (spec.ShiftHas shift) result }
@@ -68,7 +69,7 @@ pub(crate) fn offset_of(shift: Shift) -> Result<UtcOffset, OffsetPart>
     })
 }
 
-/// The numbers that were read. An `Err` is what was not read.
+/// The numbers that were read. An `Err` is the part that was not read.
 pub(crate) fn shift_read(fields: &Fields) -> Result<Shift, OffsetPart>
     ensures { result ≡ spec.shift_read fields.now }
 {

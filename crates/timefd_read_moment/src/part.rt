@@ -1,6 +1,6 @@
-//! What can be read of a date, of a time of day, of an offset and of an instant.
+//! The parts that can be read of a date, of a time of day, of an offset and of an instant.
 
-/// What can be read of a value.
+/// A part that can be read of a value.
 #[derive(Debug, Clone, Copy, PartialEq, Eq)]
 pub enum Part {
     Date(DatePart),
@@ -9,7 +9,7 @@ pub enum Part {
     Instant(InstantPart),
 }
 
-/// What can be read of a date.
+/// A part that can be read of a date.
 #[derive(Debug, Clone, Copy, PartialEq, Eq)]
 pub enum DatePart {
     Day,
@@ -27,7 +27,7 @@ pub enum DatePart {
     IsoYear,
 }
 
-/// What can be read of a time of day.
+/// A part that can be read of a time of day.
 #[derive(Debug, Clone, Copy, PartialEq, Eq)]
 pub enum TimePart {
     /// The hour of the 24-hour clock.
@@ -40,7 +40,7 @@ pub enum TimePart {
     Subsecond,
 }
 
-/// What can be read of an offset from UTC.
+/// A part that can be read of an offset from UTC.
 #[derive(Debug, Clone, Copy, PartialEq, Eq)]
 pub enum OffsetPart {
     Hour,
@@ -48,12 +48,12 @@ pub enum OffsetPart {
     Second,
 }
 
-/// What can be read of an instant: the time since 1970, in one of these units.
+/// A part that can be read of an instant: the time since 1970, in one of these units.
 #[derive(Debug, Clone, Copy, PartialEq, Eq)]
 pub enum InstantPart {
     /// Whole seconds, rounded down.
     Second,
-    /// Whole milliseconds, rounded towards 1970, as smaller units are.
+    /// Whole milliseconds, rounded towards 1970. Smaller units are rounded the same way.
     Millisecond,
     Microsecond,
     Nanosecond,

@@ -1,4 +1,4 @@
-//! Which parts of a value are as they were read.
+//! Compares the parts of a value with what was read.
 
 ghost use Rattle.std.specs.Prelude.{◌≡◌};
 ghost use Rattle.timefd_moment.specs.Moments.{magnitude};
@@ -28,7 +28,7 @@ pub(crate) fn is_flag(read: Option<bool>, flag: bool) -> bool
     }
 }
 
-/// Zero may have either sign.
+/// Whether a part of a number is as it was read, with the number's sign. Zero may have either sign.
 pub(crate) fn is_shown(read: Option<Signed>, is_negative: bool, whole: u128, part: u128) -> bool
     ensures { result ≡ spec.is_shown read is_negative whole part }
 {
@@ -40,7 +40,7 @@ pub(crate) fn is_shown(read: Option<Signed>, is_negative: bool, whole: u128, par
     }
 }
 
-/// How far a year is from the year 0.
+/// The distance of a year from the year 0.
 fn magnitude(years: u32) -> u32
     ensures { result ≡ magnitude years }
 {
@@ -126,7 +126,7 @@ fn first_of_date(fields: &Fields, date: Date, parts: &[DatePart]) -> Option<Date
     None
 }
 
-/// The first part of a date that was read otherwise.
+/// The first part of a date that differs from what was read.
 pub(crate) fn date_contradiction(fields: &Fields, date: Date) -> Option<DatePart>
     ensures { result ≡ spec.first_false (spec.date_has fields.now date) spec.date_parts }
 {
@@ -151,7 +151,7 @@ pub(crate) fn date_contradiction(fields: &Fields, date: Date) -> Option<DatePart
     )
 }
 
-/// What was not read is 0.
+/// Whether a number is as it was read, or 0 if it was not read.
 fn is_count_or_zero(read: Option<u16>, number: u32) -> bool
     ensures { result ≡ spec.is_count_or_zero read number }
 {
@@ -161,7 +161,7 @@ fn is_count_or_zero(read: Option<u16>, number: u32) -> bool
     }
 }
 
-/// The digits of a second that were not read are zeros.
+/// Whether the nanoseconds are as they were read, or 0 if they were not read.
 fn is_fraction(read: Option<Fraction>, nanosecond: u32) -> bool
     ensures { result ≡ spec.is_fraction read nanosecond }
 {
@@ -195,7 +195,7 @@ fn first_of_time(fields: &Fields, time: Time, parts: &[TimePart]) -> Option<Time
     None
 }
 
-/// The first part of a time of day that was read otherwise.
+/// The first part of a time of day that differs from what was read.
 pub(crate) fn time_contradiction(fields: &Fields, time: Time) -> Option<TimePart>
     ensures { result ≡ spec.first_false (spec.time_has fields.now time) spec.time_parts }
 {
@@ -239,7 +239,7 @@ fn first_of_offset(fields: &Fields, offset: UtcOffset, parts: &[OffsetPart]) -> 
     None
 }
 
-/// The first part of an offset that was read otherwise.
+/// The first part of an offset that differs from what was read.
 pub(crate) fn offset_contradiction(fields: &Fields, offset: UtcOffset) -> Option<OffsetPart>
     ensures { result ≡ spec.first_false (spec.offset_has fields.now offset) spec.offset_parts }
 {

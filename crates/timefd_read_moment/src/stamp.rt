@@ -1,4 +1,4 @@
-//! The instant of the timestamps that were read.
+//! The instant that the timestamps of a text determine.
 
 ghost use Rattle.std.specs.Prelude.{◌≡◌, ◌≤◌, min};
 ghost use Rattle.timefd_read_moment.specs.Stamps as spec;
@@ -10,8 +10,8 @@ use timefd_read_dates::{Fields, Fraction, Signed};
 
 const SECOND: u128 = 1_000_000_000;
 
-/// The instant of the finest timestamp that was read. The digits of a second that it lacks are those
-/// of the fraction that was read, and else 0.
+/// The instant of the finest timestamp that was read. Digits of the second that it lacks are taken
+/// from the fraction that was read, and are 0 without one.
 pub(crate) fn instant_read(fields: &Fields) -> Option<UnixTime>
     ensures { result ≡ spec.instant_read fields.now }
 {
@@ -54,7 +54,7 @@ fn by_nanosecond(stamp: Signed) -> UnixTime
     }
 }
 
-/// Of units of which a second has so many digits.
+/// The instant of a timestamp in a unit smaller than a second: `digits` decimal digits of a second.
 fn by_unit(fraction: Option<Fraction>, digits: u16, unit: u128, stamp: Signed) -> UnixTime
     requires { unit ≤ 1000000 }
     ensures { result ≡ spec.by_unit fraction digits unit stamp }
@@ -70,7 +70,8 @@ fn by_unit(fraction: Option<Fraction>, digits: u16, unit: u128, stamp: Signed) -
     }
 }
 
-/// Smaller units are rounded towards 1970: the fraction stands for what lies within their second.
+/// Units smaller than a second are rounded towards 1970. A finer fraction replaces all that is
+/// smaller than a second.
 fn within_second(is_negative: bool, whole: u128, fraction: u128) -> u128
     requires whole { whole ≤ 100000000000000000000000000000 }
     requires fraction { fraction ≤ 1000000000 }
@@ -84,7 +85,7 @@ fn within_second(is_negative: bool, whole: u128, fraction: u128) -> u128
     }
 }
 
-/// Seconds are rounded down: before 1970 too the fraction counts onwards from them.
+/// Seconds are rounded down. So the fraction counts forward from them, before 1970 too.
 fn by_second(fraction: Option<Fraction>, stamp: Signed) -> UnixTime
     ensures { result ≡ spec.by_second fraction stamp }
 {
@@ -100,7 +101,8 @@ fn by_second(fraction: Option<Fraction>, stamp: Signed) -> UnixTime
     }
 }
 
-/// A timestamp that is too far from 1970 becomes one that no moment has.
+/// The distance from 1970, capped. A timestamp beyond the cap is too far from 1970 for any moment
+/// anyway.
 fn magnitude(stamp: Signed) -> u128
     ensures value { result ≡ spec.stamp_magnitude stamp }
     ensures within { result ≤ 100000000000000000000000 }
@@ -108,7 +110,7 @@ fn magnitude(stamp: Signed) -> u128
     capped(stamp.magnitude, 100_000_000_000_000_000_000_000)
 }
 
-/// The nanoseconds of the fraction that was read, 0 where none was.
+/// The nanoseconds of the fraction that was read, or 0.
 fn fraction_read(fraction: Option<Fraction>) -> u128
     ensures value { result ≡ spec.fraction_read fraction }
     ensures within { result ≤ 1000000000 }
@@ -123,7 +125,7 @@ fn capped(number: u128, most: u128) -> u128
     if number < most { number } else { most }
 }
 
-/// Whether a fraction was read with more digits than these.
+/// Whether a fraction with more digits than these was read.
 fn is_finer(fraction: Option<Fraction>, digits: u16) -> bool
     ensures { result ≡ spec.is_finer fraction digits }
 {

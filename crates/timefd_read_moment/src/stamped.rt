@@ -1,4 +1,4 @@
-//! The moment of a timestamp, with all else that was read.
+//! The moment of a timestamp, compared with all else that was read.
 
 ghost use Rattle.std.specs.Prelude.{◌≡◌, None, Ok};
 ghost use Rattle.timefd_read_moment.specs.Faults.{shift_fault};
@@ -17,7 +17,7 @@ use crate::stamp::finest;
 use timefd_moment::{Date, Time, UnixTime, UtcOffset};
 use timefd_read_dates::Fields;
 
-/// What a clock shows of an instant.
+/// What a clock shows at an instant.
 #[derive(Clone, Copy)]
 pub(crate) struct Stamped {
     pub date: Date,
@@ -25,8 +25,8 @@ pub(crate) struct Stamped {
     pub offset: UtcOffset,
 }
 
-/// What the clock shows at the instant, at the offset that was read, where that has all that was
-/// read. Where nothing was read of an offset, it is in UTC.
+/// What a clock at the offset that was read shows at the instant, if that agrees with all that was
+/// read. Without an offset, the clock is in UTC.
 pub(crate) fn of_stamp(fields: &Fields, unix: UnixTime) -> Result<Stamped, ValueError>
     ensures { IsStamped fields.now unix result }
 {
@@ -84,7 +84,7 @@ fn compared(
     }
 }
 
-/// The offset that was read. An `Err` is what was not read of it.
+/// The numbers of the offset that was read. An `Err` is the part that was not read.
 fn zone_read(fields: &Fields) -> Result<Shift, OffsetPart>
     ensures { result ≡ spec.zone_read fields.now }
 {

@@ -1,4 +1,4 @@
-//! The time of day of fields.
+//! The time of day that fields determine.
 
 ghost use Rattle.std.specs.Prelude.{◌≡◌, Ok, IfOk};
 ghost use Rattle.timefd_read_moment.specs.Faults.{clock_fault, fault_of};
@@ -23,10 +23,13 @@ pub(crate) struct Clock {
     nanosecond: u128,
 }
 
-/// The time of day that has all that was read. It is determined by the hour, or by the hour of twelve
-/// and the period. Minutes, seconds and their digits that were not read are 0, unless something finer
-/// was. With a timestamp it is that of the [`moment`](crate::moment). An `Err` tells what was not read,
-/// or that no time has all that was read. It stands for `Time::try_from` of `Parsed` of `time`.
+/// The time of day that agrees with all that was read. It is determined by the hour, or by the hour of
+/// twelve and the period. Minutes, seconds and a fraction that were not read are 0, but nothing finer
+/// may have been read without them. With a timestamp, the time is that of the
+/// [`moment`](crate::moment).
+///
+/// An `Err` says which part was not read, or that no time agrees with all that was read. Corresponds to
+/// `Time::try_from` for `Parsed` in `time`.
 pub fn time(fields: &Fields) -> Result<Time, ValueError>
     ensures { IsTimeOf fields.now result }
 {
@@ -39,7 +42,7 @@ pub fn time(fields: &Fields) -> Result<Time, ValueError>
     }
 }
 
-/// The time of day that the fields of one determine.
+/// The time of day that its own fields determine, without a timestamp.
 pub(crate) fn time_by_parts(fields: &Fields) -> Result<Time, ValueError>
     ensures { IsTimeByParts fields.now result }
 {
@@ -62,7 +65,7 @@ fn compared(fields: &Fields, clock: Clock) -> Result<Time, ValueError>
     }
 }
 
-/// The time of day of these numbers. An `Err` is the first that none has.
+/// The time of day of these numbers. An `Err` is the first number that no time of day has.
 fn time_of(clock: Clock) -> Result<Time, TimePart>
     ensures found { IfOk result (λ time. spec.ClockHas clock time) }
     ensures one { Selects (spec.ClockHas clock) result }
@@ -88,7 +91,7 @@ fn time_of(clock: Clock) -> Result<Time, TimePart>
     })
 }
 
-/// The numbers that were read. An `Err` is what was not read.
+/// The numbers that were read. An `Err` is the part that was not read.
 fn clock_read(fields: &Fields) -> Result<Clock, TimePart>
     ensures { result ≡ spec.clock_read fields.now }
 {
@@ -98,7 +101,7 @@ fn clock_read(fields: &Fields) -> Result<Clock, TimePart>
     }
 }
 
-/// The hour, where it was read by either clock.
+/// The hour, if it was read by either clock.
 fn hour(hour: Option<u16>, hour_12: Option<u16>, is_afternoon: Option<bool>) -> Option<u16>
     ensures { result ≡ spec.hour_read hour hour_12 is_afternoon }
 {
@@ -146,7 +149,7 @@ fn clock_from(fields: &Fields, hour: u16) -> Result<Clock, TimePart>
     })
 }
 
-/// Whether what is coarser was not read, though what is finer was.
+/// Whether the coarser part was not read, though the finer one was.
 pub(crate) fn is_left_out(coarse: Option<u16>, is_finer_read: bool) -> bool
     ensures { result ≡ spec.is_left_out coarse is_finer_read }
 {

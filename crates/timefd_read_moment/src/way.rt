@@ -9,8 +9,8 @@ use crate::year::years_read;
 use timefd_moment::Date;
 use timefd_read_dates::Fields;
 
-/// The fields that determine a date. Years are counted from the year -1,000,000 on, and weekdays
-/// from Monday.
+/// Fields that determine a date. Years are counted from the year -1,000,000, and weekdays from
+/// Monday.
 #[derive(Clone, Copy)]
 pub(crate) enum DateWay {
     Calendar { years: u32, month: u16, day: u16 },
@@ -20,7 +20,7 @@ pub(crate) enum DateWay {
     MondayWeek { years: u32, week: u16, weekday: u16 },
 }
 
-/// The first way in which the fields determine a date. An `Err` is what was not read of it.
+/// The first way in which the fields determine a date. An `Err` is the part that was not read.
 pub(crate) fn date_way(fields: &Fields) -> Result<DateWay, DatePart>
     ensures value { result ≡ spec.date_way fields.now }
     ensures within { IfOk result (λ way. spec.way_years way ≤ 2000000) }
@@ -117,7 +117,7 @@ fn monday_week(years: Option<u32>, week: Option<u16>, weekday: Option<u16>) -> O
     })
 }
 
-/// What is wanted beside what was read.
+/// The part that is missing, given what was read.
 fn lack(fields: &Fields, has_year: bool, has_iso_year: bool) -> DatePart
     ensures { result ≡ spec.lack fields.now has_year has_iso_year }
 {

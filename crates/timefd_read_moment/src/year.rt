@@ -1,11 +1,11 @@
-//! Years that were read, counted from the year -1,000,000 on.
+//! Years that were read, counted from the year -1,000,000.
 
 ghost use Rattle.std.specs.Prelude.{◌≡◌, ◌≤◌, min, IfSome};
 ghost use Rattle.timefd_read_moment.specs.Years as spec;
 
 use timefd_read_dates::Signed;
 
-/// A number that is at most so large.
+/// The number, or `most` if the number is larger.
 pub(crate) fn at_most(number: u128, most: u32) -> u32
     ensures { result ≡ min number most }
 {
@@ -16,7 +16,7 @@ pub(crate) fn at_most(number: u128, most: u32) -> u32
     }
 }
 
-/// The year of a sign and a magnitude. One that is too far from 0 becomes a year that no date has.
+/// The year with this sign and magnitude. A year too far from 0 becomes one that no date has.
 fn years_of(is_negative: bool, magnitude: u128) -> u32
     ensures value { result ≡ spec.years_of is_negative magnitude }
     ensures within { result ≤ 2000000 }
@@ -29,7 +29,7 @@ fn years_of(is_negative: bool, magnitude: u128) -> u32
     }
 }
 
-/// The year that was read whole, or as its century and its last two digits.
+/// The year, read whole, or as its century and its last two digits.
 pub(crate) fn years_read(
     year: Option<Signed>,
     century: Option<Signed>,

@@ -16,7 +16,7 @@ use Rattle.timefd_rewrite.specs.declared.fixes.Fixes.{Fixes}
 use Rattle.timefd_rewrite.specs.declared.fixing.TheConstants.{FIX_LIMIT}
 use Rattle.timefd_rewrite.specs.Chains.{IsFixed, IsLeftOf, LeadsTo}
 
--- What is accepted at the limit, and what has a fault there.
+-- A text that is accepted at the limit, and one that has a fault there.
 pub accepted_fixed : (X E : Type 0) (bytes : X → Text) (language : Language) (fixes : Fixes)
     (steps : ℕ) (text last : Text) (r : Result X E)
     → steps ≤ FIX_LIMIT → LeadsTo language fixes steps text last
@@ -32,7 +32,7 @@ accepted_fixed X E bytes language fixes steps text last (Ok answer) within chain
     }
 accepted_fixed X E bytes language fixes steps text last (Err e) within chain same accepted = tt
 
--- What is accepted has no fault.
+-- A text that is accepted has no fault.
 pub no_fault : (language : Language) (text : Text) (list : List Tree) (f : Fault)
     → SpellsIn language nesting_limit text list → FaultIn language nesting_limit text f → ⊥
 no_fault (Version v) text list f spelled assigned =

@@ -1,4 +1,4 @@
--- What is written against a fault.
+-- The cure of a fault.
 use Rattle.std.proofs.Common.{◌≡◌, ◌∙◌, Bool, true, Option, Some, None, Result, Ok, Err, ap, sym}
 use Rattle.std.specs.Prelude.{IfOk, MatchOption, option_map}
 use Rattle.std.specs.Str.{IsCharBoundary, bytes_eq}
@@ -10,7 +10,7 @@ use Rattle.timefd_diagnosis.specs.declared.diagnostic.Diagnostic.{Diagnostic}
 use Rattle.timefd_rewrite.specs.declared.fixes.Fixes.{Fixes}
 use Rattle.timefd_rewrite.specs.Cures.{IsCured, IsIncurable, IsNoEdit, edited, mark_for, word_for}
 
--- what is answered for the mark, or for the word
+-- The mark that is returned, or else the word.
 pub found_is : (wanted : Option Text) (r found : Option (Bor Text))
     → option_map (λ mark. mark.now) r ≡ wanted → r ≡ found
     → wanted ≡ option_map (λ mark. mark.now) found

@@ -1,4 +1,4 @@
--- Lines that are read off the front of some bytes, one after another.
+-- Lines that are read from the start of some bytes, one after another.
 use Rattle.std.proofs.Common.{◌≡◌, ◌≢◌, true, false, List, [], ◌∷◌, ◌++◌, Option, Some, None, refl, sym, ap, subst, ◌∙◌, arith, ◌<◌, length}
 use Rattle.std.specs.Prelude.{IfSome}
 use Rattle.std.specs.Io.KnownBytes.{IsAtEnd}
@@ -14,7 +14,7 @@ lines_end bytes rest line some is [] same =
 lines_end bytes rest line some is (l ∷ lines) so_far =
     (so_far.0, so_far.1, lines_end (drop_through 10 bytes) rest line some is lines so_far.2)
 
--- one more line
+-- One more line.
 pub up_to_more : (bytes rest : Option Text) (next : Option Text) (line : Text) (lines : List Text)
     → IsNextLine rest line next → AreLinesUpTo bytes lines rest
     → AreLinesUpTo bytes (lines ++ line ∷ []) next
@@ -24,7 +24,7 @@ up_to_more (Some bytes) (Some rest) next line lines more so_far =
     subst (λ n. AreLinesUpTo (Some bytes) (lines ++ line ∷ []) n) (sym more.2)
     (lines_end bytes rest line more.0 more.1 lines so_far)
 
--- At the end these are all lines.
+-- At the end of the bytes these are all lines.
 pub all_lines : (bytes rest : Option Text) (lines : List Text) → AreLinesUpTo bytes lines rest
     → IsAtEnd rest → AreLinesOf bytes lines false
 all_lines None rest lines so_far end = tt
@@ -37,7 +37,7 @@ front_lines None rest lines so_far = tt
 front_lines (Some bytes) None lines so_far = absurd so_far
 front_lines (Some bytes) (Some rest) lines so_far = (rest, so_far)
 
--- the next line of a reader
+-- The next line of a reader.
 pub next_line : (bytes rest : Option Text) (old line : Text)
     → IfSome bytes (λ xs. line ≡ old ++ take_through 10 xs) → old ≡ []
     → DropsThrough bytes rest 10 → 0 < length line → IsNextLine bytes line rest

@@ -1,4 +1,4 @@
--- One step of mending, and a text against whose fault nothing may be written.
+-- One step of mending, and a text whose fault has no allowed fix.
 use Rattle.std.proofs.Common.{◌≡◌, refl, subst, sym}
 use Rattle.timefd_component.specs.Tree.{Text}
 use Rattle.timefd_fault.specs.Faults.{Fault, fault_of}

@@ -1,4 +1,4 @@
--- Texts that are made one of another, by the cure of one fault after another.
+-- Texts that come from one another, by the cure of one fault after another.
 use Rattle.std.specs.Prelude.{ℕ, zero, suc, ◌≡◌, ◌≤◌, List, ◌⊎◌, ⊤}
 use Rattle.timefd_component.specs.Tree.{Text, Tree}
 use Rattle.timefd_fault.specs.Faults.{Fault, fault_of}
@@ -13,7 +13,7 @@ use Rattle.timefd_rewrite.specs.declared.fixes.Fixes.{Fixes}
 use Rattle.timefd_rewrite.specs.declared.fixing.TheConstants.{FIX_LIMIT}
 use Rattle.timefd_rewrite.specs.Cures.{IsCured, IsIncurable}
 
--- The rules of the language assign this fault to the text, and the diagnostic is of it.
+-- The rules of the language assign this fault to the text, and the diagnostic describes it.
 pub record IsDiagnosed (language : Language) (text : Text) (f : Fault) (d : Diagnostic) : Type 0
   where
     pub assigned : FaultIn language nesting_limit text f
@@ -27,29 +27,29 @@ pub record IsMended (language : Language) (fixes : Fixes) (text after : Text) : 
   pub diagnosed : IsDiagnosed language text fault diagnostic
   pub cured : IsCured language fixes text diagnostic after
 
--- It becomes another by so many steps.
+-- It becomes another in this many steps.
 abbrev pub LeadsTo : Language → Fixes → ℕ → Text → Text → Type 0
 LeadsTo language fixes zero text last = last ≡ text
 LeadsTo language fixes (suc steps) text last =
     (between : Text) × LeadsTo language fixes steps text between
     × IsMended language fixes between last
 
--- The answer is accepted, and made of the text by cures.
+-- The answer is accepted, and comes from the text by cures.
 pub record IsFixed (language : Language) (fixes : Fixes) (text answer : Text) : Type 0 where
   pub steps : ℕ
   pub within : steps ≤ FIX_LIMIT
   pub chain : LeadsTo language fixes steps text answer
   pub accepted : (list : List Tree) × SpellsIn language nesting_limit answer list
 
--- The text has this fault, against which nothing may be written.
+-- The text has this fault, and no fix may be written against it.
 pub record IsUnmended (language : Language) (fixes : Fixes) (text : Text) (f : Fault) : Type 0
   where
     pub diagnostic : Diagnostic
     pub diagnosed : IsDiagnosed language text f diagnostic
     pub incurable : IsIncurable language fixes text diagnostic
 
--- Cures lead from the text to one with this fault: nothing may be written against it, or as many are
--- written as may be.
+-- Cures lead from the text to one with this fault: no fix may be written against it, or as many are written
+-- as allowed.
 pub record IsLeft (language : Language) (fixes : Fixes) (text : Text) (f : Fault) : Type 0 where
   pub steps : ℕ
   pub last : Text
@@ -58,7 +58,7 @@ pub record IsLeft (language : Language) (fixes : Fixes) (text : Text) (f : Fault
   pub ends : IsUnmended language fixes last f
       ⊎ ((steps ≡ FIX_LIMIT) × FaultIn language nesting_limit last f)
 
--- the same of an error, or out of memory
+-- The same for errors: the error is that fault, or says that memory ran out.
 
 abbrev pub IsUnmendedOf : Language → Fixes → Text → ParseError → Type 0
 IsUnmendedOf language fixes text (Invalid f) = IsUnmended language fixes text (fault_of f)

@@ -6,43 +6,42 @@ use denote.Ref.{Bor}
 use Rattle.timefd_component.specs.Tree.{Text}
 use Rattle.timefd_language.specs.Grammar.{is_empty}
 
--- a line without its newline, and without the carriage return in front of that
+-- A line without its newline, and without a carriage return in front of it.
 abbrev pub without_newline : Text → Text
 without_newline line = if ends_with_byte 10 line then strip_last 13 (strip_last 10 line) else line
 
--- what it ends with behind that
+-- The end of a line: what follows the text without the newline.
 abbrev pub end_of : Text → Text
 end_of line = drop (length (without_newline line)) line
 
--- whether a text is more than a line
+-- Whether a text has a newline, and so is more than a line.
 abbrev pub has_newline : Text → Bool
 has_newline text = list_any (λ b. nat_eq b 10) text
 
--- an empty line, and one that begins with the mark of comments
+-- An empty line is passed over, and so is one that begins with the mark of a comment.
 abbrev pub is_passed_over : Option (Bor Text) → Text → Bool
 is_passed_over None line = is_empty line
 is_passed_over (Some mark) line = is_empty line || starts_with nat_eq line mark.now
 
--- The lines of some bytes, up to a rest: each goes on up to its newline, or to the end.
+-- The lines of some bytes, up to a rest: each goes up to its newline, or to the end.
 abbrev pub AreLines : Text → List Text → Text → Type 0
 AreLines bytes [] rest = bytes ≡ rest
 AreLines bytes (line ∷ lines) rest = (line ≢ []) × (line ≡ take_through 10 bytes)
     × AreLines (drop_through 10 bytes) lines rest
 
--- The lines of a reader's bytes, up to what is left of them, where those are known.
+-- The lines of a reader's bytes, up to the rest that is left, if both are known.
 abbrev pub AreLinesUpTo : Option Text → List Text → Option Text → Type 0
 AreLinesUpTo None lines rest = ⊤
 AreLinesUpTo (Some bytes) lines None = ⊥
 AreLinesUpTo (Some bytes) lines (Some rest) = AreLines bytes lines rest
 
--- All lines of a reader's bytes, where those are known; only those in front of a rest where it
--- fails.
+-- All lines of a reader's bytes, if they are known; if the reader fails, only the lines in front of a rest.
 abbrev pub AreLinesOf : Option Text → List Text → Bool → Type 0
 AreLinesOf None lines failed = ⊤
 AreLinesOf (Some bytes) lines true = (rest : Text) × AreLines bytes lines rest
 AreLinesOf (Some bytes) lines false = AreLines bytes lines []
 
--- a line that is read off the front of the bytes
+-- The first line of the bytes is read.
 abbrev pub IsNextLine : Option Text → Text → Option Text → Type 0
 IsNextLine None line rest = ⊤
 IsNextLine (Some bytes) line rest = (line ≢ []) × (line ≡ take_through 10 bytes)

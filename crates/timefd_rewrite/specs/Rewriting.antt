@@ -1,4 +1,4 @@
--- What stands in the place of lines that are rewritten.
+-- What replaces the lines that are rewritten.
 use Rattle.std.specs.Prelude.{◌≡◌, ◌≢◌, ◌+◌, Bool, true, false, List, ◌++◌, Option, Some, None, All, IsUtf8, ⊤, flat_map, map, length, count_by, if◌then◌else◌}
 use Rattle.std.specs.Io.KnownBytes.{Appends, Keeps, IsAtEnd}
 use denote.Ref.{Bor}
@@ -13,26 +13,26 @@ use Rattle.timefd_rewrite.specs.declared.rewrite.RewriteError.TheVariants.{Memor
 use Rattle.timefd_rewrite.specs.Layouts.{IsConverted, IsRefusedFor}
 use Rattle.timefd_rewrite.specs.Lines.{AreLinesOf, IsNextLine, end_of, has_newline, is_passed_over, without_newline}
 
--- The text has a fault in the language that is converted from, or keeps one where it is mended.
+-- The text has a fault in the language that it is converted from, or one is left after mending.
 abbrev pub IsRefused : Layout → Text → Type 0
 IsRefused layout text = (f : Fault) × IsRefusedFor layout text f
 
--- What stands in the place of a line: the text that it is converted or mended to and the line's own
--- end, where there is one and it is a line; and else the line itself, byte by byte.
+-- What replaces a line: the text that it is converted or mended to, with the line's own end, if there is such
+-- a text and it is a line. Else it is the line itself, byte by byte.
 abbrev pub StandsFor : Layout → Text → Outcome → Text → Type 0
-StandsFor layout line PassedOver place = place ≡ line
-StandsFor layout line Same place =
-    IsConverted layout (without_newline line) (without_newline line) × (place ≡ line)
-StandsFor layout line Rewritten place =
+StandsFor layout line PassedOver position = position ≡ line
+StandsFor layout line Same position =
+    IsConverted layout (without_newline line) (without_newline line) × (position ≡ line)
+StandsFor layout line Rewritten position =
     (answer : Text) × IsConverted layout (without_newline line) answer
     × (answer ≢ without_newline line) × (has_newline answer ≡ false)
-    × (place ≡ answer ++ end_of line)
-StandsFor layout line Refused place = IsUtf8 (without_newline line)
-    × IsRefused layout (without_newline line) × (place ≡ line)
-StandsFor layout line NotText place = (¬ IsUtf8 (without_newline line)) × (place ≡ line)
-StandsFor layout line NotALine place =
+    × (position ≡ answer ++ end_of line)
+StandsFor layout line Refused position = IsUtf8 (without_newline line)
+    × IsRefused layout (without_newline line) × (position ≡ line)
+StandsFor layout line NotText position = (¬ IsUtf8 (without_newline line)) × (position ≡ line)
+StandsFor layout line NotALine position =
     (answer : Text) × IsConverted layout (without_newline line) answer
-    × (has_newline answer ≡ true) × (place ≡ line)
+    × (has_newline answer ≡ true) × (position ≡ line)
 
 abbrev pub is_passing_over : Outcome → Bool
 is_passing_over PassedOver = true
@@ -50,7 +50,7 @@ is_rewriting Refused = false
 is_rewriting NotText = false
 is_rewriting NotALine = false
 
--- Those that are no UTF-8 or would be no line count as refused.
+-- Lines that aren't UTF-8 or would become more than a line count as refused.
 abbrev pub is_refusing : Outcome → Bool
 is_refusing PassedOver = false
 is_refusing Same = false
@@ -59,26 +59,26 @@ is_refusing Refused = true
 is_refusing NotText = true
 is_refusing NotALine = true
 
--- a line with its newline, what came of it, and what stands in its place
+-- A line with its newline, its outcome, and what replaces it.
 pub record Placed : Type 0 where
   pub line : Text
   pub outcome : Outcome
-  pub place : Text
+  pub position : Text
 
--- A line is passed over exactly where it is empty or a comment.
+-- A line is passed over exactly if it is empty or a comment.
 pub record IsPlaced (layout : Layout) (comment : Option (Bor Text)) (p : Placed) : Type 0
   where
     pub passed_over : is_passing_over p.outcome ≡ is_passed_over comment (without_newline p.line)
-    pub stands : StandsFor layout p.line p.outcome p.place
+    pub stands : StandsFor layout p.line p.outcome p.position
 
--- the lines, and what stands in their places, in turn
+-- The lines, and their replacements, in order.
 abbrev pub lines_of : List Placed → List Text
 lines_of placed = map (λ p. p.line) placed
 
-abbrev pub places_of : List Placed → Text
-places_of placed = flat_map (λ p. p.place) placed
+abbrev pub positions_of : List Placed → Text
+positions_of placed = flat_map (λ p. p.position) placed
 
--- how many lines there are, how many are rewritten, and how many refused
+-- How many lines there are, how many are rewritten, and how many are refused.
 abbrev pub counts_of : List Placed → Counts
 counts_of placed = record {
   lines = length placed;
@@ -93,69 +93,69 @@ with_one counts outcome = record {
   refused = if is_refusing outcome then counts.refused + 1 else counts.refused;
 }
 
--- What stands in the places of these lines is written behind what was there, and nothing else is.
+-- The replacements of these lines are written after what was there, and nothing else is.
 pub record AreWritten (layout : Layout) (comment : Option (Bor Text))
-    (before behind : Option Text) (placed : List Placed) : Type 0 where
+    (before after : Option Text) (placed : List Placed) : Type 0 where
   pub each : All (IsPlaced layout comment) placed
-  pub written : Appends before behind (places_of placed)
+  pub written : Appends before after (positions_of placed)
 
 -- All lines of a reader are rewritten, and counted.
 pub record AreRewritten (layout : Layout) (comment : Option (Bor Text))
-    (bytes before behind : Option Text) (counts : Counts) : Type 0 where
+    (bytes before after : Option Text) (counts : Counts) : Type 0 where
   pub placed : List Placed
-  pub are_written : AreWritten layout comment before behind placed
+  pub are_written : AreWritten layout comment before after placed
   pub all_lines : AreLinesOf bytes (lines_of placed) false
   pub counted : counts ≡ counts_of placed
 
--- Only those in front of a rest are.
+-- Only the lines in front of a rest are rewritten.
 pub record AreFront (layout : Layout) (comment : Option (Bor Text))
-    (bytes before behind : Option Text) : Type 0 where
+    (bytes before after : Option Text) : Type 0 where
   pub placed : List Placed
-  pub are_written : AreWritten layout comment before behind placed
+  pub are_written : AreWritten layout comment before after placed
   pub lines_in_front : AreLinesOf bytes (lines_of placed) true
 
--- Where memory runs out or a read fails, nothing is written behind that.
+-- If memory runs out or a read fails, nothing more is written.
 abbrev pub AreCutShort : Layout → Option (Bor Text) → Option Text → Option Text → Option Text
     → RewriteError → Type 0
-AreCutShort layout comment bytes before behind Memory =
-    AreFront layout comment bytes before behind
-AreCutShort layout comment bytes before behind Read =
-    AreFront layout comment bytes before behind
-AreCutShort layout comment bytes before behind Write = ⊤
+AreCutShort layout comment bytes before after Memory =
+    AreFront layout comment bytes before after
+AreCutShort layout comment bytes before after Read =
+    AreFront layout comment bytes before after
+AreCutShort layout comment bytes before after Write = ⊤
 
--- The same of one line: nothing is written.
+-- If memory runs out or a read fails at one line, nothing is written for it.
 abbrev pub IsUnwritten : Option Text → Option Text → RewriteError → Type 0
-IsUnwritten before behind Memory = Keeps before behind
-IsUnwritten before behind Read = Keeps before behind
-IsUnwritten before behind Write = ⊤
+IsUnwritten before after Memory = Keeps before after
+IsUnwritten before after Read = Keeps before after
+IsUnwritten before after Write = ⊤
 
--- what stands in the place of one line is written
-abbrev pub Places : Layout → Option (Bor Text) → Text → Option Text → Option Text → Outcome
+-- The replacement of one line is written.
+abbrev pub Positions : Layout → Option (Bor Text) → Text → Option Text → Option Text → Outcome
     → Type 0
-Places layout comment line before behind outcome =
-    (place : Text)
-    × IsPlaced layout comment (record { line = line; outcome = outcome; place = place })
-    × Appends before behind place
+Positions layout comment line before after outcome =
+    (position : Text)
+    × IsPlaced layout comment (record { line = line; outcome = outcome; position = position })
+    × Appends before after position
 
--- an answer in the place of a line: with the line's end, or the line itself if it has that text or
--- that is no line
+-- An answer replaces a line, with the line's end; or the line stays, if it has that text already or the
+-- answer has a newline.
 abbrev pub IsAnswer : Text → Text → Outcome → Text → Type 0
-IsAnswer line answer PassedOver place = ⊥
-IsAnswer line answer Same place = (answer ≡ without_newline line) × (place ≡ line)
-IsAnswer line answer Rewritten place = (answer ≢ without_newline line)
-    × (has_newline answer ≡ false) × (place ≡ answer ++ end_of line)
-IsAnswer line answer Refused place = ⊥
-IsAnswer line answer NotText place = ⊥
-IsAnswer line answer NotALine place = (has_newline answer ≡ true) × (place ≡ line)
+IsAnswer line answer PassedOver position = ⊥
+IsAnswer line answer Same position = (answer ≡ without_newline line) × (position ≡ line)
+IsAnswer line answer Rewritten position = (answer ≢ without_newline line)
+    × (has_newline answer ≡ false) × (position ≡ answer ++ end_of line)
+IsAnswer line answer Refused position = ⊥
+IsAnswer line answer NotText position = ⊥
+IsAnswer line answer NotALine position = (has_newline answer ≡ true) × (position ≡ line)
 
-abbrev pub PlacesAnswer : Text → Text → Option Text → Option Text → Outcome → Type 0
-PlacesAnswer line answer before behind outcome =
-    (place : Text) × IsAnswer line answer outcome place × Appends before behind place
+abbrev pub PositionsAnswer : Text → Text → Option Text → Option Text → Outcome → Type 0
+PositionsAnswer line answer before after outcome =
+    (position : Text) × IsAnswer line answer outcome position × Appends before after position
 
--- What one more line comes to: nothing at the end of the bytes.
+-- What happens with one more line. At the end of the bytes nothing is written.
 abbrev pub IsNext : Layout → Option (Bor Text) → Option Text → Option Text → Option Text
     → Option Text → Option Outcome → Type 0
-IsNext layout comment bytes rest before behind None = IsAtEnd bytes × Keeps before behind
-IsNext layout comment bytes rest before behind (Some outcome) =
+IsNext layout comment bytes rest before after None = IsAtEnd bytes × Keeps before after
+IsNext layout comment bytes rest before after (Some outcome) =
     (line : Text) × IsNextLine bytes line rest
-    × Places layout comment line before behind outcome
+    × Positions layout comment line before after outcome

@@ -1,39 +1,39 @@
-//! What came of lines, and how many there are of each kind.
+//! The outcomes of lines, and how many lines have each.
 
 ghost use Rattle.std.specs.Prelude.{◌≡◌, ◌<◌, ◌≤◌, ◌^◌, ◌-◌, []};
 ghost use Rattle.timefd_rewrite.specs.Rewriting as spec;
 
-/// What came of a line.
+/// What happened to a line.
 #[derive(Clone, Copy)]
 pub enum Outcome {
     /// It is empty or a comment, and stays as it is.
     PassedOver,
-    /// It is converted to itself, or has nothing to mend.
+    /// It is converted to itself, or has nothing to mend, and stays as it is.
     Same,
-    /// What it is converted or mended to stands in its place.
+    /// The text that it is converted or mended to is written instead.
     Rewritten,
-    /// Its language refuses it, also mended as far as may be, and it stays as it is.
+    /// Its language refuses it, even mended as far as allowed, and it stays as it is.
     Refused,
-    /// It is no UTF-8, and stays as it is.
+    /// It isn't UTF-8, and stays as it is.
     NotText,
-    /// What it is converted to has a newline, as that of strftime's `%n` has, and is no line: so it
-    /// stays as it is.
+    /// The text that it is converted to has a newline, as for strftime's `%n`, and so isn't a line. It stays
+    /// as it is.
     NotALine,
 }
 
 /// How many lines there are.
 #[derive(Clone, Copy)]
 pub struct Counts {
-    /// All of them.
+    /// All lines.
     pub lines: u64,
-    /// Those in whose place another text stands.
+    /// The lines that were replaced by another text.
     pub rewritten: u64,
-    /// Those that are refused or no UTF-8, or would be no line.
+    /// The lines that are refused, aren't UTF-8, or would become more than a line.
     pub refused: u64,
 }
 
 impl Counts {
-    /// Of no line.
+    /// The counts of no lines.
     pub(crate) fn new() -> Counts
         ensures { result ≡ spec.counts_of [] }
     {
@@ -44,7 +44,7 @@ impl Counts {
         }
     }
 
-    /// With one more line.
+    /// The counts with one more line.
     pub(crate) fn with(self, outcome: Outcome) -> Counts
         requires lines { self.lines < 2 ^ 64 - 1 }
         requires rewritten { self.rewritten ≤ self.lines }

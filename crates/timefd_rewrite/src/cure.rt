@@ -1,4 +1,4 @@
-//! What is written against one fault.
+//! Writes the cure of one fault.
 
 ghost use Rattle.std.specs.Prelude.{◌≡◌, IfOk, MatchOption, option_map, string_bytes};
 ghost use Rattle.std.specs.Str.{IsCharBoundary};
@@ -9,8 +9,8 @@ use std::alloc::{AllocError, Global};
 use timefd_diagnosis::{Code, Diagnostic, Help};
 use timefd_parse::Language;
 
-/// A text with the cure of its diagnostic written: `None` where none may be. An `Err` says that memory
-/// ran out.
+/// The text with the cure of its diagnostic written, or `None` if no cure may be written. An `Err` says that
+/// memory ran out.
 pub fn cured(
     alloc: Global,
     language: Language,
@@ -33,7 +33,7 @@ pub fn cured(
     }
 }
 
-// What is written in front of what is at fault, if there is anything.
+// The mark that is written in front of the part at fault, if there is one.
 fn mark_for(language: Language, fixes: Fixes, diagnostic: &Diagnostic) -> Option<&'static str>
     ensures { option_map (λ mark. mark.now) result ≡ spec.mark_for language fixes diagnostic.now }
 {
@@ -45,7 +45,7 @@ fn mark_for(language: Language, fixes: Fixes, diagnostic: &Diagnostic) -> Option
     }
 }
 
-// What a fault wants in front of what is at fault.
+// The mark that a fault needs in front of the part at fault.
 fn mark_before(language: Language, fixes: Fixes, code: Code) -> Option<&'static str>
     ensures { option_map (λ mark. mark.now) result ≡ spec.mark_before language fixes code }
 {
@@ -72,7 +72,7 @@ fn mark_before(language: Language, fixes: Fixes, code: Code) -> Option<&'static 
     }
 }
 
-// What makes an escape of a byte that begins none.
+// The mark that makes an escape of a byte that doesn't begin a valid one.
 fn escape_mark(language: Language, fixes: Fixes) -> Option<&'static str>
     ensures { option_map (λ mark. mark.now) result ≡ spec.escape_mark language fixes }
 {
@@ -83,7 +83,7 @@ fn escape_mark(language: Language, fixes: Fixes) -> Option<&'static str>
     }
 }
 
-// The word that is written in the place of one that is none.
+// The word that is written instead of an invalid one.
 fn word_instead(fixes: Fixes, help: Help) -> Option<&'static str>
     ensures { option_map (λ word. word.now) result ≡ spec.word_instead fixes help }
 {
@@ -93,7 +93,8 @@ fn word_instead(fixes: Fixes, help: Help) -> Option<&'static str>
     }
 }
 
-// A text with a word in the place of what is at fault: `None` also where it stands there already.
+// The text with a word instead of the part at fault, or `None` if that can't be replaced or is already this
+// word.
 #[tactic(auto, using(crate::proofs::CureLemmas::same_edit))]
 fn replaced(
     alloc: Global,
@@ -118,8 +119,8 @@ fn replaced(
     }
 }
 
-// A text with other bytes in the place of those between two indices: `None` where the second one lies
-// inside of a character.
+// The text with a word instead of the bytes between two indices, or `None` if the second index is inside of a
+// character.
 fn edited(
     alloc: Global,
     text: &str,

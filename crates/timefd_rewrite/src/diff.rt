@@ -1,4 +1,4 @@
-//! What changes in a text whose lines are rewritten, as a unified diff with three lines of context.
+//! Shows how a text changes when its lines are rewritten, as a unified diff with three lines of context.
 
 ghost use Rattle.std.specs.Prelude.{◌≤◌, length};
 
@@ -20,22 +20,22 @@ impl From<AllocError> for RewriteError {
     }
 }
 
-// A line, and what stands in its place.
+// A line, and the text that replaces it.
 #[derive(Clone, Copy)]
 struct Pair<'a> {
     old: &'a [u8],
     new: &'a [u8],
 }
 
-// Lines that are shown together: from one on up to another.
+// Lines that are shown together: those from `from` to before `to`.
 #[derive(Clone, Copy)]
 struct Hunk {
     from: usize,
     to: usize,
 }
 
-/// Writes what changes between a text and another that has a line in the place of each of its lines,
-/// under this name of both.
+/// Writes a diff between a text and another that has a line for each of its lines. Both are shown under the
+/// same name.
 pub fn write_diff<W: Write>(
     alloc: Global,
     name: &str,
@@ -80,7 +80,7 @@ fn pairs_of<'a>(alloc: Global, old: &'a [u8], new: &'a [u8]) -> Result<Vec<Pair<
     Ok(pairs)
 }
 
-// How long the line at the front of a text is, with its newline.
+// How long the first line of a text is, with its newline.
 fn line_len(text: &[u8]) -> usize
     ensures { result ≤ length text.now }
 {
@@ -92,7 +92,7 @@ fn line_len(text: &[u8]) -> usize
     text.len()
 }
 
-// How many lines at the front change, or don't.
+// How many lines at the start change, or how many don't.
 fn run_len(pairs: &[Pair<'_>], changes: bool) -> usize
     ensures { result ≤ length pairs.now }
 {
@@ -105,7 +105,7 @@ fn run_len(pairs: &[Pair<'_>], changes: bool) -> usize
     pairs.len()
 }
 
-// The next line from one on that changes.
+// The next line that changes, at `from` or later.
 fn next_change(pairs: &[Pair<'_>], from: usize) -> Option<usize> {
     let rest = pairs.get(from..)?;
     let kept = run_len(rest, false);
@@ -116,8 +116,7 @@ fn next_change(pairs: &[Pair<'_>], from: usize) -> Option<usize> {
     }
 }
 
-// The next hunk from a line on. Changes with at most twice the context between them are shown
-// together.
+// The next hunk, at `from` or later. Changes with at most twice the context between them are shown together.
 fn next_hunk(pairs: &[Pair<'_>], from: usize) -> Option<Hunk> {
     let first = next_change(pairs, from)?;
     let mut last = first;
@@ -152,8 +151,8 @@ fn write_hunk<W: Write>(
     Ok(())
 }
 
-// Writes the lines up to those that change next, and these: first all as they were, and then what
-// stands in their places. It answers how many they are.
+// Writes the lines up to the next change, and the lines of that change: first all of them as they were, and
+// then their replacements. Returns how many lines they are.
 fn write_change<W: Write>(pairs: &[Pair<'_>], writer: &mut W) -> Result<usize, RewriteError> {
     let kept = run_len(pairs, false);
     write_old(b" ", pairs.get(..kept).unwrap_or(pairs), writer)?;
@@ -165,7 +164,7 @@ fn write_change<W: Write>(pairs: &[Pair<'_>], writer: &mut W) -> Result<usize, R
     Ok(kept.saturating_add(count))
 }
 
-// Writes where a hunk stands in both texts: one line by its number alone.
+// Writes the range of a hunk, which is the same in both texts. A single line is given by its number alone.
 fn write_range<W: Write>(
     alloc: Global,
     from: usize,
@@ -181,7 +180,7 @@ fn write_range<W: Write>(
     write(header.as_bytes(), writer)
 }
 
-// Writes lines as they were, each behind a mark.
+// Writes lines as they were, each after a mark.
 fn write_old<W: Write>(
     mark: &[u8],
     pairs: &[Pair<'_>],
@@ -193,7 +192,7 @@ fn write_old<W: Write>(
     Ok(())
 }
 
-// Writes what stands in their places.
+// Writes the replacements of lines.
 fn write_new<W: Write>(pairs: &[Pair<'_>], writer: &mut W) -> Result<(), RewriteError> {
     for pair in pairs {
         write_line(b"+", pair.new, writer)?;

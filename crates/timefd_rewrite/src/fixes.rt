@@ -1,11 +1,10 @@
-//! What may be written against faults.
+//! Which fixes may be written.
 
-/// What may be written against faults.
+/// Which fixes may be written against faults.
 #[derive(Clone, Copy)]
 pub enum Fixes {
-    /// What is sure: a space before a nested description, a backslash before a `]`.
+    /// Only what is sure: a space before a nested description, a backslash before a `]`.
     Sure,
-    /// Also what is only a guess: the nearest word in the place of one that is none, and a second
-    /// backslash or percent sign.
+    /// Also guesses: the nearest word instead of an invalid one, and a second backslash or percent sign.
     All,
 }

@@ -1,11 +1,11 @@
-//! A text that is mended, fault after fault.
+//! Mends a text, one fault after another.
 
 ghost use Rattle.std.specs.Prelude.{◌≡◌, IfOk, IfSome, List, None, string_bytes};
 ghost use Rattle.std.specs.Result.{IfErr};
 ghost use Rattle.timefd_component.specs.Tree.{Tree};
 ghost use Rattle.timefd_fault.specs.Faults.{Fault};
 ghost use Rattle.timefd_language.specs.Grammar.{nesting_limit};
-ghost use Rattle.timefd_fault.specs.Told.{MemoryAlone};
+ghost use Rattle.timefd_fault.specs.Reported.{MemoryAlone};
 ghost use Rattle.timefd_parse.specs.Language.{FaultIn, IsAssignedIn, SpellsIn};
 ghost use Rattle.timefd_rewrite.specs.Chains.{IsFixed, IsLeftOf, IsMended, IsUnmendedOf};
 
@@ -18,11 +18,11 @@ use timefd_parse::{Language, NESTING_LIMIT, ParseError, amount_within};
 /// How many faults of a text are mended at most.
 pub const FIX_LIMIT: usize = 1000;
 
-/// A text that the language accepts, made of another by writing the cure of each fault in turn; the
-/// text itself, where that is accepted.
+/// Mends a text: writes the cure of one fault after another until the language accepts the text, and returns
+/// it. A text that is already accepted is returned as it is.
 ///
-/// The error is `Invalid` with the first fault against which nothing may be written, or with the one
-/// that is left where `FIX_LIMIT` are mended; or `Memory` where memory ran out.
+/// The error is `Invalid` with the first fault that has no allowed fix, or with the fault that is left after
+/// `FIX_LIMIT` cures; or `Memory` if memory ran out.
 pub fn fixed(
     alloc: Global,
     language: Language,
@@ -32,7 +32,7 @@ pub fn fixed(
     ensures fixed { IfOk result (λ answer.
         IsFixed language fixes text.now (string_bytes answer)) }
 
-    // No fault is left in the answer: neither where one was mended nor elsewhere.
+    // The returned text has no fault at all, whether where one was mended or elsewhere.
     ensures faultless { IfOk result (λ answer. (f : Fault)
         → FaultIn language nesting_limit (string_bytes answer) f → ⊥) }
 
@@ -59,8 +59,8 @@ fn owned(alloc: Global, text: &str) -> Result<String, ParseError>
     }
 }
 
-// A text with the cure of its fault: `None` where it has none. The error is a fault against which
-// nothing may be written.
+// The text with the cure of its fault, or `None` if it has no fault. The error is a fault that has no allowed
+// fix.
 #[tactic(auto, using(crate::proofs::MendedLemmas::mended, crate::proofs::MendedLemmas::unmended))]
 fn one_more(
     alloc: Global,

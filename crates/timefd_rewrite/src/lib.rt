@@ -1,6 +1,6 @@
-//! Rewrites lines of descriptions in a later version of the language, or in their normal form, or mends
-//! them: it writes what each fault in turn wants, up to a text that is accepted. Each keeps its end, and
-//! those that are passed over or refused stay as they are.
+//! Rewrites lines of descriptions in a later version of the language or in their normal form, or mends them:
+//! then it writes the cure of one fault after another until the text is accepted. Each line keeps its end,
+//! and lines that are passed over or refused stay as they are.
 #![tactic(auto)]
 
 mod counts;

@@ -4,7 +4,7 @@ ghost use Rattle.std.specs.Prelude.{◌≡◌};
 ghost use Rattle.std.specs.Io.BufRead.{ends_with_byte, strip_last};
 ghost use Rattle.timefd_rewrite.specs.Lines as spec;
 
-/// Whether a line is passed over: it is empty, or begins with the mark of comments.
+/// Whether a line is passed over: it is empty, or begins with the mark of a comment.
 pub fn is_passed_over(comment: Option<&str>, line: &[u8]) -> bool
     ensures { result ≡ spec.is_passed_over comment.entry line.now }
 {
@@ -23,7 +23,7 @@ fn ends_with(line: &[u8], byte: u8) -> bool
     }
 }
 
-// The line without its last byte, if that is this one.
+// The line without its last byte, if that is `byte`.
 fn without_last(line: &[u8], byte: u8) -> &[u8]
     ensures { result.now ≡ strip_last byte line.now }
 {
@@ -34,7 +34,7 @@ fn without_last(line: &[u8], byte: u8) -> &[u8]
     }
 }
 
-/// A line without its newline, and without the carriage return in front of that.
+/// The line without its newline, and without a carriage return in front of it.
 pub fn without_newline(line: &[u8]) -> &[u8]
     ensures { result.now ≡ spec.without_newline line.now }
 {
@@ -45,7 +45,7 @@ pub fn without_newline(line: &[u8]) -> &[u8]
     }
 }
 
-/// Whether a text has a newline, and is more than a line.
+/// Whether a text has a newline, and so is more than a line.
 pub fn has_newline(text: &[u8]) -> bool
     ensures { result ≡ spec.has_newline text.now }
 {

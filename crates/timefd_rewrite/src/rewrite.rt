@@ -3,7 +3,7 @@
 ghost use Rattle.std.specs.Prelude.{◌≡◌, IfOk, OnOk};
 ghost use Rattle.std.specs.Result.{IfErr};
 ghost use Rattle.std.specs.Io.KnownBytes.{Appends};
-ghost use Rattle.timefd_rewrite.specs.Rewriting.{AreCutShort, AreRewritten, IsNext, IsUnwritten, Places, PlacesAnswer};
+ghost use Rattle.timefd_rewrite.specs.Rewriting.{AreCutShort, AreRewritten, IsNext, IsUnwritten, Positions, PositionsAnswer};
 ghost use Rattle.timefd_rewrite.specs.declared.rewrite.RewriteError.TheVariants as errors;
 
 use crate::counts::{Counts, Outcome};
@@ -14,7 +14,7 @@ use std::io::{BufRead, ErrorKind, Write};
 use std::str;
 use timefd_parse::ParseError;
 
-/// Why not all lines of a reader are rewritten.
+/// Why the lines of a reader weren't all rewritten.
 #[derive(Clone, Copy)]
 pub enum RewriteError {
     /// Memory ran out.
@@ -25,9 +25,9 @@ pub enum RewriteError {
     Write,
 }
 
-/// Writes each line of a reader, and where it is a description, what that is converted or mended to
-/// with the line's own end. Lines that are passed over, refused or no UTF-8, or that would be two
-/// lines, are written as they are.
+/// Rewrites the lines of a reader: writes what each description is converted or mended to, with the line's
+/// own end. Lines that are passed over or refused, that aren't UTF-8, or that would become two lines, are
+/// written as they are.
 pub fn rewrite_lines<R: BufRead, W: Write>(
     alloc: Global,
     comment: Option<&str>,
@@ -51,7 +51,7 @@ pub fn rewrite_lines<R: BufRead, W: Write>(
     Err(RewriteError::Read)
 }
 
-// Rewrites one more line, for which there is this room: `None` at the end.
+// Rewrites one more line, with `bytes` as the buffer for it. Returns `None` at the end.
 fn rewrite_next<R: BufRead, W: Write>(
     alloc: Global,
     comment: Option<&str>,
@@ -82,7 +82,7 @@ fn rewrite_next<R: BufRead, W: Write>(
     }
 }
 
-// Writes what stands in the place of a line.
+// Writes the replacement of a line.
 #[tactic(auto, using(crate::proofs::RewriteLemmas::converted_placed))]
 fn rewrite_line<W: Write>(
     alloc: Global,
@@ -91,7 +91,7 @@ fn rewrite_line<W: Write>(
     line: &[u8],
     writer: &mut W,
 ) -> Result<Outcome, RewriteError>
-    ensures places { IfOk result (Places layout comment.entry line.now (W.contents writer.old)
+    ensures positions { IfOk result (Positions layout comment.entry line.now (W.contents writer.old)
         (W.contents writer.new)) }
     ensures unwritten { IfErr result (IsUnwritten (W.contents writer.old)
         (W.contents writer.new)) }
@@ -122,14 +122,14 @@ fn keep<W: Write>(line: &[u8], outcome: Outcome, writer: &mut W) -> Result<Outco
     }
 }
 
-// Writes a text in the place of a line, with the line's own end; or the line, if it has that text or
-// that is no line.
+// Writes a text instead of a line, with the line's own end. The line is written as it is if it has that text
+// already, or if the text has a newline.
 fn write_answer<W: Write>(
     line: &[u8],
     answer: &[u8],
     writer: &mut W,
 ) -> Result<Outcome, RewriteError>
-    ensures places { IfOk result (PlacesAnswer line.now answer.now (W.contents writer.old)
+    ensures positions { IfOk result (PositionsAnswer line.now answer.now (W.contents writer.old)
         (W.contents writer.new)) }
     ensures error { IfErr result (λ e. e ≡ errors.Write) }
 {

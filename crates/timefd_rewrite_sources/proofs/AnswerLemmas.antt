@@ -1,4 +1,4 @@
--- What one description is mended or converted to.
+-- What one description is fixed or converted to.
 use Rattle.std.proofs.Common.{ℕ, ◌≡◌, ◌≢◌, true, false, inl, inr, refl, sym, subst, ◌∙◌}
 use Rattle.std.specs.Prelude.{IsUtf8, Option, None, Some}
 use Rattle.timefd_component.specs.Tree.{Text}
@@ -17,7 +17,7 @@ use Rattle.timefd_rewrite_sources.specs.declared.answer.Answer.TheVariants.{Stay
 use Rattle.timefd_rewrite_sources.specs.declared.change.Change.{Change}
 use Rattle.timefd_rewrite_sources.specs.declared.outcome.Outcome.TheVariants.{PassedOver, Same, Refused, WithItems, NotText, NotALiteral, ByHand}
 use Rattle.timefd_rewrite_sources.specs.Changes.{layout_of, new_digit}
-use Rattle.timefd_rewrite_sources.specs.Written.{Becoming, IsAnswer, IsAnew, IsChange, IsLaidOutBy, is_sayable, line_ends, old_line_ends}
+use Rattle.timefd_rewrite_sources.specs.Written.{Becoming, IsAnswer, IsRewritten, IsChange, IsLaidOutBy, is_sayable, line_ends, old_line_ends}
 
 pub passed_over : (change : Change) (source : Text) (d : Description) (text : Text) → text ≡ text_of d
     → layout_of change d.dialect text ≡ None → IsAnswer change source d (Stays PassedOver)
@@ -85,7 +85,7 @@ same change source d digit becoming is none = (refl, (becoming, sym is ∙ none)
 
 pub renumbered : (change : Change) (source : Text) (d : Description) (digit : Option ℕ) (new : ℕ)
     → Becoming change d (text_of d) → digit ≡ new_digit change d.dialect
-    → is_sayable d.version digit ≡ true → digit ≡ Some new → IsAnew change source d digit None
+    → is_sayable d.version digit ≡ true → digit ≡ Some new → IsRewritten change source d digit None
 renumbered change source d digit new becoming is says some = record {
   answer = text_of d;
   becoming = becoming;
@@ -102,7 +102,7 @@ changed (Some digit) body = tt
 pub becomes : (change : Change) (source : Text) (d : Description) (answer body : Text) (digit : Option ℕ)
     → Becoming change d answer → answer ≢ text_of d → digit ≡ new_digit change d.dialect
     → is_sayable d.version digit ≡ true → IsBodyFor d.kind answer body → line_ends body ≡ old_line_ends source d
-    → IsAnew change source d digit (Some body)
+    → IsRewritten change source d digit (Some body)
 becomes change source d answer body digit becoming other is says stands lines = record {
   answer = answer;
   becoming = becoming;

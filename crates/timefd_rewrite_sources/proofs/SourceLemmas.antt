@@ -12,20 +12,20 @@ use Rattle.timefd_sources.specs.declared.piece.Piece.{Piece}
 use Rattle.timefd_sources.specs.declared.token.Kind.{Kind}
 use Rattle.timefd_sources.specs.Bytes.{seen}
 use Rattle.timefd_sources.specs.Escapes.{Placed, placed}
-use Rattle.timefd_sources.specs.declared.version.VersionPlace.{VersionPlace}
-use Rattle.timefd_sources.specs.declared.version.VersionPlace.TheVariants.{Digit, Unsaid, Call, Elsewhere}
+use Rattle.timefd_sources.specs.declared.version.VersionPosition.{VersionPosition}
+use Rattle.timefd_sources.specs.declared.version.VersionPosition.TheVariants.{Digit, Unsaid, Call, Elsewhere}
 use Rattle.timefd_sources.specs.Found.{AllStandIn, AreInOrder, StandsIn, begin_of}
-use Rattle.timefd_sources.specs.Versions.{IsSaid, digit_of, first_place}
+use Rattle.timefd_sources.specs.Versions.{IsSaid, digit_of, first_position}
 use Rattle.timefd_sources.specs.Literals.{EndsAt, body, body_end, body_text, cut, inside, inside_of, text_of}
-use Rattle.timefd_rewrite_sources.specs.declared.answer.Anew.{Anew}
+use Rattle.timefd_rewrite_sources.specs.declared.answer.NewParts.{NewParts}
 use Rattle.timefd_rewrite_sources.specs.declared.answer.Answer.{Answer}
 use Rattle.timefd_rewrite_sources.specs.declared.answer.Answer.TheVariants.{Stays, Becomes}
 use Rattle.timefd_rewrite_sources.specs.declared.outcome.Outcome.{Outcome}
 use Rattle.timefd_rewrite_sources.specs.declared.outcome.Outcome.TheVariants.{PassedOver, Same, Rewritten, Refused, WithItems, NotText, NotALiteral, ByHand}
 use Rattle.timefd_rewrite_sources.specs.declared.change.Change.{Change}
-use Rattle.timefd_rewrite_sources.specs.Written.{AddsRewritten, AreRewritten, IsAnew, IsAnswer, IsOutcome, IsPlaced, IsPut, IsRenumbered, IsReplaced, IsRespelled, IsSaidAnew, IsSpliced, Puts, Renumbers, Replaces, argument, can_say, is_rewriting, is_sayable, items_of}
+use Rattle.timefd_rewrite_sources.specs.Written.{AddsRewritten, AreRewritten, IsRewritten, IsAnswer, IsOutcome, IsPlaced, IsPut, IsRenumbered, IsReplaced, IsRespelled, IsNewVersion, IsSpliced, Puts, Renumbers, Replaces, argument, can_say, is_rewriting, is_sayable, items_of}
 
--- A description's literal has an inside.
+-- A description's literal has a body.
 no_text : (kind : Kind) (end : ℕ) (p : Placed) (r : Option Text)
     → Some p ≡ text_of kind end r → inside_of kind r ≡ None → ⊥
 no_text kind end p None stands none = cc
@@ -38,12 +38,12 @@ has_inside source d r stands is none =
     no_text d.kind (body_end d.piece d.kind) (placed d.unescaped) (cut source d.piece) stands.text
     (sym is ∙ ap seen none)
 
--- The source from a place on is what is kept, an inside, and what stands behind that.
+-- The source from a position on is what is kept, a body, and what follows it.
 parts : (source old : Text) (from start next : ℕ) → from ≤ start → start + length old ≡ next
     → old ≡ take (length old) (drop start source)
     → drop from source ≡ take (start - from) (drop from source) ++ (old ++ drop next source)
 parts source old from start next order long is =
-    let behind : drop (start - from) (drop from source) ≡ drop start source =
+    let after : drop (start - from) (drop from source) ≡ drop start source =
     drop-drop (start - from) from source ∙ ap (λ (n : ℕ). drop n source) (omega arith) in
     let rest : drop (length old) (drop start source) ≡ drop next source =
     drop-drop (length old) start source ∙ ap (λ (n : ℕ). drop n source) long in
@@ -52,21 +52,21 @@ parts source old from start next order long is =
     ∙ ap (λ (t : Text). t ++ drop (length old) (drop start source)) (sym is)
     ∙ ap (λ (t : Text). old ++ t) rest in
     sym (take-append-drop (start - from) (drop from source))
-    ∙ ap (λ (t : Text). take (start - from) (drop from source) ++ t) (behind ∙ whole)
+    ∙ ap (λ (t : Text). take (start - from) (drop from source) ++ t) (after ∙ whole)
 
-pub replaced : (source : Text) (d : Description) (from next : ℕ) (body old kept bytes between behind : Text)
+pub replaced : (source : Text) (d : Description) (from next : ℕ) (body old kept bytes between after : Text)
     (r : Option (Bor Text)) (b : Bor Text)
     → seen r ≡ inside source d.piece d.kind → r ≡ Some b → b.now ≡ old
     → next ≡ body_end d.piece d.kind → EndsAt source (body_end d.piece d.kind) old
     → from + length old ≤ next → kept ≡ take (next - length old - from) (drop from source)
-    → between ≡ bytes ++ kept → behind ≡ between ++ body
-    → Replaces source d from body bytes behind next
-replaced source d from next body old kept bytes between behind r b is which lent at_quote ends order front first second = (
+    → between ≡ bytes ++ kept → after ≡ between ++ body
+    → Replaces source d from body bytes after next
+replaced source d from next body old kept bytes between after r b is which borrowed at_quote ends order front first second = (
   kept ++ body,
   record {
     kept = kept;
     old = old;
-    is_inside = sym is ∙ ap seen which ∙ ap (λ (t : Text). Some t) lent;
+    is_inside = sym is ∙ ap seen which ∙ ap (λ (t : Text). Some t) borrowed;
     at_quote = at_quote;
     cut = parts source old from (next - length old) next (omega arith) (omega arith)
         (ends.are ∙ ap (λ (n : ℕ). take (length old) (drop (n - length old) source)) (sym at_quote))
@@ -76,12 +76,12 @@ replaced source d from next body old kept bytes between behind r b is which lent
   second ∙ ap (λ (t : Text). t ++ body) first ∙ append_assoc bytes kept body,
 )
 
--- What is written so far of a source stands in front of other bytes than those at a place.
-spliced : (source old new bytes between behind kept : Text) (from start next : ℕ) → from ≤ start
+-- What is written so far of a source, followed by new bytes instead of those at a position.
+spliced : (source old new bytes between after kept : Text) (from start next : ℕ) → from ≤ start
     → drop start source ≡ old ++ drop next source → kept ≡ take (start - from) (drop from source)
-    → between ≡ bytes ++ kept → behind ≡ between ++ new
-    → IsSpliced source from old new (kept ++ new) next × (behind ≡ bytes ++ (kept ++ new))
-spliced source old new bytes between behind kept from start next order stands is first second =
+    → between ≡ bytes ++ kept → after ≡ between ++ new
+    → IsSpliced source from old new (kept ++ new) next × (after ≡ bytes ++ (kept ++ new))
+spliced source old new bytes between after kept from start next order stands is first second =
     let rest : drop (start - from) (drop from source) ≡ old ++ drop next source =
     drop-drop (start - from) from source ∙ ap (λ (n : ℕ). drop n source) (omega (arith, order)) ∙ stands in (
       record {
@@ -94,9 +94,9 @@ spliced source old new bytes between behind kept from start next order stands is
       second ∙ ap (λ (t : Text). t ++ new) first ∙ append_assoc bytes kept new,
     )
 
--- The first place that belongs to a description isn't behind the begin of its literal.
-first_in_front : (source : Text) (p : Piece) (dialect : Dialect) (place : VersionPlace)
-    → IsSaid source p dialect place → first_place place p.start ≤ p.start
+-- The first position that belongs to a description isn't after the start of its literal.
+first_in_front : (source : Text) (p : Piece) (dialect : Dialect) (position : VersionPosition)
+    → IsSaid source p dialect position → first_position position p.start ≤ p.start
 first_in_front source p dialect (Digit at) said = omega (arith, said.before)
 first_in_front source p dialect Unsaid said = omega arith
 first_in_front source p dialect Call said = omega arith
@@ -112,7 +112,7 @@ pub digit_stands : (source : Text) (d : Description) (from at : ℕ) → StandsI
 digit_stands source d from at stands order which =
     let said : IsSaid source d.piece d.dialect (Digit at) =
     subst (IsSaid source d.piece d.dialect) which stands.version in (
-      subst (λ (p : VersionPlace). from ≤ first_place p d.piece.start) which order,
+      subst (λ (p : VersionPosition). from ≤ first_position p d.piece.start) which order,
       omega (arith, said.before),
       omega (arith, said.before, stands.between.start.0),
     )
@@ -128,52 +128,52 @@ same_version source d from digit bytes none = (
   sym (append-nil bytes),
 )
 
-said_anew : (source : Text) (d : Description) (from next new : ℕ) (digit : Option ℕ) (front bytes behind : Text)
-    → digit ≡ Some new → IsSaidAnew source from d d.version new front next → behind ≡ bytes ++ front
-    → Renumbers source d from digit bytes behind next
-said_anew source d from next new digit front bytes behind some anew more =
-    (front, subst (λ (x : Option ℕ). IsRenumbered source from d x front next) (sym some) anew, more)
+new_version : (source : Text) (d : Description) (from next new : ℕ) (digit : Option ℕ) (front bytes after : Text)
+    → digit ≡ Some new → IsNewVersion source from d d.version new front next → after ≡ bytes ++ front
+    → Renumbers source d from digit bytes after next
+new_version source d from next new digit front bytes after some rewritten more =
+    (front, subst (λ (x : Option ℕ). IsRenumbered source from d x front next) (sym some) rewritten, more)
 
 pub digit_said : (source : Text) (d : Description) (from at new : ℕ) (digit : Option ℕ)
-    (bytes between behind : Text) → StandsIn source d → from ≤ begin_of d → digit ≡ Some new
+    (bytes between after : Text) → StandsIn source d → from ≤ begin_of d → digit ≡ Some new
     → d.version ≡ Digit at → between ≡ bytes ++ take (at - from) (drop from source)
-    → behind ≡ between ++ (new ∷ []) → Renumbers source d from digit bytes behind (at + 1)
-digit_said source d from at new digit bytes between behind stands order some which first second =
+    → after ≡ between ++ (new ∷ []) → Renumbers source d from digit bytes after (at + 1)
+digit_said source d from at new digit bytes between after stands order some which first second =
     let said : IsSaid source d.piece d.dialect (Digit at) =
     subst (IsSaid source d.piece d.dialect) which stands.version in
     let before : from ≤ at = (digit_stands source d from at stands order which).0 in
     let kept : Text = take (at - from) (drop from source) in
-    let cut = spliced source (said.digit ∷ []) (new ∷ []) bytes between behind kept from at (at + 1) before
+    let cut = spliced source (said.digit ∷ []) (new ∷ []) bytes between after kept from at (at + 1) before
     said.stands refl first second in
-    said_anew source d from (at + 1) new digit (kept ++ (new ∷ [])) bytes behind some
-    (subst (λ (p : VersionPlace). IsSaidAnew source from d p new (kept ++ (new ∷ [])) (at + 1)) (sym which)
+    new_version source d from (at + 1) new digit (kept ++ (new ∷ [])) bytes after some
+    (subst (λ (p : VersionPosition). IsNewVersion source from d p new (kept ++ (new ∷ [])) (at + 1)) (sym which)
     (refl, (said.digit, said.is, cut.0))) cut.1
 
 pub argument_said : (source : Text) (d : Description) (from new : ℕ) (digit : Option ℕ)
-    (bytes between behind : Text) → StandsIn source d → from ≤ begin_of d → digit ≡ Some new
+    (bytes between after : Text) → StandsIn source d → from ≤ begin_of d → digit ≡ Some new
     → d.version ≡ Unsaid → between ≡ bytes ++ take (d.piece.start - from) (drop from source)
-    → behind ≡ between ++ argument new → Renumbers source d from digit bytes behind d.piece.start
-argument_said source d from new digit bytes between behind stands order some which first second =
+    → after ≡ between ++ argument new → Renumbers source d from digit bytes after d.piece.start
+argument_said source d from new digit bytes between after stands order some which first second =
     let kept : Text = take (d.piece.start - from) (drop from source) in
-    let cut = spliced source [] (argument new) bytes between behind kept from d.piece.start d.piece.start
+    let cut = spliced source [] (argument new) bytes between after kept from d.piece.start d.piece.start
     (begins source d from stands order) refl refl first second in
-    said_anew source d from d.piece.start new digit (kept ++ argument new) bytes behind some
-    (subst (λ (p : VersionPlace). IsSaidAnew source from d p new (kept ++ argument new) d.piece.start) (sym which)
+    new_version source d from d.piece.start new digit (kept ++ argument new) bytes after some
+    (subst (λ (p : VersionPosition). IsNewVersion source from d p new (kept ++ argument new) d.piece.start) (sym which)
     (refl, cut.0)) cut.1
 
--- A version that no number says isn't to be said anew.
-pub unsayable : (place other : VersionPlace) (digit : Option ℕ) (new : ℕ) → is_sayable place digit ≡ true
-    → digit ≡ Some new → place ≡ other → can_say other ≡ false → ⊥
-unsayable place other digit new says some which none =
+-- A version that no number says can't get a new number.
+pub unsayable : (position other : VersionPosition) (digit : Option ℕ) (new : ℕ) → is_sayable position digit ≡ true
+    → digit ≡ Some new → position ≡ other → can_say other ≡ false → ⊥
+unsayable position other digit new says some which none =
     let other_says : can_say other ≡ true =
-    subst (λ (p : VersionPlace). can_say p ≡ true) which
-    (subst (λ (x : Option ℕ). is_sayable place x ≡ true) some says) in cc
+    subst (λ (p : VersionPosition). can_say p ≡ true) which
+    (subst (λ (x : Option ℕ). is_sayable position x ≡ true) some says) in cc
 
--- The version alone is another.
+-- Only the version changes.
 pub renumbered_alone : (source : Text) (d : Description) (from next : ℕ) (digit : Option ℕ)
-    (body : Option (Vec ℕ Global)) (bytes behind : Text) → Renumbers source d from digit bytes behind next
-    → body ≡ None → Puts source d from digit (items_of body) bytes behind next
-renumbered_alone source d from next digit body bytes behind (front, renumbered, more) none = (
+    (body : Option (Vec ℕ Global)) (bytes after : Text) → Renumbers source d from digit bytes after next
+    → body ≡ None → Puts source d from digit (items_of body) bytes after next
+renumbered_alone source d from next digit body bytes after (front, renumbered, more) none = (
   front,
   record {
     first = front;
@@ -188,11 +188,11 @@ renumbered_alone source d from next digit body bytes behind (front, renumbered, 
 )
 
 pub both_put : (source : Text) (d : Description) (from middle next : ℕ) (digit : Option ℕ)
-    (body : Option (Vec ℕ Global)) (v : Vec ℕ Global) (inner bytes between behind : Text)
+    (body : Option (Vec ℕ Global)) (v : Vec ℕ Global) (inner bytes between after : Text)
     → Renumbers source d from digit bytes between middle → body ≡ Some v → inner ≡ v.items
-    → Replaces source d middle inner between behind next
-    → Puts source d from digit (items_of body) bytes behind next
-both_put source d from middle next digit body v inner bytes between behind (first, renumbered, before) some same
+    → Replaces source d middle inner between after next
+    → Puts source d from digit (items_of body) bytes after next
+both_put source d from middle next digit body v inner bytes between after (first, renumbered, before) some same
     (second, replaced, more) = (
       first ++ second,
       record {
@@ -236,27 +236,27 @@ stays change source d from outcomes outcomes' bytes a o answer which pushed =
       more_bytes = sym (append-nil bytes);
     }
 
-pub anew_of : (change : Change) (source : Text) (d : Description) (a : Answer) (anew : Anew)
-    → IsAnswer change source d a → a ≡ Becomes anew → IsAnew change source d anew.digit (items_of anew.body)
-anew_of change source d a anew answer which = subst (IsAnswer change source d) which answer
+pub rewritten_of : (change : Change) (source : Text) (d : Description) (a : Answer) (rewritten : NewParts)
+    → IsAnswer change source d a → a ≡ Becomes rewritten → IsRewritten change source d rewritten.digit (items_of rewritten.body)
+rewritten_of change source d a rewritten answer which = subst (IsAnswer change source d) which answer
 
 pub becomes : (change : Change) (source : Text) (d : Description) (from next : ℕ)
-    (outcomes outcomes' : List Outcome) (bytes bytes' : Text) (a : Answer) (anew : Anew)
-    → IsAnswer change source d a → a ≡ Becomes anew → outcomes' ≡ outcomes ++ (Rewritten ∷ [])
-    → Puts source d from anew.digit (items_of anew.body) bytes bytes' next
+    (outcomes outcomes' : List Outcome) (bytes bytes' : Text) (a : Answer) (rewritten : NewParts)
+    → IsAnswer change source d a → a ≡ Becomes rewritten → outcomes' ≡ outcomes ++ (Rewritten ∷ [])
+    → Puts source d from rewritten.digit (items_of rewritten.body) bytes bytes' next
     → AddsRewritten change source d from outcomes bytes outcomes' bytes' next
-becomes change source d from next outcomes outcomes' bytes bytes' a anew answer which pushed (front, put, more) = record {
+becomes change source d from next outcomes outcomes' bytes bytes' a rewritten answer which pushed (front, put, more) = record {
   outcome = Rewritten;
-  digit = anew.digit;
-  body = items_of anew.body;
+  digit = rewritten.digit;
+  body = items_of rewritten.body;
   front = front;
-  is = anew_of change source d a anew answer which;
+  is = rewritten_of change source d a rewritten answer which;
   placed = put;
   more_outcomes = pushed;
   more_bytes = more;
 }
 
--- What is written for those that are left stands behind what is written so far.
+-- What is written so far, followed by what is written for the rest, is the whole new source.
 pub record AreRewrittenTo (change : Change) (source : Text) (all left : List Description) (outcomes : List Outcome)
     (bytes : Text) (from : ℕ) : Type 0 where
   pub others : (os : List Outcome) (new : Text) → AreRewritten change source from left os new
@@ -276,68 +276,68 @@ pub stands_at : (source : Text) (all : List Description) (i : ℕ) (d other : De
     → d ≡ get_or all i other → AllStandIn source all → StandsIn source d
 stands_at source all i d other below is stand = subst (StandsIn source) (sym is) (stand i other below)
 
--- The next one begins behind the place.
-pub next_behind : (change : Change) (source : Text) (all : List Description) (i : ℕ) (d other : Description)
+-- The next description begins after the position.
+pub next_after : (change : Change) (source : Text) (all : List Description) (i : ℕ) (d other : Description)
     (outcomes : List Outcome) (bytes : Text) (from : ℕ) → i < length all → d ≡ get_or all i other
     → AreRewrittenTo change source all (drop i all) outcomes bytes from → from ≤ begin_of d
-next_behind change source all i d other outcomes bytes from below is so_far =
+next_after change source all i d other outcomes bytes from below is so_far =
     let left : drop i all ≡ d ∷ drop (i + 1) all =
     drop_more all i other below ∙ ap (λ x. x ∷ drop (i + 1) all) (sym is) in
     let order : AreInOrder from (d ∷ drop (i + 1) all) = subst (AreInOrder from) left so_far.in_order in
     order.0
 
--- Where a version said anew ends.
-said_within : (source : Text) (d : Description) (place : VersionPlace) (from next digit : ℕ) (front : Text)
-    → IsSaid source d.piece d.dialect place → IsSaidAnew source from d place digit front next
+-- Where a new version ends.
+said_within : (source : Text) (d : Description) (position : VersionPosition) (from next digit : ℕ) (front : Text)
+    → IsSaid source d.piece d.dialect position → IsNewVersion source from d position digit front next
     → next ≤ d.piece.start
-said_within source d (Digit at) from next digit front said anew = omega (arith, anew.0, said.before)
-said_within source d Unsaid from next digit front said anew = omega (arith, anew.0)
-said_within source d Call from next digit front said anew = absurd anew
-said_within source d Elsewhere from next digit front said anew = absurd anew
+said_within source d (Digit at) from next digit front said rewritten = omega (arith, rewritten.0, said.before)
+said_within source d Unsaid from next digit front said rewritten = omega (arith, rewritten.0)
+said_within source d Call from next digit front said rewritten = absurd rewritten
+said_within source d Elsewhere from next digit front said rewritten = absurd rewritten
 
 renumbered_within : (source : Text) (d : Description) (from next : ℕ) (digit : Option ℕ) (front : Text)
     → StandsIn source d → from ≤ d.piece.start → IsRenumbered source from d digit front next
     → next ≤ d.piece.start
-renumbered_within source d from next None front stands behind anew = omega (arith, anew.1, behind)
-renumbered_within source d from next (Some digit) front stands behind anew =
-    said_within source d d.version from next digit front stands.version anew
+renumbered_within source d from next None front stands after rewritten = omega (arith, rewritten.1, after)
+renumbered_within source d from next (Some digit) front stands after rewritten =
+    said_within source d d.version from next digit front stands.version rewritten
 
 respelled_within : (source : Text) (d : Description) (from next : ℕ) (body : Option Text) (front : Text)
     → StandsIn source d → from ≤ d.piece.start → IsRespelled source from d body front next → next ≤ d.piece.end
-respelled_within source d from next None front stands behind anew =
-    omega (arith, behind, anew.1, stands.between.end_inside.behind, stands.between.end_inside.before)
-respelled_within source d from next (Some body) front stands behind anew =
-    omega (arith, anew.at_quote, stands.between.end_inside.before)
+respelled_within source d from next None front stands after rewritten =
+    omega (arith, after, rewritten.1, stands.between.end_inside.after, stands.between.end_inside.before)
+respelled_within source d from next (Some body) front stands after rewritten =
+    omega (arith, rewritten.at_quote, stands.between.end_inside.before)
 
--- Where what is written ends lies in the source, and not behind the literal.
+-- What is written ends inside of the source, and not after the literal.
 ends_within : (source : Text) (d : Description) (from next : ℕ) (o : Outcome) (digit : Option ℕ)
     (body : Option Text) (front : Text)
     → StandsIn source d → from ≤ d.piece.start → IsPlaced source from d o digit body front next
     → next ≤ d.piece.end
-ends_within source d from next PassedOver digit body front stands behind placed =
-    omega (arith, placed.1, stands.between.end_inside.behind, stands.between.end_inside.before)
-ends_within source d from next Same digit body front stands behind placed =
-    omega (arith, placed.1, stands.between.end_inside.behind, stands.between.end_inside.before)
-ends_within source d from next Rewritten digit body front stands behind placed =
+ends_within source d from next PassedOver digit body front stands after placed =
+    omega (arith, placed.1, stands.between.end_inside.after, stands.between.end_inside.before)
+ends_within source d from next Same digit body front stands after placed =
+    omega (arith, placed.1, stands.between.end_inside.after, stands.between.end_inside.before)
+ends_within source d from next Rewritten digit body front stands after placed =
     respelled_within source d placed.middle next body placed.second stands
-    (renumbered_within source d from placed.middle digit placed.first stands behind placed.renumbered)
+    (renumbered_within source d from placed.middle digit placed.first stands after placed.renumbered)
     placed.respelled
-ends_within source d from next Refused digit body front stands behind placed =
-    omega (arith, placed.1, stands.between.end_inside.behind, stands.between.end_inside.before)
-ends_within source d from next WithItems digit body front stands behind placed =
-    omega (arith, placed.1, stands.between.end_inside.behind, stands.between.end_inside.before)
-ends_within source d from next NotText digit body front stands behind placed =
-    omega (arith, placed.1, stands.between.end_inside.behind, stands.between.end_inside.before)
-ends_within source d from next NotALiteral digit body front stands behind placed =
-    omega (arith, placed.1, stands.between.end_inside.behind, stands.between.end_inside.before)
-ends_within source d from next ByHand digit body front stands behind placed =
-    omega (arith, placed.1, stands.between.end_inside.behind, stands.between.end_inside.before)
+ends_within source d from next Refused digit body front stands after placed =
+    omega (arith, placed.1, stands.between.end_inside.after, stands.between.end_inside.before)
+ends_within source d from next WithItems digit body front stands after placed =
+    omega (arith, placed.1, stands.between.end_inside.after, stands.between.end_inside.before)
+ends_within source d from next NotText digit body front stands after placed =
+    omega (arith, placed.1, stands.between.end_inside.after, stands.between.end_inside.before)
+ends_within source d from next NotALiteral digit body front stands after placed =
+    omega (arith, placed.1, stands.between.end_inside.after, stands.between.end_inside.before)
+ends_within source d from next ByHand digit body front stands after placed =
+    omega (arith, placed.1, stands.between.end_inside.after, stands.between.end_inside.before)
 
 earlier : (from to : ℕ) (ds : List Description) → from ≤ to → AreInOrder to ds → AreInOrder from ds
 earlier from to [] le order = tt
 earlier from to (d ∷ ds) le order = (omega (arith, le, order.0), order.1)
 
--- A place between two characters lies in the text.
+-- A character boundary is inside of the text.
 in_source : (source : Text) (d : Description) → StandsIn source d → d.piece.end ≤ length source
 in_source source d stands = stands.between.end.0
 

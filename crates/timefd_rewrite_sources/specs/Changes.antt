@@ -1,4 +1,4 @@
--- How the descriptions of a source are laid out, and the versions that they have then.
+-- How the descriptions of a source are laid out, and which versions they have then.
 use Rattle.std.specs.Prelude.{ℕ, ◌==◌, Option, None, Some, option_map, if◌then◌else◌}
 use Rattle.timefd_component.specs.Tree.{Text}
 use Rattle.timefd_convert.specs.declared.conversion.Conversion.{Conversion}
@@ -15,7 +15,7 @@ use Rattle.timefd_lint_sources.specs.Judged.{is_passed_over, language_of}
 use Rattle.timefd_rewrite_sources.specs.declared.change.Change.{Change}
 use Rattle.timefd_rewrite_sources.specs.declared.change.Change.TheVariants.{Mended, Least, Normal}
 
--- the conversion of a description to a version: none from strftime, whose calls are others
+-- the conversion of a description to a version: none from strftime, which has other calls
 abbrev pub conversion_to : Dialect → DescriptionVersion → Option Conversion
 conversion_to One version = conversion_between (language_of One) (languages.Version version)
 conversion_to Two version = conversion_between (language_of Two) (languages.Version version)
@@ -24,7 +24,7 @@ conversion_to Strftime version = None
 conversion_to Chrono version = None
 conversion_to Jiff version = None
 
--- What chrono alone knows isn't mended.
+-- What only chrono or only jiff knows isn't fixed.
 abbrev pub layout_of : Change → Dialect → Text → Option Layout
 layout_of (Mended fixes) dialect text =
     if is_passed_over dialect text then None else Some (layouts.Fixed (language_of dialect) fixes)
@@ -40,7 +40,7 @@ abbrev pub other_digit : Option ℕ → ℕ → Option ℕ
 other_digit None new = Some new
 other_digit (Some old) new = if old == new then None else Some new
 
--- the digit that has to stand in the place of a description's; none where its version stays
+-- the new digit of a description's version; none if the version stays
 abbrev pub new_digit : Change → Dialect → Option ℕ
 new_digit (Mended fixes) dialect = None
 new_digit (Least version) dialect = other_digit (digit_of dialect) (digit_in version)

@@ -1,4 +1,4 @@
-//! What one description is mended or converted to.
+//! What one description is fixed or converted to.
 
 ghost use Rattle.std.specs.Prelude.{◌≡◌, ◌≢◌, IfOk, IsTrue, IsUtf8, None};
 ghost use Rattle.timefd_lint_sources.specs.Judged.{text_of};
@@ -15,14 +15,14 @@ use std::str;
 use timefd_lint_sources::holds_item;
 use timefd_parse::ParseError;
 use timefd_rewrite::{Layout, lay_out};
-use timefd_sources::{Description, VersionPlace, body_alike, inside};
+use timefd_sources::{Description, VersionPosition, body_alike, inside};
 
-/// What stands anew in a literal or beside it.
+/// What is new in a literal or next to it.
 #[derive(Drop)]
-pub struct Anew {
-    /// The digit of its version, where that changes.
+pub struct NewParts {
+    /// The digit of its version, if that changes.
     pub digit: Option<u8>,
-    /// What stands between its quotes, where that changes.
+    /// What is between its quotes, if that changes.
     pub body: Option<Vec<u8>>,
 }
 
@@ -32,10 +32,10 @@ pub enum Answer {
     /// It stays as it is.
     Stays(Outcome),
     /// This changes.
-    Becomes(Anew),
+    Becomes(NewParts),
 }
 
-/// What a description of a source is mended or converted to. An `Err` says that memory ran out.
+/// What a description of a source is fixed or converted to. An `Err` says that memory ran out.
 #[tactic(auto, using(crate::proofs::AnswerLemmas::passed_over, crate::proofs::AnswerLemmas::no_text))]
 pub fn answer_to(
     alloc: Global,
@@ -55,7 +55,7 @@ pub fn answer_to(
     }
 }
 
-// What a description that is this text becomes in this layout.
+// What a description with this text becomes in this layout.
 #[tactic(auto, using(crate::proofs::AnswerLemmas::becoming))]
 fn laid_out(
     alloc: Global,
@@ -76,7 +76,7 @@ fn laid_out(
     }
 }
 
-// Why a description that is this text stays, which is refused in this layout.
+// Why a description with this text stays, if the layout refuses it.
 #[tactic(auto, using(crate::proofs::AnswerLemmas::refused, crate::proofs::AnswerLemmas::with_items))]
 fn refused(
     alloc: Global,
@@ -98,8 +98,8 @@ fn refused(
     }
 }
 
-// What a description that is this text becomes, which is to be another: it stays where its new version
-// can't be said.
+// What a description with this text becomes if `answer` is its new text. It stays if its new version can't
+// be said.
 #[tactic(auto, using(crate::proofs::AnswerLemmas::by_hand, crate::proofs::AnswerLemmas::stays_the_text))]
 fn becoming(
     alloc: Global,
@@ -123,7 +123,7 @@ fn becoming(
     respelled(alloc, change, source, description, digit, answer)
 }
 
-// What a description becomes whose text stays.
+// What a description becomes if its text stays.
 #[tactic(auto, using(crate::proofs::AnswerLemmas::same, crate::proofs::AnswerLemmas::renumbered))]
 fn renumbered(change: Change, source: &str, description: &Description, digit: Option<u8>) -> Answer
     requires becoming { Becoming change description.now (text_of description.now) }
@@ -132,13 +132,12 @@ fn renumbered(change: Change, source: &str, description: &Description, digit: Op
     ensures { IsAnswer change source.now description.now result }
 {
     match digit {
-        Some(_) => Answer::Becomes(Anew { digit, body: None }),
+        Some(_) => Answer::Becomes(NewParts { digit, body: None }),
         None => Answer::Stays(Outcome::Same),
     }
 }
 
-// The body of a description's literal that stands for what it is to be, if it has as many line ends as the
-// old one.
+// The new body of a description's literal, if there is one with as many line ends as the old body has.
 #[tactic(auto, using(crate::proofs::AnswerLemmas::becomes, crate::proofs::AnswerLemmas::no_body, crate::proofs::AnswerLemmas::other_lines))]
 fn respelled(
     alloc: Global,
@@ -158,7 +157,7 @@ fn respelled(
         return Ok(Answer::Stays(Outcome::NotALiteral));
     };
     if line_ends(&body) == old_line_ends(source, description) {
-        Ok(Answer::Becomes(Anew {
+        Ok(Answer::Becomes(NewParts {
             digit,
             body: Some(body),
         }))
@@ -167,23 +166,23 @@ fn respelled(
     }
 }
 
-// Whether the new digit, where the version changes, has a place.
-fn is_sayable(place: VersionPlace, digit: Option<u8>) -> bool
-    ensures { result ≡ is_sayable place digit }
+// Whether there is a place for the new digit, if the version changes.
+fn is_sayable(position: VersionPosition, digit: Option<u8>) -> bool
+    ensures { result ≡ is_sayable position digit }
 {
     match digit {
-        Some(_) => can_say(place),
+        Some(_) => can_say(position),
         None => true,
     }
 }
 
 // Whether a number can say a version there.
-fn can_say(place: VersionPlace) -> bool
-    ensures { result ≡ spec.can_say place }
+fn can_say(position: VersionPosition) -> bool
+    ensures { result ≡ spec.can_say position }
 {
-    match place {
-        VersionPlace::Digit(_) | VersionPlace::Unsaid => true,
-        VersionPlace::Call | VersionPlace::Elsewhere => false,
+    match position {
+        VersionPosition::Digit(_) | VersionPosition::Unsaid => true,
+        VersionPosition::Call | VersionPosition::Elsewhere => false,
     }
 }
 
@@ -193,7 +192,7 @@ fn line_ends(text: &[u8]) -> usize
     text.iter().filter(|byte| **byte == b'\n').count()
 }
 
-// How many line ends stand between the quotes of a description's literal.
+// The number of line ends between the quotes of a description's literal.
 fn old_line_ends(source: &str, description: &Description) -> usize
     ensures { result ≡ old_line_ends source.now description.now }
 {

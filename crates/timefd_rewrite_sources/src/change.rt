@@ -1,4 +1,4 @@
-//! What is made of the descriptions of a source.
+//! How the descriptions of a source are changed.
 
 ghost use Rattle.std.specs.Prelude.{◌≡◌};
 ghost use Rattle.timefd_rewrite_sources.specs.Changes as spec;
@@ -10,20 +10,20 @@ use timefd_parse::{DescriptionVersion, Language};
 use timefd_rewrite::{Fixes, Layout};
 use timefd_sources::{Dialect, digit_of};
 
-/// What is made of the descriptions of a source.
+/// How the descriptions of a source are changed.
 #[derive(Clone, Copy)]
 pub enum Change {
-    /// What is at fault is mended by such fixes.
+    /// Faults are fixed with these kinds of fixes.
     Mended(Fixes),
-    /// Those of versions from which a conversion leads to this one are converted, and change as little
-    /// as they have to.
+    /// Descriptions are converted to this version if there is a conversion from theirs, with as few
+    /// changes as possible.
     Least(DescriptionVersion),
-    /// Those of all versions are laid out in the normal form of version 3.
+    /// Descriptions of all versions are written in the normal form of version 3.
     Normal,
 }
 
-/// How a description is laid out; none where it stays as it is: where chrono alone knows it, or no
-/// conversion leads from its version to the other, as none does from strftime.
+/// How a description is laid out. `None` if it stays as it is: because only chrono or only jiff knows
+/// it, or because there is no conversion from its version, as for strftime.
 pub fn layout_of(change: Change, dialect: Dialect, text: &[u8]) -> Option<Layout>
     ensures { result ≡ spec.layout_of change dialect text.now }
 {
@@ -50,7 +50,7 @@ fn mending(fixes: Fixes, dialect: Dialect, text: &[u8]) -> Option<Layout>
     }
 }
 
-// The conversion of a description to a version, where there is one.
+// The conversion of a description to a version, if there is one.
 fn conversion_to(dialect: Dialect, version: DescriptionVersion) -> Option<Conversion>
     ensures { result ≡ spec.conversion_to dialect version }
 {
@@ -62,7 +62,7 @@ fn conversion_to(dialect: Dialect, version: DescriptionVersion) -> Option<Conver
     }
 }
 
-/// The digit that has to stand in the place of a description's; none where its version stays.
+/// The new digit of a description's version; `None` if the version stays.
 pub fn new_digit(change: Change, dialect: Dialect) -> Option<u8>
     ensures { result ≡ spec.new_digit change dialect }
 {
@@ -83,7 +83,7 @@ fn digit_in(version: DescriptionVersion) -> u8
     }
 }
 
-// The new digit, if the old one is another.
+// The new digit, if the old one is different.
 fn other_digit(old: Option<u8>, new: u8) -> Option<u8>
     ensures { result ≡ spec.other_digit old new }
 {

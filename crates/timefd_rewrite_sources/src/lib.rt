@@ -1,6 +1,5 @@
-//! Rewrites the descriptions that are string literals of a source of Rust, mended or in another version: what
-//! stands between their quotes is written anew, with the number that says the version, and every other byte of
-//! the source stays.
+//! Rewrites the descriptions in the string literals of a Rust source: fixed, or in another version. Only what
+//! is between their quotes and the number of their version changes; every other byte of the source stays.
 #![tactic(auto)]
 
 mod answer;
@@ -9,7 +8,7 @@ mod counts;
 mod outcome;
 mod source;
 
-pub use answer::{Anew, Answer, answer_to};
+pub use answer::{Answer, NewParts, answer_to};
 pub use change::{Change, layout_of, new_digit};
 pub use counts::{count_refused, count_rewritten};
 pub use outcome::Outcome;

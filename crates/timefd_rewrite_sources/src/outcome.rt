@@ -1,34 +1,35 @@
-//! What came of a description that is mended or converted.
+//! The outcome of fixing or converting a description.
 
 ghost use Rattle.std.specs.Prelude.{◌≡◌};
 ghost use Rattle.timefd_rewrite_sources.specs.Written as spec;
 
-/// What came of a description.
+/// The outcome of a description.
 #[derive(Clone, Copy, Debug, PartialEq, Eq)]
 pub enum Outcome {
-    /// It has directives that chrono alone knows, or no conversion leads from its version, and it stays
-    /// as it is.
+    /// It has directives that only chrono or only jiff knows, or there is no conversion from its version.
+    /// It stays as it is.
     PassedOver,
-    /// It has nothing to mend, or is what it would be converted to.
+    /// It has nothing to fix, or already is what it would be converted to.
     Same,
-    /// What it is mended or converted to stands in its literal, with the version of that.
+    /// It is fixed or converted: its literal has the new text, and its version is the new one.
     Rewritten,
-    /// Its language refuses it, also mended as far as may be, and it stays as it is.
+    /// Its language refuses it, even after all allowed fixes. It stays as it is.
     Refused,
-    /// It has `[optional ..]` or `[first ..]`, which its place takes and no conversion of its version does,
-    /// and stays as it is.
+    /// It has `[optional ..]` or `[first ..]`, which its place takes, but no conversion of its version
+    /// does. It stays as it is.
     WithItems,
-    /// It is no UTF-8, and stays as it is.
+    /// It isn't UTF-8. It stays as it is.
     NotText,
-    /// No literal of its kind stands for what it is mended or converted to, as a raw one can't hold what
-    /// closes it: so it stays as it is.
+    /// No literal of its kind can hold the new text with as many lines: for example, a raw literal can't
+    /// hold what closes it. It stays as it is.
     NotALiteral,
-    /// It would be converted, but no number beside it says its version: so it stays as it is.
+    /// It would be converted, but there is no number next to it that says its version, so it has to be
+    /// changed manually. It stays as it is.
     ByHand,
 }
 
 impl Outcome {
-    /// Whether another text stands in the place of a description.
+    /// Whether the description is rewritten.
     pub fn is_rewriting(self) -> bool
         ensures { result ≡ spec.is_rewriting self }
     {
@@ -44,7 +45,7 @@ impl Outcome {
         }
     }
 
-    /// Whether a description stays at fault, or no literal stands for what it would be.
+    /// Whether the description still has a fault, or no literal can hold its new text.
     pub fn is_refusing(self) -> bool
         ensures { result ≡ spec.is_refusing self }
     {

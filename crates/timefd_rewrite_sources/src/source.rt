@@ -4,24 +4,24 @@ ghost use Rattle.std.specs.Prelude.{◌≡◌, ◌≤◌, ◌-◌, ◌++◌, IfO
 ghost use Rattle.timefd_sources.specs.Found.{AllStandIn, AreInOrder, StandsIn, begin_of};
 ghost use Rattle.timefd_rewrite_sources.specs.Written.{AddsRewritten, AreRewritten, IsSourceRewritten, Puts, Renumbers, Replaces, argument, is_sayable, items_of};
 
-use crate::answer::{Anew, Answer, answer_to};
+use crate::answer::{Answer, NewParts, answer_to};
 use crate::change::Change;
 use crate::outcome::Outcome;
 use std::alloc::{AllocError, Global};
-use timefd_sources::{Description, VersionPlace, body_end, descriptions_of, inside};
+use timefd_sources::{Description, VersionPosition, body_end, descriptions_of, inside};
 
 /// A source whose descriptions are rewritten.
 #[derive(Drop)]
 pub struct NewSource {
-    /// What came of each description, in turn.
+    /// The outcome of each description, in order.
     pub outcomes: Vec<Outcome>,
-    /// All of the source, with what stands in their places.
+    /// The whole source with the new descriptions.
     pub bytes: Vec<u8>,
 }
 
-/// Mends or converts the descriptions in a source of Rust, each in its language, and writes anew what
-/// stands between the quotes of those that change, and the numbers of their versions. An `Err` says that
-/// memory ran out.
+/// Fixes or converts the descriptions in a Rust source, each in its language. Of those that change, it
+/// rewrites what is between the quotes, and the numbers of their versions. An `Err` says that memory ran
+/// out.
 pub fn rewrite_source(alloc: Global, change: Change, source: &str) -> Result<NewSource, AllocError>
     ensures { IfOk result (IsSourceRewritten change source.now) }
 {
@@ -29,8 +29,9 @@ pub fn rewrite_source(alloc: Global, change: Change, source: &str) -> Result<New
     rewrite_all(alloc, change, source, &descriptions)
 }
 
-/// Rewrites these descriptions of a source, which stand in it one behind another.
-#[tactic(auto, using(crate::proofs::SourceLemmas::at_first, crate::proofs::SourceLemmas::at_last, crate::proofs::SourceLemmas::next_behind, crate::proofs::SourceLemmas::one_more, crate::proofs::SourceLemmas::stands_at))]
+/// Rewrites these descriptions of a source, which are in order and don't overlap. An `Err` says that
+/// memory ran out.
+#[tactic(auto, using(crate::proofs::SourceLemmas::at_first, crate::proofs::SourceLemmas::at_last, crate::proofs::SourceLemmas::next_after, crate::proofs::SourceLemmas::one_more, crate::proofs::SourceLemmas::stands_at))]
 pub fn rewrite_all(
     alloc: Global,
     change: Change,
@@ -60,8 +61,8 @@ pub fn rewrite_all(
     Ok(NewSource { outcomes, bytes })
 }
 
-// Adds what came of one more description, and what is written for the source up to it if that
-// changes. It answers the place up to which that is written.
+// Adds the outcome of one more description and, if it changes, the new source up to it. Returns the
+// position in the old source up to which everything is written.
 #[tactic(auto, using(crate::proofs::SourceLemmas::stays, crate::proofs::SourceLemmas::becomes))]
 fn push_rewritten(
     alloc: Global,
@@ -73,7 +74,7 @@ fn push_rewritten(
     bytes: &mut Vec<u8>,
 ) -> Result<usize, AllocError>
     requires stands { StandsIn source.now description.now }
-    requires behind { from ≤ begin_of description.now }
+    requires after { from ≤ begin_of description.now }
     ensures { IfOk result (AddsRewritten change source.now description.now from outcomes.old.items
         bytes.old.items outcomes.new.items bytes.new.items) }
 {
@@ -82,38 +83,38 @@ fn push_rewritten(
             outcomes.push(outcome)?;
             Ok(from)
         }
-        Answer::Becomes(anew) => {
+        Answer::Becomes(rewritten) => {
             outcomes.push(Outcome::Rewritten)?;
-            put(source, description, from, &anew, bytes)
+            put(source, description, from, &rewritten, bytes)
         }
     }
 }
 
-// Adds the source from a place on, with another version of a description and another inside of its
-// literal. It answers the place up to which that is written.
+// Adds the source from a position on, with a description's new version and its literal's new body.
+// Returns the position in the old source up to which everything is written.
 #[tactic(auto, using(crate::proofs::SourceLemmas::renumbered_alone, crate::proofs::SourceLemmas::both_put))]
 fn put(
     source: &str,
     description: &Description,
     from: usize,
-    anew: &Anew,
+    rewritten: &NewParts,
     bytes: &mut Vec<u8>,
 ) -> Result<usize, AllocError>
     requires stands { StandsIn source.now description.now }
-    requires behind { from ≤ begin_of description.now }
-    requires sayable { IsTrue (is_sayable description.now.version anew.now.digit) }
-    ensures { IfOk result (Puts source.now description.now from anew.now.digit (items_of anew.now.body)
+    requires after { from ≤ begin_of description.now }
+    requires sayable { IsTrue (is_sayable description.now.version rewritten.now.digit) }
+    ensures { IfOk result (Puts source.now description.now from rewritten.now.digit (items_of rewritten.now.body)
         bytes.old.items bytes.new.items) }
 {
-    let from = renumber(source, description, from, anew.digit, bytes)?;
-    match &anew.body {
+    let from = renumber(source, description, from, rewritten.digit, bytes)?;
+    match &rewritten.body {
         Some(body) => replace(source, description, from, body, bytes),
         None => Ok(from),
     }
 }
 
-// Adds the source from a place on up to where a description's version is said, with another digit. It
-// answers the place behind that.
+// Adds the source from a position on up to where a description's version is said, with the new digit.
+// Returns the position after that in the old source.
 #[tactic(auto, using(crate::proofs::SourceLemmas::same_version, crate::proofs::SourceLemmas::digit_said, crate::proofs::SourceLemmas::argument_said))]
 fn renumber(
     source: &str,
@@ -123,7 +124,7 @@ fn renumber(
     bytes: &mut Vec<u8>,
 ) -> Result<usize, AllocError>
     requires stands { StandsIn source.now description.now }
-    requires behind { from ≤ begin_of description.now }
+    requires after { from ≤ begin_of description.now }
     requires sayable { IsTrue (is_sayable description.now.version digit) }
     ensures renumbers { IfOk result (Renumbers source.now description.now from digit
         bytes.old.items bytes.new.items) }
@@ -133,21 +134,21 @@ fn renumber(
         return Ok(from);
     };
     match description.version {
-        VersionPlace::Digit(at) => {
+        VersionPosition::Digit(at) => {
             copy(source, from, at, bytes)?;
             bytes.push(digit)?;
             Ok(at + 1)
         }
-        VersionPlace::Unsaid => {
+        VersionPosition::Unsaid => {
             copy(source, from, description.piece.start, bytes)?;
             push_argument(digit, bytes)?;
             Ok(description.piece.start)
         }
-        VersionPlace::Call | VersionPlace::Elsewhere => unreachable!(),
+        VersionPosition::Call | VersionPosition::Elsewhere => unreachable!(),
     }
 }
 
-// Adds what stands in a source between two places.
+// Adds what is between two positions in a source.
 fn copy(source: &str, from: usize, to: usize, bytes: &mut Vec<u8>) -> Result<(), AllocError>
     requires order { from ≤ to }
     requires within { to ≤ length source.now }
@@ -156,7 +157,7 @@ fn copy(source: &str, from: usize, to: usize, bytes: &mut Vec<u8>) -> Result<(),
     bytes.extend_from_slice(&source.as_bytes()[from..to])
 }
 
-// Adds the argument of a macro that says this version, as `version = 3, `.
+// Adds the argument of a macro that says this version, for example `version = 3, `.
 fn push_argument(digit: u8, bytes: &mut Vec<u8>) -> Result<(), AllocError>
     ensures { OnOk result (bytes.new.items ≡ bytes.old.items ++ argument digit) }
 {
@@ -165,8 +166,8 @@ fn push_argument(digit: u8, bytes: &mut Vec<u8>) -> Result<(), AllocError>
     bytes.extend_from_slice(b", ")
 }
 
-// Adds the source from a place on up to the inside of a literal, and then another inside. It answers
-// the place of the closing quote.
+// Adds the source from a position on up to the body of a literal, and then the new body. Returns the
+// position of the closing quote in the old source.
 #[tactic(auto, using(crate::proofs::SourceLemmas::replaced))]
 fn replace(
     source: &str,
@@ -176,7 +177,7 @@ fn replace(
     bytes: &mut Vec<u8>,
 ) -> Result<usize, AllocError>
     requires stands { StandsIn source.now description.now }
-    requires behind { from ≤ description.now.piece.start }
+    requires after { from ≤ description.now.piece.start }
     ensures { IfOk result (Replaces source.now description.now from body.now bytes.old.items bytes.new.items) }
 {
     match inside(source, description.piece, description.kind) {

@@ -1,4 +1,4 @@
-//! What two calls answer that have to agree.
+//! Two calls that have to return the same answer.
 
 use crate::fault::RowFault;
 use std::alloc::Global;

@@ -1,4 +1,5 @@
-//! The domains of the asks. Each has a module with its asks, one for each first word of a row, and their answers.
+//! The domains of the asks. Each domain has a module with its asks, one for each first word of a row, and
+//! their answers.
 
 use crate::dates::{self, DateAsk};
 use crate::fault::RowFault;

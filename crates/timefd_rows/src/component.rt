@@ -2,7 +2,7 @@
 
 use timefd_items::{BorrowedFormatItem, Component};
 
-/// The component that the items are, where they are one.
+/// The component that the items are, if they are a single component.
 pub fn component_alone(items: &[BorrowedFormatItem]) -> Option<Component> {
     match items {
         [item] => component_in(item),

@@ -28,7 +28,7 @@ pub enum DateAsk {
     Calendar(CalendarAsk),
     Instant(InstantAsk),
     BesideJiff(JiffAsk),
-    /// `settled LANGUAGES DESCRIPTION`: whether what is written by it is read back.
+    /// `settled LANGUAGES DESCRIPTION`: whether what it writes is read back.
     Settled,
 }
 

@@ -9,9 +9,9 @@ use std::fmt;
 pub enum RowFault {
     /// Memory ran out.
     Memory,
-    /// No domain has the word that the row begins with.
+    /// No domain knows the word that the row begins with.
     NoAsk,
-    /// The row has other fields than these.
+    /// The row doesn't have these fields.
     Fields(&'static str),
     /// A field isn't one of these.
     Field(&'static str),

@@ -1,8 +1,8 @@
-//! The fields of a row, as many as an ask takes.
+//! The fields of a row, by how many an ask takes.
 
 use crate::fault::RowFault;
 
-/// The one field, which is named so.
+/// The one field. Its name is for the fault.
 pub fn one<'a>(fields: &[&'a str], name: &'static str) -> Result<&'a str, RowFault> {
     match fields {
         [field] => Ok(*field),
@@ -10,7 +10,7 @@ pub fn one<'a>(fields: &[&'a str], name: &'static str) -> Result<&'a str, RowFau
     }
 }
 
-/// The two fields, which are named so.
+/// The two fields. Their names are for the fault.
 pub fn two<'a>(fields: &[&'a str], names: &'static str) -> Result<(&'a str, &'a str), RowFault> {
     match fields {
         [first, second] => Ok((*first, *second)),
@@ -18,7 +18,7 @@ pub fn two<'a>(fields: &[&'a str], names: &'static str) -> Result<(&'a str, &'a 
     }
 }
 
-/// The three fields, which are named so.
+/// The three fields. Their names are for the fault.
 pub fn three<'a>(
     fields: &[&'a str],
     names: &'static str,

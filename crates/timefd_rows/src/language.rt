@@ -24,7 +24,7 @@ pub fn language_of(field: &str) -> Result<Language, RowFault> {
     }
 }
 
-/// Why a description has no answer, where only one that is accepted has one.
+/// Why a refused description has no answer, if only an accepted one has an answer.
 pub fn fault_of(error: ParseError) -> RowFault {
     match error {
         ParseError::Invalid(_fault) => RowFault::Field("a description of this language"),

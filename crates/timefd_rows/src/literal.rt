@@ -1,4 +1,4 @@
-//! The words of a row, which stand between white space: plain ones, and literals as Rust writes them.
+//! The words of a row, with white space between them: plain words, and literals as Rust writes them.
 
 use crate::fault::RowFault;
 use std::alloc::Global;
@@ -27,12 +27,12 @@ enum State {
     Closed,
 }
 
-/// The greatest byte that `\x` may name in a text.
+/// The greatest byte that `\x` may name in a string literal.
 const MOST_BYTE: u32 = 0x7f;
 
 const NO_ESCAPE: RowFault = RowFault::Literal("an escape that isn't one of Rust");
 
-/// The words that were read, and the one that isn't at its end.
+/// The words that were read, and the word that is being read.
 #[derive(Drop)]
 struct Words {
     all: Vec<String>,
@@ -58,7 +58,7 @@ impl Words {
         }
     }
 
-    /// Takes one character more, and answers where the characters end then.
+    /// Takes one more character, and returns where the characters end then.
     fn step(&mut self, alloc: Global, state: State, character: char) -> Result<State, RowFault> {
         match state {
             State::Between => match character {
@@ -122,13 +122,13 @@ fn digit(character: char) -> Result<u32, RowFault> {
     character.to_digit(16).ok_or(NO_ESCAPE)
 }
 
-/// The number with this digit behind its own.
+/// The number with this hexadecimal digit added at its end.
 fn with_digit(code: u32, character: char) -> Result<u32, RowFault> {
     let code = code.checked_mul(16).ok_or(NO_ESCAPE)?;
     code.checked_add(digit(character)?).ok_or(NO_ESCAPE)
 }
 
-/// The words of a row, each literal as the text that it stands for.
+/// The words of a row, each literal as the text that it means.
 pub fn words_of(alloc: Global, row: &str) -> Result<Vec<String>, RowFault> {
     let mut words = Words {
         all: Vec::new(alloc),

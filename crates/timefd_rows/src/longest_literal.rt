@@ -7,7 +7,7 @@ ghost use Rattle.timefd_rows.specs.Longest.{literal_bytes, longest};
 
 use timefd_items::{FormatDescriptionV3, Shape, View};
 
-/// How many bytes the longest literal has, or 0 where there is none.
+/// How many bytes the longest literal has, or 0 if there is none.
 pub fn longest_literal(description: &FormatDescriptionV3<'_>) -> usize
     ensures { result ≡ longest (walked (description_tree description.now)) }
 {
@@ -18,7 +18,7 @@ pub fn longest_literal(description: &FormatDescriptionV3<'_>) -> usize
     bytes
 }
 
-/// How many bytes a part has as a literal.
+/// How many bytes a part has if it is a literal, and otherwise 0.
 fn literal_len(part: View<'_, '_>) -> usize
     ensures { result ≡ literal_bytes (view_tree part.entry) }
 {

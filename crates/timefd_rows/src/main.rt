@@ -1,6 +1,6 @@
-//! Answers rows: each line of the standard input is a word that says what is asked, and its fields, and the line
-//! of the standard output that stands beside it is the answer. `stdin` and `stdout` of this crate are the tests of
-//! what is a text and comes to a text. Empty lines and comments, which begin with `#`, are copied.
+//! Answers rows. Each line of the standard input is a word that says what is asked, and its fields. The same
+//! line of the standard output is the answer. `stdin` and `stdout` of this crate test all that goes from
+//! texts to a text. Empty lines and comments, which begin with `#`, are copied.
 #![tactic(auto)]
 
 mod agreed;

@@ -13,21 +13,21 @@ use timefd_lift::{v1_to_v2, v2_to_v3};
 use timefd_parse::ParseError;
 use timefd_print::{PrintError, print_v3};
 
-/// What is asked of a text. Where it is refused the answer is the fault's sentence.
+/// What is asked about a text. If the text is refused, the answer is the fault's sentence.
 #[derive(Clone, Copy)]
 pub enum RewriteAsk {
-    /// `normal TEXT`: the text of version 3 in its normal form, which is its own normal form.
+    /// `normal TEXT`: the text of version 3 in its normal form. The normal form of that is itself.
     Normal,
-    /// `v1_to_v2 TEXT`: what this call answers.
+    /// `v1_to_v2 TEXT`: what this call returns.
     OneToTwo,
-    /// `v2_to_v3 TEXT`: what this call answers.
+    /// `v2_to_v3 TEXT`: what this call returns.
     TwoToThree,
-    /// `strftime_to_v3 TEXT`: what this call answers.
+    /// `strftime_to_v3 TEXT`: what this call returns.
     StrftimeToThree,
-    /// `convert FROM TO TEXT`: what this call answers between two languages.
+    /// `convert FROM TO TEXT`: what this call returns between two languages.
     Convert,
-    /// `reads_alike FROM TEXT`: whether the next version reads what `v1_to_v2` or `v2_to_v3` makes of the text as
-    /// this one reads the text.
+    /// `reads_alike FROM TEXT`: whether the next version reads the output of `v1_to_v2` or `v2_to_v3` as this
+    /// version reads the text.
     ReadsAlike,
 }
 

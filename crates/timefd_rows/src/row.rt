@@ -4,9 +4,9 @@ use crate::ask;
 use crate::fault::RowFault;
 use crate::literal::words_of;
 use std::alloc::{AllocError, Global};
-use timefd_streams::lent;
+use timefd_streams::borrowed;
 
-/// The line that stands beside a row: its answer, or what is wrong with the row. Comments are copied.
+/// The line that answers a row: its answer, or what is wrong with the row. Comments are copied.
 pub fn answer(alloc: Global, row: &str) -> Result<String, AllocError> {
     if row.is_empty() || row.starts_with('#') {
         return String::from_str(alloc, row);
@@ -20,14 +20,15 @@ pub fn answer(alloc: Global, row: &str) -> Result<String, AllocError> {
 
 fn answer_of_words(alloc: Global, row: &str) -> Result<String, RowFault> {
     let words = words_of(alloc, row)?;
-    let words = lent(alloc, &words)?;
+    let words = borrowed(alloc, &words)?;
     let [word, fields @ ..] = words.as_slice() else {
         return Err(RowFault::NoAsk);
     };
     ask::answer(alloc, word, fields)
 }
 
-/// The answer as it is, or as a literal where it has characters that can't stand in a line, or that nobody would see.
+/// The answer as it is, or as a literal if it has characters that can't be in a line or that nobody would
+/// see.
 fn one_line(alloc: Global, answer: String) -> Result<String, AllocError> {
     if answer.chars().any(is_unseen) {
         format!(in alloc; "{answer:?}")

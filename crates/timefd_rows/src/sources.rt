@@ -1,4 +1,4 @@
-//! What stands in a source, of Rust or with keys, and what is made of it.
+//! What is in a source, of Rust or with keys, and what it is rewritten to.
 
 mod keys;
 mod literals;
@@ -11,34 +11,40 @@ use crate::fields::one;
 pub use shown::text_of;
 use std::alloc::Global;
 
-/// What is asked of a source.
+/// What is asked about a source.
 #[derive(Clone, Copy)]
 pub enum SourceAsk {
-    /// `tokens SOURCE`: its tokens but white ones, each as its kind and its text, between bars.
+    /// `tokens SOURCE`: its tokens except white space, each as its kind and its text, between bars.
     Tokens,
     /// `descriptions SOURCE`: its descriptions, each as its language and its text, between bars.
     Descriptions,
-    /// `versions SOURCE`: where the version of each is said, a byte or a word, between bars.
+    /// `versions SOURCE`: where the version of each description is given, a byte index or a word, between
+    /// bars.
     Versions,
-    /// `literal SOURCE`: the text of its first literal, and the place of each byte of it.
+    /// `literal SOURCE`: the text of its first literal, and the position in the source of each byte of the
+    /// text.
     Literal,
-    /// `body KIND TEXT`: what stands between the quotes of a literal of that text.
+    /// `body KIND TEXT`: what to write between the quotes of a literal of that kind, so that it means that
+    /// text.
     Body,
-    /// `alike SOURCE TEXT`: the same of its first description, which is to have that text.
+    /// `alike SOURCE TEXT`: what to write between the quotes of its first description, so that it means that
+    /// text.
     Alike,
     /// `keys FORMAT SOURCE KEY..`: the values of these keys, each as its language and its text, between bars.
     Keys,
-    /// `places FORMAT SOURCE KEY..`: the places of each value's bytes, the last of them that of what closes it.
-    Places,
+    /// `positions FORMAT SOURCE KEY..`: the position in the source of each byte of each value, and last the
+    /// position of what closes it.
+    Positions,
     /// `key WORD`: the language and the name of a key.
     Key,
-    /// `key-fault WORD`: why the word is no key.
+    /// `key-fault WORD`: why the word isn't a key.
     KeyFault,
     /// `file-format NAME`: the format of the file with that name.
     FileFormat,
-    /// `mended LANGUAGE FIXES TEXT`: a text without its faults, or that it is left.
+    /// `mended LANGUAGE FIXES TEXT`: a text without its faults, or that it is left as it is.
     Mended,
-    /// `rewritten CHANGE SOURCE`: how many descriptions are rewritten, how many refused, and the new source.
+    /// `rewritten CHANGE SOURCE`: how many descriptions are rewritten, how many are refused, and the new
+    /// source.
     Rewritten,
     /// `outcomes CHANGE SOURCE`: what came of each description.
     Outcomes,
@@ -55,7 +61,7 @@ impl SourceAsk {
             "body" => Some(SourceAsk::Body),
             "alike" => Some(SourceAsk::Alike),
             "keys" => Some(SourceAsk::Keys),
-            "places" => Some(SourceAsk::Places),
+            "places" => Some(SourceAsk::Positions),
             "key" => Some(SourceAsk::Key),
             "key-fault" => Some(SourceAsk::KeyFault),
             "file-format" => Some(SourceAsk::FileFormat),
@@ -77,7 +83,7 @@ pub fn answer(alloc: Global, ask: SourceAsk, fields: &[&str]) -> Result<String, 
         SourceAsk::Body => literals::body(alloc, fields),
         SourceAsk::Alike => literals::alike(alloc, fields),
         SourceAsk::Keys => keys::keys(alloc, fields),
-        SourceAsk::Places => keys::places(alloc, fields),
+        SourceAsk::Positions => keys::positions(alloc, fields),
         SourceAsk::Key => keys::key(alloc, fields),
         SourceAsk::KeyFault => keys::fault(alloc, fields),
         SourceAsk::FileFormat => keys::file_format(alloc, fields),

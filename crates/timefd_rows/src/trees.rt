@@ -9,13 +9,13 @@ use crate::fault::RowFault;
 use crate::fields::{one, three, two};
 use std::alloc::Global;
 
-/// What is asked of a text.
+/// What is asked about a text.
 #[derive(Clone, Copy)]
 pub enum TreeAsk {
-    /// `tree LANGUAGE TEXT`: the items, the tree with the bytes that it reserves, or the fault's sentence. `every`
-    /// stands for the three versions, which have to agree.
+    /// `tree LANGUAGE TEXT`: the items, the tree with the bytes that it reserves, or the fault's sentence.
+    /// `every` means the three versions, which have to agree.
     Tree,
-    /// `tree_within LIMIT VERSION TEXT`: the same with this nesting limit.
+    /// `tree_within LIMIT VERSION TEXT`: what `tree` answers, with this nesting limit.
     TreeWithin,
     /// `version NUMBER`: the version of this number.
     Version,
@@ -31,15 +31,16 @@ pub enum TreeAsk {
     Leaf,
     /// `parts TEXT`: the parts of the description that version 3 reads the text as, each after its members.
     Parts,
-    /// `members TEXT`: its members in turn.
+    /// `members TEXT`: its members in order.
     Members,
-    /// `members_back TEXT`: the same from the last one to the first.
+    /// `members_back TEXT`: its members from the last one to the first.
     MembersBack,
-    /// `member_trees TEXT`: the same in turn as `Debug` prints them, in place and in a tree of their own.
+    /// `member_trees TEXT`: its members in order as `Debug` prints them, both as a view and as a tree of
+    /// their own.
     MemberTrees,
     /// `longest_literal TEXT`: how many bytes its longest literal has.
     LongestLiteral,
-    /// `reserved TEXT`: how many bytes the tree of its description reserves, and no limit below refuses.
+    /// `reserved TEXT`: how many bytes the tree of its description reserves. A lower limit refuses it.
     Reserved,
 }
 

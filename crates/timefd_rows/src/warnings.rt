@@ -1,4 +1,4 @@
-//! What the linter, the editor and the language server report of a text.
+//! What the linter, the editor and the language server report about a text.
 
 mod accepted;
 mod editing;
@@ -16,21 +16,21 @@ pub enum WarningAsk {
     Elsewhere,
     /// `pattern LINE PATH`: whether the pattern of the line matches files and folders of that path.
     Pattern,
-    /// `ignore-line LINE`: whether the line has a pattern, and what that says.
+    /// `ignore-line LINE`: whether the line has a pattern, and what the pattern says.
     IgnoreLine,
     /// `ignore-file TEXT`: how many patterns the file has.
     IgnoreFile,
     /// `ignored KIND PATH [FOLDER TEXT]..`: whether files with these texts ignore a file or a folder.
     Ignored,
-    /// `position TEXT INDEX`: the line and the unit where a byte stands.
+    /// `position TEXT INDEX`: the line and the UTF-16 unit of a byte.
     Position,
-    /// `index TEXT LINE UNIT`: the byte that stands there.
+    /// `index TEXT LINE UNIT`: the index of the byte there.
     Index,
     /// `findings SOURCE`: how many there are, and the first.
     Findings,
     /// `actions SOURCE START END`: the titles and the edits of what is offered.
     Actions,
-    /// `hover SOURCE INDEX`: the part that stands at a byte, and what is shown of it.
+    /// `hover SOURCE INDEX`: the part at a byte, and what is shown about it.
     Hover,
     /// `session INPUT`: how a session ends, and what it writes.
     Session,

@@ -1,11 +1,12 @@
--- What has to stand behind the text of a component, so that a reader takes that text and no more.
+-- What has to follow the text of a component, so that a reader takes that text and no more.
 use Rattle.timefd_component.specs.declared.component.Component.{Component}
 use Rattle.timefd_component.specs.declared.component.Component.TheVariants.{Day, MonthShort, MonthLong, MonthNumerical, Ordinal, WeekdayShort, WeekdayLong, WeekdaySunday, WeekdayMonday, WeekNumberIso, WeekNumberSunday, WeekNumberMonday, CalendarYearFullExtendedRange, CalendarYearFullStandardRange, CalendarYearCenturyExtendedRange, CalendarYearCenturyStandardRange, IsoYearFullExtendedRange, IsoYearFullStandardRange, IsoYearCenturyExtendedRange, IsoYearCenturyStandardRange, CalendarYearLastTwo, IsoYearLastTwo, Hour12, Hour24, Minute, Second, OffsetMinute, OffsetSecond, Period, Subsecond, OffsetHour, UnixTimestampSecond, UnixTimestampMillisecond, UnixTimestampMicrosecond, UnixTimestampNanosecond, Ignore, End}
 use Rattle.timefd_modifier.specs.declared.enums.Padding.{Padding}
 use Rattle.timefd_modifier.specs.declared.enums.SubsecondDigits.{SubsecondDigits}
 use Rattle.timefd_settled.specs.declared.bound.Bound.{Bound}
 
--- a number that is filled to its width is read whatever follows; behind another one no digit may stand
+-- a number that is padded to its width is read whatever follows; after a number without padding, no
+-- digit may follow
 abbrev pub number_bound : Padding → Bound
 number_bound Padding.Zero = Bound.Anything
 number_bound Padding.Space = Bound.Anything
@@ -23,8 +24,8 @@ fraction_bound SubsecondDigits.Seven = Bound.Anything
 fraction_bound SubsecondDigits.Eight = Bound.Anything
 fraction_bound SubsecondDigits.Nine = Bound.Anything
 
--- Years and centuries of the extended range have more digits behind a sign. What is skipped isn't written,
--- so it is never read back.
+-- Years and centuries of the extended range may have more digits after a sign. Bytes that are skipped
+-- aren't written, so they are never read back.
 abbrev pub bound_of : Component → Bound
 bound_of (Day m) = number_bound m.padding
 bound_of (MonthShort m) = Bound.Anything

@@ -1,10 +1,10 @@
--- What is known in front of a description, where it is settled.
+-- What is known before a description, if it is settled.
 use Rattle.std.specs.Prelude.{if◌then◌else◌, Option, Some, None}
 use Rattle.timefd_component.specs.Tree.{Tree, Trees}
 use Rattle.timefd_settled.specs.declared.bound.Bound.{Bound}
 use Rattle.timefd_settled.specs.Settled.{begin, begin_all, settled, settled_all}
 
--- where so much is known of what follows
+-- given what is known about the text that follows
 abbrev pub reached : Tree → Bound → Option Bound
 reached t known = if settled t known then Some (begin t known) else None
 

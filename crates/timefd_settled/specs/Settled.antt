@@ -8,7 +8,7 @@ use Rattle.timefd_component.specs.Tree.{Text, Tree, component, literal, compound
 use Rattle.timefd_settled.specs.declared.bound.Bound.{Bound}
 use Rattle.timefd_settled.specs.Bounds.{bound_of}
 
--- what is known of what follows is enough for a bound
+-- what is known about the text that follows is enough for a bound
 abbrev pub is_enough : Bound → Bound → Bool
 is_enough Bound.Anything known = true
 is_enough Bound.NoDigit Bound.Anything = false
@@ -21,7 +21,7 @@ is_enough Bound.End Bound.End = true
 is_enough Bound.End Bound.Never = false
 is_enough Bound.Never known = false
 
--- What is known of a text, where so much is known of what follows it.
+-- What is known about a text, given what is known about the text that follows it.
 
 abbrev pub signed_begin : Bool → Bound
 signed_begin true = Bound.NoDigit
@@ -87,8 +87,8 @@ abbrev mutual
   begin_first no_trees known = known
   begin_first (more_trees t ts) known = begin t known
 
--- Each part is read back where so much is known of what follows the last one. What is left out in writing
--- might be read, so it is not settled; of alternatives the first one is written, and read.
+-- Each part is read back, given what is known about the text after the last one. What writing leaves out
+-- might be read, so it isn't settled. Of alternatives, the first one is written and read.
 abbrev mutual
   pub settled : Tree → Bound → Bool
   settled (component c) known = is_enough (bound_of (modern c)) known

@@ -1,24 +1,24 @@
-//! What has to stand behind a text, or is known of what does.
+//! What has to follow a text, or what is known about the text that follows.
 
 ghost use Rattle.std.specs.Prelude.{◌≡◌};
 ghost use Rattle.timefd_settled.specs.Settled.{is_enough, literal_begin};
 
-/// What has to stand behind the text of a component, so that a reader takes that text and no more;
-/// or what is known of what stands there.
+/// What has to follow the text of a component, so that a reader takes that text and no more. Also
+/// what is known about the text that follows.
 #[derive(Debug, Clone, Copy, PartialEq, Eq)]
 pub enum Bound {
-    /// Whatever it is.
+    /// Anything may follow.
     Anything,
-    /// No digit, or the end of the text.
+    /// No digit follows: another byte, or the end of the text.
     NoDigit,
-    /// The end of the text.
+    /// The end of the text follows.
     End,
-    /// A reader doesn't take that text, whatever stands behind it.
+    /// A reader never takes exactly that text, whatever follows.
     Never,
 }
 
 impl Bound {
-    /// Whether it is met where so much is known of what stands behind.
+    /// Whether this bound is met, given what is known about the text that follows.
     pub fn is_met_by(self, known: Bound) -> bool
         ensures { result ≡ is_enough self known }
     {
@@ -36,7 +36,8 @@ impl Bound {
         }
     }
 
-    /// What is known of a literal with what follows it, of which so much is known.
+    /// What is known about a literal and the text that follows it, given what is known about the
+    /// latter.
     pub fn before_literal(literal: &[u8], known: Bound) -> Bound
         ensures { result ≡ literal_begin literal.now known }
     {

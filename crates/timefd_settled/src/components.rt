@@ -1,4 +1,4 @@
-//! What has to stand behind each component, and what is known of its text.
+//! What has to follow each component, and what is known about its text.
 
 ghost use Rattle.std.specs.Prelude.{◌≡◌};
 ghost use Rattle.timefd_component.specs.Tree as tree;
@@ -10,8 +10,9 @@ use crate::bound::Bound;
 use timefd_component::Component;
 use timefd_modifier::{Padding, SubsecondDigits};
 
-/// What is known of a component's text with what follows it, of which so much is known; `None` where
-/// that isn't enough for a reader to take the text and no more.
+/// What is known about the text of a component and the text that follows it, given what is known
+/// about the latter. `None` if that isn't enough for a reader to take the component's text and no
+/// more.
 pub(crate) fn before_component(component: Component, known: Bound) -> Option<Bound>
     ensures { result ≡ reached (tree.component component) known }
 {
@@ -23,7 +24,7 @@ pub(crate) fn before_component(component: Component, known: Bound) -> Option<Bou
     }
 }
 
-/// What has to stand behind a modern component.
+/// What has to follow a modern component.
 fn bound_of(component: Component) -> Bound
     ensures { result ≡ spec.bound_of component }
 {
@@ -74,7 +75,8 @@ fn bound_of(component: Component) -> Bound
     }
 }
 
-/// What is known of a modern component's text, where so much is known of what follows.
+/// What is known about the text of a modern component, given what is known about the text that
+/// follows.
 fn begin_of(component: Component, known: Bound) -> Bound
     ensures { result ≡ begin.component_begin component known }
 {
@@ -125,7 +127,8 @@ fn begin_of(component: Component, known: Bound) -> Bound
     }
 }
 
-/// A number that is filled to its width is read whatever follows; behind another one no digit may stand.
+/// A number that is padded to its width is read whatever follows. After a number without padding, no
+/// digit may follow.
 fn number_bound(padding: Padding) -> Bound
     ensures { result ≡ spec.number_bound padding }
 {
@@ -152,7 +155,7 @@ fn fraction_bound(digits: SubsecondDigits) -> Bound
     }
 }
 
-/// A number with a sign begins with no digit.
+/// A number with a sign doesn't begin with a digit.
 fn signed_begin(sign_is_mandatory: bool) -> Bound
     ensures { result ≡ begin.signed_begin sign_is_mandatory }
 {

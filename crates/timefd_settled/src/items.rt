@@ -1,4 +1,4 @@
-//! Items of versions 1 and 2 and of strftime, from the last one to the front.
+//! Items of versions 1 and 2 and of strftime, from the last one to the first.
 
 ghost use Rattle.std.specs.Prelude.{◌≡◌};
 ghost use Rattle.timefd_component.specs.Tree.{compound, trees};
@@ -10,16 +10,16 @@ use crate::bound::Bound;
 use crate::components::before_component;
 use timefd_format_item::BorrowedFormatItem;
 
-/// Whether the items, one after another, read back whatever is written by them: as
-/// [`is_settled`](crate::is_settled). It takes no memory.
+/// Whether the items, one after another, read back everything that they write, as
+/// [`is_settled`](crate::is_settled) says. It takes no memory.
 pub fn are_settled(items: &[BorrowedFormatItem<'_>]) -> bool
     ensures { result ≡ spec.is_settled (compound (trees (item_trees items.now))) }
 {
     before_all(items, Bound::End).is_some()
 }
 
-/// What is known of the item's text with what follows it, of which so much is known; `None` where
-/// the item isn't settled there.
+/// What is known about the text of the item and the text that follows it, given what is known about
+/// the latter. `None` if the item isn't settled there.
 #[cycle(items)]
 fn before(item: &BorrowedFormatItem<'_>, known: Bound) -> Option<Bound>
     ensures { result ≡ reached (item_tree item.now) known }
@@ -39,7 +39,7 @@ fn before(item: &BorrowedFormatItem<'_>, known: Bound) -> Option<Bound>
     }
 }
 
-/// The same of items in turn, the last one first.
+/// The same for a sequence of items, the last one first.
 #[cycle(items)]
 fn before_all(items: &[BorrowedFormatItem<'_>], known: Bound) -> Option<Bound>
     ensures { result ≡ reached_all (trees (item_trees items.now)) known }

@@ -1,4 +1,4 @@
-//! Whether a description is settled: whatever is written by it is read back by it, part by part.
+//! Whether a description is settled: it reads back everything that it writes, part by part.
 #![tactic(auto)]
 
 mod bound;

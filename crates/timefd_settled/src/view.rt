@@ -1,4 +1,4 @@
-//! Descriptions of version 3, from the last part to the front.
+//! Descriptions of version 3, from the last part to the first.
 
 ghost use Rattle.std.specs.Prelude.{◌≡◌};
 ghost use Rattle.timefd_component.specs.Tree.{first, optional, trees};
@@ -10,17 +10,17 @@ use crate::bound::Bound;
 use crate::components::before_component;
 use timefd_node_list::{Members, Shape, View};
 
-/// Whether the description reads back whatever is written by it: the text of each part ends where that
-/// of the next one begins. Not so are numbers side by side of which one isn't filled to its width, parts
-/// that no formatter writes, and ignored bytes. It takes no memory.
+/// Whether the description reads back everything that it writes: the text of each part ends where that
+/// of the next one begins. That isn't so for a number without padding before a digit, for parts that no
+/// formatter writes, and for ignored bytes. It takes no memory.
 pub fn is_settled(view: View<'_, '_>) -> bool
     ensures { result ≡ spec.is_settled (view_tree view.entry) }
 {
     before(view, Bound::End).is_some()
 }
 
-/// What is known of the description's text with what follows it, of which so much is known; `None`
-/// where the description isn't settled there.
+/// What is known about the text of the description and the text that follows it, given what is known
+/// about the latter. `None` if the description isn't settled there.
 #[cycle(view)]
 fn before(view: View<'_, '_>, known: Bound) -> Option<Bound>
     ensures { result ≡ reached (view_tree view.entry) known }
@@ -34,7 +34,7 @@ fn before(view: View<'_, '_>, known: Bound) -> Option<Bound>
     }
 }
 
-/// The same of members in turn, the last one first.
+/// The same for a sequence of members, the last one first.
 #[cycle(view)]
 fn before_all(members: Members<'_, '_>, known: Bound) -> Option<Bound>
     ensures { result ≡ reached_all (trees (member_trees members.entry)) known }
@@ -48,7 +48,8 @@ fn before_all(members: Members<'_, '_>, known: Bound) -> Option<Bound>
     Some(reached)
 }
 
-/// The same of a member that may be left out: one that isn't written might be read.
+/// The same for a member that may be left out. If it isn't written, it might be read all the same, so it
+/// isn't settled.
 #[cycle(view)]
 fn before_optional(format: bool, member: View<'_, '_>, known: Bound) -> Option<Bound>
     ensures { result ≡ reached (optional format (view_tree member.entry)) known }
@@ -56,7 +57,7 @@ fn before_optional(format: bool, member: View<'_, '_>, known: Bound) -> Option<B
     if format { before(member, known) } else { None }
 }
 
-/// The same of alternatives, of which the first one is written and read.
+/// The same for alternatives: the first one is written and read.
 #[cycle(view)]
 fn before_first(alternatives: Members<'_, '_>, known: Bound) -> Option<Bound>
     ensures { result ≡ reached (first (trees (member_trees alternatives.entry))) known }

@@ -3,7 +3,7 @@ use Rattle.std.proofs.Common.{ℕ, ◌≡◌, ◌∙◌, ◌+◌, ◌<◌, ◌�
 use Rattle.std.proofs.lemmas.List.{drop_all, drop_more}
 use Rattle.std.specs.List.{flat_map}
 
--- what the items in front of an index give
+-- what the items before an index give
 abbrev pub AreSoFar : {X Y : Type 0} → (X → List Y) → List X → ℕ → List Y → Type 0
 AreSoFar of all i got = got ++ flat_map of (drop i all) ≡ flat_map of all
 
@@ -11,13 +11,13 @@ pub one_more : {X Y : Type 0} (of : X → List Y) (all : List X) (i : ℕ) (item
     → i < length all → item ≡ get_or all i other → now ≡ got ++ of item → AreSoFar of all i got
     → AreSoFar of all (i + 1) now
 one_more {X} of all i item other got now below at pushed so_far =
-    let behind : List X = drop (i + 1) all in
-    let left : drop i all ≡ item ∷ behind = drop_more all i other below ∙ ap (λ x. x ∷ behind) (sym at) in
-    ap (λ ys. ys ++ flat_map of behind) pushed
-    ∙ (append_assoc got (of item) (flat_map of behind)
+    let after : List X = drop (i + 1) all in
+    let left : drop i all ≡ item ∷ after = drop_more all i other below ∙ ap (λ x. x ∷ after) (sym at) in
+    ap (λ ys. ys ++ flat_map of after) pushed
+    ∙ (append_assoc got (of item) (flat_map of after)
     ∙ (ap (λ items. got ++ flat_map of items) (sym left) ∙ so_far))
 
--- The same of the one at an index.
+-- One step further: what the item at an index gives.
 pub one_more_at : {X Y : Type 0} (of : X → List Y) (all : List X) (i : ℕ) (other : X) (got now : List Y)
     → i < length all → now ≡ got ++ of (get_or all i other) → AreSoFar of all i got
     → AreSoFar of all (i + 1) now

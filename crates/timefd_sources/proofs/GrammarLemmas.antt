@@ -9,9 +9,9 @@ use Rattle.timefd_sources.specs.declared.token.Kind.TheVariants.{Escaped, Raw}
 use Rattle.timefd_sources.specs.declared.token.Token.{Token}
 use Rattle.timefd_sources.specs.declared.token.Token.TheVariants.{White, Comment, Word, Lifetime, Literal, Sign, Unclosed}
 use Rattle.timefd_sources.specs.Bytes.{Text, quote, hash, apostrophe, star, slash, backslash, is_white, is_word, class_test}
-use Rattle.timefd_sources.specs.Behind.{behind_run, hashes, behind_string, behind_escape, behind_raw, behind_comment}
+use Rattle.timefd_sources.specs.After.{after_run, hashes, after_string, after_escape, after_raw, after_comment}
 use Rattle.timefd_sources.specs.Tokens as read
-use Rattle.timefd_sources.specs.Tokens.{Begin, closed, opened_comment, begins_word, behind_quoted, plain, quoted_or_plain, literal_or_less, comment_or_less, first}
+use Rattle.timefd_sources.specs.Tokens.{Begin, closed, opened_comment, begins_word, after_quoted, plain, quoted_or_plain, literal_or_less, comment_or_less, first}
 use Rattle.timefd_sources.specs.Grammar.{is_body, is_raw_body, letters, IsLiteral}
 
 chosen : {A : Type 0} (b : Bool) (x y z : A) → cond b x y ≡ z
@@ -35,42 +35,42 @@ closes : (b : ℕ) (bytes rest : Text) → (b == quote) ≡ true → Some bytes 
     → b ∷ bytes ≡ quote ∷ rest
 closes b bytes rest q e = let is : b ≡ quote = eqb-true b quote q in cc
 
-string_ends : (text rest : Text) → behind_string text ≡ Some rest → StringEnds text rest
+string_ends : (text rest : Text) → after_string text ≡ Some rest → StringEnds text rest
 string_ends [] rest e = absurd cc
-string_ends (b ∷ []) rest e = elim (chosen (b == backslash) (behind_escape [])
-    (cond (b == quote) (Some []) (behind_string [])) (Some rest) e) [
+string_ends (b ∷ []) rest e = elim (chosen (b == backslash) (after_escape [])
+    (cond (b == quote) (Some []) (after_string [])) (Some rest) e) [
       | inl h ↦ let empty : None ≡ Some rest = h.1 in absurd cc
-      | inr h ↦ elim (chosen (b == quote) (Some []) (behind_string []) (Some rest) h.1) [
+      | inr h ↦ elim (chosen (b == quote) (Some []) (after_string []) (Some rest) h.1) [
         | inl q ↦ ([], closes b [] rest q.0 q.1, refl)
         | inr q ↦ let empty : None ≡ Some rest = q.1 in absurd cc
       ]
     ]
-string_ends (b ∷ c ∷ bytes) rest e = elim (chosen (b == backslash) (behind_escape (c ∷ bytes))
-    (cond (b == quote) (Some (c ∷ bytes)) (behind_string (c ∷ bytes))) (Some rest) e) [
+string_ends (b ∷ c ∷ bytes) rest e = elim (chosen (b == backslash) (after_escape (c ∷ bytes))
+    (cond (b == quote) (Some (c ∷ bytes)) (after_string (c ∷ bytes))) (Some rest) e) [
       | inl h ↦ let r : StringEnds bytes rest = string_ends bytes rest h.1 in
           let is : IsTrue (is_body (b ∷ c ∷ r.0)) = rw h.0 r.2 in
           (b ∷ c ∷ r.0, ap (λ (t : Text). b ∷ c ∷ t) r.1, is)
-      | inr h ↦ elim (chosen (b == quote) (Some (c ∷ bytes)) (behind_string (c ∷ bytes)) (Some rest) h.1) [
+      | inr h ↦ elim (chosen (b == quote) (Some (c ∷ bytes)) (after_string (c ∷ bytes)) (Some rest) h.1) [
         | inl q ↦ ([], closes b (c ∷ bytes) rest q.0 q.1, refl)
         | inr q ↦ let r : StringEnds (c ∷ bytes) rest = string_ends (c ∷ bytes) rest q.1 in
             (b ∷ r.0, ap (λ (t : Text). b ∷ t) r.1, plain_byte b r.0 h.0 q.0 r.2)
       ]
     ]
 
--- as many `#` as are counted stand in front
+-- the text begins with as many `#` as are counted
 hash_front : (n : ℕ) (bytes : Text) → n ≤ hashes bytes → bytes ≡ replicate n hash ++ drop n bytes
 hash_front zero bytes le = refl
 hash_front (suc n) [] le = absurd (omega arith)
 hash_front (suc n) (b ∷ bytes) le = elim (cases_Bool (b == hash)) [
   | inl pass ↦
-      let shorter : suc n ≤ length (b ∷ bytes) - length (behind_run (class_test Hash) bytes) =
-      subst (λ (t : Bool). suc n ≤ length (b ∷ bytes) - length (cond t (behind_run (class_test Hash) bytes) (b ∷ bytes))) pass le in
+      let shorter : suc n ≤ length (b ∷ bytes) - length (after_run (class_test Hash) bytes) =
+      subst (λ (t : Bool). suc n ≤ length (b ∷ bytes) - length (cond t (after_run (class_test Hash) bytes) (b ∷ bytes))) pass le in
       let is : b ≡ hash = eqb-true b hash pass in
       let more : bytes ≡ replicate n hash ++ drop n bytes = hash_front n bytes (omega (arith, shorter)) in
       ap (λ (t : Text). b ∷ t) more ∙ ap (λ (x : ℕ). x ∷ (replicate n hash ++ drop n bytes)) is
   | inr fail ↦
       let none : suc n ≤ length (b ∷ bytes) - length (b ∷ bytes) =
-      subst (λ (t : Bool). suc n ≤ length (b ∷ bytes) - length (cond t (behind_run (class_test Hash) bytes) (b ∷ bytes))) fail le in
+      subst (λ (t : Bool). suc n ≤ length (b ∷ bytes) - length (cond t (after_run (class_test Hash) bytes) (b ∷ bytes))) fail le in
       absurd (omega (arith, none))
 ]
 
@@ -81,19 +81,19 @@ abbrev RawEnds : ℕ → Text → Text → Type 0
 RawEnds n text rest = (body : Text) × (text ≡ body ++ (quote ∷ (replicate n hash ++ rest)))
     × IsTrue (is_raw_body n body (quote ∷ (replicate n hash ++ rest)))
 
-raw_ends : (n : ℕ) (text rest : Text) → behind_raw n text ≡ Some rest → RawEnds n text rest
+raw_ends : (n : ℕ) (text rest : Text) → after_raw n text ≡ Some rest → RawEnds n text rest
 raw_ends n [] rest e = absurd cc
 raw_ends n (b ∷ bytes) rest e = elim (chosen ((b == quote) && nat_le n (hashes bytes))
-    (Some (drop n bytes)) (behind_raw n bytes) (Some rest) e) [
+    (Some (drop n bytes)) (after_raw n bytes) (Some rest) e) [
       | inl h ↦
           let tests : ((b == quote) ≡ true) × (nat_le n (hashes bytes) ≡ true) =
           both_true (b == quote) (nat_le n (hashes bytes)) h.0 in
           let front : bytes ≡ replicate n hash ++ drop n bytes =
           hash_front n bytes (nat_le_true n (hashes bytes) tests.1) in
           let is : b ≡ quote = eqb-true b quote tests.0 in
-          let behind : drop n bytes ≡ rest = cc in (
+          let after : drop n bytes ≡ rest = cc in (
             [],
-            ap (λ (t : Text). b ∷ t) (front ∙ ap (λ (t : Text). replicate n hash ++ t) behind)
+            ap (λ (t : Text). b ∷ t) (front ∙ ap (λ (t : Text). replicate n hash ++ t) after)
                 ∙ ap (λ (x : ℕ). x ∷ (replicate n hash ++ rest)) is,
             refl,
           )
@@ -104,7 +104,7 @@ raw_ends n (b ∷ bytes) rest e = elim (chosen ((b == quote) && nat_le n (hashes
           (b ∷ r.0, ap (λ (t : Text). b ∷ t) r.1, and_from _ _ open_still r.2)
     ]
 
--- What it is that a text in front of another is read as.
+-- The text before another is a literal of this kind.
 abbrev Reads : Kind → Text → Text → Type 0
 Reads kind text rest = (front : Text) × (text ≡ front ++ rest) × IsLiteral kind front rest
 
@@ -125,8 +125,8 @@ string_is : (e : Encoding) (bytes rest : Text) (kind : Kind)
     → read.string e bytes ≡ record { token = Literal kind; rest = rest }
     → Reads kind (letters e ++ (quote ∷ bytes)) rest
 string_is e bytes rest kind begin =
-    let is : (Literal (Escaped e) ≡ Literal kind) × (behind_string bytes ≡ Some rest) =
-    closed_is (Literal (Escaped e)) (behind_string bytes) kind rest begin in
+    let is : (Literal (Escaped e) ≡ Literal kind) × (after_string bytes ≡ Some rest) =
+    closed_is (Literal (Escaped e)) (after_string bytes) kind rest begin in
     let r : StringEnds bytes rest = string_ends bytes rest is.1 in
     subst (λ (k : Kind). Reads k (letters e ++ (quote ∷ bytes)) rest) (kind_of (Escaped e) kind is.0) (
       letters e ++ (quote ∷ []) ++ r.0 ++ (quote ∷ []),
@@ -140,12 +140,12 @@ opened_raw_is : (e : Encoding) (n : ℕ) (bytes text rest : Text) (kind : Kind)
     → Reads kind (letters e ++ (114 ∷ text)) rest
 opened_raw_is e n [] text rest kind front begin = absurd cc
 opened_raw_is e n (b ∷ bytes) text rest kind front begin = elim (chosen (b == quote)
-    (Some (closed (Literal (Raw e n)) (behind_raw n bytes))) None
+    (Some (closed (Literal (Raw e n)) (after_raw n bytes))) None
     (Some (record { token = Literal kind; rest = rest })) begin) [
       | inl h ↦
-          let one : closed (Literal (Raw e n)) (behind_raw n bytes) ≡ record { token = Literal kind; rest = rest } = cc in
-          let is : (Literal (Raw e n) ≡ Literal kind) × (behind_raw n bytes ≡ Some rest) =
-          closed_is (Literal (Raw e n)) (behind_raw n bytes) kind rest one in
+          let one : closed (Literal (Raw e n)) (after_raw n bytes) ≡ record { token = Literal kind; rest = rest } = cc in
+          let is : (Literal (Raw e n) ≡ Literal kind) × (after_raw n bytes ≡ Some rest) =
+          closed_is (Literal (Raw e n)) (after_raw n bytes) kind rest one in
           let r : RawEnds n bytes rest = raw_ends n bytes rest is.1 in
           let q : b ≡ quote = eqb-true b quote h.0 in
           let whole : text ≡ replicate n hash ++ (quote ∷ (r.0 ++ (quote ∷ (replicate n hash ++ rest)))) =
@@ -229,14 +229,14 @@ closed_comment (Some rest) kind e = cc
 opened_is_other : (text : Text) (begin : Begin) → opened_comment text ≡ Some begin → IsOther begin
 opened_is_other [] begin e kind is = cc
 opened_is_other (b ∷ bytes) begin e kind is = elim (chosen (b == slash)
-    (Some (record { token = Comment; rest = behind_run (class_test Line) bytes }))
-    (cond (b == star) (Some (closed Comment (behind_comment 0 0 bytes))) None) (Some begin) e) [
-      | inl h ↦ let one : record { token = Comment; rest = behind_run (class_test Line) bytes } ≡ begin =
-          some_begin (record { token = Comment; rest = behind_run (class_test Line) bytes }) begin h.1 in
+    (Some (record { token = Comment; rest = after_run (class_test Line) bytes }))
+    (cond (b == star) (Some (closed Comment (after_comment 0 0 bytes))) None) (Some begin) e) [
+      | inl h ↦ let one : record { token = Comment; rest = after_run (class_test Line) bytes } ≡ begin =
+          some_begin (record { token = Comment; rest = after_run (class_test Line) bytes }) begin h.1 in
           let empty : Comment ≡ Literal kind = ap (λ (x : Begin). x.token) one ∙ is in absurd cc
-      | inr h ↦ elim (chosen (b == star) (Some (closed Comment (behind_comment 0 0 bytes))) None (Some begin) h.1) [
-        | inl x ↦ subst (λ (y : Begin). IsOther y) (some_begin (closed Comment (behind_comment 0 0 bytes)) begin x.1)
-            (closed_comment (behind_comment 0 0 bytes)) kind is
+      | inr h ↦ elim (chosen (b == star) (Some (closed Comment (after_comment 0 0 bytes))) None (Some begin) h.1) [
+        | inl x ↦ subst (λ (y : Begin). IsOther y) (some_begin (closed Comment (after_comment 0 0 bytes)) begin x.1)
+            (closed_comment (after_comment 0 0 bytes)) kind is
         | inr x ↦ absurd cc
       ]
     ]
@@ -254,9 +254,9 @@ token_of_cond false x y a b = b
 
 plain_is_other : (b : ℕ) (bytes : Text) → IsOther (plain b bytes)
 plain_is_other b bytes =
-    token_of_cond (is_white b) (record { token = White; rest = behind_run is_white bytes }) _ (λ kind e. cc)
-    (token_of_cond (is_word b) (record { token = Word; rest = behind_run is_word bytes }) _ (λ kind e. cc)
-    (token_of_cond ((b == apostrophe) && begins_word bytes) (record { token = Lifetime; rest = behind_run is_word bytes })
+    token_of_cond (is_white b) (record { token = White; rest = after_run is_white bytes }) _ (λ kind e. cc)
+    (token_of_cond (is_word b) (record { token = Word; rest = after_run is_word bytes }) _ (λ kind e. cc)
+    (token_of_cond ((b == apostrophe) && begins_word bytes) (record { token = Lifetime; rest = after_run is_word bytes })
     (record { token = Sign; rest = bytes }) (λ kind e. cc) (λ kind e. cc)))
 
 quoted_is_other : (b : ℕ) (bytes : Text) (r : Option Text) → IsOther (quoted_or_plain b bytes r)
@@ -267,7 +267,7 @@ literal_found : (text : Text) (b : ℕ) (bytes : Text) (r : Option Begin) (rest 
     → r ≡ read.literal text → literal_or_less text b bytes r ≡ record { token = Literal kind; rest = rest }
     → Reads kind text rest
 literal_found text b bytes None rest kind e begin =
-    absurd (quoted_is_other b bytes (behind_quoted text) kind (ap (λ (x : Begin). x.token) begin))
+    absurd (quoted_is_other b bytes (after_quoted text) kind (ap (λ (x : Begin). x.token) begin))
 literal_found text b bytes (Some found) rest kind e begin =
     literal_is text rest kind (sym e ∙ ap (λ (x : Begin). Some x) begin)
 

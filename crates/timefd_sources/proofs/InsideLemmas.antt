@@ -1,4 +1,4 @@
--- Where the inside of a literal stands.
+-- Where the inside of a literal is.
 use Rattle.std.proofs.Common.{ℕ, ◌≡◌, ◌≤◌, ◌<◌, ◌-◌, ◌+◌, Bool, true, false, cond, suc, nat_le, nat_lt, ◌&&◌, [], ◌∷◌, length, take, drop, Some, None, inl, inr, refl, sym, ap, ◌∙◌, arith}
 use Rattle.std.proofs.lemmas.Bool.{cases_Bool}
 use Rattle.std.proofs.lemmas.Bool.Decides.{nat_tests}
@@ -7,7 +7,7 @@ use Rattle.timefd_sources.specs.declared.class.Class.TheVariants.{Unquoted}
 use Rattle.timefd_sources.specs.declared.piece.Piece.{Piece}
 use Rattle.timefd_sources.specs.declared.token.Kind.{Kind}
 use Rattle.timefd_sources.specs.Bytes.{Text, class_test}
-use Rattle.timefd_sources.specs.Behind.{behind_run}
+use Rattle.timefd_sources.specs.After.{after_run}
 use Rattle.timefd_sources.specs.Literals.{EndsAt, body, body_end, cut, hash_count, inner}
 
 both_true : (a b : Bool) → (a && b) ≡ true → (a ≡ true) × (b ≡ true)
@@ -17,14 +17,14 @@ both_true false b e = absurd cc
 drop_one : (b : ℕ) (text : Text) (n : ℕ) → drop (n + 1) (b ∷ text) ≡ drop n text
 drop_one b text n = let e : n + 1 ≡ suc n = omega arith in ap (λ (k : ℕ). drop k (b ∷ text)) e
 
--- What stands behind a run is an end of the text.
+-- What follows a run is an end of the text.
 abbrev IsSuffix : Text → Text → Type 0
 IsSuffix text rest = (n : ℕ) × (rest ≡ drop n text)
 
-run_is_suffix : (test : ℕ → Bool) (text : Text) → IsSuffix text (behind_run test text)
+run_is_suffix : (test : ℕ → Bool) (text : Text) → IsSuffix text (after_run test text)
 run_is_suffix test [] = (0, refl)
 run_is_suffix test (b ∷ text) = elim (cases_Bool (test b)) [
-  | inl pass ↦ let more : IsSuffix text (behind_run test text) = run_is_suffix test text in
+  | inl pass ↦ let more : IsSuffix text (after_run test text) = run_is_suffix test text in
       (more.0 + 1, rw pass (more.1 ∙ sym (drop_one b text more.0)))
   | inr fail ↦ (0, rw fail refl)
 ]
@@ -50,29 +50,29 @@ cut_to source p literal e =
     (le_of p.start p.end tests.0, le_of p.end (length source) tests.1, sym is.1)
 
 abbrev InnerOf : Kind → Text → Text → Type 0
-InnerOf kind rest bytes = (b : ℕ) × (behind : Text) × (rest ≡ b ∷ behind) × (hash_count kind < length behind)
-    × (bytes ≡ take (length behind - hash_count kind - 1) behind)
+InnerOf kind rest bytes = (b : ℕ) × (after : Text) × (rest ≡ b ∷ after) × (hash_count kind < length after)
+    × (bytes ≡ take (length after - hash_count kind - 1) after)
 
 inner_of : (kind : Kind) (rest bytes : Text) → inner kind rest ≡ Some bytes → InnerOf kind rest bytes
 inner_of kind [] bytes e = absurd cc
-inner_of kind (b ∷ behind) bytes e =
-    let is = chosen (nat_lt (hash_count kind) (length behind)) (take (length behind - hash_count kind - 1) behind) bytes e in
-    (b, behind, refl, lt_of (hash_count kind) (length behind) is.0, sym is.1)
+inner_of kind (b ∷ after) bytes e =
+    let is = chosen (nat_lt (hash_count kind) (length after)) (take (length after - hash_count kind - 1) after) bytes e in
+    (b, after, refl, lt_of (hash_count kind) (length after) is.0, sym is.1)
 
--- a front of what stands behind a front
+-- a front of what follows a front
 front : (source : Text) (s n j k : ℕ) → k ≤ j
     → take k (drop (n + 1) (take (n + 1 + j) (drop s source))) ≡ take k (drop (s + (n + 1)) source)
 front source s n j k le =
     ap (take k) (drop-take (n + 1) j (drop s source)) ∙ take-take k j (drop (n + 1) (drop s source)) le
     ∙ ap (take k) (drop-drop (n + 1) s source)
 
-ends : (source : Text) (s e n hashes j : ℕ) (literal behind bytes : Text) → e ≤ length source
-    → e - s ≡ n + 1 + j → s ≤ e → literal ≡ take (e - s) (drop s source) → behind ≡ drop (n + 1) literal
-    → length behind ≡ j → hashes < j → bytes ≡ take (j - hashes - 1) behind
+ends : (source : Text) (s e n hashes j : ℕ) (literal after bytes : Text) → e ≤ length source
+    → e - s ≡ n + 1 + j → s ≤ e → literal ≡ take (e - s) (drop s source) → after ≡ drop (n + 1) literal
+    → length after ≡ j → hashes < j → bytes ≡ take (j - hashes - 1) after
     → EndsAt source (e - hashes - 1) bytes
-ends source s e n hashes j literal behind bytes within long order is_cut is_behind len fewer is =
+ends source s e n hashes j literal after bytes within long order is_cut is_after_percent len fewer is =
     let whole : bytes ≡ take (j - hashes - 1) (drop (s + (n + 1)) source) =
-    is ∙ ap (take (j - hashes - 1)) (is_behind ∙ ap (drop (n + 1)) (is_cut ∙ ap (λ (x : ℕ). take x (drop s source)) long))
+    is ∙ ap (take (j - hashes - 1)) (is_after_percent ∙ ap (drop (n + 1)) (is_cut ∙ ap (λ (x : ℕ). take x (drop s source)) long))
     ∙ front source s n j (j - hashes - 1) (omega arith) in
     let size : length bytes ≡ j - hashes - 1 =
     omega (arith, ap length whole, length-take (j - hashes - 1) (drop (s + (n + 1)) source), length-drop (s + (n + 1)) source) in
@@ -88,9 +88,9 @@ pub inside_stands : (source : Text) (p : Piece) (kind : Kind) (literal bytes : T
     → EndsAt source (body_end p kind) bytes
 inside_stands source p kind literal bytes is_cut is_body =
     let found : CutTo source p literal = cut_to source p literal is_cut in
-    let within : InnerOf kind (behind_run (class_test Unquoted) literal) bytes =
-    inner_of kind (behind_run (class_test Unquoted) literal) bytes is_body in
-    let suffix : IsSuffix literal (behind_run (class_test Unquoted) literal) =
+    let within : InnerOf kind (after_run (class_test Unquoted) literal) bytes =
+    inner_of kind (after_run (class_test Unquoted) literal) bytes is_body in
+    let suffix : IsSuffix literal (after_run (class_test Unquoted) literal) =
     run_is_suffix (class_test Unquoted) literal in
     let one : within.1 ≡ drop (suffix.0 + 1) literal =
     ap (drop 1) (sym within.2 ∙ suffix.1) ∙ drop-drop 1 suffix.0 literal in

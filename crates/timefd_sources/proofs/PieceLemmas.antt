@@ -1,4 +1,4 @@
--- The tokens so far, and those of the rest.
+-- The tokens so far, and the tokens of the rest.
 use Rattle.std.proofs.Common.{◌≡◌, ◌-◌, List, [], ◌∷◌, ◌++◌, length, refl, sym, ap, subst, ◌∙◌, append_assoc, append-nil}
 use Rattle.std.specs.Prelude.{Option, Some, None}
 use Rattle.timefd_sources.specs.declared.piece.Piece.{Piece}
@@ -7,7 +7,7 @@ use Rattle.timefd_sources.specs.Bytes.{Text}
 use Rattle.timefd_sources.specs.Tokens.{Begin, begun_any, first}
 use Rattle.timefd_sources.specs.Sources.{AreTokens}
 
--- Whatever tokens the rest is, those so far and they are the whole source.
+-- Whatever tokens the rest has: together with the tokens so far they are the whole source.
 pub record GoesOn (source : Text) (pieces : List Piece) (rest : Text) : Type 0 where
   pub on : (ps : List Piece) → AreTokens (length source) rest ps
       → AreTokens (length source) source (pieces ++ ps)

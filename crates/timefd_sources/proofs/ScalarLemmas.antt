@@ -1,4 +1,4 @@
--- The character of a number, as the library tells it.
+-- The character with this number, as the library returns it.
 use Rattle.std.proofs.Common.{ℕ, ◌≡◌, refl, ap, inl, inr}
 use Rattle.std.specs.Prelude.{Option, Some, None}
 use Rattle.std.specs.Option.{SomeIff}

@@ -1,4 +1,4 @@
--- What written bodies stand for.
+-- What written bodies denote.
 use Rattle.std.proofs.Common.{ℕ, zero, suc, ◌≡◌, ◌≤◌, ◌<◌, ◌-◌, ◌+◌, ◌*◌, ◌/◌, ◌%◌, ◌==◌, ◌&&◌, not, Bool, true, false, nat_le, List, [], ◌∷◌, ◌++◌, length, replicate, inl, inr, get_or, take, Option, Some, None, IsTrue, refl, sym, ap, subst, ◌∙◌, append_assoc, append-nil, length-append, arith}
 use Rattle.std.specs.List.{list_all}
 use Rattle.std.proofs.lemmas.Bool.{cases_Bool, and_from}
@@ -11,7 +11,7 @@ use Rattle.timefd_sources.specs.declared.token.Kind.{Kind}
 use Rattle.timefd_sources.specs.declared.token.Kind.TheVariants.{Escaped, Raw}
 use Rattle.timefd_sources.specs.declared.unescape.Unescaped as whole
 use Rattle.timefd_sources.specs.Bytes.{Text, quote, hash, backslash, carriage_return, class_test}
-use Rattle.timefd_sources.specs.Behind.{behind_run, hashes}
+use Rattle.timefd_sources.specs.After.{after_run, hashes}
 use Rattle.timefd_sources.specs.Escapes.{Part, Placed, placed_any, before, all_at, byte_of, escape_by, hex_digit, high_by, is_allowed, itself, letter, low_by, byte_value, part_of, unescaped}
 use Rattle.timefd_sources.specs.Grammar.{IsBody, closing, is_body, is_raw_body}
 use Rattle.timefd_sources.specs.Written.{AddsPiece, IsBodyFor, IsWritten, closes, closes_nowhere, has_body, is_plain, is_shown, may_stand_raw, text_alone}
@@ -25,13 +25,13 @@ not_true : (a : Bool) → not a ≡ true → a ≡ false
 not_true true e = absurd cc
 not_true false e = refl
 
--- what stands in front of a text
-text_before : (t text : Text) (places : List ℕ) (r : Option Placed) → text_alone r ≡ Some text
-    → text_alone (before t places r) ≡ Some (t ++ text)
-text_before t text places None e = absurd cc
-text_before t text places (Some p) e = let same : p.text ≡ text = cc in ap (λ (x : Text). Some (t ++ x)) same
+-- a text with bytes before it
+text_before : (t text : Text) (positions : List ℕ) (r : Option Placed) → text_alone r ≡ Some text
+    → text_alone (before t positions r) ≡ Some (t ++ text)
+text_before t text positions None e = absurd cc
+text_before t text positions (Some p) e = let same : p.text ≡ text = cc in ap (λ (x : Text). Some (t ++ x)) same
 
--- one part that stands for a byte, and what stands behind it
+-- one part that denotes a byte, and what follows it
 step : (kind : Kind) (end steps head b : ℕ) (tail rest text : Text)
     → part_of kind head (tail ++ rest) ≡ Some (record { stands = b ∷ []; rest = rest })
     → text_alone (unescaped steps kind end rest) ≡ Some text
@@ -141,10 +141,10 @@ number : (e : Encoding) (b high low : ℕ) (rest : Text) → hex_digit high ≡ 
     → byte_of e (high ∷ low ∷ rest) ≡ found b rest
 number e b high low rest h l allowed =
     let value : b / 16 * 16 + b % 16 ≡ b = omega arith in
-    let behind : low_by e (b / 16) rest (hex_digit low) ≡ found b rest =
+    let after : low_by e (b / 16) rest (hex_digit low) ≡ found b rest =
     subst (λ (x : Option ℕ). low_by e (b / 16) rest x ≡ found b rest) (sym l)
     (subst (λ (x : ℕ). byte_value e x rest ≡ found b rest) (sym value) (rw allowed refl)) in
-    subst (λ (x : Option ℕ). high_by e (low ∷ rest) x ≡ found b rest) (sym h) behind
+    subst (λ (x : Option ℕ). high_by e (low ∷ rest) x ≡ found b rest) (sym h) after
 
 is_small : (e : Encoding) (b : ℕ) → b < 256 → is_shown e b ≡ false → is_allowed e b ≡ true
 is_small Str b below hidden = grind (arith, nat_tests)
@@ -184,27 +184,27 @@ raw_stands e n end (suc steps) (b ∷ text) enough all =
     step (Raw e n) end steps b b [] text text (itself_reads b text (raw_tests e b tests.0))
     (raw_stands e n end steps text (omega arith) tests.1)
 
-run_ends : (text behind : Text)
-    → behind_run (class_test Hash) (text ++ (quote ∷ behind)) ≡ behind_run (class_test Hash) text ++ (quote ∷ behind)
-run_ends [] behind = refl
-run_ends (b ∷ text) behind = elim (cases_Bool (b == hash)) [
-  | inl pass ↦ rw pass (run_ends text behind)
+run_ends : (text after : Text)
+    → after_run (class_test Hash) (text ++ (quote ∷ after)) ≡ after_run (class_test Hash) text ++ (quote ∷ after)
+run_ends [] after = refl
+run_ends (b ∷ text) after = elim (cases_Bool (b == hash)) [
+  | inl pass ↦ rw pass (run_ends text after)
   | inr fail ↦ rw fail refl
 ]
 
-hashes_end : (text behind : Text) → hashes (text ++ (quote ∷ behind)) ≡ hashes text
-hashes_end text behind = rw (
-  run_ends text behind,
-  length-append text (quote ∷ behind),
-  length-append (behind_run (class_test Hash) text) (quote ∷ behind),
+hashes_end : (text after : Text) → hashes (text ++ (quote ∷ after)) ≡ hashes text
+hashes_end text after = rw (
+  run_ends text after,
+  length-append text (quote ∷ after),
+  length-append (after_run (class_test Hash) text) (quote ∷ after),
 ) (omega arith)
 
-raw_closes : (n : ℕ) (text behind : Text) → closes_nowhere n text ≡ true
-    → IsTrue (is_raw_body n text (quote ∷ behind))
-raw_closes n [] behind e = refl
-raw_closes n (b ∷ text) behind e =
+raw_closes : (n : ℕ) (text after : Text) → closes_nowhere n text ≡ true
+    → IsTrue (is_raw_body n text (quote ∷ after))
+raw_closes n [] after e = refl
+raw_closes n (b ∷ text) after e =
     let tests = both_true (not ((b == quote) && nat_le n (hashes text))) (closes_nowhere n text) e in
-    and_from _ _ (rw (hashes_end text behind) tests.0) (raw_closes n text behind tests.1)
+    and_from _ _ (rw (hashes_end text after) tests.0) (raw_closes n text after tests.1)
 
 pub raw_body : (e : Encoding) (n : ℕ) (text body : Text) → has_body (Raw e n) text ≡ true
     → body ≡ text → IsBodyFor (Raw e n) text body
@@ -215,7 +215,7 @@ raw_body e n text body fits same =
       closes = λ rest. raw_closes n text (replicate n hash ++ rest) tests.1;
     })
 
--- A body that is read back.
+-- Reading a body back.
 closed : (kind : Kind) (body : Text) → closes kind body ≡ true → (rest : Text) → IsBody kind body (closing kind ++ rest)
 closed (Escaped e) body is rest = is
 closed (Raw e n) body is rest = raw_closes n body (replicate n hash ++ rest) is

@@ -1,4 +1,4 @@
--- Names of a source's own for what libraries have: `use time::format_description as fd`.
+-- The names that a source gives to items of libraries: `use time::format_description as fd`.
 use Rattle.std.specs.Prelude.{ℕ, ◌+◌, ◌-◌, Bool, ◌&&◌, ◌||◌, ◌==◌, nat_le, nat_lt, if◌then◌else◌, List, [], ◌∷◌, ◌++◌, codes, bytes_eq, length, Option, Some, None}
 use Rattle.std.specs.Option.{option_or, option_to_list}
 use Rattle.timefd_sources.specs.declared.alias.Alias.{Alias}
@@ -6,13 +6,13 @@ use Rattle.timefd_sources.specs.declared.piece.Piece.{Piece}
 use Rattle.timefd_sources.specs.Bytes.{Text}
 use Rattle.timefd_sources.specs.Words.{is_closing, is_opening, text_at, text_of}
 
--- what stands behind the first of these tokens that is this sign
-abbrev pub behind_first : Text → Text → List Piece → List Piece
-behind_first source sign [] = []
-behind_first source sign (p ∷ ps) =
-    if bytes_eq (text_of source p) sign then ps else behind_first source sign ps
+-- the tokens after the first one that is this sign; empty if there is no such token
+abbrev pub after_first : Text → Text → List Piece → List Piece
+after_first source sign [] = []
+after_first source sign (p ∷ ps) =
+    if bytes_eq (text_of source p) sign then ps else after_first source sign ps
 
--- where the block ends in which this many others are open
+-- Where the block that these tokens begin in ends. `depth` blocks inside of it are open.
 abbrev pub block_end : Text → ℕ → List Piece → ℕ
 block_end source depth [] = length source
 block_end source depth (p ∷ ps) =
@@ -33,12 +33,12 @@ ends_import text =
     bytes_eq text (codes ";") || bytes_eq text (codes ",") || bytes_eq text (codes "}")
     || bytes_eq text (codes "as")
 
--- It counts up to the end of the block in which the statement stands.
+-- An alias is valid up to the end of the block that its statement is in.
 abbrev pub alias_of : Text → Piece → Piece → List Piece → Alias
-alias_of source name original behind = record {
+alias_of source name original after = record {
   name = name;
   original = original;
-  until = block_end source 0 (behind_first source (codes ";") behind);
+  until = block_end source 0 (after_first source (codes ";") after);
 }
 
 -- `original as name`
@@ -52,9 +52,9 @@ renamed source original (sign ∷ name ∷ ps) =
 
 -- `original;`, `original,`, `original}`, `original as name`
 abbrev pub imported : Text → Piece → List Piece → Option Alias
-imported source original behind =
-    if ends_import (text_at source behind 0) then
-    option_or (renamed source original behind) (Some (alias_of source original original behind))
+imported source original after =
+    if ends_import (text_at source after 0) then
+    option_or (renamed source original after) (Some (alias_of source original original after))
     else None
 
 -- `.., parse, ..}`
@@ -65,55 +65,55 @@ parse_in_list source (p ∷ ps) =
     else if bytes_eq (text_of source p) (codes "parse") then imported source p ps
     else parse_in_list source ps
 
--- behind `format_description::`
+-- after `format_description::`
 abbrev pub parse_or_list : Text → Piece → List Piece → Option Alias
-parse_or_list source next behind =
-    if bytes_eq (text_of source next) (codes "{") then parse_in_list source behind
-    else if bytes_eq (text_of source next) (codes "parse") then imported source next behind
+parse_or_list source next after =
+    if bytes_eq (text_of source next) (codes "{") then parse_in_list source after
+    else if bytes_eq (text_of source next) (codes "parse") then imported source next after
     else None
 
--- behind `format_description`
-abbrev pub parse_behind : Text → List Piece → Option Alias
-parse_behind source [] = None
-parse_behind source (first ∷ []) = None
-parse_behind source (first ∷ second ∷ []) = None
-parse_behind source (first ∷ second ∷ next ∷ behind) =
+-- after `format_description`
+abbrev pub parse_after : Text → List Piece → Option Alias
+parse_after source [] = None
+parse_after source (first ∷ []) = None
+parse_after source (first ∷ second ∷ []) = None
+parse_after source (first ∷ second ∷ next ∷ after) =
     if bytes_eq (text_of source first) (codes ":") && bytes_eq (text_of source second) (codes ":") then
-    parse_or_list source next behind
+    parse_or_list source next after
     else None
 
--- the import of `parse` beside the name of its module
+-- the import of `parse` that follows the name of its module
 abbrev pub parse_beside : Text → Piece → List Piece → Option Alias
-parse_beside source p behind =
-    if bytes_eq (text_of source p) (codes "format_description") then parse_behind source behind else None
+parse_beside source p after =
+    if bytes_eq (text_of source p) (codes "format_description") then parse_after source after else None
 
--- the alias that is declared beside a token, which stands in front of these
+-- the alias that is declared at a token, which these follow
 abbrev pub alias_at : Text → Piece → List Piece → Option Alias
-alias_at source p behind =
+alias_at source p after =
     if is_known (text_of source p) then
-    option_or (renamed source p behind) (parse_beside source p behind)
+    option_or (renamed source p after) (parse_beside source p after)
     else None
 
--- those of a source, in turn
+-- the aliases of a source, in order
 abbrev pub aliases_in : Text → List Piece → List Alias
 aliases_in source [] = []
 aliases_in source (p ∷ ps) = option_to_list (alias_at source p ps) ++ aliases_in source ps
 
 abbrev pub is_named_so : Text → Alias → Text → ℕ → Bool
-is_named_so source alias name place =
-    bytes_eq (text_of source alias.name) name && nat_le alias.name.start place && nat_lt place alias.until
+is_named_so source alias name position =
+    bytes_eq (text_of source alias.name) name && nat_le alias.name.start position && nat_lt position alias.until
 
--- what the first alias of a name stands for that counts at a place
+-- the original of the first alias with this name that is valid at a position
 abbrev pub original_of : Text → Text → ℕ → List Alias → Option Piece
-original_of source name place [] = None
-original_of source name place (alias ∷ others) =
-    if is_named_so source alias name place then Some alias.original
-    else original_of source name place others
+original_of source name position [] = None
+original_of source name position (alias ∷ others) =
+    if is_named_so source alias name position then Some alias.original
+    else original_of source name position others
 
 abbrev pub name_or : Text → Text → Option Piece → Text
 name_or source name None = name
 name_or source name (Some original) = text_of source original
 
--- a name, or what its alias stands for
+-- the original of a name's alias, or the name itself if it isn't an alias
 abbrev pub real_name : Text → Text → ℕ → List Alias → Text
-real_name source name place aliases = name_or source name (original_of source name place aliases)
+real_name source name position aliases = name_or source name (original_of source name position aliases)

@@ -3,9 +3,9 @@ use Rattle.std.specs.Prelude.{ℕ, Bool, false, ◌&&◌, if◌then◌else◌, L
 use Rattle.timefd_sources.specs.declared.dialect.Dialect.{Dialect}
 use Rattle.timefd_sources.specs.declared.dialect.Dialect.TheVariants.{One, Chrono}
 use Rattle.timefd_sources.specs.declared.piece.Piece.{Piece}
-use Rattle.timefd_sources.specs.declared.told.Items.TheVariants.{Taken}
-use Rattle.timefd_sources.specs.declared.told.Told.{Told}
-use Rattle.timefd_sources.specs.declared.version.VersionPlace.TheVariants as places
+use Rattle.timefd_sources.specs.declared.known.Items.TheVariants.{Taken}
+use Rattle.timefd_sources.specs.declared.known.Known.{Known}
+use Rattle.timefd_sources.specs.declared.version.VersionPosition.TheVariants as positions
 use Rattle.timefd_sources.specs.Bytes.{Text}
 use Rattle.timefd_sources.specs.Dates.{has_percent}
 use Rattle.timefd_sources.specs.Words.{text_at, text_before}
@@ -16,17 +16,17 @@ is_in_attribute source ps i =
     && bytes_eq (text_before source ps i 3) (codes "(") && bytes_eq (text_before source ps i 4) (codes "time")
     && bytes_eq (text_before source ps i 5) (codes "[") && bytes_eq (text_before source ps i 6) (codes "#")
 
--- With a `%` it is chrono's.
+-- With a `%` the literal is chrono's.
 abbrev pub dialect_by_bytes : Text → Dialect
 dialect_by_bytes literal = if has_percent literal then Chrono else One
 
--- what an attribute tells of a token
-abbrev pub told_by_attribute : Text → List Piece → ℕ → Option Told
-told_by_attribute source ps i =
+-- what an attribute says about a token
+abbrev pub known_by_attribute : Text → List Piece → ℕ → Option Known
+known_by_attribute source ps i =
     if is_in_attribute source ps i then Some (record {
       dialect = dialect_by_bytes (text_at source ps i);
       items = Taken;
-      version = places.Call;
+      version = positions.Call;
       wants_percent = false;
       call = None;
     })

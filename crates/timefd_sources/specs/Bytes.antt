@@ -54,15 +54,15 @@ is_white b = is_skipped b || (b == 11) || (b == 12)
 abbrev pub is_word : ℕ → Bool
 is_word b = is_between 97 122 b || is_between 65 90 b || is_between 48 57 b || (b == 95) || nat_le 128 b
 
--- a byte of a key of TOML without quotes: a letter or a digit of ASCII, `_`, `-`
+-- a byte of a TOML key without quotes: an ASCII letter or digit, `_`, `-`
 abbrev pub is_bare : ℕ → Bool
 is_bare b = is_ascii_alphanumeric b || (b == 95) || (b == 45)
 
--- a blank, a quote, `,`, `]` or `}`: what may stand between the value of a key and a comment
+-- a blank, a quote, `,`, `]` or `}`: what may be between the value of a key and a comment
 abbrev pub is_aside : ℕ → Bool
 is_aside b = is_blank b || (b == quote) || (b == apostrophe) || (b == 44) || (b == 93) || (b == 125)
 
--- a byte of a character of several bytes, behind its first
+-- a byte of a character of several bytes, after its first
 abbrev pub is_continuation : ℕ → Bool
 is_continuation b = is_between 128 191 b
 

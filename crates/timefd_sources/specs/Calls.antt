@@ -1,4 +1,4 @@
--- Calls that make descriptions of their arguments.
+-- Calls whose arguments are descriptions.
 use Rattle.std.specs.Prelude.{ℕ, Bool, not, ◌&&◌, ◌||◌, if◌then◌else◌, List, codes, bytes_eq, Option, Some, None}
 use Rattle.timefd_sources.specs.declared.alias.Alias.{Alias}
 use Rattle.timefd_sources.specs.declared.calls.Call.{Call}
@@ -9,17 +9,17 @@ use Rattle.timefd_sources.specs.declared.piece.Piece.{Piece}
 use Rattle.timefd_sources.specs.Bytes.{Text}
 use Rattle.timefd_sources.specs.Dialects.{version_named}
 use Rattle.timefd_sources.specs.Aliases.{original_of, real_name}
-use Rattle.timefd_sources.specs.Words.{place_at, text_before, text_of}
+use Rattle.timefd_sources.specs.Words.{position_at, text_before, text_of}
 
 -- `format_description!`
 abbrev pub macro_named : Text → Call
 macro_named name = if bytes_eq name (codes "format_description") then Macro else Other
 
--- `parse_borrowed`, `parse_owned`, which may have their version behind them
+-- `parse_borrowed`, `parse_owned`: their version may follow them
 abbrev pub takes_version : Text → Bool
 takes_version name = bytes_eq name (codes "parse_borrowed") || bytes_eq name (codes "parse_owned")
 
--- `parse_owned` keeps its description, which may hold items that the others refuse.
+-- `parse_owned` makes an owned description, which may have items that the others refuse.
 abbrev pub parser_named : Text → Dialect → Call
 parser_named name dialect = if bytes_eq name (codes "parse_owned") then Owned dialect else First dialect
 
@@ -84,7 +84,7 @@ call_in_module name path =
     else if is_of_jiff name path then First Jiff
     else call_named name
 
--- `parse` is imported from the module of `time` alone.
+-- `parse` is only ever imported from the module of `time`.
 abbrev pub call_imported : Text → Call
 call_imported name = if bytes_eq name (codes "parse") then First One else call_named name
 
@@ -92,9 +92,9 @@ abbrev pub bare_by : Text → Text → Option Piece → Call
 bare_by source name None = call_named name
 bare_by source name (Some original) = call_imported (text_of source original)
 
--- a call by a name alone, which may be imported
+-- a call by a bare name, which may be imported
 abbrev pub bare_call : Text → Text → ℕ → List Alias → Call
-bare_call source name place aliases = bare_by source name (original_of source name place aliases)
+bare_call source name position aliases = bare_by source name (original_of source name position aliases)
 
 abbrev pub parser_by : Text → Option Dialect → Call
 parser_by name None = Other
@@ -115,19 +115,19 @@ with_version source ps i name =
 -- `parse_borrowed::<2>(`
 abbrev pub call_with_version : Text → List Piece → List Alias → ℕ → Call
 call_with_version source ps aliases i =
-    with_version source ps i (real_name source (text_before source ps i 6) (place_at ps i) aliases)
+    with_version source ps i (real_name source (text_before source ps i 6) (position_at ps i) aliases)
 
-abbrev pub is_behind_path : Text → List Piece → ℕ → Bool
-is_behind_path source ps i =
+abbrev pub is_after_path : Text → List Piece → ℕ → Bool
+is_after_path source ps i =
     bytes_eq (text_before source ps i 2) (codes ":") && bytes_eq (text_before source ps i 3) (codes ":")
 
--- the call whose arguments stand in the bracket that this token opens, where these aliases are declared
+-- the call whose arguments are in the bracket that this token opens, with these aliases declared
 abbrev pub call_of : Text → List Piece → List Alias → ℕ → Call
 call_of source ps aliases i =
     if bytes_eq (text_before source ps i 1) (codes "!") then
-    macro_named (real_name source (text_before source ps i 2) (place_at ps i) aliases)
+    macro_named (real_name source (text_before source ps i 2) (position_at ps i) aliases)
     else if bytes_eq (text_before source ps i 1) (codes ">") then call_with_version source ps aliases i
-    else if is_behind_path source ps i then
-    call_in_module (text_before source ps i 1) (real_name source (text_before source ps i 4) (place_at ps i) aliases)
+    else if is_after_path source ps i then
+    call_in_module (text_before source ps i 1) (real_name source (text_before source ps i 4) (position_at ps i) aliases)
     else if bytes_eq (text_before source ps i 2) (codes ".") then method_named (text_before source ps i 1)
-    else bare_call source (text_before source ps i 1) (place_at ps i) aliases
+    else bare_call source (text_before source ps i 1) (position_at ps i) aliases

@@ -6,8 +6,8 @@ use Rattle.timefd_sources.specs.Bytes.{Text}
 abbrev pub begins : Text → Text → Bool
 begins text directive = starts_with nat_eq text directive
 
--- Behind the `%`: digits of a second, without a dot and with one; an offset with colons or a zone's
--- name; a date as `8-Jul-2001`, the quarter, or a whole date and time.
+-- After the `%`: the digits of a fraction of a second, without a dot and with one; an offset with
+-- colons or a zone's name; a date such as `8-Jul-2001`, the quarter, or a whole date and time.
 abbrev pub begins_fraction : Text → Bool
 begins_fraction text =
     begins text (codes "f") || begins text (codes "3f") || begins text (codes "6f")
@@ -29,18 +29,19 @@ begins_date text = begins text (codes "v") || begins text (codes "q") || begins 
 abbrev pub begins_own : Text → Bool
 begins_own text = begins_fraction text || begins_dotted text || begins_zone text || begins_date text
 
--- Whether one stands behind a `%`. The byte behind a `%` begins no other directive.
+-- Whether such a directive follows a `%`. The byte after a `%` doesn't begin another directive.
 abbrev mutual
   pub is_of_chrono : Text → Bool
   is_of_chrono [] = false
-  is_of_chrono (b ∷ bytes) = if b == 37 then is_of_chrono_behind bytes else is_of_chrono bytes
+  is_of_chrono (b ∷ bytes) = if b == 37 then is_of_chrono_after bytes else is_of_chrono bytes
 
-  pub is_of_chrono_behind : Text → Bool
-  is_of_chrono_behind [] = false
-  is_of_chrono_behind (b ∷ bytes) =
+  pub is_of_chrono_after : Text → Bool
+  is_of_chrono_after [] = false
+  is_of_chrono_after (b ∷ bytes) =
       if begins_own (b ∷ bytes) then true else is_of_chrono bytes
 
--- Behind the `%`: a flag, a width, digits of a second, an offset with colons, or a zone of jiff.
+-- After the `%`: a flag, a width, the digits of a fraction of a second, an offset with colons, or a
+-- zone of jiff.
 abbrev pub begins_of_jiff : Text → Bool
 begins_of_jiff [] = false
 begins_of_jiff (b ∷ bytes) = list_any (λ c. c == b) (codes "NQfqv.:Z^#+123456789")
@@ -48,9 +49,9 @@ begins_of_jiff (b ∷ bytes) = list_any (λ c. c == b) (codes "NQfqv.:Z^#+123456
 abbrev mutual
   pub is_of_jiff : Text → Bool
   is_of_jiff [] = false
-  is_of_jiff (b ∷ bytes) = if b == 37 then is_of_jiff_behind bytes else is_of_jiff bytes
+  is_of_jiff (b ∷ bytes) = if b == 37 then is_of_jiff_after bytes else is_of_jiff bytes
 
-  pub is_of_jiff_behind : Text → Bool
-  is_of_jiff_behind [] = false
-  is_of_jiff_behind (b ∷ bytes) =
+  pub is_of_jiff_after : Text → Bool
+  is_of_jiff_after [] = false
+  is_of_jiff_after (b ∷ bytes) =
       if begins_of_jiff (b ∷ bytes) then true else is_of_jiff bytes

@@ -1,4 +1,5 @@
--- What the body of a literal stands for. A line that ends in two bytes ends in a line feed alone.
+-- What the body of a literal denotes. A carriage return and a line feed at the end of a line denote a
+-- line feed.
 use Rattle.std.specs.Prelude.{ℕ, zero, suc, ◌+◌, ◌-◌, ◌*◌, Bool, true, false, not, ◌&&◌, ◌||◌, ◌==◌, nat_le, nat_lt, if◌then◌else◌, List, [], ◌∷◌, ◌++◌, length, map, Option, Some, None}
 use Rattle.std.specs.Char.{encode_utf8}
 use lib.Utf8.{scalar}
@@ -11,9 +12,9 @@ use Rattle.timefd_sources.specs.declared.part.Stands.TheVariants.{Nothing, Byte,
 use Rattle.timefd_sources.specs.declared.part.Part as code
 use Rattle.timefd_sources.specs.declared.unescape.Unescaped as whole
 use Rattle.timefd_sources.specs.Bytes.{Text, quote, apostrophe, backslash, line_feed, carriage_return, is_between, is_skipped}
-use Rattle.timefd_sources.specs.Behind.{behind_run}
+use Rattle.timefd_sources.specs.After.{after_run}
 
--- what a part of a body stands for, and what stands behind it
+-- what a part of a body denotes, and what follows it
 pub record Part : Type 0 where
   pub stands : Text
   pub rest : Text
@@ -49,7 +50,7 @@ letter b =
     else if b == quote then Some quote
     else None
 
--- In a text `\x` stands for ASCII alone.
+-- In a string of text `\x` can only denote ASCII.
 abbrev pub is_allowed : Encoding → ℕ → Bool
 is_allowed Str value = nat_lt value 128
 is_allowed Bytes value = true
@@ -63,7 +64,7 @@ abbrev pub low_by : Encoding → ℕ → Text → Option ℕ → Option Part
 low_by e high rest None = None
 low_by e high rest (Some low) = byte_value e (high * 16 + low) rest
 
--- behind the first digit of `\x`
+-- after the first digit of `\x`
 abbrev pub low_digit : Encoding → ℕ → Text → Option Part
 low_digit e high [] = None
 low_digit e high (b ∷ bytes) = low_by e high bytes (hex_digit b)
@@ -72,12 +73,12 @@ abbrev pub high_by : Encoding → Text → Option ℕ → Option Part
 high_by e rest None = None
 high_by e rest (Some high) = low_digit e high rest
 
--- behind `\x`
+-- after `\x`
 abbrev pub byte_of : Encoding → Text → Option Part
 byte_of e [] = None
 byte_of e (b ∷ bytes) = high_by e bytes (hex_digit b)
 
--- the character of a number, if one has it
+-- the character with this number, if there is one
 abbrev pub scalar_value : ℕ → Option ℕ
 scalar_value value = if scalar value then Some value else None
 
@@ -89,15 +90,15 @@ abbrev pub character : Text → Option ℕ → Option Part
 character rest None = None
 character rest (Some value) = char_part rest (scalar_value value)
 
--- one digit more, up to the greatest number of a character
+-- one more digit, up to the greatest code point
 abbrev pub next_value : Option ℕ → Option ℕ → Option ℕ
 next_value None digit = None
 next_value (Some value) None = None
 next_value (Some value) (Some digit) =
     if nat_le (value * 16 + digit) 1114111 then Some (value * 16 + digit) else None
 
--- Behind the first digits of a number, which is none where one of them is no digit, up to the closing
--- brace. Underscores may stand between them.
+-- After the first digits of a number, up to the closing brace. The number is none if one of them
+-- isn't a digit. Underscores may be between them.
 abbrev pub digits : Option ℕ → Text → Option Part
 digits number [] = None
 digits number (b ∷ bytes) =
@@ -109,7 +110,7 @@ abbrev pub first_digit : Text → Option Part
 first_digit [] = None
 first_digit (b ∷ bytes) = digits (hex_digit b) bytes
 
--- behind `\u`
+-- after `\u`
 abbrev pub scalar_of : Text → Option Part
 scalar_of [] = None
 scalar_of (b ∷ bytes) = if b == 123 then first_digit bytes else None
@@ -131,15 +132,15 @@ escape_by e b bytes (Some c) = Some (record { stands = c ∷ []; rest = bytes })
 escape_by e b bytes None =
     if b == 120 then byte_of e bytes
     else if (b == 117) && not (is_of_bytes e) then scalar_of bytes
-    else if ends_line b bytes then Some (record { stands = []; rest = behind_run is_skipped bytes })
+    else if ends_line b bytes then Some (record { stands = []; rest = after_run is_skipped bytes })
     else None
 
--- behind a backslash
+-- after a backslash
 abbrev pub escape : Encoding → Text → Option Part
 escape e [] = None
 escape e (b ∷ bytes) = escape_by e b bytes (letter b)
 
--- a byte that stands for itself
+-- a plain byte, which denotes itself
 abbrev pub itself : ℕ → Text → Part
 itself b bytes =
     if (b == carriage_return) && begins_line_feed bytes then record { stands = []; rest = bytes }
@@ -149,33 +150,33 @@ abbrev pub part_of : Kind → ℕ → Text → Option Part
 part_of (Escaped e) b bytes = if b == backslash then escape e bytes else Some (itself b bytes)
 part_of (Raw e n) b bytes = Some (itself b bytes)
 
--- bytes, and for each the place of what it stands for
+-- bytes, and the position of each in the source
 pub record Placed : Type 0 where
   pub text : Text
-  pub places : List ℕ
+  pub positions : List ℕ
 
 abbrev pub placed : whole.Unescaped → Placed
-placed u = record { text = u.text.items; places = u.places.items }
+placed u = record { text = u.text.items; positions = u.positions.items }
 
 abbrev pub placed_any : Option whole.Unescaped → Option Placed
 placed_any None = None
 placed_any (Some u) = Some (placed u)
 
--- these in front
+-- the bytes with these before them
 abbrev pub before : Text → List ℕ → Option Placed → Option Placed
-before text places None = None
-before text places (Some p) = Some (record { text = text ++ p.text; places = places ++ p.places })
+before text positions None = None
+before text positions (Some p) = Some (record { text = text ++ p.text; positions = positions ++ p.positions })
 
--- each of these bytes at one place
+-- the same position for each of these bytes
 abbrev pub all_at : ℕ → Text → List ℕ
-all_at place bytes = map (λ _. place) bytes
+all_at position bytes = map (λ _. position) bytes
 
--- The bytes that a body stands for, in at most this many parts. The body ends at a place, from which
--- the places of its parts are counted back.
+-- The bytes that a body denotes, in at most this many parts. The body ends at `end`, from which the
+-- positions of its parts are counted back.
 abbrev pub unescaped : ℕ → Kind → ℕ → Text → Option Placed
-unescaped zero kind end [] = Some (record { text = []; places = [] })
+unescaped zero kind end [] = Some (record { text = []; positions = [] })
 unescaped zero kind end (b ∷ bytes) = None
-unescaped (suc steps) kind end [] = Some (record { text = []; places = [] })
+unescaped (suc steps) kind end [] = Some (record { text = []; positions = [] })
 unescaped (suc steps) kind end (b ∷ bytes) = elim (part_of kind b bytes) [
   | None ↦ None
   | Some p ↦ before p.stands (all_at (end - length (b ∷ bytes)) p.stands) (unescaped steps kind end p.rest)

@@ -1,4 +1,4 @@
--- The string literals of Rust's reference.
+-- The string literals, as Rust's reference defines them.
 use Rattle.std.specs.Prelude.{ℕ, ◌≡◌, Bool, true, not, ◌&&◌, ◌==◌, nat_le, if◌then◌else◌, [], ◌∷◌, ◌++◌, replicate, Some, IsTrue}
 use Rattle.timefd_sources.specs.declared.token.Encoding.{Encoding}
 use Rattle.timefd_sources.specs.declared.token.Encoding.TheVariants.{Str, Bytes, C}
@@ -6,21 +6,21 @@ use Rattle.timefd_sources.specs.declared.token.Kind.{Kind}
 use Rattle.timefd_sources.specs.declared.token.Kind.TheVariants.{Escaped, Raw}
 use Rattle.timefd_sources.specs.declared.token.Token.TheVariants.{Literal}
 use Rattle.timefd_sources.specs.Bytes.{Text, quote, hash, backslash}
-use Rattle.timefd_sources.specs.Behind.{hashes}
+use Rattle.timefd_sources.specs.After.{hashes}
 use Rattle.timefd_sources.specs.Tokens.{first}
 
--- Between the quotes of a string: a byte stands behind each backslash, and no other is a quote.
+-- Between the quotes of a string: a byte follows each backslash, and none of the others is a quote.
 abbrev pub is_body : Text → Bool
 is_body [] = true
 is_body (b ∷ []) = not (b == backslash) && not (b == quote)
 is_body (b ∷ c ∷ bytes) =
     if b == backslash then is_body bytes else not (b == quote) && is_body (c ∷ bytes)
 
--- Between those of a raw string: behind no quote as many `#` stand as close it.
+-- Between the quotes of a raw string: no quote is followed by as many `#` as close it.
 abbrev pub is_raw_body : ℕ → Text → Text → Bool
-is_raw_body n [] behind = true
-is_raw_body n (b ∷ bytes) behind =
-    not ((b == quote) && nat_le n (hashes (bytes ++ behind))) && is_raw_body n bytes behind
+is_raw_body n [] after = true
+is_raw_body n (b ∷ bytes) after =
+    not ((b == quote) && nat_le n (hashes (bytes ++ after))) && is_raw_body n bytes after
 
 -- what a literal begins with: `b`, `c`
 abbrev pub letters : Encoding → Text
@@ -37,10 +37,10 @@ closing (Escaped e) = quote ∷ []
 closing (Raw e n) = quote ∷ replicate n hash
 
 abbrev pub IsBody : Kind → Text → Text → Type 0
-IsBody (Escaped e) body behind = IsTrue (is_body body)
-IsBody (Raw e n) body behind = IsTrue (is_raw_body n body behind)
+IsBody (Escaped e) body after = IsTrue (is_body body)
+IsBody (Raw e n) body after = IsTrue (is_raw_body n body after)
 
--- a literal, in front of what follows it
+-- a literal, before what follows it
 pub record IsLiteral (kind : Kind) (text rest : Text) : Type 0 where
   pub body : Text
   pub whole : text ≡ opening kind ++ body ++ closing kind

@@ -1,5 +1,5 @@
 pub mod Bytes
-pub mod Behind
+pub mod After
 pub mod Dialects
 pub mod Lines
 pub mod Tokens

@@ -1,27 +1,27 @@
--- The text of a literal that stands in a source.
+-- The text of a literal in a source.
 use Rattle.std.specs.Prelude.{ℕ, ◌≡◌, ◌≤◌, ◌-◌, ◌&&◌, nat_le, nat_lt, if◌then◌else◌, [], ◌∷◌, length, take, drop, Option, Some, None}
 use Rattle.timefd_sources.specs.declared.class.Class.TheVariants.{Unquoted}
 use Rattle.timefd_sources.specs.declared.piece.Piece.{Piece}
 use Rattle.timefd_sources.specs.declared.token.Kind.{Kind}
 use Rattle.timefd_sources.specs.declared.token.Kind.TheVariants.{Escaped, Raw}
 use Rattle.timefd_sources.specs.Bytes.{Text, class_test}
-use Rattle.timefd_sources.specs.Behind.{behind_run}
+use Rattle.timefd_sources.specs.After.{after_run}
 use Rattle.timefd_sources.specs.Escapes.{Placed, unescaped}
 
 abbrev pub hash_count : Kind → ℕ
 hash_count (Escaped e) = 0
 hash_count (Raw e n) = n
 
--- from behind the opening quote up to the closing one
+-- from after the opening quote up to the closing one
 abbrev pub inner : Kind → Text → Option Text
 inner kind [] = None
 inner kind (b ∷ bytes) =
     if nat_lt (hash_count kind) (length bytes) then Some (take (length bytes - hash_count kind - 1) bytes)
     else None
 
--- what stands between the quotes of a literal
+-- what is between the quotes of a literal
 abbrev pub body : Kind → Text → Option Text
-body kind literal = inner kind (behind_run (class_test Unquoted) literal)
+body kind literal = inner kind (after_run (class_test Unquoted) literal)
 
 -- the bytes of a token
 abbrev pub cut : Text → Piece → Option Text
@@ -37,7 +37,7 @@ abbrev pub text_of : Kind → ℕ → Option Text → Option Placed
 text_of kind end None = None
 text_of kind end (Some literal) = body_text kind end (body kind literal)
 
--- the place of the closing quote
+-- the position of the closing quote
 abbrev pub body_end : Piece → Kind → ℕ
 body_end p kind = p.end - hash_count kind - 1
 
@@ -48,11 +48,11 @@ abbrev pub inside_of : Kind → Option Text → Option Text
 inside_of kind None = None
 inside_of kind (Some literal) = body kind literal
 
--- what stands between the quotes of a literal of the source
+-- what is between the quotes of a literal of the source
 abbrev pub inside : Text → Piece → Kind → Option Text
 inside source p kind = inside_of kind (cut source p)
 
--- These bytes of the source end at a place.
+-- The source has these bytes before the position `end`.
 pub record EndsAt (source : Text) (end : ℕ) (bytes : Text) : Type 0 where
   pub within : end ≤ length source
   pub are : bytes ≡ take (length bytes) (drop (end - length bytes) source)

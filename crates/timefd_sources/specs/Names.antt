@@ -3,23 +3,24 @@ use Rattle.std.specs.Prelude.{None, codes, ◌⊎◌}
 use Rattle.memchr.specs.Find.{FindsNeedle, IsFirstByte, is_byte}
 use Rattle.timefd_sources.specs.Bytes.{Text}
 
--- A word stands nowhere in a source.
+-- A word is nowhere in a source.
 pub record Lacks (source word : Text) : Type 0 where
   pub nowhere : FindsNeedle source word 0 None
 
--- Neither the macro of `time` stands in a source, nor its attribute, nor the word by which a comment names a language.
+-- A source has neither the macro of `time`, nor its attribute, nor the word that a comment names a language
+-- with.
 pub record HasNoMacro (source : Text) : Type 0 where
   pub format_description : Lacks source (codes "format_description")
   pub attribute : Lacks source (codes "#[time(")
   pub timefd : Lacks source (codes "timefd")
 
--- None of the functions of `time` that read a description.
+-- It has none of the functions of `time` that read a description.
 pub record HasNoParser (source : Text) : Type 0 where
   pub parse_borrowed : Lacks source (codes "parse_borrowed")
   pub parse_owned : Lacks source (codes "parse_owned")
   pub parse_strftime : Lacks source (codes "parse_strftime_")
 
--- Nor an escape that stands for a `%`: `\x25`, `\u{25}`.
+-- It has no escape that denotes a `%`: `\x25`, `\u{25}`.
 pub record HasNoPercentEscape (source : Text) : Type 0 where
   pub hex : Lacks source (codes "\\x25")
   pub number : Lacks source (codes "\\u{25}")
@@ -33,7 +34,7 @@ pub record HasNoReaderOfChrono (source : Text) : Type 0 where
   pub datetime_from_str : Lacks source (codes "datetime_from_str")
   pub parse_and_remainder : Lacks source (codes "parse_and_remainder")
 
--- None of those of chrono; nor `format` and a `%`.
+-- It has none of the functions of chrono that read a description, nor both `format` and a `%`.
 pub record HasNoCallOfChrono (source : Text) : Type 0 where
   pub reader : HasNoReaderOfChrono source
   pub items : Lacks source (codes "StrftimeItems")
@@ -41,14 +42,14 @@ pub record HasNoCallOfChrono (source : Text) : Type 0 where
   pub utc : Lacks source (codes "ChronoUtc")
   pub format : HasNoPercent source ⊎ Lacks source (codes "format")
 
--- None of those of jiff.
+-- It has none of the functions of jiff that read a description.
 pub record HasNoCallOfJiff (source : Text) : Type 0 where
   pub strftime : Lacks source (codes "strftime")
   pub strptime : Lacks source (codes "strptime")
   pub strtime : Lacks source (codes "strtime")
   pub broken_down : Lacks source (codes "BrokenDownTime")
 
--- Nothing stands in a source beside which a description stands.
+-- A source has none of the names that descriptions come with.
 pub record HasNoName (source : Text) : Type 0 where
   pub macro : HasNoMacro source
   pub parser : HasNoParser source

@@ -1,10 +1,10 @@
--- The tokens of a source, in turn.
+-- The tokens of a source, in order.
 use Rattle.std.specs.Prelude.{ℕ, ◌≡◌, ◌-◌, List, [], ◌∷◌, length, Some}
 use Rattle.timefd_sources.specs.declared.piece.Piece.{Piece}
 use Rattle.timefd_sources.specs.Bytes.{Text}
 use Rattle.timefd_sources.specs.Tokens.{first}
 
--- A text at the end of a source of this length is these tokens, one behind another, and nothing else.
+-- A text at the end of a source of this length is these tokens, one after another, and nothing else.
 abbrev pub AreTokens : ℕ → Text → List Piece → Type 0
 AreTokens len text [] = text ≡ []
 AreTokens len text (p ∷ ps) = (rest : Text)

@@ -19,7 +19,7 @@ abbrev pub word : Text → Option Piece → Text
 word source None = []
 word source (Some p) = or_empty (cut source p)
 
--- the text of the token at an index; empty where there is none
+-- the text of the token at an index; empty if there is none
 abbrev pub text_at : Text → List Piece → ℕ → Text
 text_at source ps i = word source (slice_get ps i)
 
@@ -27,15 +27,15 @@ abbrev pub but_first : List Piece → List Piece
 but_first [] = []
 but_first (p ∷ ps) = ps
 
--- the tokens behind the one at an index
-abbrev pub tokens_behind : List Piece → ℕ → List Piece
-tokens_behind ps i = but_first (drop i ps)
+-- the tokens after the one at an index
+abbrev pub tokens_after : List Piece → ℕ → List Piece
+tokens_after ps i = but_first (drop i ps)
 
--- the text of the token that stands so many behind one
-abbrev pub text_behind : Text → List Piece → ℕ → ℕ → Text
-text_behind source ps i ahead = text_at source ps (i + ahead)
+-- the text of the token `ahead` tokens after the one at an index
+abbrev pub text_after : Text → List Piece → ℕ → ℕ → Text
+text_after source ps i ahead = text_at source ps (i + ahead)
 
--- the text of the token that stands so many in front of one
+-- the text of the token `back` tokens before the one at an index
 abbrev pub text_before : Text → List Piece → ℕ → ℕ → Text
 text_before source ps i back = if nat_le back i then text_at source ps (i - back) else []
 
@@ -57,13 +57,13 @@ is_word_piece (Some p) = is_word_token p.token
 abbrev pub is_word_at : List Piece → ℕ → Bool
 is_word_at ps i = is_word_piece (slice_get ps i)
 
-abbrev pub place_of_any : Option Piece → ℕ
-place_of_any None = 0
-place_of_any (Some p) = p.start
+abbrev pub position_of_any : Option Piece → ℕ
+position_of_any None = 0
+position_of_any (Some p) = p.start
 
--- where the token at an index begins
-abbrev pub place_at : List Piece → ℕ → ℕ
-place_at ps i = place_of_any (slice_get ps i)
+-- where the token at an index begins; 0 if there is none
+abbrev pub position_at : List Piece → ℕ → ℕ
+position_at ps i = position_of_any (slice_get ps i)
 
 abbrev pub is_opening : Text → Bool
 is_opening text = bytes_eq text (codes "(") || bytes_eq text (codes "[") || bytes_eq text (codes "{")

@@ -6,7 +6,7 @@ use Rattle.timefd_sources.specs.declared.token.Encoding.TheVariants.{Str, Bytes,
 use Rattle.timefd_sources.specs.declared.token.Kind.{Kind}
 use Rattle.timefd_sources.specs.declared.token.Kind.TheVariants.{Escaped, Raw}
 use Rattle.timefd_sources.specs.Bytes.{Text, quote, backslash, carriage_return}
-use Rattle.timefd_sources.specs.Behind.{hashes}
+use Rattle.timefd_sources.specs.After.{hashes}
 use Rattle.timefd_sources.specs.Escapes.{Placed, part_of, unescaped}
 use Rattle.timefd_sources.specs.Grammar.{IsBody, closing, is_body}
 
@@ -14,42 +14,43 @@ abbrev pub text_alone : Option Placed → Option Text
 text_alone None = None
 text_alone (Some p) = Some p.text
 
--- what a body stands for, wherever it stands
+-- what a body denotes, wherever it is
 abbrev pub text_in : Kind → Text → Option Text
 text_in kind body = text_alone (unescaped (length body) kind (length body) body)
 
--- A body stands for a text, and between its quotes, whatever follows, it is a literal's by the grammar.
+-- A body denotes a text, and between its quotes it is the body of a literal by the grammar, whatever
+-- follows.
 pub record IsBodyFor (kind : Kind) (text body : Text) : Type 0 where
   pub stands : text_in kind body ≡ Some text
   pub closes : (rest : Text) → IsBody kind body (closing kind ++ rest)
 
--- Whether a literal may stand for a byte: a text of C has no 0.
+-- Whether a literal can denote a byte: a C string has no 0.
 abbrev pub may_stand : Encoding → ℕ → Bool
 may_stand Str b = true
 may_stand Bytes b = true
 may_stand C b = not (b == 0)
 
--- Whether a byte may be in a literal of bytes as it is.
+-- Whether a byte may be in a literal as it is: a byte string has only ASCII.
 abbrev pub is_itself : Encoding → ℕ → Bool
 is_itself Str b = true
 is_itself Bytes b = nat_lt b 128
 is_itself C b = true
 
--- Whether a byte stands for itself in a raw literal: a carriage return may not be in one.
+-- Whether a byte can be in a raw literal: a carriage return can't.
 abbrev pub may_stand_raw : Encoding → ℕ → Bool
 may_stand_raw e b = not (b == carriage_return) && (may_stand e b && is_itself e b)
 
--- whether behind no quote of a text as many `#` stand as close a raw literal
+-- whether no quote of a text is followed by as many `#` as close a raw literal
 abbrev pub closes_nowhere : ℕ → Text → Bool
 closes_nowhere n [] = true
 closes_nowhere n (b ∷ bytes) = not ((b == quote) && nat_le n (hashes bytes)) && closes_nowhere n bytes
 
--- Whether a literal of this kind can stand for a text.
+-- Whether a literal of this kind can denote a text.
 abbrev pub has_body : Kind → Text → Bool
 has_body (Escaped e) text = list_all (may_stand e) text
 has_body (Raw e n) text = list_all (may_stand_raw e) text && closes_nowhere n text
 
--- whether a body lies between the quotes of a literal, whatever follows it
+-- whether this can be the body of a literal, whatever follows it
 abbrev pub closes : Kind → Text → Bool
 closes (Escaped e) body = is_body body
 closes (Raw e n) body = closes_nowhere n body
@@ -58,7 +59,7 @@ closes (Raw e n) body = closes_nowhere n body
 abbrev pub is_plain : ℕ → Bool
 is_plain b = not (b == quote) && (not (b == backslash) && not (b == carriage_return))
 
--- A piece of a body with escapes stands for one byte, and whatever follows it stays a body.
+-- A piece of a body with escapes denotes one byte, and whatever follows it stays a body.
 pub record Writes (e : Encoding) (b : ℕ) (piece : Text) : Type 0 where
   pub head : ℕ
   pub tail : Text
@@ -66,7 +67,7 @@ pub record Writes (e : Encoding) (b : ℕ) (piece : Text) : Type 0 where
   pub reads : (rest : Text) → part_of (Escaped e) head (tail ++ rest) ≡ Some (record { stands = b ∷ []; rest = rest })
   pub keeps : (rest : Text) → is_body (head ∷ (tail ++ rest)) ≡ is_body rest
 
--- A body has such a piece for each byte of a text, in turn.
+-- A body has such a piece for each byte of a text, in order.
 abbrev pub IsWritten : Encoding → Text → Text → Type 0
 IsWritten e [] body = body ≡ []
 IsWritten e (b ∷ text) body = (piece : Text) × (rest : Text)
@@ -76,7 +77,7 @@ IsWritten e (b ∷ text) body = (piece : Text) × (rest : Text)
 abbrev pub AddsPiece : Encoding → ℕ → Text → Text → Type 0
 AddsPiece e b body more = (piece : Text) × Writes e b piece × (more ≡ body ++ piece)
 
--- whether a byte that no letter stands for is written as it is
+-- whether a byte that has no letter is written as it is
 abbrev pub is_shown : Encoding → ℕ → Bool
 is_shown Str b = nat_le 32 b && not (b == 0x7F)
 is_shown Bytes b = nat_le 32 b && nat_lt b 0x7F

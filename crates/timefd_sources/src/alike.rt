@@ -1,4 +1,4 @@
-//! The body of a literal for another text than its own, as near to the old body as can be.
+//! The body of a literal for a new text, as close to the old body as possible.
 
 ghost use Rattle.std.specs.Prelude.{◌≡◌, ◌≤◌, length, false, true, None, IfOk, IfSome};
 ghost use Rattle.timefd_sources.specs.Grammar.{is_body};
@@ -14,8 +14,9 @@ use crate::written::{body_for, closes_nowhere, push_byte};
 use memchr::memchr;
 use std::alloc::{AllocError, Global};
 
-/// The body of a description's literal that stands for another text. What of that stands in the old
-/// one is spelled as it was, where it can be. None where no literal of the kind stands for the text.
+/// The new body of a description's literal, so that it denotes another text. What the two texts have in
+/// common keeps its spelling where possible. `None` if no literal of this kind can denote the text. An
+/// `Err` says that memory ran out.
 pub fn body_alike(
     alloc: Global,
     source: &str,
@@ -34,7 +35,7 @@ pub fn body_alike(
     body_for(alloc, kind, text)
 }
 
-// Whether a body is one of a kind, and stands for a text.
+// Whether this is a body of a literal of this kind, and denotes the text.
 fn is_body_for(alloc: Global, kind: Kind, body: &[u8], text: &[u8]) -> Result<bool, AllocError>
     ensures { IfOk result (λ is. is ≡ true → IsBodyFor kind text.now body.now) }
 {
@@ -47,7 +48,7 @@ fn is_body_for(alloc: Global, kind: Kind, body: &[u8], text: &[u8]) -> Result<bo
     }
 }
 
-// Whether a body lies between the quotes of a literal of a kind, whatever follows it.
+// Whether this can be the body of a literal of this kind, whatever follows it.
 fn closes(kind: Kind, body: &[u8]) -> bool
     ensures { result ≡ spec.closes kind body.now }
 {
@@ -57,7 +58,7 @@ fn closes(kind: Kind, body: &[u8]) -> bool
     }
 }
 
-// Whether a byte stands behind each backslash, and no other is a quote.
+// Whether a byte follows each backslash, and none of the others is a quote.
 fn is_body(body: &[u8]) -> bool
     ensures { result ≡ is_body body.now }
 {
@@ -66,47 +67,47 @@ fn is_body(body: &[u8]) -> bool
         match rest {
             [] => return true,
             [byte] => return *byte != b'\\' && *byte != b'"',
-            [b'\\', _, behind @ ..] => rest = behind,
+            [b'\\', _, after @ ..] => rest = after,
             [b'"', ..] => return false,
-            [_, behind @ ..] => rest = behind,
+            [_, after @ ..] => rest = after,
         }
     }
 }
 
-// A description's text and its literal's inside, in step.
+// A description's text, and where its bytes are in the literal.
 #[derive(Clone, Copy)]
 struct Old<'a> {
     text: &'a [u8],
-    places: &'a [usize],
-    // From behind the opening quote up to the closing one.
+    positions: &'a [usize],
+    // From after the opening quote up to the closing one.
     start: usize,
     end: usize,
 }
 
 impl Old<'_> {
-    // The place of the byte at an index; at the first that of the opening quote, so that nothing is
-    // lost in front of it.
-    fn place(&self, index: usize) -> usize {
+    // The position of the byte at an index. At index 0 it is the start of the body, so that nothing before
+    // the first byte is lost.
+    fn position(&self, index: usize) -> usize {
         if index == 0 {
             return self.start;
         }
-        self.places.get(index).copied().unwrap_or(self.end)
+        self.positions.get(index).copied().unwrap_or(self.end)
     }
 }
 
-// Where new bytes stand that come before the byte at an index: at its place. But a space stands in
-// front of a backslash that ends a line, since that passes over all white bytes behind it.
-fn place_for(old: Old<'_>, source: &str, index: usize, new: &[u8]) -> usize {
-    let place = old.place(index);
+// Where new bytes go that come before the byte at an index: at its position. But a space goes before a
+// backslash that ends a line, since the backslash skips all white bytes after it.
+fn position_for(old: Old<'_>, source: &str, index: usize, new: &[u8]) -> usize {
+    let position = old.position(index);
     if index == 0 || !new.starts_with(b" ") {
-        return place;
+        return position;
     }
-    let start = old.place(index - 1);
-    let len = part_len(between(source, start, place));
-    start.saturating_add(len).min(place)
+    let start = old.position(index - 1);
+    let len = part_len(between(source, start, position));
+    start.saturating_add(len).min(position)
 }
 
-// How long the part is that a spelling begins with: a byte, or an escape.
+// The length of the first part of a spelling: a byte, or an escape.
 fn part_len(spelling: &[u8]) -> usize {
     match spelling {
         [b'\\', b'x', ..] => 4,
@@ -119,12 +120,12 @@ fn part_len(spelling: &[u8]) -> usize {
     }
 }
 
-// What is left of a text from an index on.
+// The rest of a text from an index on.
 fn rest_of(text: &[u8], from: usize) -> &[u8] {
     text.get(from..).unwrap_or(&[])
 }
 
-// The bytes of a source between two places.
+// The bytes of a source between two positions.
 fn between(source: &str, from: usize, to: usize) -> &[u8] {
     source.as_bytes().get(from..to).unwrap_or(&[])
 }
@@ -137,14 +138,14 @@ fn old_of<'a>(source: &'a str, description: &'a Description) -> Old<'a> {
     };
     Old {
         text: &description.unescaped.text,
-        places: &description.unescaped.places,
+        positions: &description.unescaped.positions,
         start: end.saturating_sub(len),
         end,
     }
 }
 
-// A body for a text: what stands in the old one too is spelled as there. It may stand for another
-// text, where a spelling goes with what stands behind it.
+// A body for a text: what is in the old one too is spelled as there. It may denote another text, since the
+// meaning of a spelling can depend on what follows it.
 fn respelled(
     alloc: Global,
     source: &str,
@@ -162,10 +163,10 @@ fn respelled(
         let change = change_between(rest_of(old.text, stays), rest_of(text, come));
         done = come.saturating_add(change.come);
         let new = text.get(come..done).unwrap_or(&[]);
-        let end = place_for(old, source, stays, new);
-        body.extend_from_slice(between(source, old.place(at), end))?;
+        let end = position_for(old, source, stays, new);
+        body.extend_from_slice(between(source, old.position(at), end))?;
         push_all(&mut body, description.kind, new)?;
-        body.extend_from_slice(between(source, end, old.place(stays)))?;
+        body.extend_from_slice(between(source, end, old.position(stays)))?;
         at = stays.saturating_add(change.gone);
     }
     Ok(body)
@@ -188,7 +189,7 @@ fn common_len(text: &[u8], other: &[u8]) -> usize {
     len
 }
 
-// How many bytes are gone from a text, and how many have come instead.
+// How many bytes are removed from a text, and how many replace them.
 #[derive(Clone, Copy)]
 struct Change {
     gone: usize,
@@ -196,7 +197,7 @@ struct Change {
 }
 
 // What changes at the front of two texts: a doubled bracket that is escaped instead, a mark that is written
-// before what is at fault, the end of a component, or else a word.
+// before what is wrong, the end of a component, or else a word.
 fn change_between(old: &[u8], new: &[u8]) -> Change {
     if old.starts_with(b"[[") && new.starts_with(b"\\[") {
         return Change { gone: 1, come: 1 };
@@ -211,7 +212,7 @@ fn change_between(old: &[u8], new: &[u8]) -> Change {
     }
 }
 
-// Another word, or at least one byte more.
+// Another word, or at least one more byte.
 fn word_change(old: &[u8], new: &[u8]) -> Change {
     let gone = word_len(old);
     let come = word_len(new);

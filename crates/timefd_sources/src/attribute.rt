@@ -4,9 +4,9 @@ ghost use Rattle.std.specs.Prelude.{◌≡◌};
 ghost use Rattle.timefd_sources.specs.Attributes as spec;
 
 use crate::dialect::{Dialect, is};
+use crate::known::{Items, Known};
 use crate::piece::Piece;
-use crate::told::{Items, Told};
-use crate::version::VersionPlace;
+use crate::version::VersionPosition;
 use crate::word::{text_at, text_before};
 
 fn is_in_attribute(source: &[u8], pieces: &[Piece], index: usize) -> bool
@@ -20,7 +20,7 @@ fn is_in_attribute(source: &[u8], pieces: &[Piece], index: usize) -> bool
         && is(text_before(source, pieces, index, 6), "#")
 }
 
-/// The language of a literal by its bytes: with a `%` it is chrono's.
+/// The language of a literal by its bytes: chrono's if it has a `%`, and version 1 if not.
 fn dialect_by_bytes(literal: &[u8]) -> Dialect
     ensures { result ≡ spec.dialect_by_bytes literal.now }
 {
@@ -31,15 +31,15 @@ fn dialect_by_bytes(literal: &[u8]) -> Dialect
     }
 }
 
-/// What an attribute tells of a token; none where it stands in no such attribute.
-pub fn told_by_attribute(source: &[u8], pieces: &[Piece], index: usize) -> Option<Told>
-    ensures { result ≡ spec.told_by_attribute source.now pieces.now index }
+/// What an attribute says about a token; `None` if the token isn't in such an attribute.
+pub fn known_by_attribute(source: &[u8], pieces: &[Piece], index: usize) -> Option<Known>
+    ensures { result ≡ spec.known_by_attribute source.now pieces.now index }
 {
     if is_in_attribute(source, pieces, index) {
-        Some(Told {
+        Some(Known {
             dialect: dialect_by_bytes(text_at(source, pieces, index)),
             items: Items::Taken,
-            version: VersionPlace::Call,
+            version: VersionPosition::Call,
             wants_percent: false,
             call: None,
         })

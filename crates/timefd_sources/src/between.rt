@@ -1,4 +1,4 @@
-//! That what is told lies between two characters of the source.
+//! Tests that what is reported lies on character boundaries of the source.
 
 ghost use Rattle.std.specs.Prelude.{◌≡◌, ◌<◌, IsTrue, false};
 ghost use Rattle.std.specs.Str.{IsCharBoundary};
@@ -11,58 +11,58 @@ use crate::piece::Piece;
 use crate::token::Kind;
 use crate::unescape::Unescaped;
 
-// A byte that begins a character stands between two.
-fn lies_between(source: &str, byte: u8, place: usize) -> bool
-    ensures so { IsTrue result → spec.is_continuation byte ≡ false → IsCharBoundary source.now place }
-    ensures all { (spec.is_continuation byte ≡ false → IsCharBoundary source.now place) → IsTrue result }
+// A byte that begins a character has to be on a character boundary of the source.
+fn lies_between(source: &str, byte: u8, position: usize) -> bool
+    ensures so { IsTrue result → spec.is_continuation byte ≡ false → IsCharBoundary source.now position }
+    ensures all { (spec.is_continuation byte ≡ false → IsCharBoundary source.now position) → IsTrue result }
 {
-    is_continuation(byte) || source.is_char_boundary(place)
+    is_continuation(byte) || source.is_char_boundary(position)
 }
 
-/// Whether each character of a text has its place between two characters of the source.
-pub fn lie_between(source: &str, text: &[u8], places: &[usize]) -> bool
-    ensures so { IsTrue result → AllBetween source.now text.now places.now }
-    ensures all { AllBetween source.now text.now places.now → IsTrue result }
+/// Whether the position of each character of a text is a character boundary of the source.
+pub fn lie_between(source: &str, text: &[u8], positions: &[usize]) -> bool
+    ensures so { IsTrue result → AllBetween source.now text.now positions.now }
+    ensures all { AllBetween source.now text.now positions.now → IsTrue result }
 {
-    if text.len() != places.len() {
+    if text.len() != positions.len() {
         return false;
     }
     for (at, byte) in text.iter().enumerate() {
-        if !lies_between(source, *byte, places[at]) {
+        if !lies_between(source, *byte, positions[at]) {
             return false;
         }
     }
     true
 }
 
-/// Whether a place is one of a token's, behind its first byte.
-fn is_inside(piece: Piece, place: usize) -> bool
-    ensures so { IsTrue result → IsInside piece place }
-    ensures all { IsInside piece place → IsTrue result }
+/// Whether a position is in a token, after its first byte.
+fn is_inside(piece: Piece, position: usize) -> bool
+    ensures so { IsTrue result → IsInside piece position }
+    ensures all { IsInside piece position → IsTrue result }
 {
-    piece.start < place && place < piece.end
+    piece.start < position && position < piece.end
 }
 
-/// Whether all places are so.
-fn are_inside(piece: Piece, places: &[usize]) -> bool
-    ensures so { IsTrue result → AllInside piece places.now }
-    ensures all { AllInside piece places.now → IsTrue result }
+/// Whether all positions are in a token, after its first byte.
+fn are_inside(piece: Piece, positions: &[usize]) -> bool
+    ensures so { IsTrue result → AllInside piece positions.now }
+    ensures all { AllInside piece positions.now → IsTrue result }
 {
-    for at in 0..places.len() {
-        if !is_inside(piece, places[at]) {
+    for at in 0..positions.len() {
+        if !is_inside(piece, positions[at]) {
             return false;
         }
     }
     true
 }
 
-/// Whether a literal, its closing quote and each character that it stands for lie between two
-/// characters of the source, and all that it stands for inside of it. All that tokens and escapes give do:
-/// this is their test.
+/// Whether a literal, its closing quote and each character that it denotes are on character boundaries of
+/// the source, and all that it denotes is inside of it. This holds of all literals that are found; the
+/// test makes sure.
 pub fn is_between(source: &str, piece: Piece, kind: Kind, unescaped: &Unescaped) -> bool
     ensures so { IsTrue result
-        → IsBetween source.now piece kind unescaped.now.text.items unescaped.now.places.items }
-    ensures all { IsBetween source.now piece kind unescaped.now.text.items unescaped.now.places.items
+        → IsBetween source.now piece kind unescaped.now.text.items unescaped.now.positions.items }
+    ensures all { IsBetween source.now piece kind unescaped.now.text.items unescaped.now.positions.items
         → IsTrue result }
 {
     let end = body_end(piece, kind);
@@ -70,6 +70,6 @@ pub fn is_between(source: &str, piece: Piece, kind: Kind, unescaped: &Unescaped)
         && source.is_char_boundary(piece.end)
         && source.is_char_boundary(end)
         && is_inside(piece, end)
-        && are_inside(piece, &unescaped.places)
-        && lie_between(source, &unescaped.text, &unescaped.places)
+        && are_inside(piece, &unescaped.positions)
+        && lie_between(source, &unescaped.text, &unescaped.positions)
 }

@@ -1,28 +1,28 @@
-//! Calls that make descriptions of their arguments.
+//! Calls whose arguments are descriptions.
 
 ghost use Rattle.std.specs.Prelude.{◌≡◌};
 ghost use Rattle.timefd_sources.specs.Calls as spec;
 
 use crate::alias::{Alias, original_of, real_name};
 use crate::dialect::{Dialect, is, version_named};
+use crate::known::Known;
 use crate::piece::Piece;
-use crate::told::Told;
-use crate::word::{place_at, text_before, text_of};
+use crate::word::{position_at, text_before, text_of};
 
-/// What a call makes of its arguments.
+/// Which arguments of a call are descriptions.
 #[derive(Clone, Copy)]
 pub enum Call {
-    /// Those of a macro of `time` hold a description, and may begin with its version.
+    /// A macro of `time`: the arguments hold a description, and may begin with its version.
     Macro,
     /// The first is a description.
     First(Dialect),
-    /// The first is one that is kept: it may hold `[optional ..]` and `[first ..]`.
+    /// The first is an owned description: it may have `[optional ..]` and `[first ..]`.
     Owned(Dialect),
-    /// The second is one.
+    /// The second is a description.
     Second(Dialect),
-    /// The first is a description of chrono if it may be a text of dates: `format` is a common name.
+    /// The first is a description of chrono if it looks like a date format: `format` is a common name.
     Format,
-    /// None is known to be one.
+    /// None is known to be a description.
     Other,
 }
 
@@ -34,55 +34,55 @@ pub enum Argument {
     Later,
 }
 
-/// A bracket that is open.
+/// An open bracket.
 #[derive(Clone, Copy)]
 pub struct Frame {
-    /// Which of the tokens it is.
+    /// The index of its token.
     pub opened: usize,
-    /// Its call.
+    /// The call whose arguments it holds.
     pub call: Call,
-    /// Which argument stands behind the commas so far.
+    /// Which argument comes after the commas so far.
     pub argument: Argument,
-    /// What is told of the value that it is handed on as.
-    pub passes: Option<Told>,
-    /// What is told of the expression that stands behind what was read so far.
-    pub pending: Option<Told>,
-    /// Which of the tokens is the name that is being declared.
+    /// What is known about the value of the whole bracket.
+    pub passes: Option<Known>,
+    /// What is known about the expression that follows what was read so far.
+    pub pending: Option<Known>,
+    /// The index of the token that is the name being declared.
     pub name: Option<usize>,
 }
 
-/// The call whose arguments stand in the bracket that is this token, where these aliases are declared.
+/// The call whose arguments are in the bracket that this token opens, with these aliases declared.
 pub fn call_of(source: &[u8], pieces: &[Piece], aliases: &[Alias], opening: usize) -> Call
     ensures { result ≡ spec.call_of source.now pieces.now aliases.now opening }
 {
-    let place = place_at(pieces, opening);
+    let position = position_at(pieces, opening);
     let name = text_before(source, pieces, opening, 1);
     if is(name, "!") {
         let name = text_before(source, pieces, opening, 2);
-        macro_named(real_name(source, aliases, name, place))
+        macro_named(real_name(source, aliases, name, position))
     } else if is(name, ">") {
         call_with_version(source, pieces, aliases, opening)
-    } else if is_behind_path(source, pieces, opening) {
+    } else if is_after_path(source, pieces, opening) {
         let path = text_before(source, pieces, opening, 4);
-        call_in_module(name, real_name(source, aliases, path, place))
+        call_in_module(name, real_name(source, aliases, path, position))
     } else if is(text_before(source, pieces, opening, 2), ".") {
         method_named(name)
     } else {
-        bare_call(source, aliases, name, place)
+        bare_call(source, aliases, name, position)
     }
 }
 
-/// A call by a name alone, which may be imported.
-fn bare_call(source: &[u8], aliases: &[Alias], name: &[u8], place: usize) -> Call
-    ensures { result ≡ spec.bare_call source.now name.now place aliases.now }
+/// A call by a bare name, which may be imported.
+fn bare_call(source: &[u8], aliases: &[Alias], name: &[u8], position: usize) -> Call
+    ensures { result ≡ spec.bare_call source.now name.now position aliases.now }
 {
-    match original_of(source, aliases, name, place) {
+    match original_of(source, aliases, name, position) {
         Some(original) => call_imported(text_of(source, original)),
         None => call_named(name),
     }
 }
 
-/// `parse` is imported from the module of `time` alone.
+/// `parse` is only ever imported from the module of `time`.
 fn call_imported(name: &[u8]) -> Call
     ensures { result ≡ spec.call_imported name.now }
 {
@@ -93,8 +93,8 @@ fn call_imported(name: &[u8]) -> Call
     }
 }
 
-fn is_behind_path(source: &[u8], pieces: &[Piece], opening: usize) -> bool
-    ensures { result ≡ spec.is_behind_path source.now pieces.now opening }
+fn is_after_path(source: &[u8], pieces: &[Piece], opening: usize) -> bool
+    ensures { result ≡ spec.is_after_path source.now pieces.now opening }
 {
     is(text_before(source, pieces, opening, 2), ":")
         && is(text_before(source, pieces, opening, 3), ":")
@@ -110,7 +110,7 @@ fn macro_named(name: &[u8]) -> Call
     }
 }
 
-/// A call of a method. Those of `time` are functions.
+/// A method call. Those of `time` are functions.
 fn method_named(name: &[u8]) -> Call
     ensures { result ≡ spec.method_named name.now }
 {
@@ -143,7 +143,8 @@ fn call_in_module(name: &[u8], path: &[u8]) -> Call
     }
 }
 
-/// Types of chrono whose method `format` is called with its value in front: `DateTime::format(&d, "%F")`.
+/// Types of chrono whose method `format` is called with the value as first argument:
+/// `DateTime::format(&d, "%F")`.
 fn is_type_of_chrono(name: &[u8]) -> bool
     ensures { result ≡ spec.is_type_of_chrono name.now }
 {
@@ -159,14 +160,15 @@ fn is_new(name: &[u8]) -> bool
     is(name, "new") || is(name, "new_lenient") || is(name, "new_with_locale")
 }
 
-/// Types that are made of a text of chrono: its own, and the timers of a subscriber to traces.
+/// Types that are made from a format string of chrono: its own, and the timers of `tracing-subscriber`.
 fn is_items_of_chrono(name: &[u8]) -> bool
     ensures { result ≡ spec.is_items_of_chrono name.now }
 {
     is(name, "StrftimeItems") || is(name, "ChronoLocal") || is(name, "ChronoUtc")
 }
 
-/// Functions of jiff, which have the text in front: `strtime::parse("%F", s)`, `Zoned::strptime("%F", s)`.
+/// Functions of jiff that take the format string first: `strtime::parse("%F", s)`,
+/// `Zoned::strptime("%F", s)`.
 fn is_of_jiff(name: &[u8], path: &[u8]) -> bool
     ensures { result ≡ spec.is_of_jiff name.now path.now }
 {
@@ -193,7 +195,7 @@ fn takes_version(name: &[u8]) -> bool
     is(name, "parse_borrowed") || is(name, "parse_owned")
 }
 
-/// The call of a parser that takes a version, with a description of this language.
+/// The call of a parser that takes a version, for a description in this language.
 fn parser_named(name: &[u8], dialect: Dialect) -> Call
     ensures { result ≡ spec.parser_named name.now dialect }
 {
@@ -247,12 +249,12 @@ fn parser_by(name: &[u8], dialect: Option<Dialect>) -> Call
     }
 }
 
-/// A call with a version behind its name: `parse_borrowed::<2>(`.
+/// A call with a version after its name: `parse_borrowed::<2>(`.
 fn call_with_version(source: &[u8], pieces: &[Piece], aliases: &[Alias], opening: usize) -> Call
     ensures { result ≡ spec.call_with_version source.now pieces.now aliases.now opening }
 {
     let name = text_before(source, pieces, opening, 6);
-    let name = real_name(source, aliases, name, place_at(pieces, opening));
+    let name = real_name(source, aliases, name, position_at(pieces, opening));
     if is_turbofish(source, pieces, opening) && takes_version(name) {
         parser_by(name, version_named(text_before(source, pieces, opening, 2)))
     } else {

@@ -1,27 +1,27 @@
-//! Literals that are descriptions, by a comment or by the bracket that they stand in.
+//! Literals that may be descriptions, because of a comment or of where they are.
 
 ghost use Rattle.std.specs.Prelude.{◌≡◌, ◌++◌, IfOk, OnOk};
 ghost use Rattle.timefd_sources.specs.Candidates as spec;
 
-use crate::attribute::told_by_attribute;
+use crate::attribute::known_by_attribute;
 use crate::calls::Frame;
 use crate::dialect::Dialect;
-use crate::flow::told_of;
+use crate::flow::known_of;
+use crate::known::{Items, Known, reported_in};
 use crate::piece::Piece;
 use crate::token::{Kind, Token};
-use crate::told::{Items, Told, told_in};
-use crate::version::VersionPlace;
+use crate::version::VersionPosition;
 use std::alloc::{AllocError, Global};
 
-/// A literal that is a description, if it can be one.
+/// A literal that is a description if its text can be one.
 #[derive(Clone, Copy)]
 pub struct Candidate {
     /// The literal.
     pub piece: Piece,
     /// How it is written.
     pub kind: Kind,
-    /// What is told of it.
-    pub told: Told,
+    /// What is known about it.
+    pub known: Known,
 }
 
 fn kind_of(token: Token) -> Option<Kind>
@@ -74,14 +74,14 @@ pub fn significant(alloc: Global, pieces: &[Piece]) -> Result<Vec<Piece>, AllocE
     Ok(kept)
 }
 
-fn by_comment(dialect: Option<Dialect>) -> Option<Told>
+fn by_comment(dialect: Option<Dialect>) -> Option<Known>
     ensures { result ≡ spec.by_comment dialect }
 {
     match dialect {
-        Some(dialect) => Some(Told {
+        Some(dialect) => Some(Known {
             dialect,
             items: Items::Refused,
-            version: VersionPlace::Elsewhere,
+            version: VersionPosition::Elsewhere,
             wants_percent: false,
             call: None,
         }),
@@ -89,17 +89,17 @@ fn by_comment(dialect: Option<Dialect>) -> Option<Told>
     }
 }
 
-fn candidate_from(piece: Piece, kind: Option<Kind>, told: Option<Told>) -> Option<Candidate>
-    ensures { result ≡ spec.candidate_from piece kind told }
+fn candidate_from(piece: Piece, kind: Option<Kind>, known: Option<Known>) -> Option<Candidate>
+    ensures { result ≡ spec.candidate_from piece kind known }
 {
-    match (kind, told) {
-        (Some(kind), Some(told)) => Some(Candidate { piece, kind, told }),
+    match (kind, known) {
+        (Some(kind), Some(known)) => Some(Candidate { piece, kind, known }),
         (Some(_), None) | (None, _) => None,
     }
 }
 
-/// What a token is as a description: by the language that a comment names, or else by the bracket that it stands in, by
-/// what its value is handed to, or by its attribute.
+/// The candidate at a token. A comment that names a language decides first, then the bracket that the token
+/// is in, then what its value is passed to, then its attribute.
 pub fn candidate_at(
     source: &[u8],
     pieces: &[Piece],
@@ -110,8 +110,8 @@ pub fn candidate_at(
 ) -> Option<Candidate>
     ensures { result ≡ spec.candidate_at source.now pieces.now index piece frame dialect }
 {
-    let told = by_comment(dialect).or(told_in(source, pieces, index, frame));
-    let told = told.or(told_of(source, pieces, index, frame));
-    let told = told.or(told_by_attribute(source, pieces, index));
-    candidate_from(piece, kind_of(piece.token), told)
+    let known = by_comment(dialect).or(reported_in(source, pieces, index, frame));
+    let known = known.or(known_of(source, pieces, index, frame));
+    let known = known.or(known_by_attribute(source, pieces, index));
+    candidate_from(piece, kind_of(piece.token), known)
 }

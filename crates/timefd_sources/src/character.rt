@@ -2,40 +2,40 @@
 
 ghost use Rattle.std.specs.Prelude.{◌≡◌, ◌≤◌, length, MatchOption, ⊤};
 ghost use Rattle.timefd_sources.specs.Bytes.{seen};
-ghost use Rattle.timefd_sources.specs.Behind as spec;
+ghost use Rattle.timefd_sources.specs.After as spec;
 
-use crate::class::{Class, behind_run};
+use crate::class::{Class, after_run};
 
-fn behind_apostrophe(text: &[u8]) -> Option<&[u8]>
-    ensures rest { seen result ≡ spec.behind_apostrophe text.now }
+fn after_apostrophe(text: &[u8]) -> Option<&[u8]>
+    ensures rest { seen result ≡ spec.after_apostrophe text.now }
     ensures within { MatchOption result ⊤ (λ rest. length rest.now ≤ length text.now) }
 {
     match text {
-        [b'\'', behind @ ..] => Some(behind),
+        [b'\'', after @ ..] => Some(after),
         _ => None,
     }
 }
 
-fn behind_quoted_escape(text: &[u8]) -> Option<&[u8]>
-    ensures rest { seen result ≡ spec.behind_quoted_escape text.now }
+fn after_quoted_escape(text: &[u8]) -> Option<&[u8]>
+    ensures rest { seen result ≡ spec.after_quoted_escape text.now }
     ensures within { MatchOption result ⊤ (λ rest. length rest.now ≤ length text.now) }
 {
     match text {
         [] => None,
-        [_, behind @ ..] => behind_apostrophe(behind_run(Class::Quoted, behind)),
+        [_, after @ ..] => after_apostrophe(after_run(Class::Quoted, after)),
     }
 }
 
-/// What stands behind a character literal, from behind its opening apostrophe on; none where no
-/// such literal stands, as in a lifetime.
-pub fn behind_character(text: &[u8]) -> Option<&[u8]>
-    ensures rest { seen result ≡ spec.behind_character text.now }
+/// What follows a character literal. The text begins after its opening apostrophe. `None` if it
+/// isn't such a literal but, for example, a lifetime.
+pub fn after_character(text: &[u8]) -> Option<&[u8]>
+    ensures rest { seen result ≡ spec.after_character text.now }
     ensures within { MatchOption result ⊤ (λ rest. length rest.now ≤ length text.now) }
 {
     match text {
         [] => None,
-        [b'\\', behind @ ..] => behind_quoted_escape(behind),
+        [b'\\', after @ ..] => after_quoted_escape(after),
         [b'\'', ..] => None,
-        [_, behind @ ..] => behind_apostrophe(behind_run(Class::Continuation, behind)),
+        [_, after @ ..] => after_apostrophe(after_run(Class::Continuation, after)),
     }
 }

@@ -1,35 +1,35 @@
-//! Classes of bytes, and the longest stretch of one.
+//! Classes of bytes, and the longest run of a class.
 
 ghost use Rattle.std.specs.Prelude.{◌≡◌, ◌≤◌, length};
 ghost use Rattle.timefd_sources.specs.Bytes as spec;
 ghost use Rattle.timefd_sources.specs.Bytes.{class_test};
-ghost use Rattle.timefd_sources.specs.Behind.{behind_run};
+ghost use Rattle.timefd_sources.specs.After.{after_run};
 
 /// A set of bytes.
 #[derive(Clone, Copy)]
 pub enum Class {
     /// White bytes.
     White,
-    /// Blanks and ends of lines: white bytes that a backslash at the end of a line passes over.
+    /// Blanks and line ends: the white bytes that a backslash at the end of a line skips.
     Skipped,
     /// A space or a tab.
     Blank,
-    /// Bytes of a word: letters, digits, `_`, and all that isn't ASCII.
+    /// Bytes of a word: letters, digits, `_`, and everything that isn't ASCII.
     Word,
-    /// Bytes of a key of TOML without quotes.
+    /// Bytes of a TOML key without quotes.
     Bare,
-    /// Bytes that may stand between the value of a key and a comment behind it: blanks, quotes, commas, and
+    /// Bytes that may be between the value of a key and a comment after it: blanks, quotes, commas, and
     /// what closes a list or a table.
     Aside,
     /// Bytes of a line, without its end.
     Line,
     /// `#`.
     Hash,
-    /// Bytes of a character behind its first.
+    /// Bytes of a character after its first.
     Continuation,
-    /// Bytes in front of a string's opening quote.
+    /// Bytes before a string's opening quote.
     Unquoted,
-    /// Bytes that may stand in a character literal behind an escape's first.
+    /// Bytes that may follow the first byte of an escape in a character literal.
     Quoted,
 }
 
@@ -53,12 +53,14 @@ fn is_skipped(byte: u8) -> bool
     is_blank(byte) || is_line_end(byte)
 }
 
+/// Whether a byte is a blank, a line end, a vertical tab or a form feed.
 pub fn is_white(byte: u8) -> bool
     ensures { result ≡ spec.is_white byte }
 {
     is_skipped(byte) || byte == 11 || byte == 12
 }
 
+/// Whether a byte is a letter, a digit, `_`, or not ASCII.
 pub fn is_word(byte: u8) -> bool
     ensures { result ≡ spec.is_word byte }
 {
@@ -81,7 +83,7 @@ fn is_aside(byte: u8) -> bool
     is_blank(byte) || byte == b'"' || byte == b'\'' || byte == b',' || byte == b']' || byte == b'}'
 }
 
-/// Whether a byte stands in a character behind its first.
+/// Whether a byte belongs to a character after its first byte.
 pub fn is_continuation(byte: u8) -> bool
     ensures { result ≡ spec.is_continuation byte }
 {
@@ -106,17 +108,17 @@ fn is_in(class: Class, byte: u8) -> bool
     }
 }
 
-/// What stands behind the longest stretch of the class at the front.
-pub fn behind_run(class: Class, text: &[u8]) -> &[u8]
-    ensures rest { result.now ≡ behind_run (class_test class) text.now }
+/// What follows the longest run of the class at the front.
+pub fn after_run(class: Class, text: &[u8]) -> &[u8]
+    ensures rest { result.now ≡ after_run (class_test class) text.now }
     ensures within { length result.now ≤ length text.now }
 {
     let mut rest = text;
-    'bytes: while let [byte, behind @ ..] = rest {
+    'bytes: while let [byte, after @ ..] = rest {
         if !is_in(class, *byte) {
             return rest;
         }
-        rest = behind;
+        rest = after;
     }
     rest
 }

@@ -1,9 +1,9 @@
-//! Whether a text that `format` takes may be one of dates: other libraries have methods of that name.
+//! Whether the argument of a `format` may be a date format: other libraries have methods with that name too.
 
 ghost use Rattle.std.specs.Prelude.{◌≡◌};
 ghost use Rattle.timefd_sources.specs.Dates as spec;
 
-/// Letters that stand for a part of a date or a time in chrono, and for nothing in a text of `printf`.
+/// Letters that mean a part of a date or a time in chrono, and nothing in `printf`.
 fn is_date_letter(byte: u8) -> bool
     ensures { result ≡ spec.is_date_letter byte }
 {
@@ -16,17 +16,17 @@ fn is_flag(byte: u8) -> bool
     b"-_0#".contains(&byte)
 }
 
-/// What stands behind a `%` and a flag.
-fn behind_flag(text: &[u8]) -> &[u8]
-    ensures { result.now ≡ spec.behind_flag text.now }
+/// The text after a `%` without its flag.
+fn after_flag(text: &[u8]) -> &[u8]
+    ensures { result.now ≡ spec.after_flag text.now }
 {
     match text {
-        [byte, behind @ ..] if is_flag(*byte) => behind,
+        [byte, after @ ..] if is_flag(*byte) => after,
         _ => text,
     }
 }
 
-/// Whether a part of a date begins a text, which stands behind a `%` and a flag.
+/// Whether the text after a `%` and a flag begins with a part of a date.
 fn begins_part(text: &[u8]) -> bool
     ensures { result ≡ spec.begins_part text.now }
 {
@@ -36,7 +36,7 @@ fn begins_part(text: &[u8]) -> bool
     }
 }
 
-/// Bytes that may stand behind a `%` in a text of dates: letters that chrono has or that neither it nor `printf` has,
+/// Bytes that may follow a `%` in a date format: letters that chrono has or that neither it nor `printf` has,
 /// `%`, `+` and `:`.
 fn is_taken(byte: u8) -> bool
     ensures { result ≡ spec.is_taken byte }
@@ -44,7 +44,8 @@ fn is_taken(byte: u8) -> bool
     b"abcdefghjklmnpqrstuvwxyzABCDFGHIJKLMNOPQRSTUVWXYZ%+:".contains(&byte)
 }
 
-/// Whether what begins a text, which stands behind a `%` and a flag, is none of dates: a space, a digit, a dot.
+/// Whether the text after a `%` and a flag begins with a byte that a date format doesn't have there: a space,
+/// a digit, a dot.
 fn begins_other(text: &[u8]) -> bool
     ensures { result ≡ spec.begins_other text.now }
 {
@@ -54,40 +55,41 @@ fn begins_other(text: &[u8]) -> bool
     }
 }
 
-/// Whether a text has a part of a date.
+/// Whether a text has a part of a date after a `%`.
 fn has_part(text: &[u8]) -> bool
     ensures { result ≡ spec.has_part text.now }
 {
-    let mut is_behind = false;
+    let mut is_after_percent = false;
     let mut rest = text;
-    'bytes: while let [byte, behind @ ..] = rest {
-        if is_behind && begins_part(behind_flag(rest)) {
+    'bytes: while let [byte, after @ ..] = rest {
+        if is_after_percent && begins_part(after_flag(rest)) {
             return true;
         }
-        is_behind = !is_behind && *byte == b'%';
-        rest = behind;
+        is_after_percent = !is_after_percent && *byte == b'%';
+        rest = after;
     }
     false
 }
 
-/// Whether a text has a `%` that is none of a text of dates.
+/// Whether a text has a `%` that a date format can't have.
 fn has_other(text: &[u8]) -> bool
     ensures { result ≡ spec.has_other text.now }
 {
-    let mut is_behind = false;
+    let mut is_after_percent = false;
     let mut rest = text;
-    'bytes: while let [byte, behind @ ..] = rest {
-        if is_behind && begins_other(behind_flag(rest)) {
+    'bytes: while let [byte, after @ ..] = rest {
+        if is_after_percent && begins_other(after_flag(rest)) {
             return true;
         }
-        is_behind = !is_behind && *byte == b'%';
-        rest = behind;
+        is_after_percent = !is_after_percent && *byte == b'%';
+        rest = after;
     }
     false
 }
 
-/// Whether a text may be one of dates: it has a `%`, and either a part of a date, or no `%` that is none of such a text.
-/// `100% sure`, `%5.2f` and `%i` are none; a `%` at the end is one that nothing stands behind.
+/// Whether a text may be a date format: it has a `%`, and either a part of a date, or no `%` that a date
+/// format can't have. `100% sure`, `%5.2f` and `%i` aren't date formats. A `%` at the end is allowed: it is a
+/// directive that isn't finished.
 pub fn is_of_dates(text: &[u8]) -> bool
     ensures { result ≡ spec.is_of_dates text.now }
 {

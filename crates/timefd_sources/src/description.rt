@@ -4,7 +4,7 @@ ghost use Rattle.std.specs.Prelude.{◌≡◌, ◌++◌, IfOk, OnOk, Some};
 ghost use Rattle.std.specs.Option.{option_to_list};
 ghost use Rattle.timefd_sources.specs.Candidates.{candidates_by};
 ghost use Rattle.timefd_sources.specs.Escapes.{placed};
-ghost use Rattle.timefd_sources.specs.Found.{AreDescribed, IsAnyDescribed, IsDescribed, IsOfText, begun_behind, end_behind};
+ghost use Rattle.timefd_sources.specs.Found.{AreDescribed, IsAnyDescribed, IsDescribed, IsOfText, begun_after, end_after};
 
 use crate::alias::Alias;
 use crate::between::is_between;
@@ -13,14 +13,14 @@ use crate::dates::is_of_dates;
 use crate::dialect::Dialect;
 use crate::flow::outermost;
 use crate::frames::{innermost, pass};
+use crate::known::Items;
 use crate::literal::literal_text;
-use crate::marks::{Mark, still_open, told_at};
+use crate::marks::{Mark, reported_at, still_open};
 use crate::piece::Piece;
 use crate::token::Kind;
-use crate::told::Items;
 use crate::unescape::Unescaped;
 use crate::uses::Use;
-use crate::version::{VersionPlace, first_place, tested};
+use crate::version::{VersionPosition, first_position, tested};
 use std::alloc::{AllocError, Global};
 
 /// A description that is a string literal of a source.
@@ -30,24 +30,25 @@ pub struct Description {
     pub piece: Piece,
     /// How it is written.
     pub kind: Kind,
-    /// Its language.
+    /// The language.
     pub dialect: Dialect,
     /// What it may hold.
     pub items: Items,
-    /// Where its version is said.
-    pub version: VersionPlace,
-    /// Where the name stands that a call has in its place; none where it stands in the call itself.
+    /// Where the source says the version.
+    pub version: VersionPosition,
+    /// Where the name that a call takes instead of it begins, as a byte index; `None` if the literal is in
+    /// the call itself.
     pub call: Option<usize>,
-    /// What it stands for, and where that stands in the source.
+    /// The text that it denotes, and where that is in the source.
     pub unescaped: Unescaped,
 }
 
-/// The description of a literal that stands for a text; none where one of dates is wanted and this is none.
+/// The description of a literal that denotes this text; `None` if a date format is wanted and this isn't one.
 fn of_text(source: &str, candidate: Candidate, unescaped: Unescaped) -> Option<Description>
     ensures { IsOfText source.now candidate (Some (placed unescaped)) result }
 {
-    let Candidate { piece, kind, told } = candidate;
-    if told.wants_percent && !is_of_dates(&unescaped.text) {
+    let Candidate { piece, kind, known } = candidate;
+    if known.wants_percent && !is_of_dates(&unescaped.text) {
         return None;
     }
     if !is_between(source, piece, kind, &unescaped) {
@@ -56,15 +57,15 @@ fn of_text(source: &str, candidate: Candidate, unescaped: Unescaped) -> Option<D
     Some(Description {
         piece,
         kind,
-        dialect: told.dialect,
-        items: told.items,
-        version: tested(source, piece, told.dialect, told.version),
-        call: told.call,
+        dialect: known.dialect,
+        items: known.items,
+        version: tested(source, piece, known.dialect, known.version),
+        call: known.call,
         unescaped,
     })
 }
 
-/// A literal as a description; none where an escape isn't one.
+/// A literal as a description; `None` if an escape is invalid.
 fn described(
     alloc: Global,
     source: &str,
@@ -91,21 +92,22 @@ fn described_any(
     }
 }
 
-/// Adds a description that begins behind the others, which end at a place, and answers where all end
-/// then. All that are found do: this is their test.
+/// Adds a description if it begins after the others, which end at `end`. Returns where all of them end then.
+/// All descriptions that are found begin after the others; the test makes sure. An `Err` says that memory ran
+/// out.
 pub fn push_any(
     descriptions: &mut Vec<Description>,
     found: Option<Description>,
     end: usize,
 ) -> Result<usize, AllocError>
     ensures pushed { OnOk result (descriptions.new.items
-        ≡ descriptions.old.items ++ option_to_list (begun_behind end found)) }
-    ensures end { IfOk result (λ next. next ≡ end_behind end (begun_behind end found)) }
+        ≡ descriptions.old.items ++ option_to_list (begun_after end found)) }
+    ensures end { IfOk result (λ next. next ≡ end_after end (begun_after end found)) }
 {
     match found {
         Some(description) => {
             let next = description.piece.end;
-            if first_place(description.version, description.piece.start) < end {
+            if first_position(description.version, description.piece.start) < end {
                 return Ok(end);
             }
             descriptions.push(description)?;
@@ -115,8 +117,8 @@ pub fn push_any(
     }
 }
 
-/// The descriptions among these tokens, where these aliases are declared, names are so used, and these comments
-/// count.
+/// The descriptions among these tokens, with these aliases, uses of names, and comments that name a language.
+/// An `Err` says that memory ran out.
 pub fn described_by(
     alloc: Global,
     source: &str,
@@ -136,7 +138,7 @@ pub fn described_by(
     for (index, piece) in pieces.iter().enumerate() {
         pass(&mut frames, source.as_bytes(), pieces, aliases, uses, index)?;
         comments = still_open(comments, piece.start);
-        let dialect = told_at(comments, piece.start);
+        let dialect = reported_at(comments, piece.start);
         let frame = innermost(&frames);
         let candidate = candidate_at(source.as_bytes(), pieces, index, *piece, frame, dialect);
         let found = described_any(alloc, source, candidate)?;

@@ -3,7 +3,8 @@
 ghost use Rattle.std.specs.Prelude.{◌≡◌, bytes_eq};
 ghost use Rattle.timefd_sources.specs.Dialects as spec;
 
-/// The language of a description: a version of that of `time`, its strftime, or that of chrono or jiff.
+/// The language of a description: a version of the language of `time`, its strftime, or the one of
+/// chrono or jiff.
 #[derive(Clone, Copy, Debug, PartialEq, Eq)]
 pub enum Dialect {
     One,
@@ -16,7 +17,7 @@ pub enum Dialect {
     Jiff,
 }
 
-/// Whether a word is this one.
+/// Whether a word is this name.
 pub fn is(word: &[u8], name: &str) -> bool
     ensures { result ≡ bytes_eq word.now name.now }
 {
@@ -51,7 +52,7 @@ pub fn dialect_named(word: &str) -> Option<Dialect>
     dialect_of_word(word.as_bytes())
 }
 
-/// The version of a number.
+/// The version that a number names.
 pub fn version_named(word: &[u8]) -> Option<Dialect>
     ensures { result ≡ spec.version_named word.now }
 {

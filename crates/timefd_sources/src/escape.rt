@@ -1,10 +1,10 @@
-//! Parts of a literal's body: bytes that stand for themselves, and escapes.
+//! Parts of a literal's body: plain bytes, and escapes.
 
 ghost use Rattle.std.specs.Prelude.{◌≡◌, ◌≤◌, ◌<◌, length, MatchOption, Option, ⊤};
 ghost use Rattle.timefd_sources.specs.Escapes as spec;
 ghost use Rattle.timefd_sources.specs.Escapes.{parted, parted_any};
 
-use crate::class::{Class, behind_run};
+use crate::class::{Class, after_run};
 use crate::number::{hex_digit, next_value};
 use crate::part::{Part, Stands, character};
 use crate::token::{Encoding, Kind};
@@ -66,7 +66,7 @@ fn low_digit(encoding: Encoding, high: u8, text: &[u8]) -> Option<Part<'_>>
 {
     match text {
         [] => None,
-        [byte, behind @ ..] => low_by(encoding, high, behind, hex_digit(*byte)),
+        [byte, after @ ..] => low_by(encoding, high, after, hex_digit(*byte)),
     }
 }
 
@@ -87,7 +87,7 @@ fn byte_of(encoding: Encoding, text: &[u8]) -> Option<Part<'_>>
 {
     match text {
         [] => None,
-        [byte, behind @ ..] => high_by(encoding, behind, hex_digit(*byte)),
+        [byte, after @ ..] => high_by(encoding, after, hex_digit(*byte)),
     }
 }
 
@@ -98,14 +98,14 @@ fn digits(first: Option<u32>, text: &[u8]) -> Option<Part<'_>>
 {
     let mut value = first;
     let mut rest = text;
-    'bytes: while let [byte, behind @ ..] = rest {
+    'bytes: while let [byte, after @ ..] = rest {
         if *byte == b'}' {
-            return character(behind, value);
+            return character(after, value);
         }
         if *byte != b'_' {
             value = next_value(value, hex_digit(*byte));
         }
-        rest = behind;
+        rest = after;
     }
     None
 }
@@ -127,7 +127,7 @@ fn first_digit(text: &[u8]) -> Option<Part<'_>>
 {
     match text {
         [] => None,
-        [byte, behind @ ..] => digits(first_value(hex_digit(*byte)), behind),
+        [byte, after @ ..] => digits(first_value(hex_digit(*byte)), after),
     }
 }
 
@@ -136,7 +136,7 @@ fn scalar_of(text: &[u8]) -> Option<Part<'_>>
     ensures within { MatchOption result ⊤ (λ part. length part.rest.now ≤ length text.now) }
 {
     match text {
-        [b'{', behind @ ..] => first_digit(behind),
+        [b'{', after @ ..] => first_digit(after),
         _ => None,
     }
 }
@@ -159,32 +159,32 @@ fn begins_line_feed(text: &[u8]) -> bool
     }
 }
 
-fn ends_line(byte: u8, behind: &[u8]) -> bool
-    ensures { result ≡ spec.ends_line byte behind.now }
+fn ends_line(byte: u8, after: &[u8]) -> bool
+    ensures { result ≡ spec.ends_line byte after.now }
 {
-    byte == b'\n' || byte == b'\r' && begins_line_feed(behind)
+    byte == b'\n' || byte == b'\r' && begins_line_feed(after)
 }
 
-fn escape_by(encoding: Encoding, byte: u8, behind: &[u8], letter: Option<u8>) -> Option<Part<'_>>
-    ensures part { parted_any result ≡ spec.escape_by encoding byte behind.now letter }
-    ensures within { MatchOption result ⊤ (λ part. length part.rest.now ≤ length behind.now) }
+fn escape_by(encoding: Encoding, byte: u8, after: &[u8], letter: Option<u8>) -> Option<Part<'_>>
+    ensures part { parted_any result ≡ spec.escape_by encoding byte after.now letter }
+    ensures within { MatchOption result ⊤ (λ part. length part.rest.now ≤ length after.now) }
 {
     if let Some(c) = letter {
         return Some(Part {
             stands: Stands::Byte(c),
-            rest: behind,
+            rest: after,
         });
     }
     if byte == b'x' {
-        return byte_of(encoding, behind);
+        return byte_of(encoding, after);
     }
     if byte == b'u' && !is_of_bytes(encoding) {
-        return scalar_of(behind);
+        return scalar_of(after);
     }
-    if ends_line(byte, behind) {
+    if ends_line(byte, after) {
         return Some(Part {
             stands: Stands::Nothing,
-            rest: behind_run(Class::Skipped, behind),
+            rest: after_run(Class::Skipped, after),
         });
     }
     None
@@ -196,40 +196,40 @@ fn escape(encoding: Encoding, text: &[u8]) -> Option<Part<'_>>
 {
     match text {
         [] => None,
-        [byte, behind @ ..] => escape_by(encoding, *byte, behind, letter(*byte)),
+        [byte, after @ ..] => escape_by(encoding, *byte, after, letter(*byte)),
     }
 }
 
-fn itself(byte: u8, behind: &[u8]) -> Part<'_>
-    ensures part { parted result ≡ spec.itself byte behind.now }
-    ensures within { length result.rest.now ≤ length behind.now }
+fn itself(byte: u8, after: &[u8]) -> Part<'_>
+    ensures part { parted result ≡ spec.itself byte after.now }
+    ensures within { length result.rest.now ≤ length after.now }
 {
-    if byte == b'\r' && begins_line_feed(behind) {
+    if byte == b'\r' && begins_line_feed(after) {
         Part {
             stands: Stands::Nothing,
-            rest: behind,
+            rest: after,
         }
     } else {
         Part {
             stands: Stands::Byte(byte),
-            rest: behind,
+            rest: after,
         }
     }
 }
 
-/// The part of a body that begins with this byte; none where an escape isn't one.
-pub fn part_of(kind: Kind, byte: u8, behind: &[u8]) -> Option<Part<'_>>
-    ensures part { parted_any result ≡ spec.part_of kind byte behind.now }
-    ensures within { MatchOption result ⊤ (λ part. length part.rest.now ≤ length behind.now) }
+/// The part of a body that begins with this byte; `None` if it is an invalid escape.
+pub fn part_of(kind: Kind, byte: u8, after: &[u8]) -> Option<Part<'_>>
+    ensures part { parted_any result ≡ spec.part_of kind byte after.now }
+    ensures within { MatchOption result ⊤ (λ part. length part.rest.now ≤ length after.now) }
 {
     match kind {
         Kind::Escaped(encoding) => {
             if byte == b'\\' {
-                escape(encoding, behind)
+                escape(encoding, after)
             } else {
-                Some(itself(byte, behind))
+                Some(itself(byte, after))
             }
         }
-        Kind::Raw(_, _) => Some(itself(byte, behind)),
+        Kind::Raw(_, _) => Some(itself(byte, after)),
     }
 }

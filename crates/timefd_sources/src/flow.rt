@@ -1,4 +1,4 @@
-//! Where the value of an expression goes: to the call, the name or the bracket that it is handed to.
+//! Where the value of an expression goes: to the call, the name or the bracket that it is passed to.
 
 ghost use Rattle.std.specs.Prelude.{◌≡◌, None};
 ghost use Rattle.timefd_sources.specs.Flows as spec;
@@ -6,31 +6,31 @@ ghost use Rattle.timefd_sources.specs.Flows as spec;
 use crate::alias::Alias;
 use crate::calls::{Argument, Call, Frame, call_of};
 use crate::dialect::is;
+use crate::known::{Known, known_by_call};
 use crate::piece::Piece;
-use crate::told::{Told, told_by_call};
-use crate::uses::{Use, told_by_name};
+use crate::uses::{Use, known_by_name};
 use crate::value::{is_operator, is_value};
-use crate::word::{is_word_at, text_at, text_before, text_behind};
+use crate::word::{is_word_at, text_after, text_at, text_before};
 
-/// What is told of a value that is all of an argument, or the last one of a block.
-fn told_of_value(frame: Frame) -> Option<Told>
-    ensures { result ≡ spec.told_of_value frame }
+/// What is known about a value that is a whole argument, or the last one of a block.
+fn reported_of_value(frame: Frame) -> Option<Known>
+    ensures { result ≡ spec.reported_of_value frame }
 {
-    told_by_call(frame.call, frame.argument).or(frame.passes)
+    known_by_call(frame.call, frame.argument).or(frame.passes)
 }
 
-/// A bracket behind the end of a statement, an arm or an argument.
+/// A bracket after the end of a statement, an arm or an argument.
 pub fn settled(frame: Frame) -> Frame
     ensures { result ≡ spec.settled frame }
 {
     Frame {
-        pending: told_of_value(frame),
+        pending: reported_of_value(frame),
         name: None,
         ..frame
     }
 }
 
-fn with_pending(frame: Frame, pending: Option<Told>) -> Frame
+fn with_pending(frame: Frame, pending: Option<Known>) -> Frame
     ensures { result ≡ spec.with_pending frame pending }
 {
     Frame {
@@ -40,12 +40,12 @@ fn with_pending(frame: Frame, pending: Option<Told>) -> Frame
     }
 }
 
-/// Behind a colon a type stands, or the value of a field.
-fn behind_colon(source: &[u8], pieces: &[Piece], index: usize, frame: Frame) -> Frame
-    ensures { result ≡ spec.behind_colon source.now pieces.now index frame }
+/// A colon is followed by a type, or the value of a field.
+fn after_colon(source: &[u8], pieces: &[Piece], index: usize, frame: Frame) -> Frame
+    ensures { result ≡ spec.after_colon source.now pieces.now index frame }
 {
     if is(text_before(source, pieces, index, 1), ":")
-        || is(text_behind(source, pieces, index, 1), ":")
+        || is(text_after(source, pieces, index, 1), ":")
     {
         frame
     } else {
@@ -56,36 +56,37 @@ fn behind_colon(source: &[u8], pieces: &[Piece], index: usize, frame: Frame) -> 
     }
 }
 
-/// What is told of a value behind an equals sign: that of the name in front; nothing where another place is
-/// in front; and of what a pattern is compared with, what is told of all.
+/// What is known about the value after an equals sign: what is known about the name before it; nothing if
+/// something else is assigned to; and for a value that a pattern is compared with, what is known about the
+/// whole expression.
 fn assigned(
     source: &[u8],
     pieces: &[Piece],
     uses: &[Use],
     index: usize,
     frame: Frame,
-) -> Option<Told>
+) -> Option<Known>
     ensures { result ≡ spec.assigned source.now pieces.now uses.now index frame }
 {
     match frame.name {
-        Some(name) => told_by_name(source, pieces, uses, name),
+        Some(name) => known_by_name(source, pieces, uses, name),
         None if is_word_at(pieces, index.saturating_sub(1)) => None,
         None => frame.pending,
     }
 }
 
-fn behind_equals_sign(
+fn after_equals_sign(
     source: &[u8],
     pieces: &[Piece],
     uses: &[Use],
     index: usize,
     frame: Frame,
 ) -> Frame
-    ensures { result ≡ spec.behind_equals_sign source.now pieces.now uses.now index frame }
+    ensures { result ≡ spec.after_equals_sign source.now pieces.now uses.now index frame }
 {
-    if is(text_behind(source, pieces, index, 1), ">") {
+    if is(text_after(source, pieces, index, 1), ">") {
         settled(frame)
-    } else if is(text_behind(source, pieces, index, 1), "=")
+    } else if is(text_after(source, pieces, index, 1), "=")
         || is_operator(text_before(source, pieces, index, 1))
     {
         frame
@@ -94,7 +95,7 @@ fn behind_equals_sign(
     }
 }
 
-/// Whether `let` behind this belongs to a condition.
+/// Whether a `let` after this token belongs to a condition.
 fn is_condition(text: &[u8]) -> bool
     ensures { result ≡ spec.is_condition text.now }
 {
@@ -111,16 +112,16 @@ fn names_value(source: &[u8], pieces: &[Piece], index: usize) -> bool
         || (is(before, "let") && !is_condition(text_before(source, pieces, index, 2)))
 }
 
-/// Behind a word: `let`, the name of an item or of a variable, `in`.
-fn behind_word(source: &[u8], pieces: &[Piece], uses: &[Use], index: usize, frame: Frame) -> Frame
-    ensures { result ≡ spec.behind_word source.now pieces.now uses.now index frame }
+/// The bracket after a word: `let`, the name of an item or of a variable, `in`.
+fn after_word(source: &[u8], pieces: &[Piece], uses: &[Use], index: usize, frame: Frame) -> Frame
+    ensures { result ≡ spec.after_word source.now pieces.now uses.now index frame }
 {
     let text = text_at(source, pieces, index);
     let before = text_before(source, pieces, index, 1);
     if is(text, "let") && !is_condition(before) {
         with_pending(frame, None)
     } else if is(before, "fn") {
-        with_pending(frame, told_by_name(source, pieces, uses, index))
+        with_pending(frame, known_by_name(source, pieces, uses, index))
     } else if names_value(source, pieces, index) {
         Frame {
             pending: None,
@@ -129,13 +130,13 @@ fn behind_word(source: &[u8], pieces: &[Piece], uses: &[Use], index: usize, fram
         }
     } else if is(text, "in") && is(text_before(source, pieces, index, 2), "for") {
         let name = index.saturating_sub(1);
-        with_pending(frame, told_by_name(source, pieces, uses, name))
+        with_pending(frame, known_by_name(source, pieces, uses, name))
     } else {
         frame
     }
 }
 
-/// The innermost bracket behind a token that neither opens nor closes one, and is no comma.
+/// The innermost bracket after a token that neither opens nor closes one and isn't a comma.
 pub fn entered(source: &[u8], pieces: &[Piece], uses: &[Use], index: usize, frame: Frame) -> Frame
     ensures { result ≡ spec.entered source.now pieces.now uses.now index frame }
 {
@@ -143,22 +144,22 @@ pub fn entered(source: &[u8], pieces: &[Piece], uses: &[Use], index: usize, fram
     if is(text, ";") {
         settled(frame)
     } else if is(text, ":") {
-        behind_colon(source, pieces, index, frame)
+        after_colon(source, pieces, index, frame)
     } else if is(text, "=") {
-        behind_equals_sign(source, pieces, uses, index, frame)
+        after_equals_sign(source, pieces, uses, index, frame)
     } else {
-        behind_word(source, pieces, uses, index, frame)
+        after_word(source, pieces, uses, index, frame)
     }
 }
 
-/// Functions and methods that hand on the text they get: in another language, or in place of one that lacks.
+/// Functions and methods that pass on the text they get: translated, or instead of one that is missing.
 fn is_handing_on(name: &[u8]) -> bool
     ensures { result ≡ spec.is_handing_on name.now }
 {
     is(name, "gettext") || is(name, "unwrap_or") || is(name, "from")
 }
 
-/// Whether the round bracket that a token opens is around a value, or a call that hands it on.
+/// Whether the round bracket that a token opens only groups a value, or is a call that passes it on.
 fn is_group(source: &[u8], pieces: &[Piece], index: usize) -> bool
     ensures { result ≡ spec.is_group source.now pieces.now index }
 {
@@ -172,7 +173,7 @@ fn is_group(source: &[u8], pieces: &[Piece], index: usize) -> bool
             || is(before, "?"))
 }
 
-/// Whether the square bracket that a token opens is an array, or a list.
+/// Whether the square bracket that a token opens is an array or a `vec![..]`.
 fn is_array(source: &[u8], pieces: &[Piece], index: usize) -> bool
     ensures { result ≡ spec.is_array source.now pieces.now index }
 {
@@ -187,7 +188,7 @@ fn is_array(source: &[u8], pieces: &[Piece], index: usize) -> bool
             || is(before, "?"))
 }
 
-/// Whether the value of the bracket that a token opens is a value of what is inside.
+/// Whether the value of the bracket that a token opens is one of the values inside.
 fn is_around_values(source: &[u8], pieces: &[Piece], index: usize) -> bool
     ensures { result ≡ spec.is_around_values source.now pieces.now index }
 {
@@ -201,8 +202,8 @@ fn is_around_values(source: &[u8], pieces: &[Piece], index: usize) -> bool
     }
 }
 
-/// What is told of the expression that a bracket goes on with.
-pub fn pending_of(frame: Option<Frame>) -> Option<Told>
+/// What is known about the next expression in a bracket.
+pub fn pending_of(frame: Option<Frame>) -> Option<Known>
     ensures { result ≡ spec.pending_of frame }
 {
     match frame {
@@ -211,14 +212,15 @@ pub fn pending_of(frame: Option<Frame>) -> Option<Told>
     }
 }
 
-/// What is told of the values in a bracket by what it stands in: nothing where it is that of a known call.
+/// What is known about the values in a bracket because of what the bracket is in: nothing if it holds the
+/// arguments of a known call.
 fn passed_into(
     source: &[u8],
     pieces: &[Piece],
     index: usize,
     call: Call,
     outer: Option<Frame>,
-) -> Option<Told>
+) -> Option<Known>
     ensures { result ≡ spec.passed_into source.now pieces.now index call outer }
 {
     match call {
@@ -232,7 +234,7 @@ fn passed_into(
     }
 }
 
-/// The bracket that a token opens, in another one.
+/// The bracket that a token opens, inside of another one.
 pub fn opened(
     source: &[u8],
     pieces: &[Piece],
@@ -254,7 +256,7 @@ pub fn opened(
     })
 }
 
-/// What stands around all brackets of a source.
+/// The frame around all brackets of a source.
 pub fn outermost() -> Frame
     ensures { result ≡ spec.outermost }
 {
@@ -268,9 +270,14 @@ pub fn outermost() -> Frame
     }
 }
 
-/// What is told of a token that is all of a value, by what that is handed to.
-pub fn told_of(source: &[u8], pieces: &[Piece], index: usize, frame: Option<Frame>) -> Option<Told>
-    ensures { result ≡ spec.told_of source.now pieces.now index frame }
+/// What is known about a token that is a whole value, because of what the value is passed to.
+pub fn known_of(
+    source: &[u8],
+    pieces: &[Piece],
+    index: usize,
+    frame: Option<Frame>,
+) -> Option<Known>
+    ensures { result ≡ spec.known_of source.now pieces.now index frame }
 {
     if is_value(source, pieces, index) {
         pending_of(frame)

@@ -1,4 +1,4 @@
-//! The brackets that are open at a token, the innermost one at the end.
+//! The brackets that are open at a token, the innermost one last.
 
 ghost use Rattle.std.specs.Prelude.{◌≡◌, OnOk};
 ghost use Rattle.timefd_sources.specs.Frames as spec;
@@ -9,7 +9,7 @@ use crate::dialect::is;
 use crate::flow::{entered, opened, settled};
 use crate::piece::Piece;
 use crate::uses::Use;
-use crate::word::{is_closing, is_opening, text_at, text_behind};
+use crate::word::{is_closing, is_opening, text_after, text_at};
 use std::alloc::AllocError;
 
 /// The innermost bracket.
@@ -45,17 +45,17 @@ fn with_comma(frame: Frame) -> Frame
     settled(Frame { argument, ..frame })
 }
 
-/// Whether the innermost bracket goes on with another statement, arm or argument behind one that a token closes:
-/// behind a block that `else` doesn't follow.
+/// Whether another statement, arm or argument begins after a closing token: after a block that no `else`
+/// follows.
 fn is_end(source: &[u8], pieces: &[Piece], index: usize) -> bool
     ensures { result ≡ spec.is_end source.now pieces.now index }
 {
-    is(text_at(source, pieces, index), "}") && !is(text_behind(source, pieces, index, 1), "else")
+    is(text_at(source, pieces, index), "}") && !is(text_after(source, pieces, index, 1), "else")
 }
 
-/// The innermost bracket behind a token that doesn't open one.
-fn behind_token(source: &[u8], pieces: &[Piece], uses: &[Use], index: usize, frame: Frame) -> Frame
-    ensures { result ≡ spec.behind_token source.now pieces.now uses.now index frame }
+/// The innermost bracket after a token that doesn't open one.
+fn after_token(source: &[u8], pieces: &[Piece], uses: &[Use], index: usize, frame: Frame) -> Frame
+    ensures { result ≡ spec.after_token source.now pieces.now uses.now index frame }
 {
     let text = text_at(source, pieces, index);
     if is(text, ",") {
@@ -71,7 +71,7 @@ fn behind_token(source: &[u8], pieces: &[Piece], uses: &[Use], index: usize, fra
     }
 }
 
-// Replaces the innermost bracket by what it is behind a token.
+// Replaces the innermost bracket by what it is after a token.
 fn replace(
     frames: &mut Vec<Frame>,
     source: &[u8],
@@ -84,15 +84,15 @@ fn replace(
 {
     match close(frames) {
         Some(frame) => {
-            frames.push(behind_token(source, pieces, uses, index, frame))?;
+            frames.push(after_token(source, pieces, uses, index, frame))?;
             Ok(())
         }
         None => Ok(()),
     }
 }
 
-/// Opens or closes a bracket, counts a comma, or notes where the next value goes, where these aliases are declared
-/// and names are so used.
+/// Opens or closes a bracket, counts a comma, or notes where the next value goes, with these aliases and uses
+/// of names.
 pub fn pass(
     frames: &mut Vec<Frame>,
     source: &[u8],

@@ -1,4 +1,4 @@
-//! String literals in sources of Rust, and the format descriptions among them.
+//! String literals in Rust sources, and the format descriptions among them.
 #![tactic(auto)]
 
 mod alias;
@@ -17,6 +17,7 @@ pub mod dialect;
 mod escape;
 mod flow;
 mod frames;
+pub mod known;
 pub mod laws;
 pub mod line;
 mod literal;
@@ -26,12 +27,11 @@ mod names;
 pub mod number;
 pub mod part;
 mod piece;
-mod place;
+mod position;
 mod scope;
 mod shadow;
 mod string;
 mod token;
-pub mod told;
 mod unescape;
 mod uses;
 mod using;
@@ -44,12 +44,12 @@ pub use alike::body_alike;
 pub use chrono::{is_of_chrono, is_of_jiff};
 pub use description::Description;
 pub use dialect::Dialect;
+pub use known::Items;
 pub use literal::{body_end, inside, literal_text};
 pub use look::{Look, descriptions_of, looked_at};
 pub use piece::{Piece, pieces_of};
-pub use place::place_of;
+pub use position::index_in_source;
 pub use token::{Encoding, Kind, Token};
-pub use told::Items;
 pub use unescape::Unescaped;
-pub use version::{VersionPlace, digit_of};
+pub use version::{VersionPosition, digit_of};
 pub use written::body_for;

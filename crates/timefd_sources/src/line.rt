@@ -3,9 +3,10 @@
 ghost use Rattle.std.specs.Prelude.{◌≡◌, ◌≤◌, drop, length};
 ghost use Rattle.timefd_sources.specs.Lines as spec;
 
-use crate::class::{Class, behind_run};
+use crate::class::{Class, after_run};
 
-/// Where the line begins that a place is in, if the line of an earlier place begins at `known`.
+/// Where the line of the position `to` begins. `known` is where the line of the earlier position
+/// `from` begins.
 pub fn line_start(source: &[u8], known: usize, from: usize, to: usize) -> usize
     requires known { known ≡ spec.line_start source.now from }
     requires ordered { from ≤ to }
@@ -23,19 +24,19 @@ pub fn line_start(source: &[u8], known: usize, from: usize, to: usize) -> usize
     known
 }
 
-/// The bytes of a text from a place on.
+/// The bytes of a text from an index on.
 pub fn from(text: &[u8], at: usize) -> &[u8]
     ensures { result.now ≡ drop at text.now }
 {
     text.get(at..).unwrap_or(&[])
 }
 
-/// Where the line ends behind the one that ends at a place.
+/// Where the next line ends, after the one that ends at a position.
 pub fn next_line_end(source: &[u8], at: usize) -> usize
     ensures { result ≡ spec.next_line_end source.now at }
 {
     match from(source, at) {
-        [_, next @ ..] => source.len() - behind_run(Class::Line, next).len(),
+        [_, next @ ..] => source.len() - after_run(Class::Line, next).len(),
         [] => source.len(),
     }
 }

@@ -1,11 +1,11 @@
-//! The text of a literal that stands in a source.
+//! The text of a literal in a source.
 
 ghost use Rattle.std.specs.Prelude.{◌≡◌, ◌≤◌, ◌<◌, ◌+◌, length, IfOk, MatchOption, ⊤};
 ghost use Rattle.timefd_sources.specs.Bytes.{seen};
 ghost use Rattle.timefd_sources.specs.Escapes.{placed_any};
 ghost use Rattle.timefd_sources.specs.Literals as spec;
 
-use crate::class::{Class, behind_run};
+use crate::class::{Class, after_run};
 use crate::piece::Piece;
 use crate::token::Kind;
 use crate::unescape::{Unescaped, unescape};
@@ -20,12 +20,12 @@ fn hash_count(kind: Kind) -> usize
     }
 }
 
-/// What stands between the quotes of a literal.
+/// What is between the quotes of a literal.
 fn body(kind: Kind, literal: &[u8]) -> Option<&[u8]>
     ensures body { seen result ≡ spec.body kind literal.now }
     ensures within { MatchOption result ⊤ (λ body. length body.now + (spec.hash_count kind + 1) < length literal.now) }
 {
-    let [_, inner @ ..] = behind_run(Class::Unquoted, literal) else {
+    let [_, inner @ ..] = after_run(Class::Unquoted, literal) else {
         return None;
     };
     let hash_count = hash_count(kind);
@@ -36,7 +36,7 @@ fn body(kind: Kind, literal: &[u8]) -> Option<&[u8]>
     }
 }
 
-/// The place of a literal's closing quote.
+/// The position of a literal's closing quote, as a byte index.
 pub fn body_end(piece: Piece, kind: Kind) -> usize
     ensures { result ≡ spec.body_end piece kind }
 {
@@ -56,13 +56,13 @@ pub fn cut(source: &[u8], piece: Piece) -> Option<&[u8]>
     }
 }
 
-/// What stands between the quotes of a literal, which is this token of the source. None where no
-/// literal of the kind stands.
+/// What is between the quotes of the literal that is this token of the source. `None` if the token
+/// isn't a literal of this kind.
 #[tactic(auto, using(crate::proofs::InsideLemmas::inside_stands))]
 pub fn inside(source: &str, piece: Piece, kind: Kind) -> Option<&[u8]>
     ensures inside { seen result ≡ spec.inside source.now piece kind }
     ensures within { MatchOption result ⊤ (λ inside. piece.start + length inside.now < spec.body_end piece kind) }
-    ensures place { MatchOption result ⊤ (λ inside. spec.EndsAt source.now (spec.body_end piece kind) inside.now) }
+    ensures position { MatchOption result ⊤ (λ inside. spec.EndsAt source.now (spec.body_end piece kind) inside.now) }
 {
     match cut(source.as_bytes(), piece) {
         Some(literal) => body(kind, literal),
@@ -70,8 +70,8 @@ pub fn inside(source: &str, piece: Piece, kind: Kind) -> Option<&[u8]>
     }
 }
 
-/// The text that a literal stands for, which is this token of the source. None where an escape isn't
-/// one, or where no literal of the kind stands.
+/// The text of the literal that is this token of the source. `None` if an escape is invalid, or if
+/// the token isn't a literal of this kind. An `Err` says that memory ran out.
 pub fn literal_text(
     alloc: Global,
     source: &str,

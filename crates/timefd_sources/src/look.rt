@@ -1,4 +1,4 @@
-//! All that is seen in a source: its descriptions, and what can't be looked at.
+//! What is seen in a source: its descriptions, and what can't be checked.
 
 ghost use Rattle.std.specs.Prelude.{◌≡◌, ◌++◌, IfOk, OnOk};
 ghost use Rattle.timefd_sources.specs.Candidates.{candidates_in};
@@ -21,11 +21,12 @@ use std::alloc::{AllocError, Global};
 /// What is seen in a source.
 #[derive(Drop)]
 pub struct Look {
-    /// Its descriptions, one behind another.
+    /// The descriptions, in order; they don't overlap.
     pub descriptions: Vec<Description>,
-    /// Where names stand that known calls take in place of a text, and for which none is found in the source.
+    /// Where names begin that known calls take instead of a literal, and for which no text is found in the
+    /// source. Byte indices.
     pub calls: Vec<usize>,
-    /// Where comments stand that are to name a language, and name none.
+    /// Where comments begin that should name a language, but don't. Byte indices.
     pub comments: Vec<usize>,
 }
 
@@ -36,46 +37,48 @@ struct Seen {
     calls: Vec<usize>,
 }
 
-/// Whether a word stands among these tokens.
+/// Whether a word is among these tokens.
 fn has_word(source: &[u8], pieces: &[Piece], word: &str) -> bool
     ensures { result ≡ spec.has_word source.now word.now pieces.now }
 {
     let mut rest = pieces;
-    'tokens: while let [piece, behind @ ..] = rest {
+    'tokens: while let [piece, after @ ..] = rest {
         if is(text_of(source, *piece), word) {
             return true;
         }
-        rest = behind;
+        rest = after;
     }
     false
 }
 
-/// Whether one of these descriptions is taken by its name at a place.
-fn is_taken(descriptions: &[Description], place: usize) -> bool
-    ensures { result ≡ spec.is_taken place descriptions.now }
+/// Whether one of these descriptions is used by its name at a position.
+fn is_taken(descriptions: &[Description], position: usize) -> bool
+    ensures { result ≡ spec.is_taken position descriptions.now }
 {
     let mut rest = descriptions;
-    'descriptions: while let [description, behind @ ..] = rest {
-        if description.call == Some(place) {
+    'descriptions: while let [description, after @ ..] = rest {
+        if description.call == Some(position) {
             return true;
         }
-        rest = behind;
+        rest = after;
     }
     false
 }
 
-/// Whether a call is known to take a text of dates: by its own name, or in a source that speaks of chrono.
+/// Whether a call is known to take a date format: by its own name, or because the source mentions chrono.
 fn is_sure(used: Use, has_chrono: bool) -> bool
     ensures { result ≡ spec.is_sure used has_chrono }
 {
-    !used.told.wants_percent || has_chrono
+    !used.known.wants_percent || has_chrono
 }
 
 fn is_unread(used: Use, descriptions: &[Description], has_chrono: bool) -> bool
     ensures { result ≡ spec.is_unread descriptions.now has_chrono used }
 {
-    let place = used.name.start;
-    used.told.call == Some(place) && is_sure(used, has_chrono) && !is_taken(descriptions, place)
+    let position = used.name.start;
+    used.known.call == Some(position)
+        && is_sure(used, has_chrono)
+        && !is_taken(descriptions, position)
 }
 
 fn push_unread(
@@ -93,7 +96,7 @@ fn push_unread(
     Ok(())
 }
 
-/// Where names stand that calls take, and that are no name of one of these descriptions.
+/// Where names begin that calls take, and that don't name one of these descriptions.
 fn unread_calls(
     alloc: Global,
     uses: &[Use],
@@ -109,7 +112,7 @@ fn unread_calls(
     Ok(calls)
 }
 
-/// What is seen among these tokens, where these comments count.
+/// What is seen among these tokens, with these comments that name a language.
 fn seen_in(
     alloc: Global,
     source: &str,
@@ -133,7 +136,7 @@ fn seen_in(
     })
 }
 
-/// Looks at a source. An `Err` says that memory ran out.
+/// Looks for descriptions in a source. An `Err` says that memory ran out.
 pub fn looked_at(alloc: Global, source: &str) -> Result<Look, AllocError>
     ensures { IfOk result (IsLook source.now) }
 {
@@ -159,9 +162,8 @@ pub fn looked_at(alloc: Global, source: &str) -> Result<Look, AllocError>
     })
 }
 
-/// The descriptions in a source, one behind another: arguments of the calls that are known, what is handed to such a
-/// call by a name of the same file, and literals for which a comment names a language. An `Err` says that memory ran
-/// out.
+/// The descriptions in a source, in order: arguments of known calls, what such a call gets by a name of the
+/// same file, and literals for which a comment names a language. An `Err` says that memory ran out.
 pub fn descriptions_of(alloc: Global, source: &str) -> Result<Vec<Description>, AllocError>
     ensures all { IfOk result (λ found. AreDescriptionsOf source.now found.items) }
     ensures stand { IfOk result (λ found. AllStandIn source.now found.items) }

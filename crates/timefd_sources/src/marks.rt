@@ -1,14 +1,14 @@
-//! Where a comment names the language of literals.
+//! Comments that name the language of literals: `// timefd: 3`.
 
 ghost use Rattle.std.specs.Prelude.{◌≡◌, ◌≤◌, ◌++◌, length, OnOk, IfOk, Some};
 ghost use Rattle.std.specs.Option.{option_to_list};
-ghost use Rattle.timefd_sources.specs.Behind.{behind_run as behind_spec};
+ghost use Rattle.timefd_sources.specs.After.{after_run as after_spec};
 ghost use Rattle.timefd_sources.specs.Bytes.{is_word, seen};
 ghost use Rattle.timefd_sources.specs.Lines.{line_start as line_start_of};
 ghost use Rattle.timefd_sources.specs.Literals as literals;
 ghost use Rattle.timefd_sources.specs.Marks as spec;
 
-use crate::class::{Class, behind_run};
+use crate::class::{Class, after_run};
 use crate::dialect::{Dialect, dialect_of_word, is};
 use crate::line::{line_start, next_line_end};
 use crate::literal::cut;
@@ -16,8 +16,8 @@ use crate::piece::Piece;
 use crate::token::Token;
 use std::alloc::{AllocError, Global};
 
-/// A comment names the language of the literals that begin in these bytes: those of its line, or of the next
-/// line where it stands alone.
+/// A comment that names a language, for the literals that begin in the bytes `from..to`: those before it in
+/// its line, or those of the next line if nothing else is in its own.
 #[derive(Clone, Copy)]
 pub struct Mark {
     pub from: usize,
@@ -25,9 +25,9 @@ pub struct Mark {
     pub dialect: Dialect,
 }
 
-/// What stands behind this front of a text; none where it begins otherwise.
-pub fn behind<'a>(text: &'a [u8], front: &[u8]) -> Option<&'a [u8]>
-    ensures { seen result ≡ spec.behind text.now front.now }
+/// The text without this front; `None` if it begins differently.
+pub fn after<'a>(text: &'a [u8], front: &[u8]) -> Option<&'a [u8]>
+    ensures { seen result ≡ spec.after text.now front.now }
 {
     if text.starts_with(front) {
         Some(&text[front.len()..])
@@ -36,7 +36,7 @@ pub fn behind<'a>(text: &'a [u8], front: &[u8]) -> Option<&'a [u8]>
     }
 }
 
-/// The front of a text that stands before this rest.
+/// The front of a text, up to this rest.
 pub fn in_front<'a>(text: &'a [u8], rest: &[u8]) -> &'a [u8]
     requires { length rest.now ≤ length text.now }
     ensures { result.now ≡ spec.in_front text.now rest.now }
@@ -46,16 +46,16 @@ pub fn in_front<'a>(text: &'a [u8], rest: &[u8]) -> &'a [u8]
 
 /// The word that a text begins with.
 pub fn first_word(text: &[u8]) -> &[u8]
-    ensures { result.now ≡ spec.in_front text.now (behind_spec is_word text.now) }
+    ensures { result.now ≡ spec.in_front text.now (after_spec is_word text.now) }
 {
-    in_front(text, behind_run(Class::Word, text))
+    in_front(text, after_run(Class::Word, text))
 }
 
-/// The language of the word that a text is, with white bytes behind it.
-fn word_told(text: &[u8]) -> Option<Dialect>
-    ensures { result ≡ spec.word_told text.now }
+/// The language that a text names if it is one word, with only white bytes after it.
+fn word_dialect(text: &[u8]) -> Option<Dialect>
+    ensures { result ≡ spec.word_dialect text.now }
 {
-    if behind_run(Class::White, behind_run(Class::Word, text)).is_empty() {
+    if after_run(Class::White, after_run(Class::Word, text)).is_empty() {
         dialect_of_word(first_word(text))
     } else {
         None
@@ -63,39 +63,39 @@ fn word_told(text: &[u8]) -> Option<Dialect>
 }
 
 /// The language that a comment names: `// timefd: 3`, `// timefd: strftime`.
-fn dialect_told(comment: &[u8]) -> Option<Dialect>
-    ensures { result ≡ spec.dialect_told (Some comment.now) }
+fn comment_dialect(comment: &[u8]) -> Option<Dialect>
+    ensures { result ≡ spec.comment_dialect (Some comment.now) }
 {
-    let Some(line) = behind(comment, b"//") else {
+    let Some(line) = after(comment, b"//") else {
         return None;
     };
-    let Some(word) = behind(behind_run(Class::White, line), b"timefd:") else {
+    let Some(word) = after(after_run(Class::White, line), b"timefd:") else {
         return None;
     };
-    word_told(behind_run(Class::White, word))
+    word_dialect(after_run(Class::White, word))
 }
 
-/// Whether a text, which stands behind `timefd:`, names no language and silences no warning.
+/// Whether the text after `timefd:` neither names a language nor silences a warning.
 fn is_unknown(text: &[u8]) -> bool
     ensures { result ≡ spec.is_unknown text.now }
 {
-    match word_told(text) {
+    match word_dialect(text) {
         Some(_dialect) => false,
         None => !is(first_word(text), "allow"),
     }
 }
 
-/// Whether a comment is to name a language, and names none: `// timefd: strftme`.
+/// Whether a comment should name a language, but doesn't: `// timefd: strftme`.
 fn names_none(comment: &[u8]) -> bool
     ensures { result ≡ spec.names_none (Some comment.now) }
 {
-    let Some(line) = behind(comment, b"//") else {
+    let Some(line) = after(comment, b"//") else {
         return false;
     };
-    let Some(word) = behind(behind_run(Class::White, line), b"timefd:") else {
+    let Some(word) = after(after_run(Class::White, line), b"timefd:") else {
         return false;
     };
-    is_unknown(behind_run(Class::White, word))
+    is_unknown(after_run(Class::White, word))
 }
 
 fn is_unknown_mark(source: &[u8], piece: Piece) -> bool
@@ -110,47 +110,48 @@ fn is_unknown_mark(source: &[u8], piece: Piece) -> bool
     }
 }
 
-fn push_unknown(places: &mut Vec<usize>, source: &[u8], piece: Piece) -> Result<(), AllocError>
-    ensures { OnOk result (places.new.items ≡ places.old.items ++ spec.unknown_mark source.now piece) }
+fn push_unknown(positions: &mut Vec<usize>, source: &[u8], piece: Piece) -> Result<(), AllocError>
+    ensures { OnOk result (positions.new.items ≡ positions.old.items ++ spec.unknown_mark source.now piece) }
 {
     if is_unknown_mark(source, piece) {
-        places.push(piece.start)?;
+        positions.push(piece.start)?;
     }
     Ok(())
 }
 
-/// Where comments begin that are to name a language, and name none, in turn.
+/// Where comments begin that should name a language, but don't, as byte indices in order. An `Err` says
+/// that memory ran out.
 pub fn unknown_marks(
     alloc: Global,
     source: &[u8],
     pieces: &[Piece],
 ) -> Result<Vec<usize>, AllocError>
-    ensures { IfOk result (λ places. places.items ≡ spec.unknown_marks source.now pieces.now) }
+    ensures { IfOk result (λ positions. positions.items ≡ spec.unknown_marks source.now pieces.now) }
 {
-    let mut places = Vec::new(alloc);
+    let mut positions = Vec::new(alloc);
     for piece in pieces {
-        push_unknown(&mut places, source, *piece)?;
+        push_unknown(&mut positions, source, *piece)?;
     }
-    Ok(places)
+    Ok(positions)
 }
 
-/// Whether only white bytes stand in front of a place in its line, which begins here.
+/// Whether only white bytes precede a position in its line, which begins at `start`.
 fn is_alone(source: &[u8], start: usize, at: usize) -> bool
     requires start { start ≡ line_start_of source.now at }
     requires within { at ≤ length source.now }
     ensures { result ≡ spec.is_alone source.now at }
 {
-    behind_run(Class::White, &source[start..at]).is_empty()
+    after_run(Class::White, &source[start..at]).is_empty()
 }
 
-/// Where a comment names a language.
+/// The mark of a comment that names a language.
 fn mark_of(source: &[u8], comment: Piece) -> Option<Mark>
-    ensures { result ≡ spec.mark_of source.now comment (spec.dialect_told (literals.cut source.now comment)) }
+    ensures { result ≡ spec.mark_of source.now comment (spec.comment_dialect (literals.cut source.now comment)) }
 {
     let Some(text) = cut(source, comment) else {
         return None;
     };
-    let Some(dialect) = dialect_told(text) else {
+    let Some(dialect) = comment_dialect(text) else {
         return None;
     };
     let start = line_start(source, 0, 0, comment.start);
@@ -207,7 +208,7 @@ fn push_any(marks: &mut Vec<Mark>, mark: Option<Mark>) -> Result<(), AllocError>
     }
 }
 
-/// The comments that name a language, in turn.
+/// The comments that name a language, in order. An `Err` says that memory ran out.
 pub fn marks_of(alloc: Global, source: &[u8], pieces: &[Piece]) -> Result<Vec<Mark>, AllocError>
     ensures { IfOk result (λ marks. marks.items ≡ spec.marks source.now pieces.now) }
 {
@@ -218,26 +219,26 @@ pub fn marks_of(alloc: Global, source: &[u8], pieces: &[Piece]) -> Result<Vec<Ma
     Ok(marks)
 }
 
-/// The marks from the first on that counts for places behind this one.
-pub fn still_open(marks: &[Mark], place: usize) -> &[Mark]
-    ensures { result.now ≡ spec.still_open place marks.now }
+/// The marks from the first one on that ends after this position.
+pub fn still_open(marks: &[Mark], position: usize) -> &[Mark]
+    ensures { result.now ≡ spec.still_open position marks.now }
 {
     let mut rest = marks;
-    'marks: while let [mark, behind @ ..] = rest {
-        if place < mark.to {
+    'marks: while let [mark, after @ ..] = rest {
+        if position < mark.to {
             return rest;
         }
-        rest = behind;
+        rest = after;
     }
     rest
 }
 
-/// The language that the first of these marks names for a place.
-pub fn told_at(marks: &[Mark], place: usize) -> Option<Dialect>
-    ensures { result ≡ spec.told_at marks.now place }
+/// The language that the first of these marks names for a position.
+pub fn reported_at(marks: &[Mark], position: usize) -> Option<Dialect>
+    ensures { result ≡ spec.reported_at marks.now position }
 {
     match marks {
-        [mark, ..] if mark.from <= place && place < mark.to => Some(mark.dialect),
+        [mark, ..] if mark.from <= position && position < mark.to => Some(mark.dialect),
         [_, ..] | [] => None,
     }
 }

@@ -1,4 +1,4 @@
-//! Whether a source can have descriptions at all, by the words that every description has beside it.
+//! Whether a source can have descriptions at all: some known word is near every description.
 
 ghost use Rattle.std.specs.Prelude.{◌≡◌, ◌⊎◌, codes, false};
 ghost use Rattle.timefd_sources.specs.Names.{HasNoCallOfChrono, HasNoCallOfJiff, HasNoMacro, HasNoName, HasNoParser, HasNoPercent, HasNoPercentEscape, HasNoReaderOfChrono, Lacks};
@@ -14,7 +14,7 @@ fn has(source: &[u8], word: &str) -> bool
     }
 }
 
-// A percent sign, or an escape that stands for one.
+// A percent sign, or an escape that denotes one.
 fn has_percent(source: &[u8]) -> bool
     ensures { result ≡ false → HasNoPercent source.now }
 {
@@ -33,7 +33,7 @@ fn has_percent_escape(source: &[u8]) -> bool
     has(source, "\\u{25}")
 }
 
-// A text of chrono in a call of `format` has a `%`.
+// A format string of chrono in a call of `format` has a `%`.
 fn has_format(source: &[u8]) -> bool
     ensures { result ≡ false → HasNoPercent source.now ⊎ Lacks source.now (codes "format") }
 {
@@ -114,8 +114,8 @@ fn has_call_of_jiff(source: &[u8]) -> bool
     has(source, "BrokenDownTime")
 }
 
-/// Whether a source has a name without which no literal of it is a description. Most sources have none, and
-/// needn't be cut into tokens.
+/// Whether a source has one of the names without which none of its literals is a description. Most sources
+/// have none, and needn't be cut into tokens.
 pub fn may_describe(source: &[u8]) -> bool
     ensures { result ≡ false → HasNoName source.now }
 {

@@ -1,8 +1,9 @@
-//! Numbers of characters, by hexadecimal digits.
+//! Code points in hexadecimal digits.
 
 ghost use Rattle.std.specs.Prelude.{◌≡◌, ◌≤◌, ◌<◌, MatchOption, Some, ⊤};
 ghost use Rattle.timefd_sources.specs.Escapes as spec;
 
+/// The value of a hexadecimal digit; `None` if the byte isn't one.
 pub fn hex_digit(byte: u8) -> Option<u8>
     ensures value { result ≡ spec.hex_digit byte }
     ensures small { MatchOption result ⊤ (λ digit. digit < 16) }
@@ -28,7 +29,7 @@ fn joined(value: u32, digit: u8) -> Option<u32>
     if next <= 1_114_111 { Some(next) } else { None }
 }
 
-/// A number with one digit more; none where it is greater than that of any character.
+/// A number with one more digit; `None` if it is greater than every code point.
 pub fn next_value(value: Option<u32>, digit: Option<u8>) -> Option<u32>
     requires value { MatchOption value ⊤ (λ value. value ≤ 1114111) }
     requires digit { MatchOption digit ⊤ (λ digit. digit < 16) }
@@ -44,7 +45,7 @@ pub fn next_value(value: Option<u32>, digit: Option<u8>) -> Option<u32>
     }
 }
 
-/// The character of a number, if one has it.
+/// The character with this number, if there is one.
 #[tactic(auto, using(crate::proofs::ScalarLemmas::is_scalar_value))]
 pub fn scalar_value(value: u32) -> Option<char>
     ensures { result ≡ spec.scalar_value value }

@@ -1,4 +1,4 @@
-//! Parts of a string: what they stand for.
+//! Parts of a string: what they denote.
 
 ghost use Rattle.std.specs.Prelude.{◌≡◌, ◌≤◌, ◌++◌, length, MatchOption, OnOk, ⊤};
 ghost use Rattle.timefd_sources.specs.Escapes as spec;
@@ -7,23 +7,23 @@ ghost use Rattle.timefd_sources.specs.Escapes.{all_at, parted_any, stands_for};
 use crate::number::scalar_value;
 use std::alloc::AllocError;
 
-/// What a part of a string stands for.
+/// What a part of a string denotes.
 #[derive(Clone, Copy)]
 pub enum Stands {
-    /// Nothing, as the end of a line behind a backslash.
+    /// Nothing: for example, a line end after a backslash.
     Nothing,
     Byte(u8),
     Char(char),
 }
 
-/// What a part of a string stands for, and what stands behind it.
+/// What a part of a string denotes, and what follows it.
 #[derive(Clone, Copy)]
 pub struct Part<'a> {
     pub stands: Stands,
     pub rest: &'a [u8],
 }
 
-/// A character, and what stands behind its escape.
+/// A character, and what follows its escape.
 pub fn char_part(rest: &[u8], c: Option<char>) -> Option<Part<'_>>
     ensures part { parted_any result ≡ spec.char_part rest.now c }
     ensures within { MatchOption result ⊤ (λ part. length part.rest.now ≤ length rest.now) }
@@ -37,7 +37,7 @@ pub fn char_part(rest: &[u8], c: Option<char>) -> Option<Part<'_>>
     }
 }
 
-/// The same of a character's number.
+/// The character with this number, and what follows its escape.
 pub fn character(rest: &[u8], value: Option<u32>) -> Option<Part<'_>>
     ensures part { parted_any result ≡ spec.character rest.now value }
     ensures within { MatchOption result ⊤ (λ part. length part.rest.now ≤ length rest.now) }
@@ -48,36 +48,41 @@ pub fn character(rest: &[u8], value: Option<u32>) -> Option<Part<'_>>
     }
 }
 
-// Adds bytes that stand at one place.
+// Adds bytes that all have the same position.
 fn push_bytes(
     text: &mut Vec<u8>,
-    places: &mut Vec<usize>,
+    positions: &mut Vec<usize>,
     bytes: &[u8],
-    place: usize,
+    position: usize,
 ) -> Result<(), AllocError>
     ensures text { OnOk result (text.new.items ≡ text.old.items ++ bytes.now) }
-    ensures places { OnOk result (places.new.items ≡ places.old.items ++ all_at place bytes.now) }
+    ensures positions { OnOk result (positions.new.items ≡ positions.old.items ++ all_at position bytes.now) }
 {
     for byte in bytes {
         text.push(*byte)?;
-        places.push(place)?;
+        positions.push(position)?;
     }
     Ok(())
 }
 
-/// Adds what a part stands for, at the place of the part.
+/// Adds what a part denotes, at the position of the part. An `Err` says that memory ran out.
 pub fn push_part(
     text: &mut Vec<u8>,
-    places: &mut Vec<usize>,
+    positions: &mut Vec<usize>,
     stands: Stands,
-    place: usize,
+    position: usize,
 ) -> Result<(), AllocError>
     ensures text { OnOk result (text.new.items ≡ text.old.items ++ stands_for stands) }
-    ensures places { OnOk result (places.new.items ≡ places.old.items ++ all_at place (stands_for stands)) }
+    ensures positions { OnOk result (positions.new.items ≡ positions.old.items ++ all_at position (stands_for stands)) }
 {
     match stands {
         Stands::Nothing => Ok(()),
-        Stands::Byte(byte) => push_bytes(text, places, &[byte], place),
-        Stands::Char(c) => push_bytes(text, places, c.encode_utf8(&mut [0; 4]).as_bytes(), place),
+        Stands::Byte(byte) => push_bytes(text, positions, &[byte], position),
+        Stands::Char(c) => push_bytes(
+            text,
+            positions,
+            c.encode_utf8(&mut [0; 4]).as_bytes(),
+            position,
+        ),
     }
 }

@@ -6,7 +6,7 @@ ghost use Rattle.timefd_sources.specs.Sources.{AreTokens};
 use crate::token::{Token, first};
 use std::alloc::{AllocError, Global};
 
-/// A token, and where it stands in its source: its bytes from `start` up to `end`.
+/// A token, and where it is in its source: the bytes `start..end`.
 #[derive(Clone, Copy, Debug, PartialEq, Eq)]
 pub struct Piece {
     pub token: Token,
@@ -14,7 +14,8 @@ pub struct Piece {
     pub end: usize,
 }
 
-/// The tokens of a source, in turn: all of its bytes.
+/// The tokens of a source, in order. Together they are all of its bytes. An `Err` says that memory
+/// ran out.
 #[tactic(auto, using(crate::proofs::PieceLemmas::at_first, crate::proofs::PieceLemmas::one_more, crate::proofs::PieceLemmas::at_last))]
 pub fn pieces_of(alloc: Global, source: &str) -> Result<Vec<Piece>, AllocError>
     ensures { IfOk result (λ pieces. AreTokens (length source.now) source.now pieces.items) }

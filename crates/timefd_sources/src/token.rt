@@ -1,23 +1,23 @@
-//! The tokens of a source, as far as literals have to be told from what isn't one.
+//! The tokens of a source, as precise as is needed to distinguish literals from everything else.
 
 ghost use Rattle.std.specs.Prelude.{◌≡◌, ◌≤◌, ◌<◌, ◌+◌, length, MatchOption, ⊤};
 ghost use Rattle.timefd_sources.specs.Bytes.{seen};
 ghost use Rattle.timefd_sources.specs.Tokens as spec;
 ghost use Rattle.timefd_sources.specs.Tokens.{begun, begun_any};
 
-use crate::character::behind_character;
-use crate::class::{Class, behind_run, is_white, is_word};
-use crate::comment::behind_comment;
-use crate::string::{behind_raw, behind_string, hashes};
+use crate::character::after_character;
+use crate::class::{Class, after_run, is_white, is_word};
+use crate::comment::after_comment;
+use crate::string::{after_raw, after_string, hashes};
 
-/// What a string literal is of.
+/// What a string literal denotes.
 #[derive(Clone, Copy, Debug, PartialEq, Eq)]
 pub enum Encoding {
     /// A text: `".."`.
     Str,
     /// Bytes: `b".."`.
     Bytes,
-    /// A text of C: `c".."`.
+    /// A C string: `c".."`.
     C,
 }
 
@@ -33,7 +33,7 @@ pub enum Kind {
 /// A token.
 #[derive(Clone, Copy, Debug, PartialEq, Eq)]
 pub enum Token {
-    /// A stretch of white bytes.
+    /// A run of white bytes.
     White,
     /// A comment, of a line or a block.
     Comment,
@@ -47,24 +47,24 @@ pub enum Token {
     Literal(Kind),
     /// Any other byte.
     Sign,
-    /// A literal or a comment that nothing closes: all up to the end.
+    /// A literal or a comment that isn't closed: everything up to the end.
     Unclosed,
 }
 
-/// A token, and what stands behind it.
+/// A token, and what follows it.
 #[derive(Clone, Copy)]
 pub struct Step<'a> {
     pub token: Token,
     pub rest: &'a [u8],
 }
 
-// Behind a text that begins the token: what isn't closed goes on to the end.
-fn closed<'a>(token: Token, text: &'a [u8], behind: Option<&'a [u8]>) -> Step<'a>
-    requires { MatchOption behind ⊤ (λ rest. length rest.now ≤ length text.now) }
-    ensures begin { begun result ≡ spec.closed token (seen behind.entry) }
+// The token that begins before this text: if it isn't closed, it goes on to the end.
+fn closed<'a>(token: Token, text: &'a [u8], after: Option<&'a [u8]>) -> Step<'a>
+    requires { MatchOption after ⊤ (λ rest. length rest.now ≤ length text.now) }
+    ensures begin { begun result ≡ spec.closed token (seen after.entry) }
     ensures within { length result.rest.now ≤ length text.now }
 {
-    match behind {
+    match after {
         Some(rest) => Step { token, rest },
         None => Step {
             token: Token::Unclosed,
@@ -78,11 +78,11 @@ fn opened_comment(text: &[u8]) -> Option<Step<'_>>
     ensures within { MatchOption result ⊤ (λ step. length step.rest.now ≤ length text.now) }
 {
     match text {
-        [b'/', behind @ ..] => Some(Step {
+        [b'/', after @ ..] => Some(Step {
             token: Token::Comment,
-            rest: behind_run(Class::Line, behind),
+            rest: after_run(Class::Line, after),
         }),
-        [b'*', behind @ ..] => Some(closed(Token::Comment, behind, behind_comment(behind))),
+        [b'*', after @ ..] => Some(closed(Token::Comment, after, after_comment(after))),
         _ => None,
     }
 }
@@ -92,7 +92,7 @@ fn comment(text: &[u8]) -> Option<Step<'_>>
     ensures within { MatchOption result ⊤ (λ step. length step.rest.now < length text.now) }
 {
     match text {
-        [b'/', behind @ ..] => opened_comment(behind),
+        [b'/', after @ ..] => opened_comment(after),
         _ => None,
     }
 }
@@ -104,7 +104,7 @@ fn string(encoding: Encoding, text: &[u8]) -> Step<'_>
     closed(
         Token::Literal(Kind::Escaped(encoding)),
         text,
-        behind_string(text),
+        after_string(text),
     )
 }
 
@@ -113,10 +113,10 @@ fn opened_raw(encoding: Encoding, hash_count: usize, text: &[u8]) -> Option<Step
     ensures within { MatchOption result ⊤ (λ step. length step.rest.now ≤ length text.now) }
 {
     match text {
-        [b'"', behind @ ..] => Some(closed(
+        [b'"', after @ ..] => Some(closed(
             Token::Literal(Kind::Raw(encoding, hash_count)),
-            behind,
-            behind_raw(hash_count, behind),
+            after,
+            after_raw(hash_count, after),
         )),
         _ => None,
     }
@@ -135,8 +135,8 @@ fn prefixed(encoding: Encoding, text: &[u8]) -> Option<Step<'_>>
     ensures within { MatchOption result ⊤ (λ step. length step.rest.now ≤ length text.now) }
 {
     match text {
-        [b'"', behind @ ..] => Some(string(encoding, behind)),
-        [b'r', behind @ ..] => raw(encoding, behind),
+        [b'"', after @ ..] => Some(string(encoding, after)),
+        [b'r', after @ ..] => raw(encoding, after),
         _ => None,
     }
 }
@@ -146,31 +146,31 @@ fn literal(text: &[u8]) -> Option<Step<'_>>
     ensures within { MatchOption result ⊤ (λ step. length step.rest.now < length text.now) }
 {
     match text {
-        [b'"', behind @ ..] => Some(string(Encoding::Str, behind)),
-        [b'r', behind @ ..] => raw(Encoding::Str, behind),
-        [b'b', behind @ ..] => prefixed(Encoding::Bytes, behind),
-        [b'c', behind @ ..] => prefixed(Encoding::C, behind),
+        [b'"', after @ ..] => Some(string(Encoding::Str, after)),
+        [b'r', after @ ..] => raw(Encoding::Str, after),
+        [b'b', after @ ..] => prefixed(Encoding::Bytes, after),
+        [b'c', after @ ..] => prefixed(Encoding::C, after),
         _ => None,
     }
 }
 
-fn behind_byte(text: &[u8]) -> Option<&[u8]>
-    ensures rest { seen result ≡ spec.behind_byte text.now }
+fn after_byte(text: &[u8]) -> Option<&[u8]>
+    ensures rest { seen result ≡ spec.after_byte text.now }
     ensures within { MatchOption result ⊤ (λ rest. length rest.now ≤ length text.now) }
 {
     match text {
-        [b'\'', behind @ ..] => behind_character(behind),
+        [b'\'', after @ ..] => after_character(after),
         _ => None,
     }
 }
 
-fn behind_quoted(text: &[u8]) -> Option<&[u8]>
-    ensures rest { seen result ≡ spec.behind_quoted text.now }
+fn after_quoted(text: &[u8]) -> Option<&[u8]>
+    ensures rest { seen result ≡ spec.after_quoted text.now }
     ensures within { MatchOption result ⊤ (λ rest. length rest.now < length text.now) }
 {
     match text {
-        [b'\'', behind @ ..] => behind_character(behind),
-        [b'b', behind @ ..] => behind_byte(behind),
+        [b'\'', after @ ..] => after_character(after),
+        [b'b', after @ ..] => after_byte(after),
         _ => None,
     }
 }
@@ -184,88 +184,88 @@ fn begins_word(text: &[u8]) -> bool
     }
 }
 
-fn plain(byte: u8, behind: &[u8]) -> Step<'_>
-    ensures begin { begun result ≡ spec.plain byte behind.now }
-    ensures within { length result.rest.now ≤ length behind.now }
+fn plain(byte: u8, after: &[u8]) -> Step<'_>
+    ensures begin { begun result ≡ spec.plain byte after.now }
+    ensures within { length result.rest.now ≤ length after.now }
 {
     if is_white(byte) {
         Step {
             token: Token::White,
-            rest: behind_run(Class::White, behind),
+            rest: after_run(Class::White, after),
         }
     } else if is_word(byte) {
         Step {
             token: Token::Word,
-            rest: behind_run(Class::Word, behind),
+            rest: after_run(Class::Word, after),
         }
-    } else if byte == b'\'' && begins_word(behind) {
+    } else if byte == b'\'' && begins_word(after) {
         Step {
             token: Token::Lifetime,
-            rest: behind_run(Class::Word, behind),
+            rest: after_run(Class::Word, after),
         }
     } else {
         Step {
             token: Token::Sign,
-            rest: behind,
+            rest: after,
         }
     }
 }
 
-fn quoted_or_plain<'a>(byte: u8, behind: &'a [u8], quoted: Option<&'a [u8]>) -> Step<'a>
-    requires { MatchOption quoted ⊤ (λ rest. length rest.now ≤ length behind.now) }
-    ensures begin { begun result ≡ spec.quoted_or_plain byte behind.now (seen quoted.entry) }
-    ensures within { length result.rest.now ≤ length behind.now }
+fn quoted_or_plain<'a>(byte: u8, after: &'a [u8], quoted: Option<&'a [u8]>) -> Step<'a>
+    requires { MatchOption quoted ⊤ (λ rest. length rest.now ≤ length after.now) }
+    ensures begin { begun result ≡ spec.quoted_or_plain byte after.now (seen quoted.entry) }
+    ensures within { length result.rest.now ≤ length after.now }
 {
     match quoted {
         Some(rest) => Step {
             token: Token::Character,
             rest,
         },
-        None => plain(byte, behind),
+        None => plain(byte, after),
     }
 }
 
 fn literal_or_less<'a>(
     text: &'a [u8],
     byte: u8,
-    behind: &'a [u8],
+    after: &'a [u8],
     literal: Option<Step<'a>>,
 ) -> Step<'a>
-    requires shorter { length text.now ≡ length behind.now + 1 }
+    requires shorter { length text.now ≡ length after.now + 1 }
     requires literal { MatchOption literal ⊤ (λ step. length step.rest.now < length text.now) }
-    ensures begin { begun result ≡ spec.literal_or_less text.now byte behind.now (begun_any literal.entry) }
+    ensures begin { begun result ≡ spec.literal_or_less text.now byte after.now (begun_any literal.entry) }
     ensures within { length result.rest.now < length text.now }
 {
     match literal {
         Some(step) => step,
-        None => quoted_or_plain(byte, behind, behind_quoted(text)),
+        None => quoted_or_plain(byte, after, after_quoted(text)),
     }
 }
 
 fn comment_or_less<'a>(
     text: &'a [u8],
     byte: u8,
-    behind: &'a [u8],
+    after: &'a [u8],
     comment: Option<Step<'a>>,
 ) -> Step<'a>
-    requires shorter { length text.now ≡ length behind.now + 1 }
+    requires shorter { length text.now ≡ length after.now + 1 }
     requires comment { MatchOption comment ⊤ (λ step. length step.rest.now < length text.now) }
-    ensures begin { begun result ≡ spec.comment_or_less text.now byte behind.now (begun_any comment.entry) }
+    ensures begin { begun result ≡ spec.comment_or_less text.now byte after.now (begun_any comment.entry) }
     ensures within { length result.rest.now < length text.now }
 {
     match comment {
         Some(step) => step,
-        None => literal_or_less(text, byte, behind, literal(text)),
+        None => literal_or_less(text, byte, after, literal(text)),
     }
 }
 
-/// The token that a text begins with; none at its end.
+/// The token that a text begins with; `None` if the text is empty.
 pub fn first(text: &[u8]) -> Option<Step<'_>>
     ensures begin { begun_any result ≡ spec.first text.now }
     ensures within { MatchOption result ⊤ (λ step. length step.rest.now < length text.now) }
 {
     match text {
         [] => None,
-        [byte, behind @ ..] => Some(comment_or_less(text, *byte, behind, comment(text))),
+        [byte, after @ ..] => Some(comment_or_less(text, *byte, after, comment(text))),
     }
 }

@@ -1,4 +1,4 @@
-//! The text that a literal's body stands for.
+//! The text that a literal's body denotes.
 
 ghost use Rattle.std.specs.Prelude.{◌≡◌, ◌≤◌, length, IfOk};
 ghost use Rattle.timefd_sources.specs.Escapes.{placed_any, unescaped};
@@ -8,17 +8,17 @@ use crate::part::push_part;
 use crate::token::Kind;
 use std::alloc::{AllocError, Global};
 
-/// What a literal stands for, and where it stands.
+/// The text that a literal denotes, and where it is in the source.
 #[derive(Drop)]
 pub struct Unescaped {
-    /// Its bytes.
+    /// The bytes of the text.
     pub text: Vec<u8>,
-    /// For each byte the byte of the source that it stands for: its own place, or the backslash of its escape.
-    pub places: Vec<usize>,
+    /// For each byte its position in the source, as a byte index: its own, or the backslash of its escape.
+    pub positions: Vec<usize>,
 }
 
-/// The text that the body of a literal stands for; none where an escape isn't one. The body ends at
-/// the byte `end` of its source.
+/// The text that the body of a literal denotes; `None` if an escape is invalid. The body ends at the byte
+/// `end` of its source.
 #[tactic(auto, using(crate::proofs::UnescapeLemmas::at_first))]
 pub fn unescape(
     alloc: Global,
@@ -30,14 +30,14 @@ pub fn unescape(
     ensures { IfOk result (λ answer. placed_any answer ≡ unescaped (length body.now) kind end body.now) }
 {
     let mut text = Vec::new(alloc);
-    let mut places = Vec::new(alloc);
+    let mut positions = Vec::new(alloc);
     let mut rest = body;
-    'parts: while let [byte, behind @ ..] = rest {
-        let Some(next) = part_of(kind, *byte, behind) else {
+    'parts: while let [byte, after @ ..] = rest {
+        let Some(next) = part_of(kind, *byte, after) else {
             return Ok(None);
         };
-        push_part(&mut text, &mut places, next.stands, end - rest.len())?;
+        push_part(&mut text, &mut positions, next.stands, end - rest.len())?;
         rest = next.rest;
     }
-    Ok(Some(Unescaped { text, places }))
+    Ok(Some(Unescaped { text, positions }))
 }

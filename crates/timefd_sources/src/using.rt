@@ -1,4 +1,4 @@
-//! The names of a source that stand in the place of descriptions.
+//! The names of a source that are used instead of descriptions.
 
 ghost use Rattle.std.specs.Prelude.{◌≡◌, ◌++◌, IfOk, OnOk};
 ghost use Rattle.std.specs.Option.{option_to_list};
@@ -9,14 +9,14 @@ use crate::calls::Frame;
 use crate::dialect::is;
 use crate::flow::{outermost, pending_of};
 use crate::frames::{innermost, pass};
+use crate::known::Known;
 use crate::piece::Piece;
-use crate::told::Told;
-use crate::uses::{Use, Way, told_by_name};
+use crate::uses::{Use, Way, known_by_name};
 use crate::value::{ends_value, is_begun};
-use crate::word::{is_word_token, text_at, text_before, text_behind};
+use crate::word::{is_word_token, text_after, text_at, text_before};
 use std::alloc::{AllocError, Global};
 
-/// The token that a name begins with, where `Self::` stands in front of it, or `self.` in front of a method.
+/// The index of the token that a path to a name begins with: `Self` in `Self::F`, `self` in `self.f()`.
 fn path_start(source: &[u8], pieces: &[Piece], index: usize) -> Option<usize>
     ensures { result ≡ spec.path_start source.now pieces.now index }
 {
@@ -29,7 +29,7 @@ fn path_start(source: &[u8], pieces: &[Piece], index: usize) -> Option<usize>
             None
         }
     } else if is(before, ".") {
-        if is(farther, "self") && is(text_behind(source, pieces, index, 1), "(") {
+        if is(farther, "self") && is(text_after(source, pieces, index, 1), "(") {
             Some(index.saturating_sub(2))
         } else {
             None
@@ -39,7 +39,7 @@ fn path_start(source: &[u8], pieces: &[Piece], index: usize) -> Option<usize>
     }
 }
 
-/// How a name stands for a value, if it does.
+/// How a name is used as a value, if it is.
 fn way_of(source: &[u8], pieces: &[Piece], index: usize) -> Option<Way>
     ensures { result ≡ spec.way_of source.now pieces.now index }
 {
@@ -48,7 +48,7 @@ fn way_of(source: &[u8], pieces: &[Piece], index: usize) -> Option<Way>
     };
     if !is_begun(source, pieces, start) {
         None
-    } else if is(text_behind(source, pieces, index, 1), "(") {
+    } else if is(text_after(source, pieces, index, 1), "(") {
         Some(Way::Call)
     } else if ends_value(source, pieces, index) {
         Some(Way::Value)
@@ -57,23 +57,23 @@ fn way_of(source: &[u8], pieces: &[Piece], index: usize) -> Option<Way>
     }
 }
 
-fn use_of(name: Piece, way: Option<Way>, told: Told) -> Option<Use>
-    ensures { result ≡ spec.use_of name way told }
+fn use_of(name: Piece, way: Option<Way>, known: Known) -> Option<Use>
+    ensures { result ≡ spec.use_of name way known }
 {
     match way {
         Some(way) => Some(Use {
             name,
             way,
-            told: Told {
+            known: Known {
                 call: Some(name.start),
-                ..told
+                ..known
             },
         }),
         None => None,
     }
 }
 
-/// The use of a name that a token is, where this bracket is open.
+/// The use of the name at a token, with this bracket open.
 fn use_at(
     source: &[u8],
     pieces: &[Piece],
@@ -84,10 +84,10 @@ fn use_at(
     ensures { result ≡ spec.use_at source.now pieces.now index piece frame }
 {
     match pending_of(frame) {
-        Some(told) if is_word_token(piece.token) => use_of(
+        Some(known) if is_word_token(piece.token) => use_of(
             piece,
             way_of(source, pieces, index),
-            told,
+            known,
         ),
         Some(_) | None => None,
     }
@@ -105,7 +105,7 @@ fn push_any(uses: &mut Vec<Use>, found: Option<Use>) -> Result<(), AllocError>
     }
 }
 
-/// The names that stand in known calls, in turn.
+/// The names that are used in known calls, in order.
 fn in_calls(
     alloc: Global,
     source: &[u8],
@@ -125,8 +125,8 @@ fn in_calls(
     Ok(uses)
 }
 
-fn piece_behind(pieces: &[Piece], index: usize, ahead: usize) -> Option<Piece>
-    ensures { result ≡ spec.piece_behind pieces.now index ahead }
+fn piece_after(pieces: &[Piece], index: usize, ahead: usize) -> Option<Piece>
+    ensures { result ≡ spec.piece_after pieces.now index ahead }
 {
     match index.checked_add(ahead) {
         Some(at) => pieces.get(at).copied(),
@@ -134,7 +134,7 @@ fn piece_behind(pieces: &[Piece], index: usize, ahead: usize) -> Option<Piece>
     }
 }
 
-/// The name that a loop goes over, so many tokens behind `in`, if what comes next ends it.
+/// The name that a loop goes over, `ahead` tokens after `in`, if the token `next` after `in` ends it.
 fn looped_over(
     source: &[u8],
     pieces: &[Piece],
@@ -144,9 +144,9 @@ fn looped_over(
 ) -> Option<Piece>
     ensures { result ≡ spec.looped_over source.now pieces.now index ahead next }
 {
-    let behind = text_behind(source, pieces, index, next);
-    if is(behind, "{") || is(behind, ".") {
-        piece_behind(pieces, index, ahead)
+    let after = text_after(source, pieces, index, next);
+    if is(after, "{") || is(after, ".") {
+        piece_after(pieces, index, ahead)
     } else {
         None
     }
@@ -156,42 +156,42 @@ fn looped_over(
 fn looped(source: &[u8], pieces: &[Piece], index: usize) -> Option<Piece>
     ensures { result ≡ spec.looped source.now pieces.now index }
 {
-    if is(text_behind(source, pieces, index, 1), "&") {
+    if is(text_after(source, pieces, index, 1), "&") {
         looped_over(source, pieces, index, 2, 3)
     } else {
         looped_over(source, pieces, index, 1, 2)
     }
 }
 
-/// The list that a loop goes over by its name, if `in` of one is this token and what stands for its items is
-/// used so: what is told there is told of the list.
+/// The list that a loop goes over by name, if this token is the loop's `in` and the loop's variable is used
+/// instead of a description. What is known about the variable is then known about the list.
 fn loop_at(source: &[u8], pieces: &[Piece], uses: &[Use], index: usize) -> Option<Use>
     ensures { result ≡ spec.loop_at source.now pieces.now uses.now index }
 {
     if is(text_at(source, pieces, index), "in")
         && is(text_before(source, pieces, index, 2), "for")
     {
-        let told = told_by_name(source, pieces, uses, index.saturating_sub(1));
-        list_of(looped(source, pieces, index), told)
+        let known = known_by_name(source, pieces, uses, index.saturating_sub(1));
+        list_of(looped(source, pieces, index), known)
     } else {
         None
     }
 }
 
-fn list_of(name: Option<Piece>, told: Option<Told>) -> Option<Use>
-    ensures { result ≡ spec.list_of name told }
+fn list_of(name: Option<Piece>, known: Option<Known>) -> Option<Use>
+    ensures { result ≡ spec.list_of name known }
 {
-    match (name, told) {
-        (Some(name), Some(told)) => Some(Use {
+    match (name, known) {
+        (Some(name), Some(known)) => Some(Use {
             name,
             way: Way::Value,
-            told,
+            known,
         }),
         (Some(_), None) | (None, _) => None,
     }
 }
 
-/// The lists that loops go over by their names, in turn.
+/// The lists that loops go over by name, in order.
 fn in_loops(
     alloc: Global,
     source: &[u8],
@@ -207,7 +207,7 @@ fn in_loops(
     Ok(lists)
 }
 
-/// The names that stand in the place of descriptions: in known calls, and those of lists that loops go over.
+/// The names that are used instead of descriptions: in known calls, and as lists that loops go over.
 pub fn uses_of(
     alloc: Global,
     source: &[u8],

@@ -1,13 +1,13 @@
-//! Whether a token stands for the value of what is around it: of an argument, a block, an arm, an array.
+//! Whether a token is a whole value of what is around it: of an argument, a block, an arm, an array.
 
 ghost use Rattle.std.specs.Prelude.{◌≡◌};
 ghost use Rattle.timefd_sources.specs.Values as spec;
 
 use crate::dialect::is;
 use crate::piece::Piece;
-use crate::word::{is_closing, is_opening, text_before, text_behind};
+use crate::word::{is_closing, is_opening, text_after, text_before};
 
-/// Whether an equals sign behind this is part of a comparison or of an operator.
+/// Whether an equals sign after this token is part of a comparison or of an operator.
 pub fn is_operator(text: &[u8]) -> bool
     ensures { result ≡ spec.is_operator text.now }
 {
@@ -19,8 +19,8 @@ pub fn is_operator(text: &[u8]) -> bool
         || is(text, "|")
 }
 
-/// Whether a value may begin at a token: in front of it a bracket opens, or a comma, an arrow, an equals sign,
-/// or the end of a statement stands.
+/// Whether a value may begin at a token: an opening bracket, a comma, an arrow, an equals sign, `in`, or the
+/// end of a statement precedes it.
 fn begins_value(source: &[u8], pieces: &[Piece], index: usize) -> bool
     ensures { result ≡ spec.begins_value source.now pieces.now index }
 {
@@ -35,7 +35,7 @@ fn begins_value(source: &[u8], pieces: &[Piece], index: usize) -> bool
         || (is(before, "=") && !is_operator(farther))
 }
 
-/// Whether a method hands a text on as it is.
+/// Whether a method passes a text on as it is.
 fn hands_on(method: &[u8]) -> bool
     ensures { result ≡ spec.hands_on method.now }
 {
@@ -55,20 +55,20 @@ fn ends(text: &[u8]) -> bool
     is_closing(text) || is(text, ",") || is(text, ";")
 }
 
-/// Whether a value may end with a token, or with a method that hands it on.
+/// Whether a value may end with a token, or with a method that passes it on.
 pub fn ends_value(source: &[u8], pieces: &[Piece], index: usize) -> bool
     ensures { result ≡ spec.ends_value source.now pieces.now index }
 {
-    let behind = text_behind(source, pieces, index, 1);
-    ends(behind)
-        || (is(behind, ".")
-            && hands_on(text_behind(source, pieces, index, 2))
-            && is(text_behind(source, pieces, index, 3), "(")
-            && is(text_behind(source, pieces, index, 4), ")")
-            && ends(text_behind(source, pieces, index, 5)))
+    let after = text_after(source, pieces, index, 1);
+    ends(after)
+        || (is(after, ".")
+            && hands_on(text_after(source, pieces, index, 2))
+            && is(text_after(source, pieces, index, 3), "(")
+            && is(text_after(source, pieces, index, 4), ")")
+            && ends(text_after(source, pieces, index, 5)))
 }
 
-/// The token in front of which a value stands, or what it is borrowed or taken by: `&`, `*`.
+/// The index of a value's first token: the `&` or `*` before it, if there is one.
 fn borrowed_at(source: &[u8], pieces: &[Piece], index: usize) -> usize
     ensures { result ≡ spec.borrowed_at source.now pieces.now index }
 {
@@ -80,14 +80,14 @@ fn borrowed_at(source: &[u8], pieces: &[Piece], index: usize) -> usize
     }
 }
 
-/// Whether a value begins at a token, which may be borrowed.
+/// Whether a value begins at a token, with or without `&` or `*`.
 pub fn is_begun(source: &[u8], pieces: &[Piece], index: usize) -> bool
     ensures { result ≡ spec.is_begun source.now pieces.now index }
 {
     begins_value(source, pieces, borrowed_at(source, pieces, index))
 }
 
-/// Whether a token is all of a value.
+/// Whether a token is a whole value.
 pub fn is_value(source: &[u8], pieces: &[Piece], index: usize) -> bool
     ensures { result ≡ spec.is_value source.now pieces.now index }
 {

@@ -7,20 +7,20 @@ ghost use Rattle.timefd_sources.specs.Versions as spec;
 use crate::dialect::Dialect;
 use crate::piece::Piece;
 
-/// Where a source says in which version a description is.
+/// Where a source says the version of a description.
 #[derive(Clone, Copy, Debug, PartialEq, Eq)]
-pub enum VersionPlace {
+pub enum VersionPosition {
     /// Its digit is this byte.
     Digit(usize),
-    /// Nowhere, as it is version 1: `version = 3, ` in front of the literal would say another.
+    /// Nowhere, since it is version 1: `version = 3, ` before the literal would select another.
     Unsaid,
-    /// Its call has no place for a number.
+    /// Nowhere: the call has no room for a number.
     Call,
-    /// A comment names it, or what isn't in the source.
+    /// In a comment, or outside of the source.
     Elsewhere,
 }
 
-/// The digit of a version; none of strftime.
+/// The digit of a version; `None` for strftime.
 pub fn digit_of(dialect: Dialect) -> Option<u8>
     ensures { result ≡ spec.digit_of dialect }
 {
@@ -61,29 +61,33 @@ fn is_one(dialect: Dialect) -> bool
     }
 }
 
-/// A place where a description's version may be said, if it is said there. All that is found is: this is
-/// its test.
-pub fn tested(source: &str, piece: Piece, dialect: Dialect, place: VersionPlace) -> VersionPlace
+/// The place where a description's version is said, or `Elsewhere` if it isn't said there. All places
+/// that are found pass; the test makes sure.
+pub fn tested(
+    source: &str,
+    piece: Piece,
+    dialect: Dialect,
+    position: VersionPosition,
+) -> VersionPosition
     ensures said { IsSaid source.now piece dialect result }
-    ensures kept { IsSaid source.now piece dialect place → result ≡ place }
+    ensures kept { IsSaid source.now piece dialect position → result ≡ position }
 {
-    match place {
-        VersionPlace::Digit(at) if is_digit_at(source, piece, dialect, at) => VersionPlace::Digit(
-            at,
-        ),
-        VersionPlace::Unsaid if is_one(dialect) => VersionPlace::Unsaid,
-        VersionPlace::Call => VersionPlace::Call,
-        VersionPlace::Digit(_) | VersionPlace::Unsaid | VersionPlace::Elsewhere =>
-            VersionPlace::Elsewhere,
+    match position {
+        VersionPosition::Digit(at) if is_digit_at(source, piece, dialect, at) =>
+            VersionPosition::Digit(at),
+        VersionPosition::Unsaid if is_one(dialect) => VersionPosition::Unsaid,
+        VersionPosition::Call => VersionPosition::Call,
+        VersionPosition::Digit(_) | VersionPosition::Unsaid | VersionPosition::Elsewhere =>
+            VersionPosition::Elsewhere,
     }
 }
 
-/// The first place that belongs to a description: that of its version's digit, or of its literal.
-pub fn first_place(version: VersionPlace, start: usize) -> usize
-    ensures { result ≡ spec.first_place version start }
+/// The first position that belongs to a description: its version's digit, or the start of its literal.
+pub fn first_position(version: VersionPosition, start: usize) -> usize
+    ensures { result ≡ spec.first_position version start }
 {
     match version {
-        VersionPlace::Digit(at) => at,
-        VersionPlace::Unsaid | VersionPlace::Call | VersionPlace::Elsewhere => start,
+        VersionPosition::Digit(at) => at,
+        VersionPosition::Unsaid | VersionPosition::Call | VersionPosition::Elsewhere => start,
     }
 }

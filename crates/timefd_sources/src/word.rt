@@ -25,17 +25,17 @@ pub fn tokens_from(pieces: &[Piece], index: usize) -> &[Piece]
     pieces.get(index..).unwrap_or(&[])
 }
 
-/// The tokens behind the one at an index.
-pub fn tokens_behind(pieces: &[Piece], index: usize) -> &[Piece]
-    ensures { result.now ≡ spec.tokens_behind pieces.now index }
+/// The tokens after the one at an index.
+pub fn tokens_after(pieces: &[Piece], index: usize) -> &[Piece]
+    ensures { result.now ≡ spec.tokens_after pieces.now index }
 {
     match tokens_from(pieces, index) {
-        [_, behind @ ..] => behind,
+        [_, after @ ..] => after,
         [] => &[],
     }
 }
 
-/// The text of the token at an index; empty where there is none.
+/// The text of the token at an index; empty if there is none.
 pub fn text_at<'a>(source: &'a [u8], pieces: &[Piece], index: usize) -> &'a [u8]
     ensures { result.now ≡ spec.text_at source.now pieces.now index }
 {
@@ -48,9 +48,9 @@ pub fn text_at<'a>(source: &'a [u8], pieces: &[Piece], index: usize) -> &'a [u8]
     }
 }
 
-/// The text of the token that stands so many behind one.
-pub fn text_behind<'a>(source: &'a [u8], pieces: &[Piece], index: usize, ahead: usize) -> &'a [u8]
-    ensures { result.now ≡ spec.text_behind source.now pieces.now index ahead }
+/// The text of the token `ahead` tokens after the one at an index.
+pub fn text_after<'a>(source: &'a [u8], pieces: &[Piece], index: usize, ahead: usize) -> &'a [u8]
+    ensures { result.now ≡ spec.text_after source.now pieces.now index ahead }
 {
     match index.checked_add(ahead) {
         Some(at) => text_at(source, pieces, at),
@@ -58,7 +58,7 @@ pub fn text_behind<'a>(source: &'a [u8], pieces: &[Piece], index: usize, ahead: 
     }
 }
 
-/// The text of the token that stands so many in front of one.
+/// The text of the token `back` tokens before the one at an index.
 pub fn text_before<'a>(source: &'a [u8], pieces: &[Piece], index: usize, back: usize) -> &'a [u8]
     ensures { result.now ≡ spec.text_before source.now pieces.now index back }
 {
@@ -95,9 +95,9 @@ pub fn is_word_token(token: Token) -> bool
     }
 }
 
-/// Where the token at an index begins; 0 where there is none.
-pub fn place_at(pieces: &[Piece], index: usize) -> usize
-    ensures { result ≡ spec.place_at pieces.now index }
+/// Where the token at an index begins, as a byte index; 0 if there is none.
+pub fn position_at(pieces: &[Piece], index: usize) -> usize
+    ensures { result ≡ spec.position_at pieces.now index }
 {
     match pieces.get(index) {
         Some(piece) => piece.start,

@@ -1,4 +1,4 @@
-//! Texts as the bodies of literals, which stand between the quotes.
+//! Writes texts as the bodies of literals, the part between the quotes.
 
 ghost use Rattle.std.specs.Prelude.{◌≡◌, ◌<◌, ◌&&◌, ◌++◌, IfOk, IfSome, MatchOption, None, OnOk, Some, is_some, true, ⊤};
 ghost use Rattle.std.specs.List.{list_all};
@@ -11,8 +11,9 @@ use crate::string::hashes;
 use crate::token::{Encoding, Kind};
 use std::alloc::{AllocError, Global};
 
-/// The body of a literal of this kind that stands for a text. None where none does: a text of C has no
-/// 0, and a raw literal holds no carriage return, nothing that closes it, and as one of bytes ASCII alone.
+/// The body of a literal of this kind that denotes a text. `None` if there is none: a C string has no 0,
+/// and a raw literal has no carriage return and nothing that closes it, and only ASCII if it is a byte
+/// string. An `Err` says that memory ran out.
 pub fn body_for(alloc: Global, kind: Kind, text: &[u8]) -> Result<Option<Vec<u8>>, AllocError>
     ensures body { IfOk result (λ found. IfSome found (λ body. IsBodyFor kind text.now body.items)) }
     ensures found { IfOk result (λ found. is_some found ≡ has_body kind text.now) }
@@ -83,21 +84,21 @@ fn all_may_stand_raw(encoding: Encoding, text: &[u8]) -> bool
     text.iter().all(|byte| may_stand_raw(encoding, *byte))
 }
 
-// Whether no quote in a text closes a raw literal with so many `#`.
+/// Whether no quote in a text closes a raw literal with `hash_count` `#`.
 pub fn closes_nowhere(hash_count: usize, text: &[u8]) -> bool
     ensures { result ≡ spec.closes_nowhere hash_count text.now }
 {
     let mut rest = text;
-    'bytes: while let [byte, behind @ ..] = rest {
-        if *byte == b'"' && hash_count <= hashes(behind) {
+    'bytes: while let [byte, after @ ..] = rest {
+        if *byte == b'"' && hash_count <= hashes(after) {
             return false;
         }
-        rest = behind;
+        rest = after;
     }
     true
 }
 
-/// Adds a byte as a literal of a kind has it: with an escape, if it needs one and may have it.
+/// Adds a byte as a literal of this kind spells it: with an escape if it needs one and can have one.
 pub fn push_byte(body: &mut Vec<u8>, kind: Kind, byte: u8) -> Result<(), AllocError> {
     match kind {
         Kind::Escaped(encoding) => push_escaped(body, encoding, byte),
@@ -119,7 +120,7 @@ fn escaped(alloc: Global, encoding: Encoding, text: &[u8]) -> Result<Option<Vec<
     }
 }
 
-// The body with escapes that stands for a text.
+// The body with escapes that denotes a text.
 #[tactic(auto, using(crate::proofs::WrittenLemmas::byte_more))]
 fn with_escapes(alloc: Global, encoding: Encoding, text: &[u8]) -> Result<Vec<u8>, AllocError>
     ensures { IfOk result (λ body. IsWritten encoding text.now body.items) }
@@ -147,7 +148,7 @@ fn push_escaped(body: &mut Vec<u8>, encoding: Encoding, byte: u8) -> Result<(), 
     body.extend_from_slice(&[b'\\', b'x', high, low])
 }
 
-// The letter of the escape that stands for a byte.
+// The letter of the escape that denotes a byte.
 fn letter_for(byte: u8) -> Option<u8>
     ensures letter { MatchOption result ⊤ (λ c. letter c ≡ Some byte) }
     ensures plain { result ≡ None → is_plain byte ≡ true }
@@ -163,7 +164,7 @@ fn letter_for(byte: u8) -> Option<u8>
     }
 }
 
-// Whether a byte is written as it is, if no letter stands for it.
+// Whether a byte that has no letter is written as it is.
 fn is_shown(encoding: Encoding, byte: u8) -> bool
     ensures { result ≡ spec.is_shown encoding byte }
 {

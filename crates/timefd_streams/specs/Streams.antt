@@ -1,4 +1,4 @@
--- What a stream's calls have come to.
+-- The state of a stream after the calls so far.
 use Rattle.std.specs.Prelude.{Bool, true, false}
 use Rattle.timefd_streams.specs.declared.sink.State.{State}
 use Rattle.timefd_streams.specs.declared.sink.State.TheVariants.{Unflushed, Flushed, Failed}

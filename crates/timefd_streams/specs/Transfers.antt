@@ -1,4 +1,4 @@
--- What all bytes of a source are.
+-- All bytes of a source.
 use Rattle.std.specs.Prelude.{ℕ, List, Option}
 use Rattle.std.specs.Io.KnownBytes.{Consumes, IsAtEnd}
 

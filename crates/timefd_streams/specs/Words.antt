@@ -6,5 +6,5 @@ use Rattle.std.specs.declared.alloc.Global.{Global}
 abbrev pub bytes_of : List (String Global) → List (List ℕ)
 bytes_of words = map string_bytes words
 
-abbrev pub lent_bytes : List (Bor (List ℕ)) → List (List ℕ)
-lent_bytes words = map (λ (word : Bor (List ℕ)). word.now) words
+abbrev pub borrowed_bytes : List (Bor (List ℕ)) → List (List ℕ)
+borrowed_bytes words = map (λ (word : Bor (List ℕ)). word.now) words

@@ -17,7 +17,8 @@ fn is_dumb(rt: &HostRuntime) -> bool {
     }
 }
 
-/// Whether the environment lets a terminal show colours: `NO_COLOR` is empty or not set, and `TERM` isn't `dumb`.
+/// Whether the environment lets a terminal show colours: `NO_COLOR` is empty or not set, and `TERM` isn't
+/// `dumb`.
 pub fn shows_colors(rt: &HostRuntime) -> bool {
     !is_set(rt, "NO_COLOR") && !is_dumb(rt)
 }

@@ -1,5 +1,5 @@
 //! How a stream's call fails.
 
-/// A call failed. What has failed stays so.
+/// A call failed. Every later call fails too.
 #[derive(Debug, Clone, Copy, PartialEq, Eq)]
 pub struct Failed;

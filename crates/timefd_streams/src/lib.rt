@@ -1,6 +1,6 @@
-//! What the command line programs share: where their bytes come from and go to, the words that they are given,
-//! and whether a terminal shows colours. Sources and sinks are traits: a caller that is handed other readers and
-//! writers is proved with the same contracts.
+//! What the command line programs share: where their bytes come from and go to, the words that they are
+//! given, and whether a terminal shows colours. Sources and sinks are traits: a caller that is handed other
+//! readers and writers is proved with the same contracts.
 #![tactic(auto)]
 
 mod color;
@@ -14,4 +14,4 @@ pub use color::shows_colors;
 pub use failed::Failed;
 pub use sink::{Sink, ToWriter};
 pub use source::{FromReader, Source};
-pub use words::{WordsError, all_words, lent};
+pub use words::{WordsError, all_words, borrowed};

@@ -1,4 +1,4 @@
-//! Writers, each of which fails once and for all.
+//! Writers that keep failing once a call has failed.
 
 ghost use Rattle.std.specs.Prelude.{◌≡◌, ◌↔◌, ◌≤◌, ◌<◌, ℕ, Bool, List, Option, length, take, IfOk, OnOk, IsErr, IsTrue, IsFalse};
 ghost use Rattle.std.specs.Io.KnownBytes.{Appends, Keeps};
@@ -8,7 +8,7 @@ use std::io::Write;
 
 /// Where bytes go.
 pub trait Sink {
-    /// The bytes that are written, where the sink tells them.
+    /// The bytes that are written, if the sink reports them.
     ghost contents: { Self → Option (List ℕ) };
 
     /// Whether a call has failed.
@@ -17,7 +17,8 @@ pub trait Sink {
     /// Whether all that is written is flushed.
     ghost is_flushed: { Self → Bool };
 
-    /// Takes bytes from the front of the buffer, and says how many: none only of an empty buffer.
+    /// Writes bytes from the front of the buffer, and returns how many: 0 only if the buffer is
+    /// empty.
     fn write(&mut self, buf: &[u8]) -> Result<usize, Failed>
         ensures within { IfOk result (λ n. n ≤ length buf.now) }
         ensures some { IfOk result (λ n. 0 < length buf.now → 0 < n) }
@@ -27,7 +28,7 @@ pub trait Sink {
         ensures fails { IsErr result ↔ IsTrue (has_failed self.new) }
         ensures stays { IsTrue (has_failed self.old) → IsTrue (has_failed self.new) };
 
-    /// Passes on all that is written.
+    /// Passes on all that was written.
     fn flush(&mut self) -> Result<(), Failed>
         ensures kept { OnOk result (Keeps (contents self.old) (contents self.new)) }
         ensures flushed { OnOk result (IsTrue (is_flushed self.new)) }
@@ -35,7 +36,7 @@ pub trait Sink {
         ensures stays { IsTrue (has_failed self.old) → IsTrue (has_failed self.new) };
 }
 
-// What a writer's calls have come to.
+// The state of a writer after the calls so far.
 #[derive(Clone, Copy, PartialEq, Eq)]
 enum State {
     Unflushed,

@@ -1,4 +1,4 @@
-//! Readers, each of which fails once and for all.
+//! Readers that keep failing once a call has failed.
 
 ghost use Rattle.std.specs.Prelude.{◌≡◌, ◌↔◌, ◌≤◌, ◌<◌, ℕ, Bool, List, Option, length, take, IfOk, IsErr, IsTrue, IsFalse};
 ghost use Rattle.std.specs.Io.KnownBytes.{Consumes, IsAtEnd};
@@ -8,14 +8,14 @@ use std::io::Read;
 
 /// Where bytes come from.
 pub trait Source {
-    /// The bytes that are left, where the source tells them.
+    /// The bytes that are left, if the source reports them.
     ghost remaining: { Self → Option (List ℕ) };
 
     /// Whether a call has failed.
     ghost has_failed: { Self → Bool };
 
-    /// Moves bytes into the front of the buffer, and says how many: none only at the end, or where
-    /// the buffer has no room.
+    /// Reads bytes into the front of the buffer, and returns how many: 0 only at the end, or if the
+    /// buffer is empty.
     fn read(&mut self, buf: &mut [u8]) -> Result<usize, Failed>
         ensures within { IfOk result (λ n. n ≤ length buf.new) }
         ensures moves { IfOk result

@@ -1,4 +1,4 @@
-//! Takes all that a source has left, and gives a sink all of a text.
+//! Reads all that a source has left, and writes all of a text to a sink.
 
 ghost use Rattle.std.specs.Prelude.{◌≡◌, ◌+◌, ◌↔◌, ◌++◌, [], Some, length, vec_len, IfOk, IfErr, OnOk, IsErr, IsTrue, IsFalse};
 ghost use Rattle.std.specs.Io.KnownBytes.{Appends};
@@ -41,7 +41,7 @@ impl From<AllocError> for ReadError {
     }
 }
 
-/// All bytes that the source has left. It fails where a read does, or memory runs out.
+/// Reads all bytes that the source has left. Fails if a read does, or if memory runs out.
 pub fn read_all<R: Source>(alloc: Global, source: &mut R) -> Result<Vec<u8>, ReadError>
     ensures bytes { IfOk result (λ all. ReadsAll (R.remaining source.old) (R.remaining source.new)
         all.items) }
@@ -62,8 +62,8 @@ pub fn read_all<R: Source>(alloc: Global, source: &mut R) -> Result<Vec<u8>, Rea
     }
 }
 
-/// Adds bytes behind others. Where there is no memory for the double of a list that is full, it asks
-/// for what these bytes need.
+/// Appends bytes. If there is no memory to double a full list, it asks only for what these bytes
+/// need.
 fn append(all: &mut Vec<u8>, bytes: &[u8]) -> Result<(), AllocError>
     ensures items { OnOk result (all.new.items ≡ all.old.items ++ bytes.now) }
     ensures len { OnOk result (vec_len all.new ≡ vec_len all.old + length bytes.now) }
@@ -75,7 +75,7 @@ fn append(all: &mut Vec<u8>, bytes: &[u8]) -> Result<(), AllocError>
     Ok(())
 }
 
-/// Writes all of the text, and flushes the sink. It fails where a write or the flush does.
+/// Writes all of the text, and flushes the sink. Fails if a write or the flush does.
 pub fn write_all<W: Sink>(sink: &mut W, text: &[u8]) -> Result<(), Failed>
     ensures bytes { OnOk result (Appends (W.contents sink.old) (W.contents sink.new) text.now) }
     ensures flushed { OnOk result (IsTrue (W.is_flushed sink.new)) }

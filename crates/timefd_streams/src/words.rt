@@ -1,7 +1,7 @@
 //! The words that a program is given.
 
 ghost use Rattle.std.specs.Prelude.{◌≡◌, IfOk};
-ghost use Rattle.timefd_streams.specs.Words.{bytes_of, lent_bytes};
+ghost use Rattle.timefd_streams.specs.Words.{bytes_of, borrowed_bytes};
 
 use std::alloc::{AllocError, Global};
 use std::env;
@@ -12,7 +12,7 @@ use std::io::ErrorKind;
 pub enum WordsError {
     /// Memory ran out.
     Memory,
-    /// One is no UTF-8.
+    /// One of the words isn't UTF-8.
     NotText,
 }
 
@@ -23,7 +23,7 @@ fn collected(rt: &HostRuntime, args: env::Args) -> Result<Vec<String>, WordsErro
     }
 }
 
-/// The words of the command line: the program's name, and behind it those that it is given.
+/// The words of the command line: the program's name, and after it the words that it is given.
 pub fn all_words(rt: &HostRuntime) -> Result<Vec<String>, WordsError> {
     match env::args(rt) {
         Ok(args) => collected(rt, args),
@@ -32,16 +32,16 @@ pub fn all_words(rt: &HostRuntime) -> Result<Vec<String>, WordsError> {
     }
 }
 
-/// The words, each lent. An `Err` says that memory ran out.
+/// The words, each borrowed. An `Err` says that memory ran out.
 #[tactic(auto, using(crate::proofs::WordsLemmas::one_more, crate::proofs::WordsLemmas::at_last))]
-pub fn lent<'a>(alloc: Global, words: &'a [String]) -> Result<Vec<&'a str>, AllocError>
-    ensures { IfOk result (λ all. lent_bytes all.items ≡ bytes_of words.now) }
+pub fn borrowed<'a>(alloc: Global, words: &'a [String]) -> Result<Vec<&'a str>, AllocError>
+    ensures { IfOk result (λ all. borrowed_bytes all.items ≡ bytes_of words.now) }
 {
     let mut all = Vec::new(alloc);
     let mut rest = words;
-    'words: while let [word, behind @ ..] = rest {
+    'words: while let [word, after @ ..] = rest {
         all.push(word.as_str())?;
-        rest = behind;
+        rest = after;
     }
     Ok(all)
 }

@@ -16,17 +16,17 @@ use Rattle.timefd_strftime.specs.declared.letter.Letter.{Letter}
 use Rattle.timefd_strftime.specs.declared.piece.StrftimePiece.{StrftimePiece}
 use Rattle.timefd_strftime.specs.LetterMeaning.{IsLetter, flag_padding, letter_tree}
 use Rattle.timefd_strftime.specs.PieceMeaning.{piece_tree}
-use Rattle.timefd_language.specs.Strftime.{percent, is_flag, is_plain, flag_text, Directives, no_directives, plain, directive, directives_text, directive_items, IsBehind, AreDirectives, SpellsStrftime, cut_short, unknown, cut_index, ill_text, unknown_kind, ill_fault, StrftimeFaultOf}
+use Rattle.timefd_language.specs.Strftime.{percent, is_flag, is_plain, flag_text, Directives, no_directives, plain, directive, directives_text, directive_items, IsAfter, AreDirectives, SpellsStrftime, cut_short, unknown, cut_index, ill_text, unknown_kind, ill_fault, StrftimeFaultOf}
 use Rattle.timefd_language.specs.Laws.{HasOneStrftimeAnswer}
 use Rattle.timefd_fault.specs.declared.read_error.Fault as code_fault
 use Rattle.timefd_fault.specs.declared.read_error.ReadError.{ReadError}
 use Rattle.timefd_fault.specs.declared.read_error.ReadError.TheVariants as errors
 use Rattle.timefd_fault.specs.declared.parse_error.ParseError.{ParseError}
-use Rattle.timefd_fault.specs.declared.parse_error.ParseError.TheVariants as told
+use Rattle.timefd_fault.specs.declared.parse_error.ParseError.TheVariants as reported
 use Rattle.timefd_fault.specs.declared.borrowed_fault.BorrowedFault.{BorrowedFault}
 use Rattle.timefd_fault.specs.declared.borrowed_parse_error.BorrowedParseError.{BorrowedParseError}
-use Rattle.timefd_fault.specs.BorrowedFaults.{lent_fault, IsLent, IsLentOf, IsMemory, IsOwned, Lends}
-use Rattle.timefd_fault.proofs.LentLemmas.{Assigned, lent_none, lent_of, lent_one}
+use Rattle.timefd_fault.specs.BorrowedFaults.{to_borrowed_fault, IsBorrowed, IsBorrowedOf, IsMemory, IsOwned, Lends}
+use Rattle.timefd_fault.proofs.BorrowedLemmas.{Assigned, borrowed_none, borrowed_of, borrowed_one}
 use Rattle.timefd_fault.specs.ReadErrors.{IsInvalid}
 use Rattle.timefd_fault.proofs.OwnedLemmas.{owned_of}
 use Rattle.timefd_language.specs.Fault.{raised}
@@ -51,84 +51,84 @@ none_left (b ∷ text) none = absurd (omega arith)
 
 -- Directives.
 
-is_behind : (f : Flag) (b : ℕ) (rest after : Text) → rest ≡ b ∷ after → MayFollow f rest
-    → IsBehind f b
-is_behind unflagged b rest after e h = subst (StopsBefore is_flag) e h
-is_behind (flagged c) b rest after e h = tt
+is_after : (f : Flag) (b : ℕ) (rest unread : Text) → rest ≡ b ∷ unread → MayFollow f rest
+    → IsAfter f b
+is_after unflagged b rest unread e h = subst (StopsBefore is_flag) e h
+is_after (flagged c) b rest unread e h = tt
 
--- what a letter stands for behind the flag leads on
-letter_leads : (behind rest after : Text) (padding : Option Padding) (b : ℕ) (tree : Tree)
-    (h : BeginsWithFlag behind padding rest) → rest ≡ b ∷ after
-    → item_of h.0 b ≡ Some tree → Leads (percent ∷ behind) tree after
-letter_leads behind rest after padding b tree h e of = λ front tail are i. (
+-- what a letter after the flag stands for leads on
+letter_leads : (after rest unread : Text) (padding : Option Padding) (b : ℕ) (tree : Tree)
+    (h : BeginsWithFlag after padding rest) → rest ≡ b ∷ unread
+    → item_of h.0 b ≡ Some tree → Leads (percent ∷ after) tree unread
+letter_leads after rest unread padding b tree h e of = λ front tail are i. (
   directive h.0 b tree front,
-  (h.1, is_behind h.0 b rest after e h.4, of, are),
+  (h.1, is_after h.0 b rest unread e h.4, of, are),
   ap (λ t. percent ∷ t) (h.3 ∙ ap (λ t. flag_text h.0 ++ t) (e ∙ ap (λ t. b ∷ t) i)) ∙
       sym (directive_regrouped h.0 b (directives_text front) tail),
   refl,
 )
 
-flag_shorter : (behind rest after : Text) (padding : Option Padding) (b : ℕ)
-    → BeginsWithFlag behind padding rest → rest ≡ b ∷ after → IsUtf8 after
-    → IsRestOf (percent ∷ behind) after
-flag_shorter behind rest after padding b h e utf8 = record {
+flag_shorter : (after rest unread : Text) (padding : Option Padding) (b : ℕ)
+    → BeginsWithFlag after padding rest → rest ≡ b ∷ unread → IsUtf8 unread
+    → IsRestOf (percent ∷ after) unread
+flag_shorter after rest unread padding b h e utf8 = record {
   shorter = omega (arith, ap length h.3, length-append (flag_text h.0) rest, ap length e);
   utf8 = utf8;
 }
 
-pub directive_leads : (behind rest after : Text) (padding : Option Padding) (b : ℕ)
-    (piece : StrftimePiece) (item : Flag → Tree) → BeginsWithFlag behind padding rest
-    → rest ≡ b ∷ after → ((f : Flag) → item_of f b ≡ Some (item f))
-    → ((f : Flag) → flag_padding f ≡ padding → piece_tree piece ≡ item f) → IsUtf8 after
-    → BeginsWithPiece (percent ∷ behind) piece after
-directive_leads behind rest after padding b piece item h e of is utf8 = record {
-  leads = letter_leads behind rest after padding b (piece_tree piece) h e
+pub directive_leads : (after rest unread : Text) (padding : Option Padding) (b : ℕ)
+    (piece : StrftimePiece) (item : Flag → Tree) → BeginsWithFlag after padding rest
+    → rest ≡ b ∷ unread → ((f : Flag) → item_of f b ≡ Some (item f))
+    → ((f : Flag) → flag_padding f ≡ padding → piece_tree piece ≡ item f) → IsUtf8 unread
+    → BeginsWithPiece (percent ∷ after) piece unread
+directive_leads after rest unread padding b piece item h e of is utf8 = record {
+  leads = letter_leads after rest unread padding b (piece_tree piece) h e
       (of h.0 ∙ ap Some (sym (is h.0 h.2)));
-  left = flag_shorter behind rest after padding b h e utf8;
+  left = flag_shorter after rest unread padding b h e utf8;
 }
 
-pub directive_leads_to : (behind rest after : Text) (padding : Option Padding) (b : ℕ)
-    (letter : Letter) → BeginsWithFlag behind padding rest
-    → rest ≡ b ∷ after → IsLetter b (Some letter) → IsUtf8 after → LeadsTo (percent ∷ behind) after
-directive_leads_to behind rest after padding b letter h e of utf8 = record {
+pub directive_leads_to : (after rest unread : Text) (padding : Option Padding) (b : ℕ)
+    (letter : Letter) → BeginsWithFlag after padding rest
+    → rest ≡ b ∷ unread → IsLetter b (Some letter) → IsUtf8 unread → LeadsTo (percent ∷ after) unread
+directive_leads_to after rest unread padding b letter h e of utf8 = record {
   tree = letter_tree letter h.0;
-  leads = letter_leads behind rest after padding b (letter_tree letter h.0) h e (of h.0);
-  left = flag_shorter behind rest after padding b h e utf8;
+  leads = letter_leads after rest unread padding b (letter_tree letter h.0) h e (of h.0);
+  left = flag_shorter after rest unread padding b h e utf8;
 }
 
-pub directive_unknown : (behind rest : Text) (padding : Option Padding) (bad : code_fault.Fault)
-    → BeginsWithFlag behind padding rest → 0 < length rest
+pub directive_unknown : (after rest : Text) (padding : Option Padding) (bad : code_fault.Fault)
+    → BeginsWithFlag after padding rest → 0 < length rest
     → ((f : Flag) → item_of f (get_or rest 0 0) ≡ None)
     → rule_kind bad.rule ≡ unknown_kind (get_or rest 0 0) → bad.remaining ≡ length rest
-    → IsStrftimeFaultAt (percent ∷ behind) bad
-directive_unknown behind rest padding bad h some none kind place =
+    → IsStrftimeFaultAt (percent ∷ after) bad
+directive_unknown after rest padding bad h some none kind position =
     let e : rest ≡ get_or rest 0 0 ∷ drop 1 rest = first_and_rest rest some in (
       unknown h.0 (get_or rest 0 0) (drop 1 rest),
-      (h.1, is_behind h.0 (get_or rest 0 0) rest (drop 1 rest) e h.4, none h.0),
+      (h.1, is_after h.0 (get_or rest 0 0) rest (drop 1 rest) e h.4, none h.0),
       ap (λ t. percent ∷ t) (h.3 ∙ ap (λ t. flag_text h.0 ++ t) e),
       record {
         kind = sym kind;
-        place =
-            omega (arith, place, ap length h.3, length-append (flag_text h.0) rest);
+        position =
+            omega (arith, position, ap length h.3, length-append (flag_text h.0) rest);
       },
     )
 
-pub directive_cut_short : (behind rest : Text) (padding : Option Padding) (bad : code_fault.Fault)
-    → BeginsWithFlag behind padding rest → rest ≡ []
+pub directive_cut_short : (after rest : Text) (padding : Option Padding) (bad : code_fault.Fault)
+    → BeginsWithFlag after padding rest → rest ≡ []
     → rule_kind bad.rule ≡ expected_escape
     → ((f : Flag) → flag_padding f ≡ padding
     → cut_index f + bad.remaining ≡ 1 + length (flag_text f))
-    → IsStrftimeFaultAt (percent ∷ behind) bad
-directive_cut_short behind rest padding bad h none kind place = (
+    → IsStrftimeFaultAt (percent ∷ after) bad
+directive_cut_short after rest padding bad h none kind position = (
   cut_short h.0,
   h.1,
   ap (λ t. percent ∷ t) (h.3 ∙ ap (λ t. flag_text h.0 ++ t) none ∙ append-nil (flag_text h.0)),
   record {
     kind = sym kind;
-    place =
+    position =
         omega (
           arith,
-          place h.0 h.2,
+          position h.0 h.2,
           ap length h.3,
           length-append (flag_text h.0) rest,
           ap length none,
@@ -178,13 +178,13 @@ run_leads_to text bytes rest b more is e passes utf8 = record {
   };
 }
 
-pub leads_from : (text same : Text) (rest after : Bor (List ℕ)) → text ≡ same → after ≡ rest
-    → LeadsTo same rest.now → LeadsTo text after.now
-leads_from text same rest after e a to =
+pub leads_from : (text same : Text) (rest unread : Bor (List ℕ)) → text ≡ same → unread ≡ rest
+    → LeadsTo same rest.now → LeadsTo text unread.now
+leads_from text same rest unread e a to =
     subst (λ (r : Bor (List ℕ)). LeadsTo text r.now) (sym a)
     (subst (λ (t : Text). LeadsTo t rest.now) (sym e) to)
 
--- What was read of a text so far: what the rest begins with, the text begins with behind the trees.
+-- What was read of a text so far: what the rest begins with, the text has after the trees.
 abbrev pub Continues : Text → List Tree → Text → Type 0
 Continues text done rest =
     (front : Directives) (tail : Text) → AreDirectives front → rest ≡ directives_text front ++ tail
@@ -194,9 +194,9 @@ Continues text done rest =
 pub continues_first : (text : Text) → Continues text [] text
 continues_first text = λ front tail are e. (front, are, e, refl)
 
-pub continues_more : (text rest after : Text) (done : List Tree) (tree : Tree)
-    → Continues text done rest → Leads rest tree after → Continues text (done ++ tree ∷ []) after
-continues_more text rest after done tree before leads = λ front tail are e.
+pub continues_more : (text rest unread : Text) (done : List Tree) (tree : Tree)
+    → Continues text done rest → Leads rest tree unread → Continues text (done ++ tree ∷ []) unread
+continues_more text rest unread done tree before leads = λ front tail are e.
     let a = leads front tail are e in
     let w = before a.0 tail a.1 a.2 in (
       w.0,
@@ -206,15 +206,15 @@ continues_more text rest after done tree before leads = λ front tail are e.
           sym (append_assoc done (tree ∷ []) (directive_items front)),
     )
 
--- the same of items
-pub items_more : (text rest after : Text) (done : List BorrowedFormatItem)
+-- one more item that was read
+pub items_more : (text rest unread : Text) (done : List BorrowedFormatItem)
     (item : BorrowedFormatItem) (tree : Tree) → item_tree item ≡ tree
-    → Continues text (map item_tree done) rest → Leads rest tree after
-    → Continues text (map item_tree (done ++ item ∷ [])) after
-items_more text rest after done item tree is before leads =
-    subst (λ (trees : List Tree). Continues text trees after)
+    → Continues text (map item_tree done) rest → Leads rest tree unread
+    → Continues text (map item_tree (done ++ item ∷ [])) unread
+items_more text rest unread done item tree is before leads =
+    subst (λ (trees : List Tree). Continues text trees unread)
     (ap (λ t. map item_tree done ++ t ∷ []) (sym is) ∙ sym (map-append item_tree done (item ∷ [])))
-    (continues_more text rest after (map item_tree done) tree before leads)
+    (continues_more text rest unread (map item_tree done) tree before leads)
 
 pub all_read : (text rest : Text) (done : List Tree) → Continues text done rest → rest ≡ []
     → SpellsStrftime text done
@@ -226,27 +226,27 @@ all_read text rest done before end =
       sym (w.3 ∙ append-nil done),
     )
 
--- so many pieces of a text were read, up to the rest
+-- this many pieces of a text were read, up to the rest
 abbrev pub CountsTo : Text → ℕ → Text → Type 0
 CountsTo text n rest = (done : List Tree) × Continues text done rest × (n ≡ length done)
 
 pub counts_none : (text : Text) → CountsTo text 0 text
 counts_none text = ([], continues_first text, refl)
 
-pub counts_more : (text rest after : Text) (n : ℕ) → CountsTo text n rest → LeadsTo rest after
-    → CountsTo text (n + 1) after
-counts_more text rest after n before to = (
+pub counts_more : (text rest unread : Text) (n : ℕ) → CountsTo text n rest → LeadsTo rest unread
+    → CountsTo text (n + 1) unread
+counts_more text rest unread n before to = (
   before.0 ++ to.tree ∷ [],
-  continues_more text rest after before.0 to.tree before.1 to.leads,
+  continues_more text rest unread before.0 to.tree before.1 to.leads,
   omega (arith, before.2, length-append before.0 (to.tree ∷ [])),
 )
 
 pub all_counted : (text rest : Text) (n : ℕ) → CountsTo text n rest → rest ≡ [] → HasItems text n
 all_counted text rest n before end = (before.0, all_read text rest before.0 before.1 end, before.2)
 
-pub fault_behind : (text rest : Text) (done : List Tree) (f : code_fault.Fault)
+pub fault_after : (text rest : Text) (done : List Tree) (f : code_fault.Fault)
     → Continues text done rest → IsStrftimeFaultAt rest f → IsStrftimeFaultIn text f
-fault_behind text rest done f before bad =
+fault_after text rest done f before bad =
     let w = before no_directives rest tt refl in (
       w.0,
       bad.0,
@@ -258,7 +258,7 @@ fault_behind text rest done f before bad =
 
 pub counted_fault : (text rest : Text) (n : ℕ) (f : code_fault.Fault) → CountsTo text n rest
     → IsStrftimeFaultAt rest f → IsStrftimeFaultIn text f
-counted_fault text rest n f before bad = fault_behind text rest before.0 f before.1 bad
+counted_fault text rest n f before bad = fault_after text rest before.0 f before.1 bad
 
 -- Whole texts.
 
@@ -269,8 +269,8 @@ whole_fault text f h = record {
   assigned = (h.0, h.1, h.2, h.3, h.4, refl);
   is = record {
     kind = h.5.kind;
-    place =
-        omega (arith, h.5.place, ap length h.4, length-append (directives_text h.0) (ill_text h.1));
+    position =
+        omega (arith, h.5.position, ap length h.4, length-append (directives_text h.0) (ill_text h.1));
   };
 }
 
@@ -285,50 +285,50 @@ pub counted_unrefused : (text : Text) (n : ℕ) → HasItems text n → (f : Fau
     → StrftimeFaultOf text f → ⊥
 counted_unrefused text n found f h = (one text).not_both found.0 f found.1 h
 
--- What the caller is lent.
+-- The borrowed error that the caller gets.
 
 whole : (text : Text) (e : ReadError) → MemoryOr (IsStrftimeFaultIn text) e
     → MemoryOr (Assigned (StrftimeFaultOf text) (length text)) e
 whole text (errors.Invalid f) h = whole_fault text f h
 whole text errors.Memory h = tt
 
-pub lent_strftime : (text : Text) (e : ReadError) (r : BorrowedParseError)
+pub borrowed_strftime : (text : Text) (e : ReadError) (r : BorrowedParseError)
     → MemoryOr (IsStrftimeFaultIn text) e → Lends (length text) e r
-    → IsLentOf (StrftimeFaultOf text) r
-lent_strftime text e r h = lent_of (StrftimeFaultOf text) (length text) e r (whole text e h)
+    → IsBorrowedOf (StrftimeFaultOf text) r
+borrowed_strftime text e r h = borrowed_of (StrftimeFaultOf text) (length text) e r (whole text e h)
 
-pub lent_strftime_fault : (text : Text) (f : code_fault.Fault) (b : BorrowedFault)
-    → IsStrftimeFaultIn text f → ((g : Fault) → IsFault (length text) f g → lent_fault b ≡ g)
-    → StrftimeFaultOf text (lent_fault b)
-lent_strftime_fault text f b h lent =
+pub borrowed_strftime_fault : (text : Text) (f : code_fault.Fault) (b : BorrowedFault)
+    → IsStrftimeFaultIn text f → ((g : Fault) → IsFault (length text) f g → to_borrowed_fault b ≡ g)
+    → StrftimeFaultOf text (to_borrowed_fault b)
+borrowed_strftime_fault text f b h borrowed =
     let w = whole_fault text f h in
-    subst (StrftimeFaultOf text) (sym (lent w.g w.is)) w.assigned
+    subst (StrftimeFaultOf text) (sym (borrowed w.g w.is)) w.assigned
 
-pub lent_strftime_spelled : (text : Text) (e : ReadError) (r : BorrowedParseError)
+pub borrowed_strftime_spelled : (text : Text) (e : ReadError) (r : BorrowedParseError)
     (list : List Tree) → MemoryOr (IsStrftimeFaultIn text) e → Lends (length text) e r
     → SpellsStrftime text list → IsMemory r
-lent_strftime_spelled text e r list h lent s =
-    lent_none (StrftimeFaultOf text) (length text) (λ g is. (one text).not_both list g s is) e r
-    (whole text e h) lent
+borrowed_strftime_spelled text e r list h borrowed s =
+    borrowed_none (StrftimeFaultOf text) (length text) (λ g is. (one text).not_both list g s is) e r
+    (whole text e h) borrowed
 
-pub lent_strftime_refused : (text : Text) (e : ReadError) (r : BorrowedParseError) (f : Fault)
+pub borrowed_strftime_refused : (text : Text) (e : ReadError) (r : BorrowedParseError) (f : Fault)
     → MemoryOr (IsStrftimeFaultIn text) e → IsInvalid e → Lends (length text) e r
-    → StrftimeFaultOf text f → IsLent f r
-lent_strftime_refused text e r f h is lent has =
-    lent_one (StrftimeFaultOf text) (length text) f
-    (λ g other. (one text).one_fault g f other has) e r (whole text e h) is lent
+    → StrftimeFaultOf text f → IsBorrowed f r
+borrowed_strftime_refused text e r f h is borrowed has =
+    borrowed_one (StrftimeFaultOf text) (length text) f
+    (λ g other. (one text).one_fault g f other has) e r (whole text e h) is borrowed
 
--- an error other than want of memory is a fault
+-- an error other than lack of memory is a fault
 pub is_invalid : (e : ReadError) → (e ≡ errors.Memory → ⊥) → IsInvalid e
 is_invalid (errors.Invalid f) other = tt
 is_invalid errors.Memory other = other refl
 
--- The same of what the caller owns.
+-- The owned error that the caller gets.
 
 pub owned_strftime : (text : Text) (e : BorrowedParseError) (r : ParseError)
-    → IsLentOf (StrftimeFaultOf text) e → IsOwned e r → IsStrftimeFault text r
-owned_strftime text e (told.Memory m) is owned = tt
-owned_strftime text e (told.Invalid x) is owned = owned_of (StrftimeFaultOf text) e x is owned
+    → IsBorrowedOf (StrftimeFaultOf text) e → IsOwned e r → IsStrftimeFault text r
+owned_strftime text e (reported.Memory m) is owned = tt
+owned_strftime text e (reported.Invalid x) is owned = owned_of (StrftimeFaultOf text) e x is owned
 
 -- the next piece, if there is one
 abbrev pub IsNext : Text → Option (StrftimePiece × Bor (List ℕ)) → Type 0

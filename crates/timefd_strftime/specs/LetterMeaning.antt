@@ -35,7 +35,7 @@ composite_list HourAndMinute = hour_and_minute
 composite_list TimeOf24 = time_of_24
 composite_list Offset = offset
 
--- the item of a letter behind a flag
+-- the item of a letter after a flag
 abbrev pub letter_tree : Letter → Flag → Tree
 letter_tree Percent f = literal (codes "%")
 letter_tree LineFeed f = literal (10 ∷ [])

@@ -1,5 +1,5 @@
 pub mod LetterMeaning
 pub mod PieceMeaning
-pub mod LentLists
+pub mod BorrowedLists
 pub mod StrftimeReading
 pub mod StrftimeAnswers

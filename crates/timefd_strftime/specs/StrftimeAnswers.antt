@@ -1,4 +1,4 @@
--- How an answer of the public call of strftime stands to a text.
+-- How the answer of the public call for strftime relates to the text.
 use Rattle.std.specs.Prelude.{⊤}
 use Rattle.timefd_fault.specs.Faults.{fault_of}
 use Rattle.timefd_component.specs.Tree.{Text}

@@ -1,4 +1,4 @@
--- How what is read of a text of strftime stands to its grammar.
+-- How what is read of a text of strftime relates to its grammar.
 use Rattle.std.specs.Prelude.{ℕ, ◌≡◌, ◌<◌, List, [], ◌∷◌, ◌++◌, length, Option, Result, MatchResult, IsTrue, ⊤}
 use Rattle.std.specs.Borrow.{Bor}
 use Rattle.std.specs.Str.{IsUtf8}
@@ -40,8 +40,8 @@ pub record IsRestOf (text rest : Text) : Type 0 where
 
 -- Pieces.
 
--- The text is a piece, which is this tree, and the rest: what the rest begins with, the text begins
--- with behind it.
+-- The text is a piece, which is this tree, and the rest: what the rest begins with, the text has
+-- after that piece.
 abbrev pub Leads : Text → Tree → Text → Type 0
 Leads text tree rest =
     (front : Directives) (tail : Text) → AreDirectives front → rest ≡ directives_text front ++ tail
@@ -54,18 +54,18 @@ pub record LeadsTo (text rest : Text) : Type 0 where
   pub leads : Leads text tree rest
   pub left : IsRestOf text rest
 
--- the text spells so many items
+-- the text spells this many items
 abbrev pub HasItems : Text → ℕ → Type 0
 HasItems text n = (list : List Tree) × SpellsStrftime text list × (n ≡ length list)
 
 -- Faults.
 
--- the text begins with what is no directive, and this is its fault
+-- the text begins with something that isn't a directive, and this is its fault
 abbrev pub IsStrftimeFaultAt : Text → Fault → Type 0
 IsStrftimeFaultAt text f = (ill : IllDirective) × IsIll ill × (text ≡ ill_text ill)
     × IsFault (length text) f (ill_fault ill)
 
--- the text begins with the piece, behind which is the rest
+-- the text begins with the piece, and the rest follows it
 pub record BeginsWithPiece (text : Text) (piece : StrftimePiece) (rest : Text) : Type 0 where
   pub leads : Leads text (piece_tree piece) rest
   pub left : IsRestOf text rest
@@ -75,7 +75,7 @@ abbrev pub ReadsDirective : Text → Result (StrftimePiece × Bor (List ℕ)) Fa
 ReadsDirective text r = MatchResult r (λ x. BeginsWithPiece text x.0 x.1.now)
     (IsStrftimeFaultAt text)
 
--- directives, and what is none behind them, with its fault
+-- pieces, and then something that isn't a directive, with its fault
 abbrev pub IsStrftimeFaultIn : Text → Fault → Type 0
 IsStrftimeFaultIn text f =
     (front : Directives) × (ill : IllDirective) × AreDirectives front × IsIll ill

@@ -6,7 +6,7 @@ ghost use Rattle.timefd_component.specs.Tree.{Tree};
 ghost use Rattle.timefd_strftime.specs.declared.text.PieceStart.TheVariants.{Literal};
 ghost use Rattle.timefd_language.specs.Strftime.{SpellsStrftime, StrftimeFaultOf, percent};
 ghost use Rattle.timefd_fault.specs.RuleKinds.{rule_kind};
-ghost use Rattle.timefd_fault.specs.BorrowedFaults.{HasShortWords, lent_fault};
+ghost use Rattle.timefd_fault.specs.BorrowedFaults.{HasShortWords, to_borrowed_fault};
 ghost use Rattle.timefd_fault.specs.Placed.{IsPlaced};
 ghost use Rattle.timefd_strftime.specs.StrftimeReading.{BeginsPiece, HasItems, IsStrftimeFaultAt, IsStrftimeFaultIn, LeadsTo};
 
@@ -17,17 +17,17 @@ use timefd_fault::BorrowedFault;
 use timefd_fault::read_error::Fault;
 use timefd_language::text::{Class, cut, tail};
 
-/// How many items a text of strftime has. It takes no memory, and is this port's own.
+/// How many items a text of strftime has. It takes no memory. This call is this port's own.
 ///
 /// The error is the fault of the text.
 pub fn count_strftime<'a>(s: &'a str) -> Result<usize, BorrowedFault<'a>>
     ensures found { IfOk result (λ n. (list : List Tree) × SpellsStrftime s.now list
         × (n ≡ length list)) }
-    ensures fault { IfErr result (λ f. StrftimeFaultOf s.now (lent_fault f)) }
+    ensures fault { IfErr result (λ f. StrftimeFaultOf s.now (to_borrowed_fault f)) }
 
-    // The fault's index lies in the text or at its end, between two characters. Its words are short,
-    // so that its sentence can be written.
-    ensures place { IfErr result (λ f. IsPlaced s.now (lent_fault f)) }
+    // The fault's index lies in the text or at its end, between two characters. The words that it
+    // quotes are short, so that its sentence can be written.
+    ensures position { IfErr result (λ f. IsPlaced s.now (to_borrowed_fault f)) }
     ensures words { IfErr result (λ f. HasShortWords (rule_kind f.rule)) }
 {
     match count_of(s) {
@@ -43,23 +43,23 @@ fn count_of<'a>(text: &'a str) -> Result<usize, Fault<'a>>
     let mut count = 0;
     let mut rest = text;
     'pieces: loop {
-        let after = match piece_start_of(rest) {
+        let unread = match piece_start_of(rest) {
             PieceStart::End => return Ok(count),
-            PieceStart::Directive(behind) => behind_directive(behind)?,
-            PieceStart::Literal => behind_run(rest),
+            PieceStart::Directive(after) => after_directive(after)?,
+            PieceStart::Literal => after_run(rest),
         };
-        rest = after;
+        rest = unread;
         count += 1;
     }
 }
 
-/// What follows the directive that has this behind its `%`.
+/// What follows a directive. `after` is the text after its `%`.
 #[inline(always)]
-pub fn behind_directive<'a>(behind: &'a str) -> Result<&'a str, Fault<'a>>
-    ensures { MatchResult result (λ rest. LeadsTo (percent ∷ behind.now) rest.now)
-        (IsStrftimeFaultAt (percent ∷ behind.now)) }
+pub fn after_directive<'a>(after: &'a str) -> Result<&'a str, Fault<'a>>
+    ensures { MatchResult result (λ rest. LeadsTo (percent ∷ after.now) rest.now)
+        (IsStrftimeFaultAt (percent ∷ after.now)) }
 {
-    let (padding, text) = cut_flag(behind);
+    let (padding, text) = cut_flag(after);
     let [byte, ..] = text.as_bytes() else {
         return Err(cut_short(padding));
     };
@@ -74,7 +74,7 @@ pub fn behind_directive<'a>(behind: &'a str) -> Result<&'a str, Fault<'a>>
 
 /// What follows the literal before the first `%`.
 #[inline(always)]
-pub fn behind_run(text: &str) -> &str
+pub fn after_run(text: &str) -> &str
     requires { BeginsPiece Literal text.now }
     ensures { LeadsTo text.now result.now }
 {

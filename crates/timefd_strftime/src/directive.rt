@@ -16,12 +16,12 @@ use timefd_fault::{Fault, Rule};
 use timefd_language::text::tail;
 use timefd_modifier::Padding;
 
-/// The directive that has this behind its `%`, and what follows it.
+/// A directive, and what follows it. `after` is the text after its `%`.
 #[inline(always)]
-pub fn directive<'a>(behind: &'a str) -> Result<(StrftimePiece<'a>, &'a str), Fault<'a>>
-    ensures { ReadsDirective (percent ∷ behind.now) result }
+pub fn directive<'a>(after: &'a str) -> Result<(StrftimePiece<'a>, &'a str), Fault<'a>>
+    ensures { ReadsDirective (percent ∷ after.now) result }
 {
-    let (padding, text) = cut_flag(behind);
+    let (padding, text) = cut_flag(after);
     let [byte, ..] = text.as_bytes() else {
         return Err(cut_short(padding));
     };
@@ -34,10 +34,10 @@ pub fn directive<'a>(behind: &'a str) -> Result<(StrftimePiece<'a>, &'a str), Fa
     }
 }
 
-/// The fault of a text that ends before a letter: it stands at the `%`, or right behind the flag.
+/// The fault of a text that ends before a letter: it is at the `%`, or right after the flag.
 pub fn cut_short<'a>(padding: Option<Padding>) -> Fault<'a>
     ensures kind { rule_kind result.rule ≡ expected_escape }
-    ensures place { (f : Flag) → flag_padding f ≡ padding
+    ensures position { (f : Flag) → flag_padding f ≡ padding
         → cut_index f + result.remaining ≡ 1 + length (flag_text f) }
 {
     let remaining = match padding {
@@ -67,7 +67,8 @@ fn piece<'a>(letter: Letter, padding: Option<Padding>) -> StrftimePiece<'a>
     }
 }
 
-/// The rule that a text breaks which begins with no letter, where one has to stand.
+/// The rule that a text breaks, if it doesn't begin with a letter that strftime reads, but needs
+/// one.
 pub fn unknown(text: &str) -> Rule<'_>
     requires { 0 < length text.now }
     ensures { rule_kind result ≡ unknown_kind (slice_index text.now 0) }

@@ -22,7 +22,7 @@ pub fn component_item<'a>(value: Component) -> BorrowedFormatItem<'a>
     BorrowedFormatItem::Component(value)
 }
 
-/// The items as one.
+/// The items as one compound item.
 pub fn compound_item<'a>(items: &'a [BorrowedFormatItem<'a>]) -> BorrowedFormatItem<'a>
     ensures tree { item_tree result ≡ compound (trees (item_trees items.now)) }
     ensures strings { IsTrue (are_of_strings items.now) → IsTrue (is_of_strings result) }

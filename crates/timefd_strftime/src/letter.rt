@@ -24,7 +24,7 @@ pub enum Letter {
     Tab,
     /// A component that no flag changes.
     Fixed(Component),
-    /// A component with the flag's padding, or with this one where there is no flag.
+    /// A component with the flag's padding, or with this one if there is no flag.
     Padded(Field, Padding),
     /// A list of items.
     Composite(Composite),
@@ -80,7 +80,7 @@ pub enum Composite {
     Offset,
 }
 
-/// What a byte in a letter's place stands for.
+/// What a byte stands for as a letter. `None` if it isn't a letter that strftime reads.
 #[tactic(auto, unfolding(timefd_language::specs::Letters::item_of))]
 #[inline(always)]
 pub fn letter_of(byte: u8) -> Option<Letter>

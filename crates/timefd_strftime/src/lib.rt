@@ -1,4 +1,4 @@
-//! Reads the texts of strftime. Users take it from `timefd_parse`.
+//! Reads the texts of strftime. Users import it from `timefd_parse`.
 #![tactic(auto)]
 
 mod count;
@@ -12,7 +12,7 @@ mod tables;
 mod text;
 
 pub use count::count_strftime;
-pub use first::behind_first_directive;
+pub use first::after_first_directive;
 pub use letter::Composite;
 pub use parsing::{parse_strftime_all_borrowed, parse_strftime_borrowed, strftime_error};
 pub use piece::{StrftimePiece, next_strftime_piece};

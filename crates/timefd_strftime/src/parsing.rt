@@ -5,9 +5,9 @@ ghost use Rattle.std.specs.Result.{IfErr};
 ghost use Rattle.timefd_fault.specs.Faults as spec;
 ghost use Rattle.timefd_format_item.specs.Meaning.{item_trees};
 ghost use Rattle.timefd_component.specs.Tree.{Tree};
-ghost use Rattle.timefd_fault.specs.BorrowedFaults.{HasShortFault, IsLent, IsLentOf, IsMemory};
+ghost use Rattle.timefd_fault.specs.BorrowedFaults.{HasShortFault, IsBorrowed, IsBorrowedOf, IsMemory};
 ghost use Rattle.timefd_fault.specs.Placed.{HasPlacedFault, IsPlaced};
-ghost use Rattle.timefd_fault.specs.Told.{IsFaultOrMemory, MemoryAlone};
+ghost use Rattle.timefd_fault.specs.Reported.{IsFaultOrMemory, MemoryAlone};
 ghost use Rattle.timefd_language.specs.Strftime.{SpellsStrftime, StrftimeFaultOf};
 ghost use Rattle.timefd_strftime.specs.StrftimeAnswers.{IsStrftimeFault};
 ghost use Rattle.timefd_fault.specs.ReadErrors.{MemoryOr};
@@ -18,37 +18,37 @@ use crate::count::count_strftime;
 use crate::piece::next_strftime_piece;
 use crate::tables::StrftimeTables;
 use std::alloc::{AllocError, Global};
-use timefd_fault::borrowed_parse_error::{BorrowedParseError, lent};
+use timefd_fault::borrowed_parse_error::{BorrowedParseError, borrowed};
 use timefd_fault::parse_error::ParseError;
 use timefd_fault::read_error::ReadError;
 use timefd_format_item::BorrowedFormatItem;
 
-/// Reads a text of strftime: `time`'s `parse_strftime_borrowed`. The items of composite letters borrow
-/// the tables' lists.
+/// Reads a text of strftime, like `time`'s `parse_strftime_borrowed`. The items of composite letters
+/// borrow the lists of `tables`.
 ///
-/// The error is `Invalid` with the fault of the text, or `Memory` where memory ran out. A fault that
-/// quotes nothing of the text is answered even then.
+/// The error is `Invalid` with the fault of the text, or `Memory` if memory ran out. A fault that quotes
+/// nothing of the text is reported even then.
 #[inline(always)]
 pub fn parse_strftime_borrowed<'a>(
     alloc: Global,
     tables: &'a StrftimeTables<'a>,
     s: &'a str,
 ) -> Result<Vec<BorrowedFormatItem<'a>>, ParseError>
-    // What is accepted is spelled so, and what is refused is refused for the fault that the rules assign.
+    // An accepted text spells the result. A refused one is refused for the fault that the rules assign.
     ensures found { IfOk result (λ items. SpellsStrftime s.now (item_trees items.items)) }
     ensures fault { IfErr result (IsStrftimeFault s.now) }
 
-    // What is spelled is accepted, unless memory runs out. What has a fault is refused for it, unless
-    // the fault quotes the text and memory runs out for that.
+    // A text that spells something is accepted unless memory runs out. A text with a fault is refused for
+    // it, unless the fault quotes the text and there is no memory for the quote.
     ensures spelled { (list : List Tree) → SpellsStrftime s.now list
         → MatchResult result (λ items. item_trees items.items ≡ list) MemoryAlone }
     ensures refused { (f : spec.Fault) → StrftimeFaultOf s.now f
         → MatchResult result (λ _. ⊥) (IsFaultOrMemory f) }
 
     // The fault's index lies in the text or at its end, between two characters.
-    ensures place { IfErr result (HasPlacedFault s.now) }
+    ensures position { IfErr result (HasPlacedFault s.now) }
 
-    // No literal is one of bytes, not even in a composite letter's list.
+    // No item is a literal of bytes, not even in the list of a composite letter.
     ensures strings { IfOk result (λ items. IsTrue (are_of_strings items.items)) }
 
     // The empty text takes no memory.
@@ -63,29 +63,30 @@ pub fn parse_strftime_borrowed<'a>(
 /// Reads a text of strftime as `parse_strftime_borrowed` does, with a fault that borrows what it
 /// quotes. This call is this port's own.
 ///
-/// The error is `Invalid` with the fault of the text, or `Memory` where memory ran out. A text that
-/// has a fault is refused for it even then.
+/// The error is `Invalid` with the fault of the text, or `Memory` if memory ran out. A text that has a
+/// fault is refused for it even then.
 pub fn parse_strftime_all_borrowed<'a>(
     alloc: Global,
     tables: &'a StrftimeTables<'a>,
     s: &'a str,
 ) -> Result<Vec<BorrowedFormatItem<'a>>, BorrowedParseError<'a>>
-    // What is accepted is spelled so, and what is refused is refused for the fault that the rules assign.
+    // An accepted text spells the result. A refused one is refused for the fault that the rules assign.
     ensures found { IfOk result (λ items. SpellsStrftime s.now (item_trees items.items)) }
-    ensures fault { IfErr result (IsLentOf (StrftimeFaultOf s.now)) }
+    ensures fault { IfErr result (IsBorrowedOf (StrftimeFaultOf s.now)) }
 
-    // What is spelled is accepted, unless memory runs out, and what has a fault is refused for it.
+    // A text that spells something is accepted unless memory runs out, and a text with a fault is refused
+    // for it.
     ensures spelled { (list : List Tree) → SpellsStrftime s.now list
         → MatchResult result (λ items. item_trees items.items ≡ list) IsMemory }
     ensures refused { (f : spec.Fault) → StrftimeFaultOf s.now f
-        → MatchResult result (λ _. ⊥) (IsLent f) }
+        → MatchResult result (λ _. ⊥) (IsBorrowed f) }
 
-    // The fault's index lies in the text or at its end, between two characters. Its words are short,
-    // so that its sentence can be written.
-    ensures place { IfErr result (IsLentOf (IsPlaced s.now)) }
+    // The fault's index lies in the text or at its end, between two characters. The words that it quotes
+    // are short, so that its sentence can be written.
+    ensures position { IfErr result (IsBorrowedOf (IsPlaced s.now)) }
     ensures words { IfErr result HasShortFault }
 
-    // No literal is one of bytes, not even in a composite letter's list.
+    // No item is a literal of bytes, not even in the list of a composite letter.
     ensures strings { IfOk result (λ items. IsTrue (are_of_strings items.items)) }
 
     // The empty text takes no memory.
@@ -97,20 +98,20 @@ pub fn parse_strftime_all_borrowed<'a>(
     }
 }
 
-/// The error of a text of strftime that was not read. A fault is found without memory, even where that
-/// ran out.
+/// The error of a text of strftime that couldn't be read. A fault of the text is found even if memory ran
+/// out, since that takes none.
 pub fn strftime_error<'a>(error: ReadError<'a>, text: &'a str) -> BorrowedParseError<'a>
     requires { MemoryOr (IsStrftimeFaultIn text.now) error }
-    ensures fault { IsLentOf (StrftimeFaultOf text.now) result }
+    ensures fault { IsBorrowedOf (StrftimeFaultOf text.now) result }
     ensures spelled { (list : List Tree) → SpellsStrftime text.now list → IsMemory result }
-    ensures refused { (f : spec.Fault) → StrftimeFaultOf text.now f → IsLent f result }
+    ensures refused { (f : spec.Fault) → StrftimeFaultOf text.now f → IsBorrowed f result }
 {
     match error {
         ReadError::Memory => match count_strftime(text) {
             Ok(_) => BorrowedParseError::Memory(AllocError),
             Err(fault) => BorrowedParseError::Invalid(fault),
         },
-        error => lent(error, text.len()),
+        error => borrowed(error, text.len()),
     }
 }
 
@@ -128,15 +129,15 @@ fn items<'a>(
     let mut items = Vec::with_capacity(alloc, first_room(text))?;
     let mut rest = text;
     'pieces: loop {
-        let Some((piece, after)) = next_strftime_piece(rest)? else {
+        let Some((piece, unread)) = next_strftime_piece(rest)? else {
             return Ok(items);
         };
         items.push(piece.into_item(tables))?;
-        rest = after;
+        rest = unread;
     }
 }
 
-/// Room for the items of a text of usual length, of which one has a byte or two.
+/// Room for the items of a text of usual length: one for every byte, and at most 16.
 #[inline(always)]
 fn first_room(text: &str) -> usize
     ensures empty { text.now ≡ [] → result ≡ 0 }

@@ -30,7 +30,7 @@ impl<'a> StrftimePiece<'a> {
     ghost use Rattle.timefd_format_item.specs.Meaning.{item_tree};
     ghost use Rattle.timefd_language.specs.Strings.{is_of_strings};
 
-    /// The piece as an item. That of a composite letter borrows the tables' list.
+    /// The piece as an item. The item of a composite letter borrows its list from `tables`.
     #[inline(always)]
     pub fn into_item(self, tables: &'a StrftimeTables<'a>) -> BorrowedFormatItem<'a>
         ensures tree { item_tree result ≡ piece_tree self.entry }
@@ -44,10 +44,10 @@ impl<'a> StrftimePiece<'a> {
     }
 }
 
-/// The piece that a text of strftime begins with, and what follows it; `None` of the empty text. It
-/// takes no memory.
+/// The piece that a text of strftime begins with, and what follows it; `None` for the empty text.
+/// It takes no memory.
 ///
-/// The error is the fault of what the text begins with, which is no directive.
+/// The error is the fault of a text that begins with a `%` but not with a directive.
 #[inline(always)]
 pub fn next_strftime_piece<'a>(
     text: &'a str,
@@ -57,7 +57,7 @@ pub fn next_strftime_piece<'a>(
 {
     match piece_start_of(text) {
         PieceStart::End => Ok(None),
-        PieceStart::Directive(behind) => Ok(Some(directive(behind)?)),
+        PieceStart::Directive(after) => Ok(Some(directive(after)?)),
         PieceStart::Literal => Ok(Some(run(text))),
     }
 }

@@ -1,4 +1,4 @@
-//! The lists of items that single letters of strftime stand for.
+//! The lists of items that the composite letters of strftime stand for.
 
 ghost use Rattle.timefd_modifier.specs.declared.enums.Padding.{Padding};
 ghost use Rattle.std.specs.Prelude.{◌≡◌, IsTrue};
@@ -13,7 +13,7 @@ use timefd_component::Component;
 use timefd_format_item::BorrowedFormatItem;
 use timefd_modifier::{MonthShort, OffsetHour, OffsetMinute, Padding, Period, WeekdayShort};
 
-/// The lists that the composite letters of strftime stand for, which the items of a text borrow.
+/// The lists that the composite letters of strftime stand for. The items of a text borrow them.
 #[derive(Drop)]
 pub struct StrftimeTables<'a> {
     date_and_time: [BorrowedFormatItem<'a>; 13],
@@ -33,7 +33,7 @@ pub struct StrftimeTables<'a> {
 }
 
 impl<'a> StrftimeTables<'a> {
-    ghost use Rattle.timefd_strftime.specs.LentLists.{HoldsLists};
+    ghost use Rattle.timefd_strftime.specs.BorrowedLists.{HoldsLists};
 
     /// The lists. They take no memory.
     #[inline(never)]

@@ -1,4 +1,4 @@
-//! What a text is read as, in print, to be compared with what is expected.
+//! What a text is read as, in print, to compare it with what is expected.
 
 use super::printed::AMPLE;
 use std::alloc::Global;
@@ -15,7 +15,7 @@ fn print_item(rt: &impl Abort, printed: &mut String, item: &BorrowedFormatItem) 
     .expect(rt, AMPLE)
 }
 
-/// The items in turn, each literal in quotes.
+/// The items in order, each literal in quotes.
 pub fn print_items(rt: &impl Abort, alloc: Global, items: &[BorrowedFormatItem]) -> String {
     let mut printed = String::new(alloc);
     for item in items {
@@ -27,7 +27,8 @@ pub fn print_items(rt: &impl Abort, alloc: Global, items: &[BorrowedFormatItem])
     printed
 }
 
-/// The reserved bytes and the tree, which is looked at in both ways.
+/// The number of reserved bytes and the tree, which is looked at both as a view and as a tree of
+/// its own.
 fn print_description(rt: &impl Abort, alloc: Global, description: &FormatDescriptionV3) -> String {
     let bytes = description.max_bytes_needed();
     let inner = description.to_inner(alloc).expect(rt, AMPLE);
@@ -37,7 +38,7 @@ fn print_description(rt: &impl Abort, alloc: Global, description: &FormatDescrip
     printed
 }
 
-/// What is printed of a call that answers that memory ran out.
+/// What is printed for a call that says that memory ran out.
 pub const REFUSED: &str = "memory ran out";
 
 /// The sentence of the fault, or that memory ran out.
@@ -58,7 +59,7 @@ pub fn answer(rt: &impl Abort, alloc: Global, version: DescriptionVersion, text:
     }
 }
 
-/// The same by the call that reads version 1 alone.
+/// What the call that reads only version 1 reads the text as, in print.
 pub fn answer_of_parse(rt: &impl Abort, alloc: Global, text: &str) -> String {
     match parse(alloc, text) {
         Ok(items) => print_items(rt, alloc, &items),
@@ -66,7 +67,7 @@ pub fn answer_of_parse(rt: &impl Abort, alloc: Global, text: &str) -> String {
     }
 }
 
-/// Expects that the text is read so in this version, by each call that reads it.
+/// Expects what each call that reads this version reads the text as.
 pub fn expect(
     rt: &impl Abort,
     alloc: Global,

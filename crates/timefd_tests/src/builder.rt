@@ -41,7 +41,7 @@ fn call(
     }
 }
 
-/// Calls, and calls once more where memory is refused: then all is as it was.
+/// Calls, and calls once more if memory is refused. The refused call has changed nothing.
 fn call_again(rt: &impl Abort, builder: &mut DescriptionBuilder<'static>, step: Step) {
     let len = builder.len();
     if call(rt, builder, step).is_err() {
@@ -50,14 +50,14 @@ fn call_again(rt: &impl Abort, builder: &mut DescriptionBuilder<'static>, step: 
     }
 }
 
-/// Calls these in turn behind the others.
+/// Makes these calls, one after another.
 fn call_all(rt: &impl Abort, builder: &mut DescriptionBuilder<'static>, steps: &[Step]) {
     for at in 0..steps.len() {
         call_again(rt, builder, steps[at]);
     }
 }
 
-/// Expects how many bytes the description reserves that was put together, and what it prints.
+/// Expects how many bytes the finished description reserves, and what it prints.
 fn expect_finished(
     rt: &impl Abort,
     alloc: Global,
@@ -71,7 +71,7 @@ fn expect_finished(
     expect_description(rt, alloc, &description, expected);
 }
 
-/// Expects the same of what these calls put together.
+/// Expects that of the description that these calls put together.
 fn expect_built(rt: &impl Abort, alloc: Global, steps: &[Step], bytes: usize, expected: &str) {
     let mut builder = DescriptionBuilder::new(alloc);
     call_all(rt, &mut builder, steps);
@@ -89,7 +89,7 @@ const ALTERNATIVES: &[Step] = &[
     Step::Optional(false),
 ];
 
-/// Expects what calls put together.
+/// Expects what some calls put together.
 fn parts_put_together(rt: &impl Abort, alloc: Global) {
     let in_turn = "Compound([Literal(\"ab\"), Day { padding: Zero }])";
     let alternatives =
@@ -124,7 +124,7 @@ const FOUR: &[Step] = &[
     Step::Literal("d"),
 ];
 
-/// Adds four literals, and then calls this.
+/// Adds four literals, and then makes this call.
 fn call_fifth(rt: &impl Abort, builder: &mut DescriptionBuilder<'static>, step: Step) {
     call_all(rt, builder, FOUR);
     call_again(rt, builder, step);
@@ -133,7 +133,7 @@ fn call_fifth(rt: &impl Abort, builder: &mut DescriptionBuilder<'static>, step: 
 const FIVE_LITERALS: &str =
     "Compound([Literal(\"a\"), Literal(\"b\"), Literal(\"c\"), Literal(\"d\"), Literal(\"e\")])";
 
-const DAY_BEHIND: &str =
+const DAY_AFTER: &str =
     "Compound([Literal(\"a\"), Literal(\"b\"), Literal(\"c\"), Literal(\"d\"), Day { padding: Zero }])";
 
 const TWO_PACKED: &str =
@@ -145,8 +145,8 @@ const LAST_OPTIONAL: &str =
 const FIRST_OF_THREE: &str =
     "Compound([Literal(\"a\"), First([Literal(\"b\"), Literal(\"c\"), Literal(\"d\")])])";
 
-/// The first room is for four parts, so each fifth call asks for more: what
-/// `rt try --test --fail-alloc N` refuses with N up to 10 is called once more.
+/// The first allocation has room for four parts, so each fifth call asks for more. What `rt try
+/// --test --fail-alloc N` refuses, with N up to 10, is called once more.
 #[test]
 fn a_refused_call_changes_nothing(rt: HostRuntime) {
     let alloc = rt.alloc();
@@ -161,13 +161,13 @@ fn a_refused_call_changes_nothing(rt: HostRuntime) {
     let mut first = DescriptionBuilder::new(alloc);
     call_fifth(&rt, &mut first, Step::First(3));
     expect_finished(&rt, alloc, literal, 5, FIVE_LITERALS);
-    expect_finished(&rt, alloc, day, 6, DAY_BEHIND);
+    expect_finished(&rt, alloc, day, 6, DAY_AFTER);
     expect_finished(&rt, alloc, packed, 4, TWO_PACKED);
     expect_finished(&rt, alloc, optional, 3, LAST_OPTIONAL);
     expect_finished(&rt, alloc, first, 2, FIRST_OF_THREE);
 }
 
-/// Room that was made is there, and each part takes one of it.
+/// Reserved room is there, and each part takes one part of it.
 fn room_for_parts(rt: &impl Abort, alloc: Global) {
     let mut builder = DescriptionBuilder::new(alloc);
     builder.reserve(3).expect(rt, AMPLE);

@@ -1,4 +1,4 @@
-//! How trees and descriptions print, and their copies: each call once with ample memory.
+//! How trees and descriptions print, and their copies. Each call runs once, with ample memory.
 
 use super::printed::{AMPLE, expect_printed};
 use super::trees::{
@@ -68,7 +68,7 @@ fn owned_copies_outlive_their_texts(rt: HostRuntime) {
     );
 }
 
-/// Expects what the description reserves, and how it prints.
+/// Expects how many bytes the description reserves, and what it prints.
 fn expect_bytes_and_print(
     rt: &impl Abort,
     alloc: Global,
@@ -80,7 +80,8 @@ fn expect_bytes_and_print(
     expect_description(rt, alloc, description, expected);
 }
 
-/// Expects that a tree, its description and all copies of both print so, and what the descriptions reserve.
+/// Expects what a tree, its description and all copies of both print, and how many bytes the descriptions
+/// reserve.
 fn expect_copies(
     rt: &impl Abort,
     alloc: Global,
@@ -99,7 +100,7 @@ fn expect_copies(
     expect_bytes_and_print(rt, alloc, &owned, bytes, expected);
 }
 
-/// `x[optional format:false [[weekday]]][first [a] [bcd]]`, its parts owned but for `bcd`.
+/// `x[optional format:false [[weekday]]][first [a] [bcd]]`, its parts owned except for `bcd`.
 fn owned(rt: &impl Abort, alloc: Global) -> FormatDescriptionV3Inner<'static> {
     let second = FormatDescriptionV3Inner::BorrowedLiteral("bcd");
     let alternatives = two(rt, alloc, literal(rt, alloc, "a"), second);
@@ -109,8 +110,8 @@ fn owned(rt: &impl Abort, alloc: Global) -> FormatDescriptionV3Inner<'static> {
     FormatDescriptionV3Inner::OwnedCompound(members)
 }
 
-/// The same tree, its parts lent.
-fn lent(rt: &impl Abort, alloc: Global) -> FormatDescriptionV3Inner<'static> {
+/// The tree of `owned`, its parts borrowed.
+fn borrowed(rt: &impl Abort, alloc: Global) -> FormatDescriptionV3Inner<'static> {
     let first = FormatDescriptionV3Inner::BorrowedLiteral("a");
     let second = FormatDescriptionV3Inner::BorrowedLiteral("bcd");
     let first = FormatDescriptionV3Inner::BorrowedFirst(lend_two(rt, alloc, first, second));
@@ -126,10 +127,10 @@ fn lent(rt: &impl Abort, alloc: Global) -> FormatDescriptionV3Inner<'static> {
 const PRINTED: &str =
     "Compound([Literal(\"x\"), Optional { should_format: false, item: WeekdayLong { case_sensitive: true } }, First([Literal(\"a\"), Literal(\"bcd\")])])";
 
-/// The same tree prints so with owned parts and with lent ones.
-fn copies_of_owned_and_lent_parts(rt: &impl Abort, alloc: Global) {
+/// The tree prints alike with owned parts and with borrowed parts.
+fn copies_of_owned_and_borrowed_parts(rt: &impl Abort, alloc: Global) {
     expect_copies(rt, alloc, owned(rt, alloc), 2, PRINTED);
-    expect_copies(rt, alloc, lent(rt, alloc), 2, PRINTED);
+    expect_copies(rt, alloc, borrowed(rt, alloc), 2, PRINTED);
 }
 
 fn copies_of_owned_parts(rt: &impl Abort, alloc: Global) {
@@ -142,29 +143,29 @@ fn copies_of_owned_parts(rt: &impl Abort, alloc: Global) {
     expect_copies(rt, alloc, none, 0, "First([])");
 }
 
-fn copies_of_lent_parts(rt: &impl Abort, alloc: Global) {
-    let lent = FormatDescriptionV3Inner::BorrowedOptional {
+fn copies_of_borrowed_parts(rt: &impl Abort, alloc: Global) {
+    let borrowed = FormatDescriptionV3Inner::BorrowedOptional {
         format: false,
         item: lend(rt, alloc, DAY),
     };
     let expected = "Optional { should_format: false, item: Day { padding: Zero } }";
-    expect_copies(rt, alloc, lent, 0, expected);
-    let lent = FormatDescriptionV3Inner::BorrowedOptional {
+    expect_copies(rt, alloc, borrowed, 0, expected);
+    let borrowed = FormatDescriptionV3Inner::BorrowedOptional {
         format: true,
         item: lend(rt, alloc, two_literals(rt, alloc)),
     };
     let expected =
         "Optional { should_format: true, item: Compound([Literal(\"abcdef\"), Literal(\"ghijkl\")]) }";
-    expect_copies(rt, alloc, lent, 12, expected);
+    expect_copies(rt, alloc, borrowed, 12, expected);
     let alternative = FormatDescriptionV3Inner::BorrowedLiteral("a");
-    let lent = FormatDescriptionV3Inner::BorrowedFirst(lend_two(rt, alloc, alternative, DAY));
+    let borrowed = FormatDescriptionV3Inner::BorrowedFirst(lend_two(rt, alloc, alternative, DAY));
     let expected = "First([Literal(\"a\"), Day { padding: Zero }])";
-    expect_copies(rt, alloc, lent, 1, expected);
+    expect_copies(rt, alloc, borrowed, 1, expected);
     let expected = "Compound([Literal(\"abcdef\"), Literal(\"ghijkl\")])";
     expect_copies(rt, alloc, two_literals(rt, alloc), 12, expected);
 }
 
-/// `a`, `[day]`, `b`, and an optional `c` that is not formatted.
+/// `a`, `[day]`, `b`, and an optional `c` that isn't formatted.
 fn four(rt: &impl Abort, alloc: Global) -> Vec<FormatDescriptionV3Inner<'static>> {
     vec![in alloc;
         literal(rt, alloc, "a"),
@@ -198,9 +199,9 @@ fn printed_refusal(rt: &impl Abort, alloc: Global) {
 #[test]
 fn trees_and_their_copies(rt: HostRuntime) {
     let alloc = rt.alloc();
-    copies_of_owned_and_lent_parts(&rt, alloc);
+    copies_of_owned_and_borrowed_parts(&rt, alloc);
     copies_of_owned_parts(&rt, alloc);
-    copies_of_lent_parts(&rt, alloc);
+    copies_of_borrowed_parts(&rt, alloc);
     copies_of_longer_lists(&rt, alloc);
     printed_refusal(&rt, alloc);
 }

@@ -8,7 +8,7 @@ use timefd_parse::{
     DescriptionVersion, ParseError, StrftimeTables, parse_borrowed, parse_strftime_borrowed,
 };
 
-/// Texts of version 3, each of another fault.
+/// Texts of version 3, each with a different fault.
 const REFUSED: &[&str] = &[
     "due [day",
     "[foo]",
@@ -31,7 +31,7 @@ fn fault_of(rt: &impl Abort, error: Option<ParseError>) -> InvalidFormatDescript
     }
 }
 
-/// The fault of each of these texts, and of one of strftime.
+/// The fault of each of these texts, and of a text of strftime.
 fn faults(rt: &impl Abort, alloc: Global) -> Vec<InvalidFormatDescription> {
     let mut faults = Vec::new(alloc);
     for text in REFUSED {
@@ -44,7 +44,7 @@ fn faults(rt: &impl Abort, alloc: Global) -> Vec<InvalidFormatDescription> {
     faults
 }
 
-/// Expects that a copy equals the fault at this place alone.
+/// Expects that a copy equals the fault at this index and no other.
 fn expect_equal_at(
     rt: &impl Abort,
     faults: &[InvalidFormatDescription],

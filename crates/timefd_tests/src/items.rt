@@ -1,6 +1,6 @@
 //! How items and components print, which are equal, and what they become.
 
-use super::lent::{lend, lend_one};
+use super::borrowed::{lend, lend_one};
 use super::printed::{AMPLE, expect_printed};
 use std::alloc::Global;
 use std::process::Abort;
@@ -25,12 +25,12 @@ const MODERN_MONTH: FormatItem<'static> = BorrowedFormatItem::Component(Componen
     },
 ));
 
-/// Expects that the item prints so.
+/// Expects what the item prints.
 fn expect_item(rt: &impl Abort, alloc: Global, item: BorrowedFormatItem, expected: &str) {
     expect_printed(rt, alloc, &item, expected);
 }
 
-/// Expects that the item as an optional one prints so.
+/// Expects what the item prints as an optional item.
 fn expect_optional<'a>(
     rt: &impl Abort,
     alloc: Global,

@@ -1,4 +1,5 @@
-//! Texts read one behind another: the items in turn, or the second one's fault further on.
+//! Two texts read as one: the items of both, one after another, or the second text's fault further
+//! on.
 
 use super::printed::AMPLE;
 use std::alloc::Global;
@@ -63,7 +64,7 @@ enum Reader {
     Strftime,
 }
 
-/// Adds the item in print. What is no literal stands between two bytes 0, which no text here has,
+/// Adds the item in print. What isn't a literal goes between two bytes 0, which no text here has,
 /// so that neighbouring literals read as one.
 fn add_item(rt: &impl Abort, printed: &mut String, item: &BorrowedFormatItem) {
     if let BorrowedFormatItem::StringLiteral(text) = item {
@@ -104,7 +105,7 @@ fn add_description(
     }
 }
 
-/// The fault of the error, which is not that memory ran out.
+/// The fault of the error. The error isn't that memory ran out.
 fn fault_of(rt: &impl Abort, error: ParseError) -> InvalidFormatDescription {
     match error {
         ParseError::Invalid(fault) => fault,
@@ -112,7 +113,7 @@ fn fault_of(rt: &impl Abort, error: ParseError) -> InvalidFormatDescription {
     }
 }
 
-/// Adds the text's items, or answers its fault.
+/// Adds the text's items, or returns its fault.
 fn add_of_version(
     rt: &impl Abort,
     alloc: Global,
@@ -130,7 +131,7 @@ fn add_of_version(
     None
 }
 
-/// Adds the items of the text of strftime, or answers its fault.
+/// Adds the items of the text of strftime, or returns its fault.
 fn add_of_strftime(
     rt: &impl Abort,
     alloc: Global,
@@ -160,7 +161,7 @@ fn add(
     }
 }
 
-/// Moves the fault so many bytes further on.
+/// Moves the fault this many bytes further on.
 fn raise(fault: &mut InvalidFormatDescription, bytes: usize) {
     let index = match fault {
         InvalidFormatDescription::UnclosedOpeningBracket { index }
@@ -176,8 +177,7 @@ fn raise(fault: &mut InvalidFormatDescription, bytes: usize) {
     *index = index.wrapping_add(bytes);
 }
 
-/// Expects that the second text reads behind the first as it does alone, where the first is
-/// accepted.
+/// Expects that the second text reads after the first as it does alone, if the first is accepted.
 fn expect_pair(rt: &impl Abort, alloc: Global, reader: Reader, first: &str, second: &str) {
     let mut apart = String::new(alloc);
     if add(rt, alloc, &mut apart, reader, first).is_some() {
@@ -186,20 +186,20 @@ fn expect_pair(rt: &impl Abort, alloc: Global, reader: Reader, first: &str, seco
     let alone = add(rt, alloc, &mut apart, reader, second);
     let text = format!(in alloc; "{first}{second}").expect(rt, AMPLE);
     let mut together = String::new(alloc);
-    let behind = add(rt, alloc, &mut together, reader, text.as_str());
-    match (alone, behind) {
+    let after = add(rt, alloc, &mut together, reader, text.as_str());
+    match (alone, after) {
         (None, None) => {
             assert_eq!(rt; together.as_str(), apart.as_str(), "{text}");
         }
-        (Some(mut alone), Some(behind)) => {
+        (Some(mut alone), Some(after)) => {
             raise(&mut alone, first.len());
-            assert!(rt; behind == alone, "{text}: {behind}, not {alone}");
+            assert!(rt; after == alone, "{text}: {after}, not {alone}");
         }
         _ => assert!(rt; false, "{first} before {second} by {reader:?}"),
     }
 }
 
-/// Expects the same of the text in front of each.
+/// Expects that each text reads after this one as it does alone.
 fn expect_before_each(rt: &impl Abort, alloc: Global, reader: Reader, first: &str) {
     for second in TEXTS {
         expect_pair(rt, alloc, reader, first, second);

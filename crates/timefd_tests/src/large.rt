@@ -1,4 +1,4 @@
-//! Long texts, texts that nest as deep as they may or deeper, and descriptions of many parts.
+//! Long texts, texts that nest as deep as they may or deeper, and descriptions with many parts.
 
 use super::answers::expect;
 use super::printed::AMPLE;
@@ -11,14 +11,14 @@ use timefd_parse::{BorrowedOutput, DescriptionVersion, parse_borrowed};
 
 const TOO_DEEP: &str = "highly-nested format description is not supported at byte index 1407";
 
-/// The text, with this part added so many times.
+/// Adds this part to the text, this many times.
 fn add(rt: &impl Abort, text: &mut String, times: usize, part: &str) {
     for _ in 0..times {
         text.push_str(part).expect(rt, AMPLE);
     }
 }
 
-/// The opening, the middle part and the closing, with the outer two so many times.
+/// The opening this many times, the middle part, and the closing as many times.
 fn around(
     rt: &impl Abort,
     alloc: Global,
@@ -54,9 +54,9 @@ fn opening_brackets(rt: &impl Abort, alloc: Global) {
     expect(rt, alloc, DescriptionVersion::Two, text, missing);
     expect(rt, alloc, DescriptionVersion::Three, text, missing);
     let odd = times(rt, alloc, 100_001, "[");
-    let behind = "missing component name at byte index 100000";
+    let after = "missing component name at byte index 100000";
     let text = odd.as_str();
-    expect(rt, alloc, DescriptionVersion::One, text, behind);
+    expect(rt, alloc, DescriptionVersion::One, text, after);
     expect(rt, alloc, DescriptionVersion::Two, text, missing);
     expect(rt, alloc, DescriptionVersion::Three, text, missing);
 }
@@ -86,8 +86,8 @@ fn openings_alone(rt: &impl Abort, alloc: Global) {
     expect_both(rt, alloc, deeper.as_str(), TOO_DEEP, TOO_DEEP);
 }
 
-/// Expects what so many nested descriptions are read as, where they are not too many: the innermost
-/// bracket, which closes first, stands at the index.
+/// Expects what this many nested descriptions are read as, if they aren't too many. The innermost
+/// bracket, which closes first, is at this byte index.
 fn expect_nested(rt: &impl Abort, alloc: Global, depth: usize, innermost: usize) {
     let text = around(rt, alloc, depth, "[optional [", "x", "]]");
     let refused = format!(in alloc;
@@ -105,7 +105,7 @@ fn expect_nested(rt: &impl Abort, alloc: Global, depth: usize, innermost: usize)
     );
 }
 
-/// Expects that so many nested descriptions are too many.
+/// Expects that this many nested descriptions are too many.
 fn expect_too_deep(rt: &impl Abort, alloc: Global, depth: usize) {
     let text = around(rt, alloc, depth, "[optional [", "x", "]]");
     expect_both(rt, alloc, text.as_str(), TOO_DEEP, TOO_DEEP);
@@ -128,7 +128,7 @@ fn long_and_deep_texts(rt: HostRuntime) {
     nested_descriptions(&rt, alloc);
 }
 
-/// Looks at each of 50 000 alternatives in place, one by one and on a walk.
+/// Looks at each of 50 000 alternatives without a copy, one by one and on a walk.
 fn many_alternatives(rt: &impl Abort, alloc: Global) {
     let alternatives = times(rt, alloc, 50_000, "[]");
     let text = format!(in alloc; "[first {alternatives}]").expect(rt, AMPLE);
@@ -152,7 +152,7 @@ fn many_alternatives(rt: &impl Abort, alloc: Global) {
 
 const MANY: usize = 70_000;
 
-/// So many times `[day]`, owned.
+/// A compound of many times `[day]`, owned.
 fn many_days(rt: &impl Abort, alloc: Global) -> FormatDescriptionV3Inner<'static> {
     let mut days = Vec::with_capacity(alloc, MANY).expect(rt, AMPLE);
     'days: for _ in 0..MANY {
@@ -165,7 +165,7 @@ fn many_days(rt: &impl Abort, alloc: Global) -> FormatDescriptionV3Inner<'static
     FormatDescriptionV3Inner::OwnedCompound(days)
 }
 
-/// With ample memory no copy of many parts answers that memory ran out.
+/// With ample memory, no copy of many parts fails because memory ran out.
 fn copies_of_many_parts(rt: &impl Abort, alloc: Global) {
     let tree = many_days(rt, alloc);
     let copy = tree.clone(alloc).expect(rt, AMPLE);

@@ -1,9 +1,12 @@
-//! Tests that aren't rows of `timefd_rows`: of values that no text spells, of memory that is refused, of long texts,
-//! and of what borrows. They stand at the top, since a crate with tests is proved twice, with them and without.
+//! Tests that aren't rows of `timefd_rows`: of values that no text spells, of memory that is refused, of long
+//! texts, and of borrowed values. They have a crate of their own, since a crate with tests is proved twice,
+//! with them and without.
 #![tactic(auto)]
 
 #[cfg(test)]
 mod answers;
+#[cfg(test)]
+mod borrowed;
 #[cfg(test)]
 mod builder;
 #[cfg(test)]
@@ -18,8 +21,6 @@ mod items;
 mod joining;
 #[cfg(test)]
 mod large;
-#[cfg(test)]
-mod lent;
 #[cfg(test)]
 mod lint_files;
 #[cfg(test)]

@@ -1,4 +1,4 @@
-//! Tests of `timefd_lint_files` over a file system that has no files, which no row of a text can have.
+//! Tests of `timefd_lint_files` with a made-up file system, which no row can have.
 
 mod fake;
 mod folders;

@@ -7,7 +7,7 @@ use std::process::Abort;
 use timefd_items::{Component, FormatDescriptionV3Inner};
 use timefd_modifier::*;
 
-/// The deprecated ones, which become the leaf of their modern form.
+/// The deprecated components, which become the leaf of their modern form.
 const DEPRECATED: [(Component, &str, &str); 6] = [
     (
         Component::Month(Month {

@@ -1,5 +1,5 @@
 //! Copies made twice, where one allocation may be refused. `gate/memory` runs these tests once for
-//! each allocation, and refuses that one: what is copied is as it was, whatever is refused.
+//! each allocation, and refuses that one. What is copied is unchanged, whatever is refused.
 
 use super::printed::{AMPLE, expect_printed};
 use super::trees::{expect_description, lend, literal, opaque, optional, three};
@@ -13,10 +13,10 @@ const DAY: FormatDescriptionV3Inner<'static> = FormatDescriptionV3Inner::Day(Day
     padding: Padding::Zero,
 });
 
-/// What is printed of a call that answers that memory ran out.
+/// What is printed for a call that says that memory ran out.
 const REFUSED: &str = "memory ran out";
 
-/// Expects that one call answered so, and that the other did too or was refused memory.
+/// Expects that one call gave this answer, and that the other gave it too or was refused memory.
 fn expect_one_at_least(rt: &impl Abort, first: &str, second: &str, expected: &str) {
     if first == REFUSED {
         assert_eq!(rt; second, expected, "behind a refusal");
@@ -38,7 +38,7 @@ fn print_copy<T: Debug>(rt: &impl Abort, alloc: Global, copy: &Result<T, AllocEr
     .expect(rt, AMPLE)
 }
 
-/// `x[optional [y]][first [a] [[day]] [c]]`, its parts owned but for `y` and `c`.
+/// `x[optional [y]][first [a] [[day]] [c]]`, its parts owned except for `y` and `c`.
 fn worked(rt: &impl Abort, alloc: Global) -> FormatDescriptionV3Inner<'static> {
     let third = FormatDescriptionV3Inner::BorrowedLiteral("c");
     let alternatives = three(rt, alloc, literal(rt, alloc, "a"), DAY, third);
@@ -93,7 +93,8 @@ fn copies(rt: HostRuntime) {
     copies_of_a_fault(&rt, rt.alloc());
 }
 
-/// Expects the description of the tree, or that the tree comes back and then is made one.
+/// Expects the description of the tree, or that the tree comes back and a second try makes the
+/// description.
 fn expect_opaque(
     rt: &impl Abort,
     alloc: Global,
@@ -111,7 +112,7 @@ fn expect_opaque(
     }
 }
 
-/// `x[optional [y]][first [a] [b] [c]]`, its parts owned but for `y`, `b` and `c`.
+/// `x[optional [y]][first [a] [b] [c]]`, its parts owned except for `y`, `b` and `c`.
 fn optional_and_three(rt: &impl Abort, alloc: Global) -> FormatDescriptionV3Inner<'static> {
     let second = FormatDescriptionV3Inner::BorrowedLiteral("b");
     let third = FormatDescriptionV3Inner::BorrowedLiteral("c");
@@ -126,13 +127,13 @@ fn optional_and_three(rt: &impl Abort, alloc: Global) -> FormatDescriptionV3Inne
 #[test]
 fn into_opaque(rt: HostRuntime) {
     expect_opaque(&rt, rt.alloc(), worked(&rt, rt.alloc()), WORKED);
-    let lent = FormatDescriptionV3Inner::BorrowedOptional {
+    let borrowed = FormatDescriptionV3Inner::BorrowedOptional {
         format: false,
         item: lend(&rt, rt.alloc(), worked(&rt, rt.alloc())),
     };
     let expected =
         "Optional { should_format: false, item: Compound([Literal(\"x\"), Optional { should_format: true, item: Literal(\"y\") }, First([Literal(\"a\"), Day { padding: Zero }, Literal(\"c\")])]) }";
-    expect_opaque(&rt, rt.alloc(), lent, expected);
+    expect_opaque(&rt, rt.alloc(), borrowed, expected);
     let expected =
         "Compound([Literal(\"x\"), Optional { should_format: true, item: Literal(\"y\") }, First([Literal(\"a\"), Literal(\"b\"), Literal(\"c\")])])";
     let tree = optional_and_three(&rt, rt.alloc());

@@ -1,6 +1,6 @@
-//! Texts read and rewritten twice, where one allocation may be refused. `gate/memory` runs these tests once for
-//! each allocation, and refuses that one: the call that asked for it answers so or as it does with
-//! ample memory, and the other call answers as ever.
+//! Texts read and rewritten twice, where one allocation may be refused. `gate/memory` runs these tests once
+//! for each allocation, and refuses that one. The call that asked for it says that memory ran out or answers
+//! as it does with ample memory, and the other call answers as ever.
 
 use super::answers::{REFUSED, answer, answer_of_parse, print_error, print_items};
 use super::printed::AMPLE;
@@ -45,7 +45,7 @@ fn text_or_fault(rt: &impl Abort, alloc: Global, text: Result<String, ParseError
     }
 }
 
-/// Expects that one of two calls answers so, and that the other does too or is refused memory.
+/// Expects that one of two calls gives this answer, and that the other gives it too or is refused memory.
 fn expect_twice(rt: &impl Abort, alloc: Global, call: Call, text: &str, expected: &str) {
     let first = answer_of(rt, alloc, call, text);
     let second = answer_of(rt, alloc, call, text);
@@ -175,7 +175,7 @@ fn texts(rt: HostRuntime) {
     expect_rows(&rt, alloc, Call::TwoToThree, OF_TWO);
 }
 
-/// The opening so many times, the middle part, and the closing so many times.
+/// The opening 127 times, the middle part, and the closing 127 times.
 fn around(rt: &impl Abort, alloc: Global, opening: &str, middle: &str, closing: &str) -> String {
     let mut text = String::new(alloc);
     for _ in 0..127 {

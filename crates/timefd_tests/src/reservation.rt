@@ -1,4 +1,4 @@
-//! What trees that no text spells reserve.
+//! How many bytes trees reserve that no text spells.
 
 use super::printed::{AMPLE, expect_printed};
 use super::trees::{lend, lend_two, two_literals};
@@ -17,14 +17,14 @@ fn expect_within(
     assert!(rt; within == bytes, "of {tree:?} within {limit}");
 }
 
-/// Alternatives that no text spells.
+/// A list of no alternatives, which no text spells.
 fn no_alternative(rt: &impl Abort, alloc: Global) {
     let none = FormatDescriptionV3Inner::OwnedFirst(Vec::new(alloc));
     expect_within(rt, &none, usize::MAX, Some(0));
     expect_within(rt, &none, 0, Some(0));
 }
 
-fn two_lent_literals(rt: &impl Abort, alloc: Global) {
+fn two_borrowed_literals(rt: &impl Abort, alloc: Global) {
     let tree = two_literals(rt, alloc);
     expect_within(rt, &tree, 11, None);
     expect_within(rt, &tree, 12, Some(12));
@@ -39,8 +39,8 @@ fn a_part_not_formatted_reserves_nothing(rt: &impl Abort, alloc: Global) {
     expect_within(rt, &tree, 0, Some(0));
 }
 
-/// A compound of one literal of six bytes, then so many times a compound of two of it. Its blocks
-/// are never freed.
+/// A compound of one literal of six bytes, then this many times a compound of two of the last one.
+/// Its blocks are never freed.
 fn doubled(rt: &impl Abort, alloc: Global, times: u8) -> FormatDescriptionV3Inner<'static> {
     let literal = FormatDescriptionV3Inner::BorrowedLiteral("abcdef");
     let literals = vec![in alloc; literal].expect(rt, AMPLE);
@@ -59,11 +59,11 @@ const WITHIN_A_LIMIT: &[(u8, usize, Option<usize>)] = &[
     (1, 12, Some(12)),
     (20, 6291455, None),
     (20, 6291456, Some(6291456)),
-    // Far more than the limit: what is read of the tree is bounded by it.
+    // Far more than the limit, which bounds how much of the tree is read.
     (60, 1000, None),
 ];
 
-fn lent_parts_count_each_time_they_stand(rt: &impl Abort, alloc: Global) {
+fn borrowed_parts_count_each_time_they_stand(rt: &impl Abort, alloc: Global) {
     for (times, limit, bytes) in WITHIN_A_LIMIT {
         let tree = doubled(rt, alloc, *times);
         let within = tree.bytes_within(*limit);
@@ -86,8 +86,8 @@ fn leaf_of_a_deprecated_component(rt: &impl Abort, alloc: Global) {
 fn bytes_within_a_limit(rt: HostRuntime) {
     let alloc = rt.alloc();
     no_alternative(&rt, alloc);
-    two_lent_literals(&rt, alloc);
+    two_borrowed_literals(&rt, alloc);
     a_part_not_formatted_reserves_nothing(&rt, alloc);
-    lent_parts_count_each_time_they_stand(&rt, alloc);
+    borrowed_parts_count_each_time_they_stand(&rt, alloc);
     leaf_of_a_deprecated_component(&rt, alloc);
 }

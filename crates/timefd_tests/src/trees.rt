@@ -30,7 +30,7 @@ pub fn optional<'a>(
     }
 }
 
-/// The tree, lent by a block that is never freed.
+/// The tree, borrowed from a block that is never freed.
 pub fn lend(
     rt: &impl Abort,
     alloc: Global,
@@ -39,7 +39,7 @@ pub fn lend(
     Box::leak(Box::new(alloc, tree).expect(rt, AMPLE))
 }
 
-/// Two trees in turn.
+/// Two trees in order.
 pub fn two<'a>(
     rt: &impl Abort,
     alloc: Global,
@@ -49,7 +49,7 @@ pub fn two<'a>(
     vec![in alloc; first, second].expect(rt, AMPLE)
 }
 
-/// Three trees in turn.
+/// Three trees in order.
 pub fn three<'a>(
     rt: &impl Abort,
     alloc: Global,
@@ -60,7 +60,7 @@ pub fn three<'a>(
     vec![in alloc; first, second, third].expect(rt, AMPLE)
 }
 
-/// Two trees, lent by a block that is never freed.
+/// Two trees, borrowed from a block that is never freed.
 pub fn lend_two(
     rt: &impl Abort,
     alloc: Global,
@@ -70,7 +70,7 @@ pub fn lend_two(
     two(rt, alloc, first, second).leak()
 }
 
-/// Two lent literals of six bytes each.
+/// Two borrowed literals of six bytes each.
 pub fn two_literals(rt: &impl Abort, alloc: Global) -> FormatDescriptionV3Inner<'static> {
     let first = FormatDescriptionV3Inner::BorrowedLiteral("abcdef");
     let second = FormatDescriptionV3Inner::BorrowedLiteral("ghijkl");
@@ -87,7 +87,7 @@ pub fn opaque<'a>(
         .expect(rt, "the bytes fit, and memory suffices")
 }
 
-/// Expects that the description prints so, opaque and looked into.
+/// Expects what the description prints, both opaque and as a tree of its own.
 pub fn expect_description(
     rt: &impl Abort,
     alloc: Global,

@@ -1,4 +1,4 @@
-//! Trees made by hand that no text spells, and the reason why.
+//! Trees that no text spells, and the reason why.
 
 use super::printed::AMPLE;
 use super::trees::{opaque, two};
@@ -11,7 +11,7 @@ fn literal<'a>(text: &'a str) -> FormatDescriptionV3Inner<'a> {
     FormatDescriptionV3Inner::BorrowedLiteral(text)
 }
 
-/// Two trees in turn, as a compound.
+/// Two trees in order, as a compound.
 fn both<'a>(
     rt: &impl Abort,
     alloc: Global,
@@ -21,7 +21,7 @@ fn both<'a>(
     FormatDescriptionV3Inner::OwnedCompound(two(rt, alloc, first, second))
 }
 
-/// So many optional descriptions around a literal.
+/// A literal inside this many optional descriptions.
 fn nested(rt: &impl Abort, alloc: Global, depth: usize) -> FormatDescriptionV3Inner<'static> {
     let mut tree = literal("x");
     for _ in 0..depth {

@@ -1,4 +1,4 @@
-pub mod PlaceLemmas
+pub mod PositionLemmas
 pub mod UpgradeLemmas
 pub mod ReadLemmas
 pub mod LineLemmas

@@ -1,4 +1,4 @@
--- Numbers, as Rust reads them where no sign stands in front.
+-- Numbers, as Rust reads them if no sign is in front.
 use Rattle.std.proofs.Common.{ℕ, ◌≡◌, ◌≢◌, ◌==◌, ◌++◌, Bool, true, false, length, get_or, take, drop, Some, Result, Ok, Err, sym, subst, ◌∙◌}
 use Rattle.std.specs.Result.{result_ok}
 use Rattle.std.specs.Str.{all_ascii_digits}

@@ -3,6 +3,6 @@ use Rattle.std.specs.Prelude.{Some, None}
 use Rattle.timefd_moment.specs.declared.date.Date.{Date}
 use Rattle.timefd_moment.specs.declared.moment.Moment.{Moment}
 
--- the date is known, and nothing else
+-- only the date is known
 abbrev pub day_alone : Date → Moment
 day_alone date = record { date = Some date; time = None; offset = None }

@@ -1,4 +1,4 @@
 pub mod Days
 pub mod Read
-pub mod Places
+pub mod Positions
 pub mod Messages

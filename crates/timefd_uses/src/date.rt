@@ -2,7 +2,7 @@
 
 ghost use Rattle.std.specs.Prelude.{◌≡◌, ◌≤◌, IfSome, IsSome};
 
-/// A day of a month of the years 0 to 9999. How many days the month has is not looked at.
+/// A day of a month of the years 0 to 9999. How many days the month has isn't checked.
 #[derive(Clone, Copy)]
 pub struct Date {
     pub year: u16,
@@ -14,7 +14,7 @@ pub struct Date {
 }
 
 impl Date {
-    /// The date of these numbers, where they are ones of a date.
+    /// The date of these numbers, or `None` if one of them is out of range.
     pub fn new(year: u16, month: u8, day: u8) -> Option<Date>
         ensures date { IfSome result (λ date. (date.year ≡ year) × (date.month ≡ month)
             × (date.day ≡ day)) }

@@ -1,4 +1,4 @@
-//! Shows where a text is no description, as a linter does.
+//! Shows where a text has a fault, as a linter does.
 
 ghost use Rattle.std.specs.Prelude.{◌≡◌, List, None, IfOk, IfSome, string_bytes};
 ghost use Rattle.timefd_fault.specs.Faults as spec;
@@ -7,12 +7,12 @@ ghost use Rattle.timefd_language.specs.Broken.{FaultOf};
 ghost use Rattle.timefd_language.specs.Grammar.{Spells, nesting_limit};
 ghost use Rattle.timefd_uses.specs.Messages.{IsMessage};
 
-use crate::place::{Place, caret_line, line_of, place_of};
+use crate::position::{LineColumn, caret_line, line_of, position_of};
 use std::alloc::{AllocError, Global};
 use timefd_parse::{DescriptionVersion, InvalidFormatDescription, ParseError, parse_borrowed};
 
 /// What is wrong with a text of a version: `NAME:LINE:COLUMN: sentence`, then the line at fault,
-/// and a caret under the column. `None` where nothing is.
+/// and a caret under the column. `None` if nothing is wrong.
 pub fn lint(
     alloc: Global,
     version: DescriptionVersion,
@@ -31,7 +31,7 @@ pub fn lint(
     }
 }
 
-/// The message on a fault.
+/// The message about a fault.
 fn message(
     alloc: Global,
     name: &str,
@@ -41,7 +41,7 @@ fn message(
     ensures { IfOk result (λ message. IsMessage name.now text.now (spec.fault_of fault.now)
         (string_bytes message)) }
 {
-    let Place { line, column } = place_of(text, fault.index());
+    let LineColumn { line, column } = position_of(text, fault.index());
     let shown = line_of(text, line - 1);
     let caret = caret_line(alloc, column - 1)?;
     format!(in alloc; "{name}:{line}:{column}: {fault}\n{shown}\n{caret}\n")

@@ -1,11 +1,11 @@
 //! What callers of the format descriptions do with them, each in a module of its own: write a date
 //! by a description, read one by a list of items, show where a text is at fault, and rewrite a
-//! description of version 1. `main` runs each on a few texts and prints what it answers.
+//! description of version 1. `main` runs each on a few texts and prints the results.
 #![tactic(auto)]
 
 mod date;
 mod lint;
-mod place;
+mod position;
 mod read;
 mod samples;
 mod upgrade;

@@ -9,14 +9,14 @@ use crate::date::Date;
 use timefd_items::modifier::Padding;
 use timefd_items::{BorrowedFormatItem, Component};
 
-/// Why a text is not read as a date.
+/// Why a text isn't read as a date.
 #[derive(Debug, Clone, Copy)]
 pub enum ReadError {
     /// The items have a part that isn't read here.
     NotRead,
-    /// The text is none of these items.
+    /// The text doesn't match the items.
     NoMatch,
-    /// The items don't tell year, month and day, or the text tells no date.
+    /// The items don't give a year, a month and a day, or the text gives no date.
     NoDate,
 }
 
@@ -28,7 +28,7 @@ struct Numbers {
     day: Option<u16>,
 }
 
-/// The date that the text is by these items, which it has to be to its end.
+/// The date that the text gives by these items. They have to match the text to its end.
 pub fn read_date(items: &[BorrowedFormatItem<'_>], text: &str) -> Result<Date, ReadError> {
     let mut numbers = Numbers {
         year: None,
@@ -38,8 +38,8 @@ pub fn read_date(items: &[BorrowedFormatItem<'_>], text: &str) -> Result<Date, R
     let mut rest = text;
     'items: for at in 0..items.len() {
         rest = match items[at] {
-            BorrowedFormatItem::StringLiteral(literal) => behind_literal(rest, literal)?,
-            BorrowedFormatItem::Component(component) => behind_number(
+            BorrowedFormatItem::StringLiteral(literal) => after_literal(rest, literal)?,
+            BorrowedFormatItem::Component(component) => after_number(
                 &mut numbers,
                 rest,
                 component,
@@ -54,8 +54,8 @@ pub fn read_date(items: &[BorrowedFormatItem<'_>], text: &str) -> Result<Date, R
     }
 }
 
-/// What stands behind the literal, with which the text has to begin.
-fn behind_literal<'a>(text: &'a str, literal: &str) -> Result<&'a str, ReadError>
+/// What follows the literal. The text has to begin with it.
+fn after_literal<'a>(text: &'a str, literal: &str) -> Result<&'a str, ReadError>
     ensures rest { MatchResult result (λ rest. text.now ≡ literal.now ++ rest.now)
         (λ _. (rest : Text) → ¬ (text.now ≡ literal.now ++ rest)) }
     ensures error { IfErr result (λ error. error ≡ ReadError.NoMatch) }
@@ -67,9 +67,9 @@ fn behind_literal<'a>(text: &'a str, literal: &str) -> Result<&'a str, ReadError
     }
 }
 
-/// What stands behind the number of a component, which is kept. It is filled with zeros: two digits
+/// What follows the number of a component. The number is kept. It is padded with zeros: two digits
 /// for a day and a month, and four for a year, with no sign.
-fn behind_number<'a>(
+fn after_number<'a>(
     numbers: &mut Numbers,
     text: &'a str,
     component: Component,
@@ -97,7 +97,7 @@ fn behind_number<'a>(
     }
 }
 
-/// The number that the first `width` bytes are in decimal, and what stands behind them.
+/// The number that the first `width` bytes are in decimal, and what follows them.
 fn number(text: &str, width: usize) -> Option<(u16, &str)>
     ensures value { IfSome result (λ x. IsNumberAhead width text.now x.0 x.1.now) }
     ensures utf8 { IfSome result (λ x. IsUtf8 x.1.now) }

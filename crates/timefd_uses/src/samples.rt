@@ -1,4 +1,4 @@
-//! What `main` prints of each use.
+//! What `main` prints about each use.
 
 use crate::date::Date;
 use crate::lint::lint;
@@ -55,7 +55,7 @@ fn print_written(
     }
 }
 
-/// The date by a description that is read once: in memory of its own, and in a buffer.
+/// Writes the date by a description that is read once: into a new string, and into a buffer.
 fn described(
     rt: &impl Print,
     alloc: Global,
@@ -94,7 +94,7 @@ fn print_description(
     }
 }
 
-/// Dates read by the items of a description of version 1.
+/// Reads dates by the items of descriptions of version 1.
 pub fn read(rt: &impl Print, alloc: Global) -> io::Result<()> {
     for (text, input) in [
         ("[day].[month].[year]", "07.03.2026"),
@@ -126,7 +126,7 @@ fn print_read(
     }
 }
 
-/// A text with a fault in its second line, and one without.
+/// Checks a text with a fault in its second line, and a text with a fault at its start.
 pub fn found(rt: &impl Print, alloc: Global) -> io::Result<()> {
     for text in ["[day]\nd\u{e9}b. [mnth], [year]\n", "[day"] {
         match lint(alloc, DescriptionVersion::Three, "formats", text)? {
@@ -137,7 +137,7 @@ pub fn found(rt: &impl Print, alloc: Global) -> io::Result<()> {
     Ok(())
 }
 
-/// Texts of version 1 as texts of version 2.
+/// Rewrites texts of version 1 as texts of version 2.
 pub fn upgraded(rt: &impl Print, alloc: Global) -> io::Result<()> {
     for stored in ["[[[day]] \\ [month]", "[foo]"] {
         match upgrade(alloc, stored) {

@@ -6,7 +6,7 @@ ghost use Rattle.timefd_component.specs.Tree.{Tree};
 ghost use Rattle.timefd_fault.specs.Faults.{Fault};
 ghost use Rattle.timefd_language.specs.Broken.{FaultOf};
 ghost use Rattle.timefd_language.specs.Grammar.{Spells, nesting_limit};
-ghost use Rattle.timefd_fault.specs.Told.{IsFaultOrMemory};
+ghost use Rattle.timefd_fault.specs.Reported.{IsFaultOrMemory};
 ghost use Rattle.timefd_language.specs.declared.description_version.DescriptionVersion.TheVariants.{One, Two};
 ghost use Rattle.timefd_lift.specs.Answers.{HasItemsOf};
 ghost use Rattle.timefd_parse.specs.Answers.{IsAssigned};
@@ -22,8 +22,8 @@ pub struct Upgraded {
     pub count: usize,
 }
 
-/// The text of version 2 that means what a stored text of version 1 means. It is an error where
-/// version 1 refuses the text, and where memory runs out.
+/// The text of version 2 that means what a stored text of version 1 means. Fails if version 1
+/// refuses the text, or if memory runs out.
 pub fn upgrade(alloc: Global, stored: &str) -> Result<Upgraded, ParseError>
     ensures same_items { IfOk result
         (λ upgraded. HasItemsOf stored.now (string_bytes upgraded.text)) }
@@ -31,7 +31,7 @@ pub fn upgrade(alloc: Global, stored: &str) -> Result<Upgraded, ParseError>
         × Spells Two nesting_limit 0 (string_bytes upgraded.text) list
         × (upgraded.count ≡ length list)) }
 
-    // A fault that is answered is the stored text's, and a text that has one is refused.
+    // A fault that is returned is the stored text's, and a text that has one is refused.
     ensures fault { IfErr result (IsAssigned One nesting_limit stored.now) }
     ensures refused { (f : Fault) → FaultOf One nesting_limit stored.now f
         → MatchResult result (λ _. ⊥) (IsFaultOrMemory f) }
@@ -43,7 +43,7 @@ pub fn upgrade(alloc: Global, stored: &str) -> Result<Upgraded, ParseError>
     let count = match parse_borrowed(alloc, DescriptionVersion::Two, &text) {
         Ok(BorrowedOutput::Items(items)) => items.len(),
         Ok(BorrowedOutput::Description(_)) => unreachable!(),
-        // Version 2 accepts what is answered: that is proved.
+        // Version 2 accepts the rewritten text: that is proved.
         Err(ParseError::Invalid(_)) => unreachable!(),
         Err(ParseError::Memory(error)) => return Err(ParseError::Memory(error)),
     };

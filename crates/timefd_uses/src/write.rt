@@ -13,7 +13,7 @@ use timefd_format::{FormatError, TextError, format, write_description};
 use timefd_moment::{Date, Moment};
 use timefd_parse::FormatDescriptionV3;
 
-/// The moment of which the date alone is known.
+/// The moment of which only the date is known.
 pub fn day_alone(date: Date) -> Moment
     ensures { result ≡ day_alone date }
 {
@@ -24,8 +24,8 @@ pub fn day_alone(date: Date) -> Moment
     }
 }
 
-/// The text that the description shows of the date. An `Err` names the first component that shows
-/// nothing of it, or says that memory ran out.
+/// The text that the description writes for the date. An `Err` names the first component that shows
+/// nothing of the date, or says that memory ran out.
 pub fn write_date(
     alloc: Global,
     date: Date,
@@ -36,8 +36,8 @@ pub fn write_date(
     format(alloc, day_alone(date), description.view())
 }
 
-/// Writes the same text at the end of the buffer, with no memory, and answers where it begins there.
-/// A buffer of the reserved bytes is never too short.
+/// Writes the date at the end of the buffer, without taking memory, and returns the byte index where
+/// the text begins. A buffer as long as the reserved bytes is never too short.
 pub fn write_date_in(
     date: Date,
     description: &FormatDescriptionV3<'_>,

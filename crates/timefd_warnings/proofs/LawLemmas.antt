@@ -1,4 +1,4 @@
--- The examples, by computing.
+-- The examples, proved by computing them.
 use Rattle.std.specs.Prelude.{refl, take, drop}
 use Rattle.timefd_warnings.specs.declared.warning.Warning.TheVariants.{NoComponent, OtherLanguage, MonthForMinute, MinuteForMonth, HourWithoutPeriod, PeriodWithHour24, SubsecondWithoutSecond, WeekWithCalendarYear, DateWithIsoYear, ShownTwice, UndeterminedDate, UnsettledWidth, UnsettledYear, DeprecatedComponent}
 use Rattle.timefd_warnings.specs.Codes.{NamesAreRead, all, AllAreThere}

@@ -1,4 +1,4 @@
--- What holds of levels.
+-- Lemmas about levels.
 use Rattle.std.proofs.Common.{ℕ, ◌≡◌, ◌≤◌, ◌+◌, ◌-◌, Bool, true, false, List, [], ◌∷◌, length, take, drop, min, slice_index_or, ap, refl, sym, ◌∙◌, arith}
 use Rattle.std.proofs.Math.Seq.{take-length}
 use Rattle.timefd_component.specs.Tree.{Tree}
@@ -45,7 +45,7 @@ one_at_most : (b : Bool) → one_if b ≤ 1
 one_at_most true = omega arith
 one_at_most false = omega arith
 
--- There are no more than there are warnings.
+-- No more warnings are counted than there are.
 pub count_within : (level : Level) (levels : Levels) (ws : List Warning)
     → count_among level levels ws ≤ length ws
 count_within level levels [] = omega arith
@@ -59,7 +59,7 @@ split_first (w ∷ left) n d same some =
     let few : n - 1 ≡ length left = omega (arith, same) in
     sym (ap (λ k. w ∷ take k left) few ∙ ap (λ r. w ∷ r) (take-length left))
 
--- One more is counted.
+-- One more warning is counted.
 pub one_more : (level : Level) (levels : Levels) (left rest : List Warning) (w : Warning)
     (so_far more : ℕ) → left ≡ w ∷ rest → is_same level (level_of levels w) ≡ true
     → so_far + count_among level levels left ≡ count level levels

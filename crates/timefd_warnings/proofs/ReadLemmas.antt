@@ -1,4 +1,4 @@
--- The ways in which what is shown determines a date are those of the reader.
+-- The parts determine a date in the same ways in which the reader finds one.
 use Rattle.std.proofs.Common.{ℕ, ◌≡◌, Bool, true, false, ◌&&◌, ◌||◌, if◌then◌else◌, is_some, Option, Some, None, Result, Ok, Err, refl, ◌∙◌}
 use Rattle.std.specs.Prelude.{is_ok}
 use Rattle.timefd_read_dates.specs.declared.fields.Fields.{Fields}
@@ -18,7 +18,7 @@ some_years None None n = refl
 some_years None (Some c) None = refl
 some_years None (Some c) (Some n) = refl
 
--- which of the reader's ways there are, by what is known
+-- whether one of the reader's ways is possible, by what is known
 abbrev ways : (y iy m d o iw wd sw mw : Bool) → Bool
 ways y iy m d o iw wd sw mw =
     (y && (m && d)) || ((y && o) || ((iy && (iw && wd)) || ((y && (sw && wd)) || (y && (mw && wd)))))
@@ -26,7 +26,7 @@ ways y iy m d o iw wd sw mw =
 abbrev in_year : (m d o wd sw mw : Bool) → Bool
 in_year m d o wd sw mw = o || (m && d) || (wd && (sw || mw))
 
--- those of weeks, where there is a year
+-- the ways with weeks, if there is a year
 week_ways : (part : DatePart) (z : ℕ) (iy iw wd sw mw : Option ℕ)
     → is_ok (unless part (or_else (iso_week iy iw wd)
     (or_else (sunday_week (Some z) sw wd) (monday_week (Some z) mw wd))))
@@ -72,7 +72,7 @@ some_way part (Some y) iy None d None iw wd sw mw = week_ways part y iy iw wd sw
 some_way part (Some y) iy (Some m) None (Some o) iw wd sw mw = refl
 some_way part (Some y) iy (Some m) None None iw wd sw mw = week_ways part y iy iw wd sw mw
 
--- with a year, where its months don't tell the day
+-- the ways with weeks and a year, if no month gives the day
 weeks : (x wd sw mw : Bool)
     → (x || ((sw && wd) || (mw && wd))) ≡ (if wd && (sw || mw) then true else x)
 weeks true true true true = refl

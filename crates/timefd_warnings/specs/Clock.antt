@@ -1,21 +1,21 @@
--- Warnings of the clock.
+-- Warnings about the time of day.
 use Rattle.std.specs.Prelude.{Bool, ◌&&◌, ◌||◌, not, List}
 use Rattle.timefd_component.specs.Tree.{Tree}
 use Rattle.timefd_warnings.specs.declared.field.Field.{Field}
 use Rattle.timefd_warnings.specs.Sought.{shows, shows_before}
 
--- a month as a number behind an hour, and no minute: `[hour]:[month]`
+-- the next component after an hour is a month as a number, and there is no minute: `[hour]:[month]`
 abbrev pub month_for_minute : List Tree → Bool
 month_for_minute ts =
     (shows_before Field.Hour24 Field.MonthNumber ts || shows_before Field.Hour12 Field.MonthNumber ts)
     && not (shows Field.Minute ts)
 
--- a minute behind a year, and no month: `[year]-[minute]`
+-- the next component after a year is a minute, and there is no month: `[year]-[minute]`
 abbrev pub minute_for_month : List Tree → Bool
 minute_for_month ts = shows_before Field.Year Field.Minute ts && not (shows Field.MonthNumber ts)
     && not (shows Field.MonthName ts)
 
--- an hour of twelve that nothing tells which half of the day it is in
+-- a 12-hour hour, and nothing that says which half of the day it is in
 abbrev pub hour_without_period : List Tree → Bool
 hour_without_period ts = shows Field.Hour12 ts && not (shows Field.Period ts)
     && not (shows Field.Hour24 ts)

@@ -1,4 +1,4 @@
--- The names of warnings, and what is told of a description that has one.
+-- The names of warnings, and the sentences that are reported about a description that has one.
 use Rattle.std.specs.Prelude.{◌≡◌, ◌++◌, codes, bytes_eq, if◌then◌else◌, List, [], ◌∷◌, Option, Some, None}
 use Rattle.timefd_component.specs.Tree.{Text}
 use Rattle.timefd_warnings.specs.declared.warning.Warning.{Warning}
@@ -23,8 +23,8 @@ name_of DeprecatedComponent = codes "deprecated-component"
 abbrev pub sentence_of : Warning → Text
 sentence_of NoComponent = codes "no component: each moment is written alike"
 sentence_of OtherLanguage = codes "text that another language reads as a component"
-sentence_of MonthForMinute = codes "a month behind an hour, and no minute"
-sentence_of MinuteForMonth = codes "a minute behind a year, and no month"
+sentence_of MonthForMinute = codes "a month after an hour, and no minute"
+sentence_of MinuteForMonth = codes "a minute after a year, and no month"
 sentence_of HourWithoutPeriod = codes "an hour of twelve without AM or PM"
 sentence_of PeriodWithHour24 = codes "AM or PM beside an hour of 24"
 sentence_of SubsecondWithoutSecond = codes "a fraction of a second without the second"
@@ -36,7 +36,7 @@ sentence_of UnsettledWidth = codes "a number of varying width touches a digit"
 sentence_of UnsettledYear = codes "a year from 10,000 on touches a digit"
 sentence_of DeprecatedComponent = codes "a deprecated component"
 
--- the warning of a name
+-- the warning with a name, if there is one
 abbrev pub named : Text → Option Warning
 named name =
     if bytes_eq name (codes "no-component") then Some NoComponent
@@ -55,14 +55,16 @@ named name =
     else if bytes_eq name (codes "deprecated-component") then Some DeprecatedComponent
     else None
 
--- all, in the order in which they are told
+-- all warnings, in the order in which they are reported
 abbrev pub all : List Warning
-all = NoComponent ∷ OtherLanguage ∷ MonthForMinute ∷ MinuteForMonth ∷ HourWithoutPeriod ∷ PeriodWithHour24 ∷ SubsecondWithoutSecond ∷ WeekWithCalendarYear ∷ DateWithIsoYear ∷ ShownTwice ∷ UndeterminedDate ∷ UnsettledWidth ∷ UnsettledYear ∷ DeprecatedComponent ∷ []
+all = NoComponent ∷ OtherLanguage ∷ MonthForMinute ∷ MinuteForMonth ∷ HourWithoutPeriod
+    ∷ PeriodWithHour24 ∷ SubsecondWithoutSecond ∷ WeekWithCalendarYear ∷ DateWithIsoYear ∷ ShownTwice
+    ∷ UndeterminedDate ∷ UnsettledWidth ∷ UnsettledYear ∷ DeprecatedComponent ∷ []
 
--- each name is that of its warning, so no two have one
+-- Each warning is read back from its name, so no two have the same name.
 abbrev pub NamesAreRead : Type 0
 NamesAreRead = (w : Warning) → named (name_of w) ≡ Some w
 
--- Each warning stands among them.
+-- Each warning is in the list of all of them.
 abbrev pub AllAreThere : Type 0
 AllAreThere = (w : Warning) → (before after : List Warning) × (all ≡ before ++ w ∷ after)

@@ -1,4 +1,4 @@
--- Warnings of dates.
+-- Warnings about dates.
 use Rattle.std.specs.Prelude.{Bool, true, ◌&&◌, ◌||◌, not, if◌then◌else◌, List}
 use Rattle.timefd_component.specs.Tree.{Tree}
 use Rattle.timefd_warnings.specs.declared.field.Field.{Field}
@@ -24,7 +24,7 @@ abbrev pub shows_week : List Tree → Bool
 shows_week ts = shows Field.IsoWeek ts || shows Field.SundayWeek ts || shows Field.MondayWeek ts
 
 -- An ISO week and a calendar year, which differ around New Year; no ISO year, and no day that the calendar
--- year could go with: `[year]-W[week_number]`.
+-- year could belong to: `[year]-W[week_number]`.
 abbrev pub week_with_calendar_year : List Tree → Bool
 week_with_calendar_year ts = shows Field.IsoWeek ts && shows_any_year ts && not (shows_any_iso_year ts)
     && not (shows_any_day ts)
@@ -34,7 +34,7 @@ abbrev pub date_with_iso_year : List Tree → Bool
 date_with_iso_year ts = (shows_month ts || shows_any_day ts) && shows_any_iso_year ts
     && not (shows_any_year ts)
 
--- What determines a date, in the ways of its reader.
+-- What determines a date, in the ways in which its reader finds one.
 
 -- the year, whole or as its century and its last two digits
 abbrev pub shows_year : List Tree → Bool
@@ -56,6 +56,6 @@ abbrev pub shows_date_part : List Tree → Bool
 shows_date_part ts = shows_any_year ts || shows_any_iso_year ts || shows_month ts || shows_any_day ts
     || shows_weekday ts || shows_week ts
 
--- a part of a date, and no date; a timestamp determines it
+-- a part of a date, but no date; a timestamp determines one
 abbrev pub undetermined_date : List Tree → Bool
 undetermined_date ts = shows_date_part ts && not (determines_date ts) && not (shows Field.Timestamp ts)

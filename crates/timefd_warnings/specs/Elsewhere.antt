@@ -5,7 +5,7 @@ use Rattle.timefd_warnings.specs.declared.elsewhere.Elsewhere.{Elsewhere}
 use Rattle.timefd_warnings.specs.declared.mark.Mark.{Mark}
 use Rattle.timefd_warnings.specs.Marks.{is_somewhere}
 
--- the first language whose mark stands in the text
+-- the first language whose mark is in the text
 abbrev pub read_elsewhere : Text → Option Elsewhere
 read_elsewhere text =
     if is_somewhere Mark.Percent text then Some Elsewhere.Strftime

@@ -1,4 +1,4 @@
--- What holds of the definitions: for each warning a description that has it and one that doesn't.
+-- Examples of the definitions: for each warning a description that has it and one that doesn't.
 use Rattle.std.specs.Prelude.{◌≡◌, true, false, List, [], ◌∷◌, codes}
 use Rattle.timefd_modifier.specs.declared.enums.Padding.{Padding}
 use Rattle.timefd_modifier.specs.declared.enums.SubsecondDigits.{SubsecondDigits}
@@ -9,7 +9,7 @@ use Rattle.timefd_warnings.specs.declared.warning.Warning.TheVariants.{NoCompone
 use Rattle.timefd_warnings.specs.declared.warned.Style.{Style}
 use Rattle.timefd_warnings.specs.Warns.{warns}
 
--- Parts as they stand with their defaults.
+-- Parts with their defaults.
 
 abbrev year : Tree
 year = component (CalendarYearFullStandardRange (record { padding = Padding.Zero; sign_is_mandatory = false }))
@@ -66,7 +66,7 @@ old_hour = component (Hour (record { padding = Padding.Zero; is_12_hour_clock = 
 abbrev pub Tells : Style → Warning → List Tree → List Tree → Type 0
 Tells style w suspect clear = (warns style w suspect ≡ true) × (warns style w clear ≡ false)
 
--- `%Y` and `[year]`; `[year]` in strftime; `100%` beside a year
+-- `%Y` and `[year]`; `[year]` in strftime; `100%` and a year
 abbrev pub TextExamples : Type 0
 TextExamples =
     Tells Style.Brackets NoComponent (literal (codes "%Y") ∷ []) (year ∷ [])

@@ -1,4 +1,4 @@
--- What is made of each warning.
+-- The level of each warning: ignored, reported, or an error.
 use Rattle.std.specs.Prelude.{ℕ, ◌≡◌, ◌+◌, Bool, true, false, if◌then◌else◌, List, [], ◌∷◌}
 use Rattle.timefd_component.specs.Tree.{Tree}
 use Rattle.timefd_warnings.specs.declared.levels.Level.{Level}
@@ -26,7 +26,7 @@ level_of l UnsettledWidth = l.unsettled_width
 level_of l UnsettledYear = l.unsettled_year
 level_of l DeprecatedComponent = l.deprecated_component
 
--- each warning at the level that is said of it
+-- each warning at the level that `at` gives it
 abbrev pub by : (Warning → Level) → Levels
 by at = record {
   no_component = at NoComponent;
@@ -64,7 +64,7 @@ with_level l UnsettledWidth level = record l { unsettled_width = level }
 with_level l UnsettledYear level = record l { unsettled_year = level }
 with_level l DeprecatedComponent level = record l { deprecated_component = level }
 
--- the level of a warning that a description with these parts has, and no level above `Allowed` else
+-- the level of a warning if a description with these parts has it, and `Allowed` otherwise
 abbrev pub found_at : Levels → Style → List Tree → Warning → Level
 found_at levels style ts w = if warns style w ts then level_of levels w else Allowed
 
@@ -86,7 +86,7 @@ abbrev pub one_if : Bool → ℕ
 one_if true = 1
 one_if false = 0
 
--- how many of these warnings have a level
+-- the number of these warnings with this level
 abbrev pub count_among : Level → Levels → List Warning → ℕ
 count_among level levels [] = 0
 count_among level levels (w ∷ ws) =
@@ -95,12 +95,12 @@ count_among level levels (w ∷ ws) =
 abbrev pub count : Level → Levels → ℕ
 count level levels = count_among level levels all
 
--- What is found of a warning is what its definition says.
+-- The level found for a warning is what its definition says.
 abbrev pub FoundAsDefined : Type 0
 FoundAsDefined = (levels : Levels) (style : Style) (ts : List Tree) (w : Warning)
     → level_of (found levels style ts) w ≡ found_at levels style ts w
 
--- A level that is set is the warning's.
+-- A level that is set for a warning is its level.
 abbrev pub LevelIsSet : Type 0
 LevelIsSet = (levels : Levels) (w : Warning) (level : Level)
     → level_of (with_level levels w level) w ≡ level

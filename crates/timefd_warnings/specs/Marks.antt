@@ -1,4 +1,4 @@
--- What a text has in it that some language reads as a component: two bytes that stand side by side.
+-- Marks in a text that some language reads as a component: two adjacent bytes.
 use Rattle.std.specs.Prelude.{ℕ, Bool, true, false, ◌&&◌, ◌||◌, ◌==◌, nat_le, if◌then◌else◌, [], ◌∷◌}
 use Rattle.timefd_component.specs.Tree.{Text}
 use Rattle.timefd_warnings.specs.declared.mark.Mark.{Mark}

@@ -1,4 +1,4 @@
--- The parts of a description in order: what a formatter writes of it, so an optional part that is written,
+-- The parts of a description in order: what a formatter writes of it, with optional parts that are written
 -- and the first of alternatives.
 use Rattle.std.specs.Prelude.{List}
 use Rattle.timefd_component.specs.Tree.{Tree, trees}

@@ -1,4 +1,4 @@
--- What a reader reads of a text that was written by these parts, and what of it determines a date.
+-- What a reader finds in a text that these parts wrote, and which of it determines a date.
 use Rattle.std.specs.Prelude.{◌≡◌, is_ok, is_some, List}
 use Rattle.timefd_component.specs.Tree.{Tree}
 use Rattle.timefd_read_dates.specs.declared.fields.Fields.{Fields}
@@ -7,7 +7,7 @@ use Rattle.timefd_warnings.specs.declared.field.Field.{Field}
 use Rattle.timefd_warnings.specs.Dates.{determines_date, shows_month, shows_weekday}
 use Rattle.timefd_warnings.specs.Sought.{shows}
 
--- Of a date that is read which is shown, and nothing else is.
+-- A field of a date is read exactly if the parts show it.
 pub record IsReadOf (ts : List Tree) (f : Fields) : Type 0 where
   pub year : is_some f.year ≡ shows Field.Year ts
   pub century : is_some f.century ≡ shows Field.Century ts
@@ -23,7 +23,7 @@ pub record IsReadOf (ts : List Tree) (f : Fields) : Type 0 where
   pub sunday_week : is_some f.sunday_week ≡ shows Field.SundayWeek ts
   pub monday_week : is_some f.monday_week ≡ shows Field.MondayWeek ts
 
--- The parts determine a date where the fields do that are read of them.
+-- The parts determine a date exactly if the fields do that are read of them.
 abbrev pub DeterminedAsRead : Type 0
 DeterminedAsRead = (ts : List Tree) (f : Fields) → IsReadOf ts f
     → is_ok (date_way f) ≡ determines_date ts

@@ -1,4 +1,4 @@
--- What is shown twice.
+-- Which descriptions show something twice.
 use Rattle.std.specs.Prelude.{Bool, true, false, if◌then◌else◌, List, [], ◌∷◌}
 use Rattle.timefd_component.specs.Tree.{Tree}
 use Rattle.timefd_warnings.specs.declared.field.Field.{Field}
@@ -6,7 +6,7 @@ use Rattle.timefd_warnings.specs.declared.sought.Amount.{Amount}
 use Rattle.timefd_warnings.specs.declared.sought.Sought.TheVariants as seek
 use Rattle.timefd_warnings.specs.Sought.{amount_of}
 
--- all that a component can show
+-- everything that a component can show
 abbrev pub fields : List Field
 fields = Field.Year ∷ Field.Century ∷ Field.YearLastTwo ∷ Field.IsoYear ∷ Field.IsoCentury
     ∷ Field.IsoYearLastTwo ∷ Field.MonthName ∷ Field.MonthNumber ∷ Field.Day ∷ Field.Ordinal
@@ -24,6 +24,7 @@ one_twice [] ts = false
 one_twice (field ∷ fields) ts =
     if is_several (amount_of (seek.Shows field) ts) then true else one_twice fields ts
 
--- two components that show the same; a month and a weekday by name and by number are two
+-- Two components show the same. A month by name and a month by number are two fields, and so are
+-- weekdays.
 abbrev pub shown_twice : List Tree → Bool
 shown_twice ts = one_twice fields ts

@@ -14,7 +14,7 @@ no_number = record { width = Width.Same; may_begin_with_digit = false }
 abbrev pub digit : Outline
 digit = record { width = Width.Same; may_begin_with_digit = true }
 
--- a number that isn't filled is as wide as it is great
+-- the width of a number without padding depends on its value
 abbrev pub padded : Padding → Width
 padded Padding.Zero = Width.Same
 padded Padding.Space = Width.Same
@@ -26,8 +26,8 @@ number padding = record { width = padded padding; may_begin_with_digit = true }
 abbrev pub signed : Padding → Bool → Outline
 signed padding is_mandatory = record { width = padded padding; may_begin_with_digit = not is_mandatory }
 
--- Years from 10,000 on have up to two digits more behind their sign. Where each year has a sign, a reader
--- takes as many digits of each.
+-- Years from 10,000 on have a sign and up to two more digits. If every year has a sign, a reader takes up
+-- to two more digits of every year.
 abbrev pub ranged_by : Width → Bool → Width
 ranged_by Width.Same is_mandatory = if is_mandatory then Width.Varies else Width.Wider
 ranged_by Width.Wider is_mandatory = if is_mandatory then Width.Varies else Width.Wider

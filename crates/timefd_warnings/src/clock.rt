@@ -1,4 +1,4 @@
-//! Warnings of the clock.
+//! Warnings about the time of day.
 
 ghost use Rattle.std.specs.Prelude.{◌≡◌};
 ghost use Rattle.timefd_warnings.specs.Clock as spec;
@@ -8,21 +8,21 @@ use crate::field::Field;
 use crate::parts::{Description, has, shows};
 use crate::sought::Sought;
 
-// A month as a number behind an hour, where no minute stands.
+// The next component after an hour is a month as a number, and there is no minute.
 pub(crate) fn has_month_for_minute(description: Description<'_, '_>) -> bool
     ensures { result ≡ spec.month_for_minute (parts description.entry) }
 {
-    let is_behind = has(
+    let is_after = has(
         description,
         Sought::Before(Field::Hour24, Field::MonthNumber),
     ) || has(
         description,
         Sought::Before(Field::Hour12, Field::MonthNumber),
     );
-    is_behind && !shows(description, Field::Minute)
+    is_after && !shows(description, Field::Minute)
 }
 
-// A minute behind a year, where no month stands.
+// The next component after a year is a minute, and there is no month.
 pub(crate) fn has_minute_for_month(description: Description<'_, '_>) -> bool
     ensures { result ≡ spec.minute_for_month (parts description.entry) }
 {

@@ -1,4 +1,4 @@
-//! Warnings of dates.
+//! Warnings about dates.
 
 ghost use Rattle.std.specs.Prelude.{◌≡◌};
 ghost use Rattle.timefd_warnings.specs.Dates as spec;
@@ -7,7 +7,7 @@ ghost use Rattle.timefd_warnings.specs.Parts.{parts};
 use crate::field::Field;
 use crate::parts::{Description, shows};
 
-// An ISO week that goes with the calendar's year, and no day that the year could go with.
+// An ISO week with the calendar year, and no day that the year could belong to.
 pub(crate) fn has_week_with_calendar_year(description: Description<'_, '_>) -> bool
     ensures { result ≡ spec.week_with_calendar_year (parts description.entry) }
 {
@@ -17,7 +17,7 @@ pub(crate) fn has_week_with_calendar_year(description: Description<'_, '_>) -> b
         && !shows_any_day(description)
 }
 
-// A month or a day that goes with the year of ISO weeks.
+// A month or a day with the year of ISO weeks.
 pub(crate) fn has_date_with_iso_year(description: Description<'_, '_>) -> bool
     ensures { result ≡ spec.date_with_iso_year (parts description.entry) }
 {
@@ -25,7 +25,7 @@ pub(crate) fn has_date_with_iso_year(description: Description<'_, '_>) -> bool
     has_date && shows_any_iso_year(description) && !shows_any_year(description)
 }
 
-// Parts of a date that determine none. A timestamp determines it.
+// Parts of a date that don't determine one. A timestamp does.
 pub(crate) fn has_undetermined_date(description: Description<'_, '_>) -> bool
     ensures { result ≡ spec.undetermined_date (parts description.entry) }
 {
@@ -113,7 +113,7 @@ fn determines_date(description: Description<'_, '_>) -> bool
     shows_iso_year(description) && shows(description, Field::IsoWeek) && shows_weekday(description)
 }
 
-// The day of a year that is known.
+// The day within a known year.
 fn determines_in_year(description: Description<'_, '_>) -> bool
     ensures { result ≡ spec.determines_in_year (parts description.entry) }
 {

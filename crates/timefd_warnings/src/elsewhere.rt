@@ -18,8 +18,8 @@ pub enum Elsewhere {
     Patterns,
 }
 
-/// The language that a text without components was perhaps written in: the first whose mark the text
-/// has.
+/// The language that a text without components was perhaps meant in: the first one whose mark the
+/// text has. `None` if it has none of the marks.
 pub fn read_elsewhere(text: &str) -> Option<Elsewhere>
     ensures { result ≡ spec.read_elsewhere text.now }
 {
@@ -40,7 +40,7 @@ pub fn read_elsewhere(text: &str) -> Option<Elsewhere>
 }
 
 impl Elsewhere {
-    /// What the language is called.
+    /// The name of the language, for messages.
     pub fn name(self) -> &'static str
         ensures { result.now ≡ spec.name_of self }
     {

@@ -6,7 +6,7 @@ ghost use Rattle.timefd_warnings.specs.Explanations as spec;
 use crate::warning::Warning;
 
 impl Warning {
-    /// What it means, with an example, and what to write instead.
+    /// What the warning means, with an example, and what to write instead.
     pub fn explanation(self) -> &'static str
         ensures { result.now ≡ spec.explanation_of self }
     {
@@ -15,7 +15,7 @@ impl Warning {
                 "A description without a component writes the same text of each moment. Perhaps it is of another language: `%Y-%m-%d` is strftime's, and version 3 has `[year]-[month]-[day]`."
             }
             Warning::OtherLanguage => {
-                "A text is written as it stands, though another language would read a component there: `%H` in version 3 is a percent sign and a letter, and `[year]` in strftime is six letters and signs. Write the component in the language of the description."
+                "Text is written as it is, though another language would read a component there: `%H` in version 3 is a percent sign and a letter, and `[year]` in strftime is six letters and signs. Write the component in the language of the description."
             }
             Warning::MonthForMinute => {
                 "`[hour]:[month]` writes 9:26 in November as `09:11`. Write `[minute]`, or `%M` in strftime."
@@ -45,7 +45,7 @@ impl Warning {
                 "`[month]-[day]` writes 5 March of each year as `03-05`, so no reader knows the date. A date is determined by year, month and day; by year and ordinal; by ISO year, ISO week and weekday; and by year, week from Sunday or Monday, and weekday."
             }
             Warning::UnsettledWidth => {
-                "`[month padding:none][day padding:none]` writes 11 January and 1 November as `111`. Let text stand between, or leave `padding:none` out."
+                "`[month padding:none][day padding:none]` writes 11 January and 1 November as `111`. Put text between them, or leave `padding:none` out."
             }
             Warning::UnsettledYear => {
                 "`[year range:extended][month]` writes January of the year 10,000 as `+1000001`, and a reader takes six digits as the year. Up to the year 9,999 nothing is lost. Write `range:standard`, or let text stand between."

@@ -5,8 +5,8 @@ ghost use Rattle.timefd_warnings.specs.Fields as spec;
 
 use timefd_component::Component;
 
-/// What a component shows. A month and a weekday by name and by number are two, as one explains the
-/// other.
+/// What a component shows. A month by name and a month by number are two fields, and so are
+/// weekdays, since one explains the other.
 #[derive(Clone, Copy, PartialEq, Eq)]
 pub enum Field {
     Year,
@@ -34,7 +34,7 @@ pub enum Field {
     OffsetMinute,
     OffsetSecond,
     Timestamp,
-    /// It shows nothing: a parser skips bytes, or wants the end.
+    /// Nothing: a parser skips bytes, or expects the end.
     Nothing,
 }
 

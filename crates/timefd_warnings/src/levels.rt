@@ -1,4 +1,4 @@
-//! What is made of each warning.
+//! The level of each warning: ignored, reported, or an error.
 
 ghost use Rattle.std.specs.Prelude.{◌≡◌};
 ghost use Rattle.timefd_warnings.specs.Levels as spec;
@@ -8,14 +8,14 @@ use crate::parts::Description;
 use crate::warned::{Style, warns};
 use crate::warning::Warning;
 
-/// What is made of a warning.
+/// How seriously a warning is taken.
 #[derive(Debug, Clone, Copy, PartialEq, Eq)]
 pub enum Level {
-    /// It isn't told.
+    /// It isn't reported.
     Allowed,
-    /// It is told.
+    /// It is reported.
     Warned,
-    /// It is told, and a description that has it doesn't pass.
+    /// It is reported, and a description that has it doesn't pass.
     Denied,
 }
 
@@ -39,7 +39,7 @@ pub struct Levels {
 }
 
 impl Levels {
-    /// The same level for all.
+    /// The same level for all warnings.
     pub fn all_at(level: Level) -> Levels
         ensures { result ≡ spec.all_at level }
     {
@@ -83,7 +83,7 @@ impl Levels {
         }
     }
 
-    /// The same levels, but for one warning.
+    /// These levels, with another one for this warning.
     pub fn with(self, warning: Warning, level: Level) -> Levels
         ensures { result ≡ spec.with_level self warning level }
     {
@@ -107,8 +107,8 @@ impl Levels {
         levels
     }
 
-    /// What is told of a description: the levels of the warnings that it has; any other is allowed.
-    /// The style is that of the language which it was read in.
+    /// The levels of the warnings that a description has; every other warning is allowed. The style
+    /// is the one of the language that the description was read in.
     pub fn found(self, style: Style, description: Description<'_, '_>) -> Levels
         ensures { result ≡ spec.found self style (parts description.entry) }
     {
@@ -149,17 +149,17 @@ impl Levels {
         }
     }
 
-    /// How many warnings have a level.
+    /// The number of warnings with this level.
     pub fn count(self, level: Level) -> u64
         ensures { result ≡ spec.count level self }
     {
         let mut count: u64 = 0;
         let mut left = Warning::all();
-        'warnings: while let [warning, behind @ ..] = left {
+        'warnings: while let [warning, after @ ..] = left {
             if is_same(level, self.level_of(*warning)) {
                 count = count.saturating_add(1);
             }
-            left = behind;
+            left = after;
         }
         count
     }

@@ -1,5 +1,5 @@
-//! What is suspect in a format description that is accepted: warnings, each with a code and a
-//! definition over the parts that a formatter writes.
+//! Warnings about valid format descriptions that look like a mistake. Each has a code, and is
+//! defined over the parts that a formatter writes.
 #![tactic(auto)]
 
 mod clock;

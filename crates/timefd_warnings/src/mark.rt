@@ -1,4 +1,4 @@
-//! What a text has in it that some language reads as a component.
+//! Marks in a text that some language reads as a component.
 
 ghost use Rattle.std.specs.Prelude.{◌≡◌};
 ghost use Rattle.timefd_warnings.specs.Marks as spec;
@@ -6,35 +6,35 @@ ghost use Rattle.timefd_warnings.specs.Marks as spec;
 /// What begins a component in some language.
 #[derive(Clone, Copy)]
 pub enum Mark {
-    /// A percent sign and a letter, as in `%Y`: strftime's.
+    /// A percent sign and a letter, as in `%Y`: strftime.
     Percent,
-    /// A bracket and a small letter, as in `[year]`: that of versions 1, 2 and 3.
+    /// A bracket and a small letter, as in `[year]`: versions 1, 2 and 3.
     Bracket,
-    /// A brace and a small letter, as in `{year}`: that of format strings of Rust and Python.
+    /// A brace and a small letter, as in `{year}`: format strings of Rust and Python.
     Brace,
-    /// A letter twice, as in `YYYY-MM-DD`: that of patterns of Java, ICU and others.
+    /// A letter twice, as in `YYYY-MM-DD`: patterns of Java, ICU and others.
     Twice,
 }
 
-/// Whether the mark stands somewhere in a text.
+/// Whether the mark is somewhere in a text.
 pub(crate) fn is_somewhere(mark: Mark, text: &[u8]) -> bool
     ensures { result ≡ spec.is_somewhere mark text.now }
 {
     let mut left = text;
-    'places: while let [first, behind @ ..] = left {
-        if is_at(mark, *first, behind) {
+    'positions: while let [first, after @ ..] = left {
+        if is_at(mark, *first, after) {
             return true;
         }
-        left = behind;
+        left = after;
     }
     false
 }
 
-// Whether the mark is a byte and the one behind it.
-fn is_at(mark: Mark, first: u8, behind: &[u8]) -> bool
-    ensures { result ≡ spec.is_at mark first behind.now }
+// Whether the mark is this byte and the one after it.
+fn is_at(mark: Mark, first: u8, after: &[u8]) -> bool
+    ensures { result ≡ spec.is_at mark first after.now }
 {
-    match behind {
+    match after {
         [second, ..] => is_mark(mark, first, *second),
         [] => false,
     }
@@ -63,7 +63,7 @@ fn is_capital(byte: u8) -> bool
     b'A' <= byte && byte <= b'Z'
 }
 
-// A letter that patterns have twice, and hardly a word has.
+// A letter that is often doubled in patterns, and hardly ever in words.
 fn is_pattern(byte: u8) -> bool
     ensures { result ≡ spec.is_pattern byte }
 {

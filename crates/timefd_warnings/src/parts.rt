@@ -1,4 +1,4 @@
-//! The parts of a description that a formatter writes, from the last one on.
+//! The parts of a description that a formatter writes, walked from the last one to the first.
 
 ghost use Rattle.std.specs.Prelude.{◌≡◌};
 ghost use Rattle.timefd_component.specs.Tree.{trees};
@@ -14,10 +14,10 @@ use crate::sought::{Amount, Scan, Sought};
 use timefd_format_item::BorrowedFormatItem;
 use timefd_node_list::{Leaf, View};
 
-/// A description, looked at in place.
+/// A description that was read, borrowed.
 #[derive(Clone, Copy)]
 pub enum Description<'v, 'a> {
-    /// One of version 3.
+    /// A description of version 3.
     Version3(View<'v, 'a>),
     /// Items of version 1 or 2, or of strftime.
     Items(&'v [BorrowedFormatItem<'a>]),

@@ -1,4 +1,4 @@
-//! What is sought among the parts of a description, and how many of them there are.
+//! What is searched for among the parts of a description, and how many there are of it.
 
 ghost use Rattle.std.specs.Prelude.{◌≡◌};
 ghost use Rattle.timefd_component.specs.Tree.{component, literal};
@@ -9,24 +9,24 @@ use crate::mark::{Mark, is_somewhere};
 use crate::width::{Width, outline_of};
 use timefd_component::Component;
 
-/// What is sought among parts.
+/// What is searched for among parts.
 #[derive(Clone, Copy)]
 pub enum Sought {
     /// A component that shows this.
     Shows(Field),
     /// Any component.
     Component,
-    /// A component that stands for another.
+    /// A component that stands for another, more modern one.
     Deprecated,
     /// A component that shows the first, and the next one the second.
     Before(Field, Field),
-    /// A component of such a width, where a digit may come next.
+    /// A component of this width, with a digit that may come next.
     Touches(Width),
     /// A text that has this mark.
     Text(Mark),
 }
 
-/// How many there are.
+/// How many of the parts match.
 #[derive(Clone, Copy)]
 pub enum Amount {
     Absent,
@@ -34,58 +34,58 @@ pub enum Amount {
     Several,
 }
 
-/// What stands behind a part.
+/// What follows a part.
 #[derive(Clone, Copy)]
-pub struct Behind {
+pub struct Following {
     /// What the next component shows.
     pub field: Option<Field>,
     /// Whether a digit may come next.
     pub has_digit: bool,
 }
 
-/// What was found among some parts, and what stands at their front.
+/// What was found among some parts, and what a part before them is followed by.
 #[derive(Clone, Copy)]
 pub struct Scan {
     pub amount: Amount,
-    pub behind: Behind,
+    pub after: Following,
 }
 
 impl Scan {
-    /// That of no part.
+    /// The scan of no parts.
     pub fn start() -> Scan
         ensures { result ≡ spec.start }
     {
         Scan {
             amount: Amount::Absent,
-            behind: Behind {
+            after: Following {
                 field: None,
                 has_digit: false,
             },
         }
     }
 
-    /// That with one component more in front.
+    /// The scan with one more component before the others.
     pub fn with_component(self, sought: Sought, part: Component) -> Scan
         ensures { result ≡ spec.with_part sought (component part) self }
     {
         Scan {
-            amount: counted(self.amount, is_component(sought, part, self.behind)),
-            behind: Behind {
+            amount: counted(self.amount, is_component(sought, part, self.after)),
+            after: Following {
                 field: Some(field_of(part)),
                 has_digit: outline_of(part).may_begin_with_digit,
             },
         }
     }
 
-    /// That with one text more in front.
+    /// The scan with one more text before the others.
     pub fn with_text(self, sought: Sought, text: &[u8]) -> Scan
         ensures { result ≡ spec.with_part sought (literal text.now) self }
     {
         Scan {
             amount: counted(self.amount, is_text(sought, text)),
-            behind: Behind {
-                field: self.behind.field,
-                has_digit: begins_with_digit(text, self.behind.has_digit),
+            after: Following {
+                field: self.after.field,
+                has_digit: begins_with_digit(text, self.after.has_digit),
             },
         }
     }
@@ -103,15 +103,15 @@ fn counted(amount: Amount, is_one: bool) -> Amount
     }
 }
 
-fn is_component(sought: Sought, part: Component, behind: Behind) -> bool
-    ensures { result ≡ spec.is_component sought part behind }
+fn is_component(sought: Sought, part: Component, after: Following) -> bool
+    ensures { result ≡ spec.is_component sought part after }
 {
     match sought {
         Sought::Shows(field) => field_of(part) == field,
         Sought::Component => true,
         Sought::Deprecated => part.modern() != part,
-        Sought::Before(front, next) => field_of(part) == front && is_next(behind.field, next),
-        Sought::Touches(width) => outline_of(part).width == width && behind.has_digit,
+        Sought::Before(front, next) => field_of(part) == front && is_next(after.field, next),
+        Sought::Touches(width) => outline_of(part).width == width && after.has_digit,
         Sought::Text(_) => false,
     }
 }
@@ -138,13 +138,13 @@ fn is_text(sought: Sought, text: &[u8]) -> bool
     }
 }
 
-// Whether a text begins with a digit; an empty one as what stands behind it.
-fn begins_with_digit(text: &[u8], behind: bool) -> bool
-    ensures { result ≡ spec.begins_with_digit text.now behind }
+// Whether a text begins with a digit; for an empty text, whether what follows it does.
+fn begins_with_digit(text: &[u8], after: bool) -> bool
+    ensures { result ≡ spec.begins_with_digit text.now after }
 {
     match text {
         [first, ..] => is_digit(*first),
-        [] => behind,
+        [] => after,
     }
 }
 

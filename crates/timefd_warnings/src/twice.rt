@@ -1,4 +1,4 @@
-//! What is shown twice.
+//! Finds what is shown twice.
 
 ghost use Rattle.std.specs.Prelude.{◌≡◌};
 ghost use Rattle.timefd_warnings.specs.Parts.{parts};
@@ -51,11 +51,11 @@ fn shows_one_twice(description: Description<'_, '_>, fields: &[Field]) -> bool
     ensures { result ≡ spec.one_twice fields.now (parts description.entry) }
 {
     let mut left = fields;
-    'fields: while let [field, behind @ ..] = left {
+    'fields: while let [field, after @ ..] = left {
         if is_several(amount(description, Sought::Shows(*field))) {
             return true;
         }
-        left = behind;
+        left = after;
     }
     false
 }

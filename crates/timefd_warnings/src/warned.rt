@@ -21,13 +21,13 @@ use crate::width::Width;
 pub enum Style {
     /// In brackets: versions 1, 2 and 3.
     Brackets,
-    /// Behind percent signs: strftime.
+    /// After percent signs: strftime.
     Percents,
 }
 
-/// Whether a description has a warning. The style is that of the language which it was read in. It
-/// takes no memory, and stack only as deep as items are nested; the time is that of some fifty walks
-/// over the parts.
+/// Whether a description has a warning. The style is the one of the language that the description
+/// was read in. No memory is allocated, and the stack is only as deep as items are nested. The time
+/// is at most about fifty walks over the parts.
 pub fn warns(style: Style, description: Description<'_, '_>, warning: Warning) -> bool
     ensures { result ≡ spec.warns style warning (parts description.entry) }
 {

@@ -3,20 +3,20 @@
 ghost use Rattle.std.specs.Prelude.{◌≡◌};
 ghost use Rattle.timefd_warnings.specs.Codes as spec;
 
-/// What is suspect in a description that is accepted.
+/// What looks like a mistake in a valid description.
 #[derive(Debug, Clone, Copy, PartialEq, Eq)]
 pub enum Warning {
-    /// It has no component, so each moment is written alike.
+    /// It has no component, so every moment is written the same.
     NoComponent,
     /// Another language reads a component where it has text.
     OtherLanguage,
-    /// A month stands behind an hour, and there is no minute.
+    /// The next component after an hour is a month, and there is no minute.
     MonthForMinute,
-    /// A minute stands behind a year, and there is no month.
+    /// The next component after a year is a minute, and there is no month.
     MinuteForMonth,
-    /// An hour of twelve, and neither a period nor an hour of 24.
+    /// A 12-hour hour, and neither a period nor a 24-hour hour.
     HourWithoutPeriod,
-    /// A period, and an hour of 24 but none of twelve.
+    /// A period and a 24-hour hour, and no 12-hour hour.
     PeriodWithHour24,
     /// A fraction of a second, and no second.
     SubsecondWithoutSecond,
@@ -26,18 +26,19 @@ pub enum Warning {
     DateWithIsoYear,
     /// Something is shown twice.
     ShownTwice,
-    /// Parts of a date that determine none.
+    /// Parts of a date that don't determine one.
     UndeterminedDate,
     /// A number of varying width, and a digit may come next.
     UnsettledWidth,
     /// A year that may have more than four digits, and a digit may come next.
     UnsettledYear,
-    /// A component that stands for another.
+    /// A component that stands for another, more modern one.
     DeprecatedComponent,
 }
 
 impl Warning {
-    /// Its name, which stays the same whatever its sentence says.
+    /// The warning's name, for example `no-component`. It stays the same even if the sentence
+    /// changes.
     pub fn name(self) -> &'static str
         ensures { result.now ≡ spec.name_of self }
     {
@@ -59,15 +60,15 @@ impl Warning {
         }
     }
 
-    /// What is told of a description that has it.
+    /// The sentence that is reported about a description with this warning.
     pub fn sentence(self) -> &'static str
         ensures { result.now ≡ spec.sentence_of self }
     {
         match self {
             Warning::NoComponent => "no component: each moment is written alike",
             Warning::OtherLanguage => "text that another language reads as a component",
-            Warning::MonthForMinute => "a month behind an hour, and no minute",
-            Warning::MinuteForMonth => "a minute behind a year, and no month",
+            Warning::MonthForMinute => "a month after an hour, and no minute",
+            Warning::MinuteForMonth => "a minute after a year, and no month",
             Warning::HourWithoutPeriod => "an hour of twelve without AM or PM",
             Warning::PeriodWithHour24 => "AM or PM beside an hour of 24",
             Warning::SubsecondWithoutSecond => "a fraction of a second without the second",
@@ -81,7 +82,7 @@ impl Warning {
         }
     }
 
-    /// The warning of a name.
+    /// The warning with a name, if there is one.
     pub fn named(name: &str) -> Option<Warning>
         ensures { result ≡ spec.named name.now }
     {
@@ -104,7 +105,7 @@ impl Warning {
         }
     }
 
-    /// All of them, in the order in which they are told.
+    /// All warnings, in the order in which they are reported.
     pub fn all() -> &'static [Warning]
         ensures { result.now ≡ spec.all }
     {

@@ -6,14 +6,14 @@ ghost use Rattle.timefd_warnings.specs.Widths as spec;
 use timefd_component::Component;
 use timefd_modifier::{Padding, SubsecondDigits};
 
-/// Whether a number has the same width whatever it is.
+/// Whether a number always has the same width.
 #[derive(Clone, Copy, PartialEq, Eq)]
 pub enum Width {
-    /// It is no number, or has one width.
+    /// It isn't a number, or always has the same width.
     Same,
-    /// Years from 10,000 on are wider.
+    /// Only years from 10,000 on are wider.
     Wider,
-    /// It varies.
+    /// The width varies.
     Varies,
 }
 
@@ -126,7 +126,8 @@ fn signed(padding: Padding, is_mandatory: bool) -> Outline
     }
 }
 
-/// A reader takes up to two digits more behind a sign, so with one it is never known where they end.
+/// A reader takes up to two more digits after a sign, so a year with a mandatory sign never has a
+/// known end.
 fn ranged(padding: Padding, is_mandatory: bool) -> Width
     ensures { result ≡ spec.ranged padding is_mandatory }
 {

@@ -1,4 +1,4 @@
--- From what is said of a text to what is said of its bytes.
+-- From the report on a text to the answer about its bytes.
 use Rattle.std.proofs.Common.{ℕ, ◌≡◌, Some, subst}
 use Rattle.timefd_component.specs.Tree.{Text}
 use Rattle.timefd_moment.specs.declared.moment.Moment.{Moment}

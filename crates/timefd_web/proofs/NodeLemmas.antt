@@ -1,4 +1,4 @@
--- Nodes that are written in turn.
+-- Nodes that are written one after another.
 use Rattle.std.proofs.Common.{ℕ, ◌≡◌, ◌∙◌, ◌+◌, ◌-◌, ◌<◌, ◌≤◌, ◌++◌, List, [], ◌∷◌, Result, Ok, Err, OnOk, ap, arith, codes, drop, flat_map, get_or, length, sym, take}
 use Rattle.std.proofs.Math.Seq.{take-length}
 use Rattle.std.specs.Bool.{if◌then◌else◌}
@@ -34,14 +34,14 @@ in_turn o a b c d e o1 o2 o3 o4 e1 e2 e3 e4 =
     e4 ∙ (ap (λ t. t ++ e) (e3 ∙ ap (λ t. t ++ d) (e2 ∙ ap (λ t. t ++ (b ++ c)) e1))
     ∙ regrouped o a b c d e)
 
-list_is : (o front lent o1 o2 o3 o4 : Text) (ns : List Node) (x : Node) (n : ℕ) → n ≡ length ns
-    → 1 ≤ length ns → x ≡ get_or ns 0 x → lent ≡ front → o1 ≡ o ++ lent
+list_is : (o front borrowed o1 o2 o3 o4 : Text) (ns : List Node) (x : Node) (n : ℕ) → n ≡ length ns
+    → 1 ≤ length ns → x ≡ get_or ns 0 x → borrowed ≡ front → o1 ≡ o ++ borrowed
     → o2 ≡ o1 ++ (codes "[" ++ node x)
     → o3 ≡ o2 ++ flat_map next_node (take (n - 1) (drop 1 ns)) → o4 ≡ o3 ++ codes "]"
     → o4 ≡ o ++ (front ++ nodes ns)
-list_is o front lent o1 o2 o3 o4 [] x n same some item shown e1 e2 e3 e4 =
+list_is o front borrowed o1 o2 o3 o4 [] x n same some item shown e1 e2 e3 e4 =
     absurd (omega (arith, some))
-list_is o front lent o1 o2 o3 o4 (y ∷ ys) x n same some item shown e1 e2 e3 e4 =
+list_is o front borrowed o1 o2 o3 o4 (y ∷ ys) x n same some item shown e1 e2 e3 e4 =
     let few : n - 1 ≡ length ys = omega (arith, same) in
     in_turn o front (codes "[") (node y) (flat_map next_node ys) (codes "]") o1 o2 o3 o4
     (e1 ∙ ap (λ t. o ++ t) shown) (e2 ∙ ap (λ z. o1 ++ (codes "[" ++ node z)) item)
@@ -49,18 +49,18 @@ list_is o front lent o1 o2 o3 o4 (y ∷ ys) x n same some item shown e1 e2 e3 e4
     ∙ ap (λ l. o2 ++ flat_map next_node l) (take-length ys)))
     e4
 
--- What a call that may fail appends, it appends where it succeeds.
+-- What a call that may fail appends if it succeeds.
 pub appended : {T E : Type 0} → (r : Result T E) (after before whole : Text)
     → after ≡ (if is_ok r then whole else before) → OnOk r (after ≡ whole)
 appended (Ok v) after before whole is = is
 appended (Err e) after before whole is = tt
 
 -- The first node, the others, and the bracket that closes the list.
-pub listed : {T E : Type 0} → (r : Result T E) (o front lent o1 o2 o3 o4 : Text) (ns : List Node)
-    (x : Node) (n : ℕ) → n ≡ length ns → 1 ≤ length ns → x ≡ get_or ns 0 x → lent ≡ front
-    → o1 ≡ o ++ lent → o2 ≡ o1 ++ (codes "[" ++ node x)
+pub listed : {T E : Type 0} → (r : Result T E) (o front borrowed o1 o2 o3 o4 : Text) (ns : List Node)
+    (x : Node) (n : ℕ) → n ≡ length ns → 1 ≤ length ns → x ≡ get_or ns 0 x → borrowed ≡ front
+    → o1 ≡ o ++ borrowed → o2 ≡ o1 ++ (codes "[" ++ node x)
     → o3 ≡ o2 ++ flat_map next_node (take (n - 1) (drop 1 ns)) → OnOk r (o4 ≡ o3 ++ codes "]")
     → OnOk r (o4 ≡ o ++ (front ++ nodes ns))
-listed r o front lent o1 o2 o3 o4 ns x n same some item shown e1 e2 e3 last =
+listed r o front borrowed o1 o2 o3 o4 ns x n same some item shown e1 e2 e3 last =
     on_ok_weaker r
-    (list_is o front lent o1 o2 o3 o4 ns x n same some item shown e1 e2 e3) last
+    (list_is o front borrowed o1 o2 o3 o4 ns x n same some item shown e1 e2 e3) last

@@ -1,4 +1,4 @@
--- From what is read to what is said of it.
+-- From what is read to what is reported.
 use Rattle.std.proofs.Common.{ℕ, List, Result, IfOk}
 use Rattle.std.proofs.lemmas.Result.{IfOk-weaker}
 use Rattle.std.specs.declared.alloc.AllocError.{AllocError}
@@ -22,7 +22,7 @@ pub reading : (language : Language) (description text : Text)
     → IfOk r (λ object. Tells answer object.items)
     → IfOk r (λ object. Reads language description text object.items)
 reading language description text answer r spelled refused tells =
-    IfOk-weaker r _ _ (λ object told. record {
-      spelled = λ list s. (answer, spelled list s, told);
-      refused = λ f is. (answer, refused f is, told);
+    IfOk-weaker r _ _ (λ object reported. record {
+      spelled = λ list s. (answer, spelled list s, reported);
+      refused = λ f is. (answer, refused f is, reported);
     }) tells

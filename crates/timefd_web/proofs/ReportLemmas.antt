@@ -1,4 +1,4 @@
--- From the parts of what is said of a text to the report.
+-- From the parts of a report to the report.
 use Rattle.std.proofs.Common.{ℕ, ◌≡◌, List, Option, Result, IfOk, inl, inr}
 use Rattle.std.proofs.lemmas.Result.{IfOk-weaker}
 use Rattle.std.specs.declared.alloc.AllocError.{AllocError}
@@ -30,11 +30,11 @@ module _ (language : Language) (moment : Moment) (text : Text) (r : Result (Vec 
       → IsPlaced text (fault_of d.fault) → IsDiagnosis language text d
       → IfOk r (λ object. object.items ≡ refused_object d)
       → IfOk r (λ object. Reports language moment text object.items)
-  refused_report d fault place diagnosis is =
+  refused_report d fault position diagnosis is =
       IfOk-weaker r _ _ (λ object said. inr (record {
         diagnostic = d;
         fault = fault;
-        place = place;
+        position = position;
         diagnosis = diagnosis;
         said = said;
       })) is
@@ -54,14 +54,14 @@ module _ (language : Language) (moment : Moment) (text : Text) (r : Result (Vec 
       → IsWritten (written_all moment (trees list)) w → IsLater language text l
       → IfOk r (λ object. object.items ≡ accepted_object e w l)
       → IfOk r (λ object. IsAccepted language moment text list object.items)
-  accepted_by list e w l reserved parts places examples written later is =
+  accepted_by list e w l reserved parts positions examples written later is =
       IfOk-weaker r _ _ (λ object said. record {
         explanation = e;
         shown = w;
         later = l;
         reserved = reserved;
         parts = parts;
-        places = places;
+        positions = positions;
         examples = examples;
         written = written;
         is_later = later;

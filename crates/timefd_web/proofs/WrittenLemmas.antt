@@ -1,4 +1,4 @@
--- From what the formatter answers to what is said of it.
+-- From what the formatter returns to what is reported.
 use Rattle.std.proofs.Common.{ℕ, ◌≡◌, ◌∙◌, Option, None, Result, Ok, Err, IfOk, subst}
 use Rattle.std.proofs.lemmas.Result.{IfOk-weaker}
 use Rattle.std.specs.declared.alloc.AllocError.{AllocError}
@@ -12,12 +12,12 @@ use Rattle.timefd_description.specs.Formatted.{IsShownAs}
 use Rattle.timefd_description.specs.declared.format_error.FormatTextError.TheVariants as fails
 use Rattle.timefd_web.specs.Reports.{IsTextOf, IsWritten}
 
-pub shown_text : (x : Result Text Unshown) (bytes : Vec ℕ Global) (lent : Text)
+pub shown_text : (x : Result Text Unshown) (bytes : Vec ℕ Global) (borrowed : Text)
     (r : Result (Option (String Global)) AllocError) → IsShownAs x (Ok bytes)
-    → lent ≡ bytes.items → IfOk r (IsTextOf lent) → IfOk r (IsWritten x)
-shown_text (Ok text) bytes lent r is same shown =
+    → borrowed ≡ bytes.items → IfOk r (IsTextOf borrowed) → IfOk r (IsWritten x)
+shown_text (Ok text) bytes borrowed r is same shown =
     IfOk-weaker r _ _ (λ w h. subst (λ t. IsTextOf t w) (same ∙ is) h) shown
-shown_text (Err u) bytes lent r is same shown = absurd is
+shown_text (Err u) bytes borrowed r is same shown = absurd is
 
 pub shows_nothing : (x : Result Text Unshown) (u : Unshown) → IsShownAs x (Err (fails.Unshown u))
     → IsWritten x None

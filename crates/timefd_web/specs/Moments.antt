@@ -1,4 +1,4 @@
--- The moment of the numbers that the page gives.
+-- The moment with the numbers that the page passes.
 use Rattle.std.specs.Prelude.{◌≡◌, nat_lt, if◌then◌else◌, Option, Some, None, Result, Ok, Err, unsigned_abs}
 use Rattle.timefd_moment.specs.Calendar.{counted}
 use Rattle.timefd_moment.specs.Faults.{date_fault, time_fault}
@@ -11,7 +11,7 @@ use Rattle.timefd_moment.specs.declared.offset.UtcOffset.{UtcOffset}
 use Rattle.timefd_moment.specs.declared.time.Time.{Time}
 use Rattle.timefd_web.specs.declared.fields.MomentFields.{MomentFields}
 
--- the number of each part that is out of its range
+-- the number that is out of its range in each part
 
 abbrev pub date_range : MomentFields → Option ComponentRange
 date_range f = date_fault f.year f.month f.day
@@ -28,7 +28,7 @@ abbrev pub first_of : Option ComponentRange → Option ComponentRange → Option
 first_of (Some e) other = Some e
 first_of None other = other
 
--- the first number that is out of its range: of the date, of the time of day, of the offset
+-- the first number that is out of its range, in the order date, time of day, offset
 abbrev pub range_fault : MomentFields → Option ComponentRange
 range_fault f = first_of (date_range f) (first_of (time_range f) (offset_range f))
 
@@ -50,7 +50,7 @@ IsOffset f None = ⊥
 abbrev pub IsMoment : MomentFields → Moment → Type 0
 IsMoment f m = IsDate f m.date × IsTime f m.time × IsOffset f m.offset
 
--- The moment of the numbers, or the first number that is out of its range.
+-- The moment with the numbers, or the first number that is out of its range.
 abbrev pub IsMomentOf : MomentFields → Result Moment ComponentRange → Type 0
 IsMomentOf f (Ok m) = IsMoment f m × (range_fault f ≡ None)
 IsMomentOf f (Err e) = range_fault f ≡ Some e

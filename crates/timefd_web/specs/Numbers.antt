@@ -1,4 +1,4 @@
--- The numbers by which `web/timefd.mjs` knows the statuses.
+-- The numbers of the statuses that `web/timefd.mjs` expects.
 use Rattle.std.specs.Prelude.{◌≡◌}
 use Rattle.timefd_web.specs.declared.answer.TheConstants.{REPORTED, NOT_UTF8, NO_MEMORY, NO_LANGUAGE, OUT_OF_RANGE}
 

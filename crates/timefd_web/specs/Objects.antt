@@ -1,4 +1,4 @@
--- The objects of JSON that are said of a text.
+-- The JSON objects of a report on a text.
 use Rattle.std.specs.Prelude.{ℕ, ◌++◌, List, [], ◌∷◌, Option, Some, None, codes, flat_map, string_bytes}
 use Rattle.std.specs.declared.alloc.Global.{Global}
 use Rattle.std.specs.declared.string.String.{String}
@@ -17,14 +17,14 @@ use Rattle.timefd_fault.specs.Sentences.{error_sentence}
 use Rattle.timefd_web.specs.declared.later.Later.{Later}
 use Rattle.timefd_web.specs.declared.refused.Refusal.{Refusal}
 
--- the nearest of the words that are allowed, or nothing
+-- the nearest allowed word, or nothing
 abbrev pub nearest : Help → Text
-nearest (Words place allowed (Some word)) = word.now
-nearest (Words place allowed None) = []
+nearest (Words position allowed (Some word)) = word.now
+nearest (Words position allowed None) = []
 nearest (LeaveOut key) = []
 nearest (Advice words) = []
 
--- the fault's name, its sentence, what helps, the nearest word, and which bytes are at fault
+-- the fault's name, its sentence, what helps, the nearest word, and the bytes at fault
 abbrev pub refusal : Text → Text → Text → Text → ℕ → ℕ → Text
 refusal code message help nearest start end =
     [] ++ text_field (codes "{\"accepted\":false,\"code\":") code
@@ -70,7 +70,7 @@ abbrev pub optional : Option (String Global) → Text
 optional None = codes "null"
 optional (Some text) = quoted (string_bytes text)
 
--- The bytes that are reserved, the nodes, what is written of the moment, and the later texts.
+-- The reserved bytes, the nodes, what is written of the moment, and the texts in later versions.
 abbrev pub accepted_object : Explanation → Option (String Global) → Later → Text
 accepted_object e written later =
     [] ++ number_field (codes "{\"accepted\":true,\"bytes\":") e.bytes

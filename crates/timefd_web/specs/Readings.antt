@@ -1,4 +1,4 @@
--- What is said of a text that is read by a description.
+-- The report on a text that is read by a description.
 use Rattle.std.specs.Prelude.{◌≡◌, ◌++◌, List, [], codes, Result, Ok, Err}
 use Rattle.timefd_component.specs.Tree.{Text, Tree}
 use Rattle.timefd_drawing.specs.Json.{text_field, number_field}
@@ -19,19 +19,19 @@ use Rattle.timefd_description.specs.Sentences.{reason_sentence}
 use Rattle.timefd_description.specs.declared.read_error.ReadTextError.{ReadTextError}
 use Rattle.timefd_description.specs.declared.read_error.ReadTextError.TheVariants as fails
 
--- why a part of the text doesn't read
+-- why a part of the text doesn't match
 abbrev pub sentence_here : Reason → Text
 sentence_here reason = reason_sentence reason ++ codes " here"
 
--- the component that doesn't read, or nothing
+-- the component that doesn't match, or nothing
 abbrev pub component_in : Reason → Text
 component_in (for.Unread c) = name c
 component_in (for.Contradiction c) = name c
 component_in for.Literal = []
 component_in for.Trailing = []
 
--- The objects: a moment, in the forms of ISO 8601; the part that doesn't read, and the byte index where
--- it begins; why what was read is no moment; and that there is no description.
+-- The objects: a moment, in the forms of ISO 8601; the part that doesn't match, with the byte index where
+-- it begins; why what was read is not a moment; and that there is no description.
 
 abbrev pub moment_object : Moment → Text
 moment_object m =
@@ -50,7 +50,7 @@ value_object v =
 abbrev pub no_description : Text
 no_description = [] ++ codes "{\"read\":false}"
 
--- The object tells the answer. None tells that memory ran out.
+-- The object reports the result. No object reports that memory ran out.
 abbrev pub Tells : Result Moment ReadTextError → Text → Type 0
 Tells (Ok m) object = object ≡ moment_object m
 Tells (Err (fails.Unread u)) object = object ≡ unread_object u
@@ -58,18 +58,19 @@ Tells (Err (fails.Value v)) object = object ≡ value_object v
 Tells (Err (fails.Fault f)) object = object ≡ no_description
 Tells (Err (fails.Memory e)) object = ⊥
 
--- By a description of these items the text is read, and the object tells what was read, or why none was.
+-- By a description of these items the text is read, and the object reports what was read, or why nothing
+-- was.
 abbrev pub IsReading : List Tree → Text → Text → Type 0
 IsReading list text object =
     (answer : Result Moment ReadTextError) × IsReadAs (fields_in list text) answer
     × Tells answer object
 
--- The object tells that there is no description, for this fault.
+-- The object says that there is no description, because of this fault.
 abbrev pub IsNoReading : Fault → Text → Type 0
 IsNoReading f object =
     (answer : Result Moment ReadTextError) × IsRefusedFor f answer × Tells answer object
 
--- What the object says of the text by the text of a description.
+-- What the object says of the text by a description.
 pub record Reads (language : Language) (description text object : Text) : Type 0 where
   pub spelled : (list : List Tree) → SpellsIn language nesting_limit description list
       → IsReading list text object

@@ -1,4 +1,4 @@
--- What is said of a text.
+-- The report on a text.
 use Rattle.std.specs.Prelude.{◌≡◌, ◌⊎◌, List, Option, Some, None, Result, Ok, Err, IsUtf8, string_bytes, ⊤}
 use Rattle.std.specs.declared.alloc.Global.{Global}
 use Rattle.std.specs.declared.string.String.{String}
@@ -27,24 +27,24 @@ use Rattle.timefd_parse.specs.Language.{SpellsIn, FaultIn}
 use Rattle.timefd_web.specs.declared.later.Later.{Later}
 use Rattle.timefd_web.specs.Objects.{accepted_object, refused_object}
 
--- the text of these bytes, or none where they are no UTF-8
+-- the bytes as text, or nothing if they aren't UTF-8
 abbrev pub IsTextOf : Text → Option (String Global) → Type 0
 IsTextOf bytes (Some text) = string_bytes text ≡ bytes
 IsTextOf bytes None = ¬ (IsUtf8 bytes)
 
--- It is what is to be written, and nothing where a component shows nothing.
+-- What is to be written, or nothing if a component shows nothing.
 abbrev pub IsWritten : Result Text Unshown → Option (String Global) → Type 0
 IsWritten (Ok text) shown = IsTextOf text shown
 IsWritten (Err u) None = ⊤
 IsWritten (Err u) (Some text) = ⊥
 
--- of a text of version 1, what it is rewritten to, and what is written of that in version 3
+-- for a text of version 1: what it is converted to in version 2, and what that is in version 3
 abbrev pub IsLaterThanOne : Text → Option (String Global) → Text → Type 0
 IsLaterThanOne text (Some two) three =
     IsRewritten text (string_bytes two) × IsWrittenOf (string_bytes two) three
 IsLaterThanOne text None three = ⊥
 
--- the texts of later versions
+-- the texts in later versions
 abbrev pub IsLater : Language → Text → Later → Type 0
 IsLater (Version One) text l = IsLaterThanOne text l.version_2 (string_bytes l.version_3)
 IsLater (Version Two) text l =
@@ -53,9 +53,9 @@ IsLater (Version Three) text l =
     (l.version_2 ≡ None) × IsNormalOf text (string_bytes l.version_3)
 IsLater Strftime text l = (l.version_2 ≡ None) × IsPrintedOf text (string_bytes l.version_3)
 
--- It says that the text is accepted: how many bytes it reserves, its nodes, which stand one for one for
--- the parts of what it spells, and where these stand, with their examples; what it writes of the moment,
--- and its later texts.
+-- The object says that the text is accepted: how many bytes it reserves, its nodes, one for each part of
+-- what it spells, with their positions and examples, what it writes of the moment, and its texts in later
+-- versions.
 pub record IsAccepted (language : Language) (moment : Moment) (text : Text) (list : List Tree)
     (object : Text) : Type 0 where
   pub explanation : Explanation
@@ -63,28 +63,28 @@ pub record IsAccepted (language : Language) (moment : Moment) (text : Text) (lis
   pub later : Later
   pub reserved : explanation.bytes ≡ kept_bytes (reserve_all (trees list))
   pub parts : AreParts (all_parts 0 (trees list)) explanation.nodes.items
-  pub places : NodesStand language (trees list) text explanation.nodes.items
+  pub positions : NodesStand language (trees list) text explanation.nodes.items
   pub examples : Examples explanation.nodes.items
   pub written : IsWritten (written_all moment (trees list)) shown
   pub is_later : IsLater language text later
   pub said : object ≡ accepted_object explanation shown later
 
--- The text is spelled, and is said to be accepted.
+-- The text spells a list, and the object says that the text is accepted.
 pub record Accepts (language : Language) (moment : Moment) (text object : Text) : Type 0 where
   pub list : List Tree
   pub spells : SpellsIn language nesting_limit text list
   pub says : IsAccepted language moment text list object
 
--- The text has a fault, and it is said to be refused for that: with the fault's name, its sentence, its
--- span and what helps.
+-- The text has a fault, and the object says that it is refused for that fault, with the fault's name, its
+-- sentence, its span and what helps.
 pub record Refuses (language : Language) (text object : Text) : Type 0 where
   pub diagnostic : Diagnostic
   pub fault : FaultIn language nesting_limit text (fault_of diagnostic.fault)
-  pub place : IsPlaced text (fault_of diagnostic.fault)
+  pub position : IsPlaced text (fault_of diagnostic.fault)
   pub diagnosis : IsDiagnosis language text diagnostic
   pub said : object ≡ refused_object diagnostic
 
--- What is said of a text is that it is accepted, or why it is refused.
+-- The report says that the text is accepted, or why it is refused.
 abbrev pub Reports : Language → Moment → Text → Text → Type 0
 Reports language moment text object =
     Accepts language moment text object ⊎ Refuses language text object

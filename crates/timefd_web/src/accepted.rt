@@ -1,4 +1,4 @@
-//! What is said of a text that is accepted.
+//! The report on a text that is accepted.
 
 ghost use Rattle.std.specs.Prelude.{◌≡◌, ◌++◌, List, IfOk, OnOk};
 ghost use Rattle.timefd_component.specs.Tree.{Tree};
@@ -33,7 +33,8 @@ pub fn accepted(
     object_of(alloc, &explanation, &written, &later)
 }
 
-// How many bytes it reserves, its nodes, what it writes of the moment, and its later texts.
+// How many bytes the text reserves, its nodes, what it writes of the moment, and its texts in later
+// versions.
 fn object_of(
     alloc: Global,
     explanation: &Explanation,
@@ -58,7 +59,8 @@ fn object_of(
     Ok(out)
 }
 
-// Appends what stands before a field's value, and the value: a text, or null.
+// Appends the front of a field, which is everything before the value, and the value: a text, or
+// null.
 fn push_optional(out: &mut Vec<u8>, front: &str, text: &Option<String>) -> Result<(), AllocError>
     ensures { OnOk result (out.new.items ≡ out.old.items ++ (front.now ++ spec.optional text.now)) }
 {

@@ -1,29 +1,29 @@
-//! What is answered to the page.
+//! The answers to the page.
 
-/// The status where a report was made. It is in the buffer, if that has room for all of it.
+/// The status if there is a report. It is in the buffer if all of it fits.
 pub const REPORTED: u32 = 0;
 
-/// The status where the bytes are no UTF-8.
+/// The status if the bytes aren't UTF-8.
 pub const NOT_UTF8: u32 = 1;
 
-/// The status where memory ran out.
+/// The status if memory ran out.
 pub const NO_MEMORY: u32 = 2;
 
-/// The status where the number is that of no language.
+/// The status if no language has the number.
 pub const NO_LANGUAGE: u32 = 3;
 
-/// The status where a number of the moment is out of its range.
+/// The status if a number of the moment is out of its range.
 pub const OUT_OF_RANGE: u32 = 4;
 
-/// What is answered to the page of a text.
+/// The answer to the page about a text.
 #[repr(C)]
 #[derive(Debug, Clone, Copy, PartialEq, Eq)]
 pub struct ReportAnswer {
     /// One of the five statuses.
     pub status: u32,
-    /// How many bytes the report has, or 0 where there is none.
+    /// How many bytes the report has, or 0 if there is none.
     pub len: usize,
 }
 
-// So large is it in `web/timefd.mjs`.
+// `web/timefd.mjs` expects this size.
 const _: () = prove!(size_of::<ReportAnswer>() == 16);

@@ -11,9 +11,9 @@ use crate::silence::Silence;
 use std::alloc::Global;
 use timefd_parse::{DescriptionVersion, Language};
 
-/// Writes what is said of the bytes, as a text of the language with this number, and of what they write
-/// of the moment, over the front of the buffer, if that has room for all of it. The numbers 1, 2 and 3
-/// are the versions of the format descriptions, and 4 is strftime.
+/// Writes a report on the bytes, as a text of the language with this number, and on what they write
+/// of the moment, to the front of the buffer if all of it fits. The numbers 1, 2 and 3 are the
+/// versions of the format descriptions, and 4 is strftime.
 #[unsafe(no_mangle)]
 pub extern "C" fn timefd_web_report(
     alloc: Global,
@@ -29,8 +29,8 @@ pub extern "C" fn timefd_web_report(
     *answer = given(&said, buffer);
 }
 
-/// Writes what the bytes of a text show by those of a description of the language with this number,
-/// over the front of the buffer, if that has room for all of it.
+/// Writes what a text shows by a description of the language with this number to the front of the
+/// buffer if all of it fits.
 #[unsafe(no_mangle)]
 pub extern "C" fn timefd_web_read(
     alloc: Global,
@@ -46,7 +46,7 @@ pub extern "C" fn timefd_web_read(
     *answer = given(&said, buffer);
 }
 
-// Writes what is said into the buffer, and answers its length, or why nothing is said.
+// Writes the report to the buffer and returns its length, or the reason why there is none.
 fn given(said: &Result<Vec<u8>, Silence>, buffer: &mut [u8]) -> ReportAnswer
     ensures { IsAnswer said.now buffer.old buffer.new result }
 {
@@ -120,7 +120,7 @@ fn from_number(number: u32) -> Option<Language>
     }
 }
 
-// Writes the bytes over the front of the buffer, if that has room for all of them.
+// Writes the bytes to the front of the buffer if all of them fit.
 fn write_bytes(bytes: &[u8], buffer: &mut [u8])
     ensures whole { length bytes.now ≤ length buffer.old
         → buffer.new ≡ bytes.now ++ drop (length bytes.now) buffer.old }

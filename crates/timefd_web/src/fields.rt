@@ -1,4 +1,4 @@
-//! The moment that the page gives.
+//! The moment that the page passes.
 
 ghost use Rattle.timefd_web.specs.Moments.{IsMomentOf};
 
@@ -12,7 +12,8 @@ pub struct MomentFields {
     pub year: i32,
     /// The nanosecond of the second, below 1,000,000,000.
     pub nanosecond: u32,
-    /// How many seconds the clock is ahead of UTC, behind it as a negative number: less than 26 hours.
+    /// How many seconds the clock is ahead of UTC, or behind it if negative: less than 26 hours
+    /// either way.
     pub offset_seconds: i32,
     /// The month, from 1.
     pub month: u8,
@@ -26,11 +27,11 @@ pub struct MomentFields {
     pub second: u8,
 }
 
-// So large is it in `web/timefd.mjs`.
+// `web/timefd.mjs` expects this size.
 const _: () = prove!(size_of::<MomentFields>() == 20);
 
 impl MomentFields {
-    /// The moment of these numbers. An `Err` names the first one that is out of its range.
+    /// The moment with these numbers. An `Err` names the first number that is out of its range.
     pub fn moment(&self) -> Result<Moment, ComponentRange>
         ensures moment { IsMomentOf self.now result }
     {

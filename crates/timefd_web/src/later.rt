@@ -5,7 +5,7 @@ ghost use Rattle.timefd_component.specs.Tree.{Tree};
 ghost use Rattle.timefd_convert.specs.Answers.{IsNormalOf, IsPrintedOf};
 ghost use Rattle.timefd_language.specs.Grammar.{Spells, nesting_limit};
 ghost use Rattle.timefd_language.specs.Strftime.{SpellsStrftime};
-ghost use Rattle.timefd_fault.specs.Told.{MemoryAlone};
+ghost use Rattle.timefd_fault.specs.Reported.{MemoryAlone};
 ghost use Rattle.timefd_language.specs.declared.description_version.DescriptionVersion.TheVariants.{One, Two, Three};
 ghost use Rattle.timefd_lift.specs.Modernized.{IsWrittenOf};
 ghost use Rattle.timefd_parse.specs.Language.{SpellsIn};
@@ -16,16 +16,16 @@ use timefd_convert::{normalize_v3, strftime_to_v3};
 use timefd_lift::{v1_to_v2, v2_to_v3};
 use timefd_parse::{DescriptionVersion, Language, ParseError};
 
-/// The texts of later versions that have the same items.
+/// The texts of later versions with the same items.
 #[derive(Drop)]
 pub struct Later {
-    /// That of version 2, of a text of version 1.
+    /// The text of version 2, for a text of version 1.
     pub version_2: Option<String>,
-    /// That of version 3; of a text of version 3 its normal form.
+    /// The text of version 3. For a text of version 3 it is the normal form.
     pub version_3: String,
 }
 
-/// The later texts of a text that a language accepts.
+/// The texts in later versions of a text that a language accepts.
 pub fn later_of(alloc: Global, language: Language, text: &str) -> Result<Later, AllocError>
     requires { (list : List Tree) × SpellsIn language nesting_limit text.now list }
     ensures { IfOk result (IsLater language text.now) }
@@ -92,7 +92,7 @@ fn from_three(alloc: Global, text: &str) -> Result<String, AllocError>
     }
 }
 
-// That memory ran out, where nothing else can be.
+// Memory ran out: there is no other error here.
 fn want_of(error: ParseError) -> AllocError
     requires { MemoryAlone error }
 {

@@ -1,8 +1,8 @@
-//! What is known of the numbers that the page sees.
+//! What holds for the numbers that the page sees.
 
 ghost use Rattle.timefd_web.specs.Numbers.{Numbers};
 
-/// The statuses have the numbers by which `web/timefd.mjs` knows them.
+/// The statuses have the numbers that `web/timefd.mjs` expects.
 pub fn numbers()
     ensures { Numbers }
 {}

@@ -1,4 +1,4 @@
-//! What a page in a browser shows of a text, as an object of JSON.
+//! What a page in a browser shows of a text, as a JSON object.
 #![tactic(auto)]
 
 mod accepted;

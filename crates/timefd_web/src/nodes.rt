@@ -7,7 +7,8 @@ use std::alloc::{AllocError, Global};
 use timefd_drawing::json::{push_number, push_text};
 use timefd_explain::{Node, NodeKind};
 
-/// Appends what stands before a field's value, and the value: a list of nodes.
+/// Appends the front of a field, which is everything before the value, and the value: a list of
+/// nodes.
 pub fn push_nodes(
     alloc: Global,
     out: &mut Vec<u8>,

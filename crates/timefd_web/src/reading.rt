@@ -13,8 +13,8 @@ use timefd_parse::Language;
 use timefd_read_dates::{ReadError, Reason};
 use timefd_read_moment::ValueError;
 
-/// The moment that a whole text shows by the text of a description, as an object of JSON, or why it
-/// shows none. An `Err` says that memory ran out, and nothing of the texts.
+/// The moment that a whole text shows by a description, as a JSON object, or why it shows none. An
+/// `Err` says that memory ran out, and nothing about the texts.
 #[tactic(auto, using(crate::proofs::ReadingLemmas::reading))]
 pub fn reading_of(
     alloc: Global,
@@ -25,10 +25,13 @@ pub fn reading_of(
     ensures reads { IfOk result (λ object. Reads language description.now text.now object.items) }
 {
     let answer = read_text(alloc, language, description, text);
-    told(alloc, &answer)
+    reported(alloc, &answer)
 }
 
-fn told(alloc: Global, answer: &Result<Moment, ReadTextError<'_>>) -> Result<Vec<u8>, AllocError>
+fn reported(
+    alloc: Global,
+    answer: &Result<Moment, ReadTextError<'_>>,
+) -> Result<Vec<u8>, AllocError>
     ensures { IfOk result (λ object. Tells answer.now object.items) }
 {
     match answer {
@@ -80,7 +83,7 @@ fn no_description(alloc: Global) -> Result<Vec<u8>, AllocError>
     Ok(out)
 }
 
-// Why a part of a text does not read. The page tells its place behind this.
+// Why a part of a text doesn't match. The page adds the position.
 fn sentence_of(alloc: Global, reason: Reason) -> Result<String, AllocError>
     ensures { IfOk result (λ text. string_bytes text ≡ spec.sentence_here reason) }
 {
@@ -88,7 +91,7 @@ fn sentence_of(alloc: Global, reason: Reason) -> Result<String, AllocError>
     format!(in alloc; "{sentence} here")
 }
 
-// The name of the component that does not read. It is empty where it is none.
+// The name of the component that doesn't match, or an empty text if it is no component.
 fn component_in(reason: Reason) -> &'static str
     ensures { result.now ≡ spec.component_in reason }
 {

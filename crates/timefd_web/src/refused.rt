@@ -1,4 +1,4 @@
-//! What is said of a text that is refused.
+//! The report on a text that is refused.
 
 ghost use Rattle.std.specs.Prelude.{◌≡◌, IfOk};
 ghost use Rattle.timefd_web.specs.Objects as spec;
@@ -8,24 +8,24 @@ use timefd_diagnosis::{Diagnostic, Help, code_of};
 use timefd_drawing::help_text::help_text;
 use timefd_drawing::json::{push_number, push_text};
 
-/// What the object of a refused text holds.
+/// What the object of a refused text contains.
 #[derive(Clone, Copy)]
 pub struct Refusal<'a> {
     /// The stable name of the fault.
     pub code: &'a str,
-    /// Its sentence.
+    /// The sentence of the fault.
     pub message: &'a str,
-    /// What helps.
+    /// What helps against the fault.
     pub help: &'a str,
-    /// The nearest of the words that are allowed. It is empty where none is near.
+    /// The nearest allowed word, or an empty text if none is near.
     pub nearest: &'a str,
-    /// The byte indices of what is at fault.
+    /// The byte indices of the part at fault.
     pub start: u64,
     pub end: u64,
 }
 
-/// The object of a text with a fault: its stable name, its sentence, what helps, the nearest of the
-/// words that are allowed there, and the byte indices of what is at fault.
+/// The object of a text with a fault: the stable name of the fault, its sentence, what helps, the
+/// nearest word that is allowed there, and the byte indices of the part at fault.
 pub fn refused(alloc: Global, diagnostic: &Diagnostic) -> Result<Vec<u8>, AllocError>
     ensures { IfOk result (λ object. object.items ≡ spec.refused_object diagnostic.now) }
 {
@@ -56,7 +56,7 @@ fn object_of(alloc: Global, refusal: Refusal<'_>) -> Result<Vec<u8>, AllocError>
     Ok(out)
 }
 
-// The nearest of the words that are allowed. It is empty where none is near.
+// The nearest allowed word, or an empty text if none is near.
 fn nearest(help: Help) -> &'static str
     ensures { result.now ≡ spec.nearest help }
 {

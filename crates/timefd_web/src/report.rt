@@ -1,4 +1,4 @@
-//! What is said of a text.
+//! The report on a text.
 
 ghost use Rattle.std.specs.Prelude.{IfOk};
 ghost use Rattle.timefd_web.specs.Reports.{Reports};
@@ -10,8 +10,9 @@ use timefd_diagnosis::diagnose;
 use timefd_moment::Moment;
 use timefd_parse::Language;
 
-/// What a text of a language is, as an object of JSON: its fault, or its nodes, what it writes of the
-/// moment, and its texts in later versions. An `Err` says that memory ran out, and nothing of the text.
+/// What a text of a language is, as a JSON object: its fault; or its nodes, what it writes of the
+/// moment, and its texts in later versions. An `Err` says that memory ran out, and nothing about
+/// the text.
 #[tactic(auto, using(crate::proofs::ReportLemmas::refused_report, crate::proofs::ReportLemmas::accepted_report))]
 pub fn report_of(
     alloc: Global,

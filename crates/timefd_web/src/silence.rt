@@ -1,25 +1,25 @@
-//! Why nothing is said of a text.
+//! Why there is no report on a text.
 
 ghost use Rattle.std.specs.Prelude.{◌≡◌};
 ghost use Rattle.timefd_web.specs.Answers.{status_of};
 
 use crate::answer::{NO_LANGUAGE, NO_MEMORY, NOT_UTF8, OUT_OF_RANGE};
 
-/// Why nothing is said of a text.
+/// Why there is no report on a text.
 #[derive(Debug, Clone, Copy, PartialEq, Eq)]
 pub enum Silence {
-    /// The bytes are no UTF-8.
+    /// The bytes aren't UTF-8.
     NotUtf8,
     /// Memory ran out.
     NoMemory,
-    /// The number is that of no language.
+    /// No language has the number.
     NoLanguage,
     /// A number of the moment is out of its range.
     OutOfRange,
 }
 
 impl Silence {
-    /// The status that says so.
+    /// The status for the reason.
     pub fn status(self) -> u32
         ensures { result ≡ status_of self }
     {

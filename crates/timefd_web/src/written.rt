@@ -12,8 +12,8 @@ use timefd_description::{FormatTextError, format_text};
 use timefd_moment::Moment;
 use timefd_parse::Language;
 
-/// What a text that a language accepts writes of the moment. `None` where a component shows nothing
-/// of it.
+/// What a text that a language accepts writes of the moment. `None` says that a component shows
+/// nothing of it, or that the result isn't UTF-8.
 #[tactic(auto, using(crate::proofs::WrittenLemmas::shown_text, crate::proofs::WrittenLemmas::shows_nothing, crate::proofs::WrittenLemmas::not_faulty))]
 pub fn written_of(
     alloc: Global,
@@ -33,7 +33,7 @@ pub fn written_of(
     }
 }
 
-// The text of these bytes. `None` where they are no UTF-8.
+// The bytes as text. `None` says that they aren't UTF-8.
 fn text_of(alloc: Global, bytes: &[u8]) -> Result<Option<String>, AllocError>
     ensures { IfOk result (IsTextOf bytes.now) }
 {

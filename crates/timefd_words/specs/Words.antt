@@ -1,5 +1,5 @@
--- Components as brackets hold them. One table for the full words, which say each modifier, and for the
--- normal form, which omits what is version 3's default.
+-- Components as they are written in brackets. One table for the full words, which say every modifier,
+-- and for the normal form, which omits what is the default in version 3.
 use Rattle.std.specs.Prelude.{Bool, true, false, codes, decimal, List, [], ◌∷◌, ◌++◌}
 use Rattle.timefd_modifier.specs.declared.enums.Padding.{Padding}
 use Rattle.timefd_modifier.specs.declared.enums.SubsecondDigits.{SubsecondDigits}
@@ -9,12 +9,12 @@ use Rattle.timefd_component.specs.declared.component.Component.TheVariants.{Day,
 use Rattle.timefd_component.specs.Tree.{Text}
 use Rattle.timefd_words.specs.declared.defaults.Defaults.{Defaults}
 
--- the first text where defaults are written, the second where they are omitted
+-- the first text if defaults are written, the second if they are omitted
 abbrev pub choose : Defaults → Text → Text → Text
 choose Defaults.Written written omitted = written
 choose Defaults.Omitted written omitted = omitted
 
--- Modifiers, behind a space.
+-- Modifiers, after a space.
 
 abbrev pub padded : Defaults → Padding → Text
 padded d Padding.Zero = choose d (codes " padding:zero") []
@@ -57,11 +57,11 @@ abbrev pub trailed : Defaults → TrailingInput → Text
 trailed d TrailingInput.Prohibit = choose d (codes " trailing_input:prohibit") []
 trailed d TrailingInput.Discard = codes " trailing_input:discard"
 
--- Components: the name with the words that tell the form, then two modifiers at most. A deprecated one
--- isn't written: the one that it stands for is.
+-- Components: the name with the words that say the form, then two modifiers at most. For a deprecated
+-- component its modern form is written instead.
 
--- the name with the words that tell the form, up to the digits of a count; the range of a year is never
--- omitted, as version 2's default is another
+-- The name with the words that say the form, up to the digits of a count. The range of a year is never
+-- omitted, as version 2 has another default.
 abbrev pub form : Defaults → Component → Text
 form d (Day m) = codes "day"
 form d (MonthShort m) = codes "month repr:short"
@@ -115,12 +115,12 @@ form d (Hour m) = []
 form d (UnixTimestamp m) = []
 form d (Year m) = []
 
--- the digits of the count, where there is one
+-- the digits of the count, if there is one
 abbrev pub count_digits : Component → Text
 count_digits (Ignore m) = decimal m.count.value
 count_digits _ = []
 
--- what stands behind the form, where the count has these digits
+-- what follows the form, where the count has these digits
 abbrev pub first_modifier : Defaults → Component → Text → Text
 first_modifier d (Day m) digits = padded d m.padding
 first_modifier d (MonthShort m) digits = cased d m.case_sensitive

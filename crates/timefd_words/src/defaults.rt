@@ -1,20 +1,20 @@
-//! Whether a bracket says what holds without it.
+//! Whether a bracket says what holds by default.
 
 ghost use Rattle.std.specs.Prelude.{◌≡◌};
 ghost use Rattle.timefd_words.specs.Words as spec;
 
-/// Whether modifiers are written that are set to version 3's default.
+/// Whether modifiers with the default value of version 3 are written.
 #[derive(Clone, Copy)]
 pub enum Defaults {
-    /// Each modifier is written.
+    /// Every modifier is written.
     Written,
-    /// A modifier is written where it isn't the default; the range of a year always, as version 2's
-    /// default is another.
+    /// A modifier is written if it isn't the default. The range of a year is always written, as version
+    /// 2 has another default.
     Omitted,
 }
 
 impl Defaults {
-    /// The first text where defaults are written, the second where they are omitted.
+    /// The first text if defaults are written, the second if they are omitted.
     pub fn choose(self, written: &'static str, omitted: &'static str) -> &'static str
         ensures { result.now ≡ spec.choose self written.now omitted.now }
     {

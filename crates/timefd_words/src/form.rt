@@ -1,4 +1,5 @@
-//! The form of each component: its name, and the words that tell it from others of that name.
+//! The form of each component: its name, and the words that distinguish it from others with that
+//! name.
 
 ghost use Rattle.std.specs.Prelude.{◌≡◌};
 ghost use Rattle.timefd_words.specs.Words as spec;
@@ -6,8 +7,8 @@ ghost use Rattle.timefd_words.specs.Words as spec;
 use crate::defaults::Defaults;
 use timefd_component::Component;
 
-/// The name with the words that tell the form, up to the digits of a count. A deprecated component
-/// has none: the one that it stands for is written.
+/// The name with the words that say the form, up to the digits of a count. Empty for a deprecated
+/// component: its modern form is written instead.
 pub fn form(component: Component, defaults: Defaults) -> &'static str
     ensures { result.now ≡ spec.form defaults component }
 {

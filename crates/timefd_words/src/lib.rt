@@ -1,4 +1,5 @@
-//! Components as brackets hold them: the name, the words that tell the form, and the modifiers.
+//! Components as they are written in brackets: the name, the words that say the form, and the
+//! modifiers.
 #![tactic(auto)]
 
 mod defaults;

@@ -1,4 +1,4 @@
-//! Modifiers as brackets hold them, each behind a space.
+//! Modifiers as they are written in brackets, each after a space.
 
 ghost use Rattle.std.specs.Prelude.{◌≡◌};
 ghost use Rattle.timefd_words.specs.Words as spec;

@@ -7,7 +7,8 @@ use crate::defaults::Defaults;
 use crate::modifier::{cased, indexed, lettered, numbered, padded, signed, trailed};
 use timefd_component::Component;
 
-/// The two modifiers that stand behind the form, where the count of an `ignore` has these digits.
+/// The two modifiers that follow the form. Each may be empty. `digits` are those of the count of an
+/// `ignore`.
 pub fn modifiers<'a>(
     component: Component,
     defaults: Defaults,

@@ -1,4 +1,4 @@
-//! Writes what stands between the brackets of a component.
+//! Writes the words between the brackets of a component.
 
 ghost use Rattle.std.specs.Prelude.{◌≡◌, ◌++◌, decimal, IfOk, OnOk, string_bytes};
 ghost use Rattle.timefd_component.specs.Modern.{modern};
@@ -10,8 +10,8 @@ use crate::modifiers::modifiers;
 use std::alloc::{AllocError, Global};
 use timefd_component::Component;
 
-/// Appends the words of a component: those of the one which it stands for, if it is deprecated. An
-/// `Err` says that memory ran out.
+/// Appends the words of a component, or of its modern form if it is deprecated. An `Err` says that
+/// memory ran out.
 pub fn push_words(
     alloc: Global,
     text: &mut String,
@@ -47,7 +47,7 @@ fn push_parts(text: &mut String, form: &str, first: &str, second: &str) -> Resul
     text.push_str(second)
 }
 
-/// The digits of the count, where the component has one.
+/// The digits of the count, or nothing if the component has none.
 fn count_digits(alloc: Global, component: Component) -> Result<String, AllocError>
     ensures { IfOk result (λ text. string_bytes text ≡ spec.count_digits component) }
 {

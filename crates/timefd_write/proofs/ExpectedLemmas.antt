@@ -1,4 +1,4 @@
--- What is read in place, and what that is; a part that stands at a place.
+-- Reading a front of the parts, and the part at an index.
 use Rattle.std.proofs.Common.{ℕ, suc, ◌≡◌, ◌∙◌, ◌-◌, ◌<◌, ◌≤◌, Bool, true, false, List, length, map, take, get_or, Result, Ok, Err, sym, ap, subst, arith}
 use Rattle.std.proofs.lemmas.List.{get_or-map, take-map}
 use Rattle.timefd_component.specs.Tree.{Text, Tree, compound, literal, no_trees, trees}
@@ -14,15 +14,15 @@ pub stopped : (x : Result Fields ReadError) (f : Fields) (r : Result (Unit {0}) 
 stopped x f (Ok u) fills = sym (ap (λ (y : Result Fields ReadError). is_stop y) fills)
 stopped x f (Err e) fills = sym (ap (λ (y : Result Fields ReadError). is_stop y) fills)
 
--- the first parts, as they stand and as trees
+-- the first parts, taken before or after they become trees
 pub taken : {A : Type 0} (tree : A → Tree) (xs : List A) (n : ℕ) (word : Text) (b : Bool)
     → b ≡ stops (map tree (take n xs)) word → b ≡ stops (take n (map tree xs)) word
 taken tree xs n word b is = is ∙ ap (λ ts. stops ts word) (sym (take-map tree n xs))
 
--- and the one at a place
-pub at_place : {A : Type 0} (tree : A → Tree) (xs : List A) (n : ℕ) (d : A) (bytes : Text) → n < length xs
+-- and the part at an index
+pub at_position : {A : Type 0} (tree : A → Tree) (xs : List A) (n : ℕ) (d : A) (bytes : Text) → n < length xs
     → tree (get_or xs n d) ≡ literal bytes → IsLiteral (map tree xs) n bytes
-at_place tree xs n d bytes some is = get_or-map tree xs n d (compound no_trees) some ∙ is
+at_position tree xs n d bytes some is = get_or-map tree xs n d (compound no_trees) some ∙ is
 
 pub stop_is : (ts : List Tree) (word : Text) (read unread : ℕ) → stops (take read ts) word ≡ false
     → stops (take unread ts) word ≡ true → read < unread → unread ≤ length ts → unread - read < 2

@@ -29,7 +29,7 @@ front_twice : (xs ys : Text) (fs : List Text)
 front_twice xs ys [] = refl
 front_twice xs ys (f ∷ fs) = ap (λ x. x ∷ fs) (sym (append_assoc xs ys f))
 
--- The bytes that are gone are the front of the first field.
+-- The bytes that were taken are the front of the first field.
 pub IsInField : Text → Text → Quoting → Type 0
 IsInField row rest q = (done : Text) × (row ≡ done ++ rest)
     × (fields row ≡ with_front done (fields_from q rest))
@@ -101,7 +101,7 @@ ends row rest q short so_far =
       sym (append-nil row),
     )
 
--- The first byte of some, and those after it, as a pattern takes them.
+-- A nonempty text is its first byte and those after it, as a pattern takes them.
 pub split_bytes : (rest : Text) (n : ℕ) → n ≡ length rest → 1 ≤ length rest
     → rest ≡ slice_index_or rest 0 0 ∷ take (n - 1) (drop 1 rest)
 split_bytes [] n same some = absurd (omega (arith, some))
@@ -160,14 +160,14 @@ has_first_with : (n : ℕ) (new : Text) (fs : List Text) → HasFirst fs → Has
 has_first_with zero new fs has = (new, has.1, ap (with_field 0 new) has.2)
 has_first_with (suc n) new fs has = (has.0, with_field n new has.1, ap (with_field (suc n) new) has.2)
 
--- What stands before the fields that are left.
+-- What comes before the fields that are left.
 abbrev pub HasFront : Text → ℕ → Option (Bor Text) → ℕ → Type 0
 HasFront content n None left = ⊤
 HasFront content n (Some text) left = (front : Text) × (content ≡ front ++ text.now)
     × ((new : Text) → joined (with_field n new (fields content))
     ≡ front ++ joined (with_field left new (fields text.now)))
 
--- The field that is sought is that after some others of what is left.
+-- The field that is looked for is at this index of what is left.
 pub IsLeft : Text → ℕ → Option (Bor Text) → ℕ → Type 0
 IsLeft content n more left = HasFront content n more left
     × (field_after n (fields content) ≡ field_after left (fields_of_rest more))
@@ -215,7 +215,7 @@ next_left content n left less text more next split one some next_is so_far parts
       at.1 ∙ ap (field_after (suc less)) parts.0,
     )
 
--- A line is what it says and its end.
+-- A line is its content and its newline.
 
 strip_by : (b : ℕ) (xs : Text) (is : Bool) → ends_with_byte b xs ≡ is
     → (rest : Text) × (xs ≡ strip_last b xs ++ rest)
@@ -270,7 +270,7 @@ cut_after content row end front text field more whole is split =
     )
     ∙ drop-append-add (front ++ field) (more ++ end) 0
 
--- The field that is sought is the first of what is left.
+-- The field that is looked for is the first of what is left.
 pub cell_found : (row content front field after : Text) (n left : ℕ) (text : Bor Text)
     (more : Option (Bor Text)) (split : Split) → content ≡ without_newline row → more ≡ Some text
     → left ≡ 0 → IsLeft content n more left → IsSplit text.now split
@@ -310,12 +310,12 @@ none_left row content n left more is none so_far =
     ap (λ c. field_after n (fields c)) (sym is) ∙ so_far.1
     ∙ ap (λ m. field_after left (fields_of_rest m)) none
 
--- The bytes that are left, and one for the field that an empty rest is.
+-- The number of bytes that are left, and one more for the field that an empty rest is.
 abbrev pub left_len : Option (Bor Text) → ℕ
 left_len None = 0
 left_len (Some rest) = suc (length rest.now)
 
--- What is left stands in the record, and so does its first field.
+-- What is left is part of the record, and so is its first field.
 
 pub left_fits : (content : Text) (n left : ℕ) (text : Bor Text) (more : Option (Bor Text))
     → more ≡ Some text → IsLeft content n more left → length text.now ≤ length content
@@ -355,7 +355,7 @@ next_shorter text more next split some next_is parts =
     (subst (λ m. left_len m < suc (length text.now)) (sym next_is)
     (rest_shorter text.now split.field.now split.rest parts.1))
 
--- A slice to the end.
+-- A slice up to the end.
 pub slice_to_end : (row : Text) (n : ℕ) → take (length row - n) (drop n row) ≡ drop n row
 slice_to_end row n =
     ap (λ k. take k (drop n row)) (sym (length-drop n row)) ∙ take-length (drop n row)

@@ -1,11 +1,11 @@
--- Quotes that stand twice, byte after byte.
+-- Quotes that are doubled, byte after byte.
 use Rattle.std.proofs.Common.{ℕ, ◌≡◌, ◌++◌, ◌∷◌, ◌<◌, [], List, Option, length, refl, sym, subst, arith}
 use Rattle.std.proofs.KnownBytes.{Appends-nil, Appends-trans}
 use Rattle.std.specs.Io.KnownBytes.{Appends}
 use Rattle.timefd_component.specs.Tree.{Text}
 use Rattle.timefd_write.specs.Frames.{doubled, doubled_byte}
 
--- What is left, written after what is done, is all.
+-- Writing the rest after what is done gives all.
 abbrev pub Completes : Text → Text → Option Text → Option Text → Type 0
 Completes text rest before between = (after : Option Text) → Appends between after (doubled rest)
     → Appends before after (doubled text)

@@ -1,4 +1,4 @@
--- Texts and lines that are written over the front of a room.
+-- Texts and lines that are written from the front of a room.
 use Rattle.std.proofs.Common.{ℕ, ◌≡◌, ◌∙◌, ◌≤◌, ◌++◌, List, [], ◌∷◌, Option, Some, None, Result, Ok, Err, length, take, map, refl, sym, ap, subst, arith, length-take}
 use Rattle.timefd_component.specs.Tree.{Text, trees}
 use Rattle.timefd_format.specs.Appends.{IsAppended, TriesToAppend}
@@ -36,7 +36,7 @@ pub text_within : (m : Moment) (leaves : List Leaf) (old new : Text) (end : ℕ)
     → TriesToAppend (written_all m (trees (map leaf_tree leaves))) old 0 new (Some end) → end ≤ length new
 text_within m leaves old new end put = (shown (written_all m (trees (map leaf_tree leaves))) old new end put).0
 
--- a newline behind it
+-- with a newline after it
 ends_line : (x : Result Text Unshown) (old mid new : Text) (middle end : ℕ)
     → TriesToAppend x old 0 mid (Some middle) → TriesToAppend (Ok (10 ∷ [])) mid middle new (Some end)
     → (end ≤ length new) × IsLineOf x (take end new)

@@ -1,4 +1,4 @@
--- Lines of descriptions, one more behind others.
+-- Lines of descriptions, one more after others.
 use Rattle.std.proofs.Common.{◌≡◌, Bool, List, [], ◌∷◌, ◌++◌, Option, codes, sym, ap, subst, ◌∙◌, append_assoc, append-nil}
 use Rattle.std.specs.Io.KnownBytes.{Appends}
 use Rattle.timefd_component.specs.Tree.{Text}

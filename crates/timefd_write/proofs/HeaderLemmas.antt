@@ -1,4 +1,4 @@
--- One field more of a header.
+-- One more field of a header.
 use Rattle.std.proofs.Common.{ℕ, suc, ◌≡◌, ◌∷◌, Bool, List, Option, Some, None, Result, Ok, Err, nat_eq, refl, sym, ap, subst, ◌∙◌}
 use Rattle.std.specs.Cmp.Lexicographic.{pointwise}
 use denote.Ref.{Bor}
@@ -9,7 +9,7 @@ use Rattle.timefd_write.specs.declared.header.HeaderError.{HeaderError}
 use Rattle.timefd_write.specs.Fields.{IsSplit, fields, fields_of_rest, text_of}
 use Rattle.timefd_write.specs.Records.{named_end, named_from, named_go, named_in, named_step, without_mark}
 
--- What is left decides.
+-- The result depends only on what is left.
 pub Decides : Text → Text → Option ℕ → ℕ → Option (Bor Text) → Type 0
 Decides name header found at more =
     named_from name found at (fields_of_rest more) ≡ named_in name header

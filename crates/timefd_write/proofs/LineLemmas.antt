@@ -25,13 +25,13 @@ use Rattle.timefd_write.specs.ReadBack.{AreLeavesOf, IsMadeOf, tree_of}
 use Rattle.timefd_write.specs.Sources.{AreLeavesIn, IsTextOf}
 use Rattle.timefd_write.specs.Written.{AppendsIn, EndsWith, EndsWithLine, IsLineOf, written_of}
 
--- a line that is written whole
-pub line_sent : (x : Result Text Unshown) (before behind : Option Text) (line : Text) → IsLineOf x line
-    → Appends before behind line → AppendsIn frames.Line x before behind
-line_sent (Ok text) before behind line is sent = subst (Appends before behind) is sent
-line_sent (Err u) before behind line is sent = absurd is
+-- a whole line that is written
+pub line_sent : (x : Result Text Unshown) (before after : Option Text) (line : Text) → IsLineOf x line
+    → Appends before after line → AppendsIn frames.Line x before after
+line_sent (Ok text) before after line is sent = subst (Appends before after) is sent
+line_sent (Err u) before after line is sent = absurd is
 
--- a field that is written with the text which a room ends with
+-- a record that is written with the text at the end of the room as its field
 pub field_sent : (x : Result Text Unshown) (cell : Cell) (before after : Option Text) (text : Text)
     → x ≡ Ok text → Appends before after (framed (frames.Field cell) text)
     → AppendsIn (frames.Field cell) x before after
@@ -42,7 +42,7 @@ inside : (text old new : Text) (at : ℕ) → IsOutcome (Ok text) old new (Ok at
 inside text old new at h =
     omega (arith, h.0, ap length h.1, length-append (take at old) text, length-take at old)
 
--- what a call answers, of the room alone
+-- what a call returns, in terms of the room alone
 pub ends : (x : Result Text Unshown) (old new : Text) (r : Result ℕ FormatError)
     → IsOutcome x old new r → EndsWith x new r
 ends (Ok text) old new (Ok at) h =
@@ -64,7 +64,7 @@ pub ends_by_leaves : (m : Moment) (o : BorrowedOutput) (leaves : List Leaf) (old
 ends_by_leaves m o leaves old new r made h =
     subst (λ x. EndsWith x new r) (sym (of_tree m o ∙ ap (written m) made)) (ends _ old new r h)
 
--- a newline behind the text
+-- a newline after the text
 pub line_ends : (x : Result Text Unshown) (front room : Text) (r : Result ℕ FormatError)
     → room ≡ front ++ 10 ∷ [] → EndsWith x front r → EndsWithLine x room r
 line_ends x front room (Ok at) is h = (
@@ -74,18 +74,18 @@ line_ends x front room (Ok at) is h = (
 line_ends x front room (Err lacks.Room) is h = tt
 line_ends x front room (Err (lacks.Unshown u)) is h = h
 
--- Leaves that were found, and are lent.
+-- Leaves that were found, and are borrowed.
 
-pub lent_in : (source : Source) (found : Option (Vec Leaf Global)) (lent : Option (Bor (List Leaf)))
+pub borrowed_in : (source : Source) (found : Option (Vec Leaf Global)) (borrowed : Option (Bor (List Leaf)))
     → IfSome found (λ leaves. IsTextOf source leaves.items)
-    → MatchOption found (lent ≡ None) (λ x. IsSomeAnd lent (λ y. y.now ≡ x.items)) → AreLeavesIn source lent
-lent_in source found None are cases = tt
-lent_in source None (Some leaves) are cases = absurd cc
-lent_in source (Some leaves) (Some lent) are cases = subst (IsTextOf source) (sym cases) are
+    → MatchOption found (borrowed ≡ None) (λ x. IsSomeAnd borrowed (λ y. y.now ≡ x.items)) → AreLeavesIn source borrowed
+borrowed_in source found None are cases = tt
+borrowed_in source None (Some leaves) are cases = absurd cc
+borrowed_in source (Some leaves) (Some borrowed) are cases = subst (IsTextOf source) (sym cases) are
 
-pub lent_of : (o : BorrowedOutput) (found : Option (Vec Leaf Global)) (lent : Option (Bor (List Leaf)))
+pub borrowed_of : (o : BorrowedOutput) (found : Option (Vec Leaf Global)) (borrowed : Option (Bor (List Leaf)))
     → IfSome found (λ leaves. IsMadeOf o leaves.items)
-    → MatchOption found (lent ≡ None) (λ x. IsSomeAnd lent (λ y. y.now ≡ x.items)) → AreLeavesOf o lent
-lent_of o found None are cases = tt
-lent_of o None (Some leaves) are cases = absurd cc
-lent_of o (Some leaves) (Some lent) are cases = subst (IsMadeOf o) (sym cases) are
+    → MatchOption found (borrowed ≡ None) (λ x. IsSomeAnd borrowed (λ y. y.now ≡ x.items)) → AreLeavesOf o borrowed
+borrowed_of o found None are cases = tt
+borrowed_of o None (Some leaves) are cases = absurd cc
+borrowed_of o (Some leaves) (Some borrowed) are cases = subst (IsMadeOf o) (sym cases) are

@@ -1,4 +1,4 @@
--- A moment that was read by numbers, without fields.
+-- A moment that was read from its numbers, without fields.
 use Rattle.std.proofs.Common.{◌≡◌, ◌∙◌, List, Ok, map, sym, ap, subst}
 use Rattle.timefd_component.specs.Tree.{Text, compound, trees}
 use Rattle.timefd_moment.specs.declared.moment.Moment.{Moment}

@@ -1,4 +1,4 @@
--- What is read to the end of some bytes.
+-- Reading to the end of some bytes.
 use Rattle.std.proofs.Common.{ℕ, ◌≡◌, ◌<◌, ◌+◌, ◌++◌, [], length, take, drop, Option, Some, None, IfSome, refl, sym, ap, subst, ◌∙◌, arith, length-append}
 use Rattle.std.proofs.Math.Seq.{take-length}
 use Rattle.std.proofs.lemmas.List.{take-append-drop}
@@ -11,7 +11,7 @@ use Rattle.timefd_write.specs.declared.lines.LineRead.{LineRead}
 use Rattle.timefd_write.specs.declared.lines.LineRead.TheVariants as reads
 use Rattle.timefd_write.specs.Written.{IsRead, IsReadMore}
 
--- A line that is read to the end of no bytes.
+-- A line that is appended to no bytes.
 pub whole_line : (old new : Option Text) (bytes longer : Text) (r : LineRead) → bytes ≡ []
     → IsReadMore old new bytes longer r → IsRead old new longer r
 whole_line old new bytes longer reads.Line none more =

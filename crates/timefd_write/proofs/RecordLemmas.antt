@@ -268,7 +268,7 @@ row_done old left new row longer piece q next r count so_far read is cut next_is
     is_done old left new row at.0 longer q next so_far at.1 at.2
     (next_is ∙ ap (after_all q) (piece_is row at.0 longer piece at.1 cut)) shut
 
--- No line more.
+-- No more line.
 pub row_ended : (old left new : Option Text) (row longer : Text) (q : Quoting) (r : LineRead)
     (answer : RecordRead) → IsSoFar old left row q → IsReadMore left new row longer r → r ≡ lines.End
     → answer ≡ at_end longer q → IsRecordRead old new longer answer
@@ -277,7 +277,7 @@ row_ended old left new row longer q r answer so_far read is answer_is =
     subst (IsRecordRead old new longer) (sym answer_is)
     (subst (λ t. IsRecordRead old new t (at_end t q)) (sym at.1) (ended old left new row q so_far at.0 at.2))
 
--- The bytes after those that there were.
+-- The bytes after those that were there before.
 pub piece_of : (row longer d : Text) (from : ℕ) → d ≡ longer → from ≡ length row
     → take (length d - from) (drop from d) ≡ drop (length row) longer
 piece_of row longer d from is len =

@@ -1,4 +1,4 @@
--- One word more, and one line more.
+-- One more word, and one more line.
 use Rattle.std.proofs.Common.{ℕ, ◌≡◌, ◌-◌, ◌<◌, ◌≤◌, take, drop, get_or, Bool, true, false, ◌||◌, List, [], ◌∷◌, length, Option, Some, None, refl, sym, ap, subst, ◌∙◌, arith}
 use Rattle.std.proofs.Math.Seq.{take-length}
 use Rattle.std.specs.Io.KnownBytes.{IsAtEnd}
@@ -59,24 +59,24 @@ both_assoc a b c =
     (or_assoc a.is_refused b.is_refused c.is_refused) (or_assoc a.not_text b.not_text c.not_text)
     (or_assoc a.has_failed b.has_failed c.has_failed)
 
--- What is left, run behind what is done, runs all.
+-- Running the rest after what is done runs all.
 abbrev pub Completes : Otherwise → Source → BorrowedOutput → List Text → List Text → Option Text
     → Option Text → Tally → Type 0
-Completes otherwise source o words rest before between tally = (behind : Option Text) (more : Tally)
-    → Runs false otherwise source o rest between behind more
-    → Runs false otherwise source o words before behind (both tally more)
+Completes otherwise source o words rest before between tally = (after : Option Text) (more : Tally)
+    → Runs false otherwise source o rest between after more
+    → Runs false otherwise source o words before after (both tally more)
 
 pub starts : (otherwise : Otherwise) (source : Source) (o : BorrowedOutput) (words : List Text) (before : Option Text)
     (tally : Tally) → tally ≡ at_end false → Completes otherwise source o words words before before tally
-starts otherwise source o words before tally none behind more runs =
-    subst (λ t. Runs false otherwise source o words before behind (both t more)) (sym none) runs
+starts otherwise source o words before tally none after more runs =
+    subst (λ t. Runs false otherwise source o words before after (both t more)) (sym none) runs
 
-pub goes_on : (otherwise : Otherwise) (source : Source) (o : BorrowedOutput) (words rest behind : List Text)
+pub goes_on : (otherwise : Otherwise) (source : Source) (o : BorrowedOutput) (words rest after : List Text)
     (word : Text) (before between next : Option Text) (tally one sum : Tally) (outcome : Outcome)
-    → rest ≡ word ∷ behind → Completes otherwise source o words rest before between tally
+    → rest ≡ word ∷ after → Completes otherwise source o words rest before between tally
     → IsOne otherwise source o frames.Line word between next outcome → one ≡ tally_of outcome → sum ≡ both tally one
-    → Completes otherwise source o words behind before next sum
-goes_on otherwise source o words rest behind word before between next tally one sum outcome split so_far is
+    → Completes otherwise source o words after before next sum
+goes_on otherwise source o words rest after word before between next tally one sum outcome split so_far is
     is_one is_sum end more runs =
     subst (λ t. Runs false otherwise source o words before end t)
     (sym (ap (λ t. both t more) (is_sum ∙ ap (λ t. both tally t) is_one)
@@ -90,16 +90,16 @@ none_left [] short = refl
 none_left (word ∷ words) short = absurd (omega (arith, short))
 
 pub is_done : (otherwise : Otherwise) (source : Source) (o : BorrowedOutput) (words rest : List (Bor Text))
-    (before behind : Option Text) (tally : Tally) → length rest < 1
-    → Completes otherwise source o (texts words) (texts rest) before behind tally
-    → Runs false otherwise source o (texts words) before behind tally
-is_done otherwise source o words rest before behind tally short so_far =
-    subst (λ t. Runs false otherwise source o (texts words) before behind t) (none_more tally)
-    (so_far behind (at_end false)
-    (subst (λ ws. Runs false otherwise source o (texts ws) behind behind (at_end false))
+    (before after : Option Text) (tally : Tally) → length rest < 1
+    → Completes otherwise source o (texts words) (texts rest) before after tally
+    → Runs false otherwise source o (texts words) before after tally
+is_done otherwise source o words rest before after tally short so_far =
+    subst (λ t. Runs false otherwise source o (texts words) before after t) (none_more tally)
+    (so_far after (at_end false)
+    (subst (λ ws. Runs false otherwise source o (texts ws) after after (at_end false))
     (sym (none_left rest short)) (refl, refl)))
 
--- The first of some lent words, and those behind it, as a pattern takes them.
+-- A nonempty list of borrowed words is its first word and those after it, as a pattern takes them.
 pub split_texts : (rest : List (Bor Text)) (n : ℕ) (d : Bor Text) (bytes : Text) → n ≡ length rest
     → 1 ≤ length rest → bytes ≡ (get_or rest 0 d).now
     → texts rest ≡ bytes ∷ texts (take (n - 1) (drop 1 rest))
@@ -110,17 +110,17 @@ split_texts (word ∷ rest) n d bytes same some is =
     ∙ ap (λ k. word.now ∷ texts (take k rest)) few
     ∙ ap (λ r. word.now ∷ texts r) (take-length rest))
 
--- The same of lines.
+-- Running the rest of the lines after what is done runs all.
 abbrev pub CompletesLines : Otherwise → Source → BorrowedOutput → Option Text → Option Text → Option Text
     → Option Text → Tally → Type 0
-CompletesLines otherwise source o bytes left before between tally = (failed : Bool) (behind : Option Text)
-    (more : Tally) → RunsOn failed otherwise source o left between behind more
-    → RunsOn failed otherwise source o bytes before behind (both tally more)
+CompletesLines otherwise source o bytes left before between tally = (failed : Bool) (after : Option Text)
+    (more : Tally) → RunsOn failed otherwise source o left between after more
+    → RunsOn failed otherwise source o bytes before after (both tally more)
 
 pub lines_start : (otherwise : Otherwise) (source : Source) (o : BorrowedOutput) (bytes before : Option Text)
     (tally : Tally) → tally ≡ at_end false → CompletesLines otherwise source o bytes bytes before before tally
-lines_start otherwise source o bytes before tally none failed behind more runs =
-    subst (λ t. RunsOn failed otherwise source o bytes before behind (both t more)) (sym none) runs
+lines_start otherwise source o bytes before tally none failed after more runs =
+    subst (λ t. RunsOn failed otherwise source o bytes before after (both t more)) (sym none) runs
 
 more_lines : (bytes rest : Option Text) (line : Text) (lines : List Text) (failed : Bool)
     → IsNextLine bytes line rest → AreLinesOf rest lines failed
@@ -159,34 +159,34 @@ no_line_read : (left : Option Text) → AreLinesOf left [] true
 no_line_read None = tt
 no_line_read (Some xs) = (xs, refl)
 
-pub lines_end : (otherwise : Otherwise) (source : Source) (o : BorrowedOutput) (bytes left rest before behind : Option Text)
+pub lines_end : (otherwise : Otherwise) (source : Source) (o : BorrowedOutput) (bytes left rest before after : Option Text)
     (line : Text) (tally : Tally) (r : LineRead) → r ≡ End
-    → CompletesLines otherwise source o bytes left before behind tally → IsRead left rest line r
-    → RunsOver otherwise source o bytes before behind tally
-lines_end otherwise source o bytes left rest before behind line tally r is so_far read = (
+    → CompletesLines otherwise source o bytes left before after tally → IsRead left rest line r
+    → RunsOver otherwise source o bytes before after tally
+lines_end otherwise source o bytes left rest before after line tally r is so_far read = (
   false,
-  subst (λ t. RunsOn false otherwise source o bytes before behind t) (none_more tally)
-      (so_far false behind (at_end false)
+  subst (λ t. RunsOn false otherwise source o bytes before after t) (none_more tally)
+      (so_far false after (at_end false)
       ([], no_line_left left (subst (λ x. IsRead left rest line x) is read), (refl, refl))),
 )
 
-pub lines_fail : (otherwise : Otherwise) (source : Source) (o : BorrowedOutput) (bytes left before behind : Option Text)
-    (tally failing sum : Tally) → CompletesLines otherwise source o bytes left before behind tally
+pub lines_fail : (otherwise : Otherwise) (source : Source) (o : BorrowedOutput) (bytes left before after : Option Text)
+    (tally failing sum : Tally) → CompletesLines otherwise source o bytes left before after tally
     → failing ≡ at_end true → sum ≡ both tally failing
-    → RunsOver otherwise source o bytes before behind sum
-lines_fail otherwise source o bytes left before behind tally failing sum so_far is is_sum = (
+    → RunsOver otherwise source o bytes before after sum
+lines_fail otherwise source o bytes left before after tally failing sum so_far is is_sum = (
   true,
-  subst (λ t. RunsOn true otherwise source o bytes before behind t)
+  subst (λ t. RunsOn true otherwise source o bytes before after t)
       (sym (is_sum ∙ ap (λ t. both tally t) is))
-      (so_far true behind (at_end true) ([], no_line_read left, (refl, refl))),
+      (so_far true after (at_end true) ([], no_line_read left, (refl, refl))),
 )
 
--- A run by the description that is read.
+-- A run by a description that was read.
 pub ran : (column : Option Column) (otherwise : Otherwise) (source : Source) (quiet : Bool) (languages : Languages) (text : Text)
-    (words : List Text) (input before behind : Option Text) (r : Reading) (o : BorrowedOutput)
+    (words : List Text) (input before after : Option Text) (r : Reading) (o : BorrowedOutput)
     (warned : Warned) (tally : Tally) → r ≡ readings.Description o
     → IsReading languages.written text r → warned ≡ warned_by quiet languages source o
-    → IsRunOf column otherwise source o words input before behind tally
-    → IsRunFrom column otherwise source quiet languages text words input before behind (ends.Done warned tally)
-ran column otherwise source quiet languages text words input before behind r o warned tally is reading told run =
-    (o, subst (λ x. IsReading languages.written text x) is reading, told, run)
+    → IsRunOf column otherwise source o words input before after tally
+    → IsRunFrom column otherwise source quiet languages text words input before after (ends.Done warned tally)
+ran column otherwise source quiet languages text words input before after r o warned tally is reading reported run =
+    (o, subst (λ x. IsReading languages.written text x) is reading, reported, run)

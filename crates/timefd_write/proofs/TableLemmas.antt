@@ -1,4 +1,4 @@
--- One record more.
+-- One more record.
 use Rattle.std.proofs.Common.{ℕ, ◌≡◌, ◌==◌, length, Bool, true, false, List, [], ◌∷◌, Option, Some, None, Result, Ok, Err, IfOk, refl, sym, ap, subst, ◌∙◌}
 use Rattle.std.specs.Io.KnownBytes.{IsAtEnd}
 use Rattle.timefd_component.specs.Tree.{Text}
@@ -20,7 +20,7 @@ use Rattle.timefd_write.specs.Tallies.{at_end, both, refused}
 use Rattle.timefd_write.specs.Written.{IsTallyOf}
 use Rattle.timefd_write.proofs.RunLemmas.{both_assoc, none_more}
 
--- What is left, written after what is done, is all.
+-- Writing the rest after what is done gives all.
 pub Completes : Otherwise → Source → BorrowedOutput → ℕ → Option Text → Option Text → Option Text
     → Option Text → Tally → Type 0
 Completes otherwise source o n bytes left before between tally = (failed : Bool) (after : Option Text)
@@ -60,7 +60,7 @@ record_more otherwise source o n bytes left rest row before between next tally o
       (one, next, more, is, runs.2, refl),
     ))
 
--- What is left, whose quotes don't end.
+-- The rest of an input whose quotes aren't closed.
 pub open_more : (otherwise : Otherwise) (source : Source) (o : BorrowedOutput) (n : ℕ)
     (bytes left rest : Option Text) (row : Text) (before between next : Option Text)
     (tally one sum : Tally) → Completes otherwise source o n bytes left before between tally
@@ -103,7 +103,7 @@ records_fail otherwise source o n bytes left before after tally failing sum so_f
       (so_far true after (at_end true) ([], no_record_read left, (refl, refl))),
 )
 
--- A record that is read.
+-- A record that was read.
 pub row_more : (otherwise : Otherwise) (source : Source) (o : BorrowedOutput) (n lines : ℕ)
     (bytes left rest : Option Text) (row : Text) (r : RecordRead) (before between next : Option Text)
     (tally one sum : Tally) → Completes otherwise source o n bytes left before between tally
@@ -117,7 +117,7 @@ row_more otherwise source o n lines bytes left rest row r before between next ta
     record_more otherwise source o n bytes left rest row before between next tally one sum so_far at.0
     done is_sum
 
--- What is left, whose quotes don't end.
+-- The rest of an input whose quotes aren't closed.
 pub row_open : (otherwise : Otherwise) (source : Source) (o : BorrowedOutput) (n : ℕ)
     (bytes left rest : Option Text) (row : Text) (r : RecordRead) (before between next : Option Text)
     (tally one sum : Tally) → Completes otherwise source o n bytes left before between tally
@@ -138,7 +138,7 @@ rows_end otherwise source o n bytes left rest before after row r tally so_far re
     records_end otherwise source o n bytes left before after tally so_far
     (subst (IsRecordRead left rest row) is read)
 
--- What comes of the field of a record.
+-- What the field of a record becomes.
 pub of_cell : (otherwise : Otherwise) (source : Source) (o : BorrowedOutput) (n : ℕ) (row text : Text)
     (cell : Cell) (before after : Option Text) (tally : Tally) → is_open row ≡ false
     → is_empty (without_newline row) ≡ false → IsCell n row cell → text ≡ text_of cell.field.now

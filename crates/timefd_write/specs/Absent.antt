@@ -1,4 +1,4 @@
--- Days that there are not.
+-- Dates that don't exist.
 use Rattle.std.specs.Prelude.{ℕ, ℤ, ◌++◌, ◌==◌, ◌||◌, nat_lt, codes, if◌then◌else◌, Option, Some, None}
 use Rattle.std.specs.Fmt.{decimal, signed_decimal}
 use Rattle.timefd_component.specs.Tree.{Text}
@@ -13,7 +13,7 @@ use Rattle.timefd_write.specs.declared.absent.AbsentDay.{AbsentDay}
 abbrev pub signed_year : Signed → ℤ
 signed_year s = signed s.is_negative s.magnitude
 
--- The day is at fault, and neither the year nor the month.
+-- The day is wrong, while the year and the month are right.
 abbrev pub absent_by : Option ComponentRange → ℤ → ℕ → ℕ → Option AbsentDay
 absent_by (Some of.Day) y m d = Some (record { year = y; month = m; day = d })
 absent_by _ y m d = None
@@ -33,7 +33,7 @@ absent_among (Some s) (Some m) None = None
 absent_among (Some s) None d = None
 absent_among None m d = None
 
--- The day of a year and a month that were read, where that month doesn't have it.
+-- The date that was read, if its month has no such day.
 abbrev pub absent_day : Fields → Option AbsentDay
 absent_day f = absent_among f.year f.month f.day
 

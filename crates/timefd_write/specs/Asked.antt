@@ -28,7 +28,7 @@ use Rattle.timefd_write.specs.Words.{word_of, column_named, wording_named, defau
 abbrev pub Answer : Type 0
 Answer = Result Asked OptionError
 
--- Another language to write in goes with a description to read by alone.
+-- A language to write in needs a description to read by.
 abbrev pub wordings_by : Option Wording → Option (Bor Text) → Wording → Option Wordings
 wordings_by None read language = Some (record { read = language; written = language })
 wordings_by (Some written) (Some text) language =
@@ -39,7 +39,7 @@ wordings_by (Some written) None language = None
 abbrev pub wordings_of : State → Option Wordings
 wordings_of state = wordings_by state.to_language state.read state.language
 
--- Where nothing else is asked for, a record of a table stays as it is, and a line is left out.
+-- Without `--else`, a record of a table stays as it is, and a line is left out.
 abbrev pub otherwise_by : Option Otherwise → Option Column → Otherwise
 otherwise_by (Some o) column = o
 otherwise_by None (Some column) = otherwise.Keep
@@ -60,7 +60,7 @@ request wordings state description moments = Ok (asks.Run (record {
   is_quiet = state.is_quiet;
 }))
 
--- A column is one of the standard input, so no moment stands beside it.
+-- A column is taken from the standard input, so no moment may be given beside it.
 abbrev pub request_of : Option Column → Wordings → State → Bor Text → List (Bor Text) → Answer
 request_of None wordings state description moments = request wordings state description moments
 request_of (Some column) wordings state description [] = request wordings state description []
@@ -72,14 +72,14 @@ requested_in (Some wordings) state description moments =
     request_of state.column wordings state description moments
 requested_in None state description moments = Err errors.NothingRead
 
--- The words behind a description are moments, whatever they begin with.
+-- The words after a description are moments, whatever they begin with.
 abbrev pub requested : State → Bor Text → List (Bor Text) → Answer
 requested state description moments =
     requested_in (wordings_of state) state description moments
 
-abbrev pub behind_end : State → List (Bor Text) → Answer
-behind_end state [] = Err errors.NoDescription
-behind_end state (description ∷ moments) = requested state description moments
+abbrev pub after_end : State → List (Bor Text) → Answer
+after_end state [] = Err errors.NoDescription
+after_end state (description ∷ moments) = requested state description moments
 
 abbrev pub before_read_of : Option (Bor Text) → State → Step
 before_read_of (Some text) state = Done (Err errors.ReadTwice)
@@ -114,12 +114,16 @@ has_no_table None None = true
 has_no_table None (Some o) = false
 has_no_table (Some column) o = false
 
--- whether no other option than that for quiet is known
+abbrev pub has_no_zone : Option (Bor Text) → Bool
+has_no_zone None = true
+has_no_zone (Some zone) = false
+
+-- whether all options but `--quiet` are as they are by default
 abbrev pub is_bare : State → Bool
 is_bare state = is_version_three state.language && has_no_description state.to_language state.read
-    && has_no_table state.column state.otherwise
+    && has_no_table state.column state.otherwise && has_no_zone state.zone
 
--- All words behind it are texts. Beside it stands no other option than that for quiet.
+-- All words after `--guess` are texts. `--quiet` may come before it.
 abbrev pub guess : State → List (Bor Text) → Answer
 guess state texts =
     if is_bare state
@@ -127,24 +131,24 @@ guess state texts =
     else Err errors.GuessBeside
 
 abbrev pub first_by : Word → State → Bor Text → List (Bor Text) → Step
-first_by (words.Language option) state word behind =
+first_by (words.Language option) state word after =
     Next (record state { wanted = wants.Language option })
-first_by words.Read state word behind = before_read state
-first_by words.Csv state word behind = before_column state
-first_by words.Else state word behind = Next (record state { wanted = wants.Otherwise })
-first_by words.Guess state word behind = Done (guess state behind)
-first_by words.Zone state word behind = Next (record state { wanted = wants.Zone })
-first_by words.Quiet state word behind = Next (record state { is_quiet = true })
-first_by words.Help state word behind = Done (Ok asks.Help)
-first_by words.Version state word behind = Done (Ok asks.Version)
-first_by words.End state word behind = Done (behind_end state behind)
-first_by words.Unknown state word behind = Done (Err (errors.Unknown word))
-first_by words.Description state word behind = Done (requested state word behind)
+first_by words.Read state word after = before_read state
+first_by words.Csv state word after = before_column state
+first_by words.Else state word after = Next (record state { wanted = wants.Otherwise })
+first_by words.Guess state word after = Done (guess state after)
+first_by words.Zone state word after = Next (record state { wanted = wants.Zone })
+first_by words.Quiet state word after = Next (record state { is_quiet = true })
+first_by words.Help state word after = Done (Ok asks.Help)
+first_by words.Version state word after = Done (Ok asks.Version)
+first_by words.End state word after = Done (after_end state after)
+first_by words.Unknown state word after = Done (Err (errors.Unknown word))
+first_by words.Description state word after = Done (requested state word after)
 
 abbrev pub first : State → Bor Text → List (Bor Text) → Step
-first state word behind = first_by (word_of word.now) state word behind
+first state word after = first_by (word_of word.now) state word after
 
--- what is known where an option has this language
+-- the state with this language for the option
 abbrev pub with_option : State → LanguageOption → Wording → State
 with_option state options.Both l = record state { language = l; wanted = wants.Nothing }
 with_option state options.Written l =
@@ -179,16 +183,16 @@ abbrev pub with_zone : State → Bor Text → Step
 with_zone state word = Next (record state { zone = Some word; wanted = wants.Nothing })
 
 abbrev pub one_more_by : Wanted → State → Bor Text → List (Bor Text) → Step
-one_more_by wants.Nothing state word behind = first state word behind
-one_more_by (wants.Language option) state word behind = with_language state option word
-one_more_by wants.Read state word behind = with_read state word
-one_more_by wants.Column state word behind = with_column state word
-one_more_by wants.Otherwise state word behind = with_otherwise state word
-one_more_by wants.Zone state word behind = with_zone state word
+one_more_by wants.Nothing state word after = first state word after
+one_more_by (wants.Language option) state word after = with_language state option word
+one_more_by wants.Read state word after = with_read state word
+one_more_by wants.Column state word after = with_column state word
+one_more_by wants.Otherwise state word after = with_otherwise state word
+one_more_by wants.Zone state word after = with_zone state word
 
--- What one more word comes to.
+-- What one more word leads to.
 abbrev pub one_more : State → Bor Text → List (Bor Text) → Step
-one_more state word behind = one_more_by state.wanted state word behind
+one_more state word after = one_more_by state.wanted state word after
 
 abbrev pub at_end : Wanted → OptionError
 at_end wants.Nothing = errors.NoDescription
@@ -204,7 +208,7 @@ go more (Done answer) = answer
 
 abbrev pub asked_from : State → List (Bor Text) → Answer
 asked_from state [] = Err (at_end state.wanted)
-asked_from state (word ∷ behind) = go (λ s. asked_from s behind) (one_more state word behind)
+asked_from state (word ∷ after) = go (λ s. asked_from s after) (one_more state word after)
 
 -- What all words ask for.
 abbrev pub asked_of : List (Bor Text) → Answer

@@ -24,11 +24,11 @@ abbrev pub closes_at : Option ℕ → ℕ → Bool
 closes_at None len = false
 closes_at (Some n) len = n + 1 == len
 
--- the first closing bracket is the end
+-- the first closing bracket is the last byte
 abbrev pub closes_once : Text → Bool
 closes_once word = closes_at (position_from is_closing 0 word) (length word)
 
--- so many seconds ahead of UTC
+-- the seconds ahead of UTC
 abbrev pub ahead : UtcOffset → ℤ
 ahead o = signed o.is_negative o.seconds
 
@@ -38,17 +38,17 @@ IsComparedTo (Some written) m zone (Ok n) = (ahead written ≡ ahead zone) × (n
 IsComparedTo (Some written) m zone (Err e) = (ahead written ≢ ahead zone)
     × (e ≡ fails.Conflict (record { written = written; zone = zone }))
 
--- The moment has this offset; else both are told.
+-- The moment has this offset; otherwise both offsets are reported.
 abbrev pub IsCompared : Moment → UtcOffset → Result Moment MomentError → Type 0
 IsCompared m zone r = IsComparedTo m.offset m zone r
 
--- It is the offset that the zone has at the instant, where that is one of jiff's.
+-- The moment's offset is the one that the zone has at the instant, if that is an instant of jiff.
 abbrev pub HasOffsetOf : TimeZone → UnixTime → Moment → Result Moment MomentError → Type 0
 HasOffsetOf zone u m r =
     ((o : UtcOffset) × IsAhead (offset_at zone (instant u)) o × IsCompared m o r)
     ⊎ ((IsTimestampNanos (instant u) → ⊥) × (r ≡ Err fails.Years))
 
--- A zone of the name; or there is none; or memory ran out.
+-- There is a zone of this name; or there is none; or memory ran out.
 abbrev pub IsOfZoneNamed : TimeZoneDatabase → Text → UnixTime → Moment → Result Moment MomentError → Type 0
 IsOfZoneNamed zones name u m r =
     ((zone : TimeZone) × IsZoneNamed zones name zone × HasOffsetOf zone u m r)
@@ -59,6 +59,6 @@ abbrev pub IsInAgreementAt : Option UnixTime → TimeZoneDatabase → Text → M
 IsInAgreementAt None zones name m r = r ≡ Err fails.NoOffset
 IsInAgreementAt (Some u) zones name m r = IsOfZoneNamed zones name u m r
 
--- The moment is an instant, and the zone of this name has its offset then.
+-- The moment is an instant, and the zone of this name has its offset at that instant.
 abbrev pub IsInAgreement : TimeZoneDatabase → Text → Moment → Result Moment MomentError → Type 0
 IsInAgreement zones name m r = IsInAgreementAt (instant_of m) zones name m r

@@ -1,4 +1,4 @@
--- Descriptions in a language of `time`, and what is told of formats that are none.
+-- Descriptions in a language of `time`, and what is reported about formats that can't be converted.
 use Rattle.std.specs.Prelude.{ℕ, ◌≡◌, codes, decimal, ◌++◌, string_bytes}
 use Rattle.timefd_component.specs.Tree.{Text}
 use Rattle.timefd_dialect.specs.Answers.{IsConverted, IsRefusedFor}
@@ -41,7 +41,7 @@ abbrev pub IsRefusedIn : Wording → Text → DialectError → Type 0
 IsRefusedIn wording text e =
     (dialect : Dialect) × (wording ≡ wordings.Other dialect) × IsRefusedFor dialect text e
 
--- what is said of a reason, and what to do
+-- the sentence on a reason, and what to do
 abbrev pub why : Reason → Text
 why reason = sentence reason ++ (codes ". " ++ cure reason)
 

@@ -16,7 +16,7 @@ use Rattle.timefd_write.specs.declared.description.Reading.TheVariants as read
 abbrev pub IsSpelled : Language → Text → Type 0
 IsSpelled language text = (list : List Tree) × SpellsIn language nesting_limit text list
 
--- the list as items of strftime
+-- items of strftime that are this list
 abbrev pub AreItems : List Tree → BorrowedOutput → Type 0
 AreItems list (Items items) = map item_tree items.items ≡ list
 AreItems list (Description d) = ⊥

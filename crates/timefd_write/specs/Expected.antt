@@ -1,4 +1,4 @@
--- The literal of a description that a text doesn't go on with.
+-- The literal that a description expects where a text fails to match it.
 use Rattle.std.specs.Prelude.{ℕ, suc, ◌≡◌, ◌<◌, Bool, true, false, List, length, map, take, get_or, Result, Ok, Err}
 use denote.Ref.{Bor}
 use Rattle.timefd_component.specs.Tree.{Text, Tree, Trees, compound, literal, no_trees, trees}
@@ -26,16 +26,16 @@ is_literal (for.Contradiction c) = false
 is_literal for.Literal = true
 is_literal for.Trailing = false
 
--- a text doesn't go on with a literal
+-- the text fails at a literal
 abbrev pub is_stop : {A : Type 0} → Result A ReadError → Bool
 is_stop (Ok a) = false
 is_stop (Err u) = is_literal u.reason
 
--- the same of a text that is read by these parts in turn
+-- a text, read by these parts in order, fails at a literal
 abbrev pub stops : List Tree → Text → Bool
 stops ts text = is_stop (fields_of (compound (trees ts)) text)
 
--- It goes on with so many parts, and not with the literal after them.
+-- The text matches this many parts, and fails at the literal after them.
 abbrev pub IsStop : List Tree → Text → ℕ → Type 0
 IsStop ts text n =
     (n < length ts) × (stops (take n ts) text ≡ false) × (stops (take (suc n) ts) text ≡ true)
@@ -55,6 +55,6 @@ abbrev pub IsExpectedOfKind : SourceKind → Text → Text → Type 0
 IsExpectedOfKind (kinds.Names n) text bytes = ⊥
 IsExpectedOfKind (kinds.Texts o) text bytes = IsExpectedBy o text bytes
 
--- The description has this literal where the text doesn't go on with it.
+-- The description has this literal where the text fails to match it.
 abbrev pub IsExpectedIn : Source → Text → Text → Type 0
 IsExpectedIn source text bytes = IsExpectedOfKind source.kind text bytes

@@ -8,11 +8,11 @@ use Rattle.timefd_write.specs.declared.frame.Cell.{Cell}
 use Rattle.timefd_write.specs.declared.quoting.Quoting.{Quoting}
 use Rattle.timefd_write.specs.declared.quoting.Quoting.TheVariants.{Start, Bare, Inside, Closed}
 
--- after a byte that stands in no quotes: a comma begins another field
+-- after a byte outside of quotes: a comma begins another field
 abbrev pub bare_after : ℕ → Quoting
 bare_after b = if nat_eq b 44 then Start else Bare
 
--- A quote opens the quotes of a field at its start alone; within them two stand for one.
+-- A quote opens the quotes of a field only at its start. Within quotes, two quotes mean one.
 abbrev pub after : Quoting → ℕ → Quoting
 after Start b = if nat_eq b 34 then Inside else bare_after b
 after Bare b = bare_after b
@@ -29,19 +29,19 @@ is_inside Bare = false
 is_inside Inside = true
 is_inside Closed = false
 
--- a comma in no quotes
+-- a comma outside of quotes
 abbrev pub ends_field : Quoting → ℕ → Bool
 ends_field Start b = nat_eq b 44
 ends_field Bare b = nat_eq b 44
 ends_field Inside b = false
 ends_field Closed b = nat_eq b 44
 
--- more bytes of the first field
+-- the first field with more bytes in front
 abbrev pub with_front : Text → List Text → List Text
 with_front front [] = []
 with_front front (field ∷ fields) = (front ++ field) ∷ fields
 
--- the fields of what is left of a record, byte for byte
+-- the fields of the rest of a record, byte for byte
 abbrev pub fields_from : Quoting → Text → List Text
 fields_from q [] = [] ∷ []
 fields_from q (b ∷ bs) =
@@ -55,17 +55,17 @@ abbrev pub fields_of_rest : Option (Bor Text) → List Text
 fields_of_rest None = []
 fields_of_rest (Some rest) = fields rest.now
 
--- what follows a field: a comma and the others
+-- what follows a field: a comma and the other fields
 abbrev pub after_field : Option (Bor Text) → Text
 after_field None = []
 after_field (Some rest) = 44 ∷ rest.now
 
--- The first field of a record, and what is left after its comma.
+-- The first field of a record, and what follows its comma.
 abbrev pub IsSplit : Text → Split → Type 0
 IsSplit row split = (fields row ≡ split.field.now ∷ fields_of_rest split.rest)
     × (row ≡ split.field.now ++ after_field split.rest)
 
--- what a byte of a field stands for: a quote that opens or closes is none of its text
+-- what a byte adds to the text of its field: a quote that opens or closes adds nothing
 abbrev pub shown : Quoting → ℕ → Text
 shown Start b = if nat_eq b 34 then [] else b ∷ []
 shown Bare b = b ∷ []
@@ -76,7 +76,7 @@ abbrev pub text_from : Quoting → Text → Text
 text_from q [] = []
 text_from q (b ∷ bs) = shown q b ++ text_from (after q b) bs
 
--- the text of a field: without its quotes, where it has some
+-- the text of a field, without its quotes if it has some
 abbrev pub text_of : Text → Text
 text_of field = text_from Start field
 
@@ -86,20 +86,20 @@ joined [] = []
 joined (field ∷ []) = field
 joined (field ∷ next ∷ fields) = field ++ (44 ∷ joined (next ∷ fields))
 
--- another field in place of the one after some others
+-- the fields, with another one instead of the one at this index
 abbrev pub with_field : ℕ → Text → List Text → List Text
 with_field n new [] = []
 with_field zero new (field ∷ fields) = new ∷ fields
 with_field (suc n) new (field ∷ fields) = field ∷ with_field n new fields
 
--- the field after some others
+-- the field at this index
 abbrev pub field_after : ℕ → List Text → Option Text
 field_after n [] = None
 field_after zero (field ∷ fields) = Some field
 field_after (suc n) (field ∷ fields) = field_after n fields
 
--- The field after some others, and what stands around it: with another one in its place these are the record with that
--- field changed, and nothing else.
+-- The field at this index, with what is before and after it. These three are the record; and with another
+-- field in the middle they are the record with that field changed, and nothing else.
 abbrev pub IsCell : ℕ → Text → Cell → Type 0
 IsCell n row cell = (field_after n (fields (without_newline row)) ≡ Some cell.field.now)
     × ((new : Text) → cell.front.now ++ (new ++ cell.after.now)

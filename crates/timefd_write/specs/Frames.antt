@@ -1,4 +1,4 @@
--- What is written of a text, with what stands around it; and what in place of it.
+-- What is written of a text and around it, and what is written instead of it.
 use Rattle.std.specs.Prelude.{ℕ, ◌≡◌, Bool, ◌||◌, nat_eq, List, [], ◌∷◌, ◌++◌, codes, Option, if◌then◌else◌, ⊤}
 use Rattle.std.specs.Io.KnownBytes.{Appends}
 use Rattle.std.specs.List.{list_any, starts_with}
@@ -10,7 +10,7 @@ use Rattle.timefd_write.specs.declared.otherwise.Otherwise.TheVariants as otherw
 use Rattle.timefd_write.specs.declared.outcome.RunError.{RunError}
 use Rattle.timefd_write.specs.declared.outcome.RunError.TheVariants as stops
 
--- In a field with quotes each quote stands twice.
+-- In a field with quotes each quote is doubled.
 abbrev pub doubled_byte : ℕ → Text
 doubled_byte b = if nat_eq b 34 then 34 ∷ 34 ∷ [] else b ∷ []
 
@@ -28,12 +28,12 @@ is_quoted field = starts_with nat_eq field (codes "\"")
 abbrev pub wants_quotes : ℕ → Bool
 wants_quotes b = nat_eq b 44 || nat_eq b 34 || nat_eq b 10 || nat_eq b 13
 
--- A text in place of a field has quotes where that had some, and where it wants some.
+-- A text that replaces a field has quotes if the field had some, or if the text needs them.
 abbrev pub field_of : Text → Text → Text
 field_of old text =
     if is_quoted old || list_any wants_quotes text then quoted text else text
 
--- a text with what stands around it
+-- a text with what is written around it
 abbrev pub framed : Frame → Text → Text
 framed Line text = text ++ codes "\n"
 framed (Field cell) text =
@@ -49,14 +49,15 @@ abbrev pub emptied : Frame → Text
 emptied Line = codes "\n"
 emptied (Field cell) = cell.front.now ++ cell.after.now
 
--- What is written in place of a moment that has no text: where the run is to fail, nothing goes on.
+-- What is written instead of a moment that has no text. If the run should fail there, it doesn't go
+-- on.
 abbrev pub Replaces : Otherwise → Frame → Text → Option Text → Option Text → Type 0
 Replaces otherwise.Nothing frame text before after = after ≡ before
 Replaces otherwise.Keep frame text before after = Appends before after (kept frame text)
 Replaces otherwise.Empty frame text before after = Appends before after (emptied frame)
 Replaces otherwise.Fail frame text before after = ⊥
 
--- A run ends at a moment that has no text only where that is asked for.
+-- A run ends early at a moment without a text only if `--else fail` asks for that.
 abbrev pub EndsOnlyAsAsked : Otherwise → RunError → Type 0
 EndsOnlyAsAsked o stops.Memory = ⊤
 EndsOnlyAsAsked o stops.Write = ⊤

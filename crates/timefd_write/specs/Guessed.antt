@@ -1,4 +1,4 @@
--- What is written of texts whose description is to be found.
+-- What is written about texts whose description is looked for.
 use Rattle.std.specs.Prelude.{ℕ, ◌≡◌, ◌++◌, Bool, true, false, List, [], ◌∷◌, codes, decimal, length, Option}
 use Rattle.std.specs.Io.KnownBytes.{Appends}
 use Rattle.timefd_component.specs.Tree.{Text}
@@ -18,13 +18,14 @@ abbrev pub is_any : List Guess → Bool
 is_any [] = false
 is_any (guess ∷ more) = true
 
--- The descriptions that may be meant are written, a line each, and whether there is one is answered.
+-- The descriptions that may be meant are written, one a line, and the result says whether there is
+-- one.
 abbrev pub WritesGuesses : List Text → Option Text → Option Text → Bool → Type 0
 WritesGuesses texts before after found =
     (guesses : List Guess) × AreGuesses all_entries texts guesses
     × Appends before after (guess_lines guesses) × (found ≡ is_any guesses)
 
--- of texts that don't tell day and month apart
+-- the message about texts that don't show which number is the day and which is the month
 abbrev pub swapped_message : ℕ → ℕ → Text
 swapped_message undecided count =
     codes "timefd_format: day and month may be swapped: " ++ (decimal undecided

@@ -18,7 +18,7 @@ use Rattle.timefd_write.specs.declared.names.Now.TheVariants.{Shown, NoClock, No
 use Rattle.timefd_write.specs.Brackets.{IsInAgreement, closes_once}
 use Rattle.timefd_write.specs.Seconds.{IsAtSeconds, after_at}
 
--- what the clock shows, if it can be read, in the zone of `TZ`, if it names one
+-- what the clock shows in the zone of `TZ`, if the clock can be read and `TZ` names a zone
 abbrev pub IsOfNow : Now → Result Moment MomentError → Type 0
 IsOfNow (Shown m) r = r ≡ Ok m
 IsOfNow NoClock r = r ≡ Err fails.Clock
@@ -37,8 +37,8 @@ IsCheckedBy None zones word m r = IsUnless (ends_with nat_eq word (codes "]")) m
 IsCheckedBy (Some (Named name)) zones word m r = IsAnnotatedIf (closes_once word) zones name.now m r
 IsCheckedBy (Some (Offset seconds)) zones word m r = r ≡ Err fails.Brackets
 
--- A time zone in brackets has to agree with the moment. What else stands in brackets is passed over by jiff's
--- grammar, so it is refused.
+-- A time zone in brackets has to agree with the moment. Jiff's grammar skips anything else in brackets, so it
+-- is refused here.
 abbrev pub IsChecked : TimeZoneDatabase → Text → Annotated → Result Moment MomentError → Type 0
 IsChecked zones word a r = IsCheckedBy a.zone zones word a.moment r
 

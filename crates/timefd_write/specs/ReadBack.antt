@@ -1,4 +1,4 @@
--- The moment that a text shows by a description.
+-- The moment that a text shows, read by a description.
 use Rattle.std.specs.Prelude.{◌≡◌, List, map, Option, Some, None, Result, Ok, Err, ⊤}
 use denote.Ref.{Bor}
 use Rattle.timefd_component.specs.Tree.{Text, Tree, compound, trees}
@@ -19,22 +19,22 @@ use Rattle.timefd_write.specs.Absent.{absent_day}
 use Rattle.timefd_write.specs.declared.moment.MomentError.{MomentError}
 use Rattle.timefd_write.specs.declared.moment.MomentError.TheVariants as fails
 
--- what a description is a text of
+-- the tree of a description
 abbrev pub tree_of : BorrowedOutput → Tree
 tree_of (Items items) = compound (trees (item_trees items.items))
 tree_of (Description d) = description_tree d
 
--- The description is these components and literals in turn.
+-- The description is the sequence of these components and literals.
 abbrev pub IsMadeOf : BorrowedOutput → List Leaf → Type 0
 IsMadeOf o leaves = tree_of o ≡ compound (trees (map leaf_tree leaves))
 
--- The leaves, where some are given, are those of the description.
+-- If leaves are given, they are those of the description.
 abbrev pub AreLeavesOf : BorrowedOutput → Option (Bor (List Leaf)) → Type 0
 AreLeavesOf o None = ⊤
 AreLeavesOf o (Some leaves) = IsMadeOf o leaves.now
 
--- Why the fields are those of no moment: a part is missing; or some disagree, and then the day is named, where
--- there is no such day.
+-- Why the fields aren't those of a moment: a part is missing, or some disagree. If there is no such day, the
+-- error says so.
 abbrev pub IsNoMoment : Fields → MomentError → Type 0
 IsNoMoment f (fails.Value (error.Missing p)) = IsMomentOf f (Err (error.Missing p))
 IsNoMoment f (fails.Value (error.Contradiction p)) =
@@ -48,6 +48,6 @@ IsOfFields (Ok f) (Ok m) = IsMomentOf f (Ok m)
 IsOfFields (Ok f) (Err e) = IsNoMoment f e
 IsOfFields (Err u) r = r ≡ Err (fails.Unread u)
 
--- The moment that the whole text shows by the description, or the first fault.
+-- The moment that the whole text shows by the description, or its first fault.
 abbrev pub IsReadBack : BorrowedOutput → Text → Result Moment MomentError → Type 0
 IsReadBack o text r = IsOfFields (fields_of (tree_of o) text) r

@@ -1,4 +1,4 @@
--- The records of comma-separated values, which go over the end of a line within quotes.
+-- The records of comma-separated values. Within quotes, a record goes on after the end of a line.
 use Rattle.std.specs.Prelude.{ℕ, suc, ◌==◌, ◌≡◌, ◌≢◌, Bool, true, false, ◌&&◌, nat_eq, List, [], ◌∷◌, ◌++◌, not, Option, Some, None, Result, Ok, Err, drop, if◌then◌else◌, ⊤}
 use Rattle.std.specs.Cmp.Lexicographic.{pointwise}
 use Rattle.std.specs.Io.KnownBytes.{IsAtEnd}
@@ -13,16 +13,16 @@ use Rattle.timefd_write.specs.declared.records.RecordRead.{RecordRead}
 use Rattle.timefd_write.specs.declared.records.RecordRead.TheVariants as reads
 use Rattle.timefd_write.specs.Fields.{after, after_all, fields, is_inside, text_of}
 
--- a newline in no quotes
+-- a newline outside of quotes
 abbrev pub ends_record : Quoting → ℕ → Bool
 ends_record q b = b == 10 && not (is_inside q)
 
--- the rest of a record, up to its newline or to the end of all
+-- the rest of a record, up to its newline or to the end of the bytes
 abbrev pub record_from : Quoting → Text → Text
 record_from q [] = []
 record_from q (b ∷ bs) = if ends_record q b then b ∷ [] else b ∷ record_from (after q b) bs
 
--- what is left after it
+-- what follows the record
 abbrev pub left_from : Quoting → Text → Text
 left_from q [] = []
 left_from q (b ∷ bs) = if ends_record q b then bs else left_from (after q b) bs
@@ -31,25 +31,25 @@ left_from q (b ∷ bs) = if ends_record q b then bs else left_from (after q b) b
 abbrev pub is_open : Text → Bool
 is_open row = is_inside (after_all Start row)
 
--- The records of some bytes, up to a rest.
+-- The first records of some bytes, and the rest after them.
 abbrev pub AreRecords : Text → List Text → Text → Type 0
 AreRecords bytes [] rest = bytes ≡ rest
 AreRecords bytes (row ∷ records) rest = (row ≢ []) × (row ≡ record_from Start bytes)
     × AreRecords (left_from Start bytes) records rest
 
--- All records of a reader's bytes, where those are known; only those before a rest where it fails.
+-- All records of a reader's bytes, if those are known. If a read fails, only those before the rest.
 abbrev pub AreRecordsOf : Option Text → List Text → Bool → Type 0
 AreRecordsOf None records failed = ⊤
 AreRecordsOf (Some bytes) records true = (rest : Text) × AreRecords bytes records rest
 AreRecordsOf (Some bytes) records false = AreRecords bytes records []
 
--- a record that is read off the front of the bytes
+-- a record that is taken from the front of the bytes
 abbrev pub IsNextRecord : Option Text → Text → Option Text → Type 0
 IsNextRecord None row rest = ⊤
 IsNextRecord (Some bytes) row rest = (row ≢ []) × (row ≡ record_from Start bytes)
     × (rest ≡ Some (left_from Start bytes))
 
--- What a read of a record does: nothing is known of a reader that has failed.
+-- What reading a record does. Nothing is known about a reader that has failed.
 abbrev pub IsRecordRead : Option Text → Option Text → Text → RecordRead → Type 0
 IsRecordRead old new row (reads.Record lines) =
     IsNextRecord old row new × (is_open row ≡ false)
@@ -57,17 +57,17 @@ IsRecordRead old new row reads.Open = IsNextRecord old row new × (is_open row �
 IsRecordRead old new row reads.End = IsAtEnd old
 IsRecordRead old new row reads.Failed = ⊤
 
--- what the end comes to after some bytes of a record
+-- what the end of the input means after some bytes of a record
 abbrev pub at_end : Text → Quoting → RecordRead
 at_end [] q = reads.End
 at_end (b ∷ bs) q = if is_inside q then reads.Open else reads.Record 1
 
--- the first record without the mark of UTF-8 that some programs write before it
+-- the first record without the byte order mark of UTF-8, which some programs write before it
 abbrev pub without_mark : Text → Text
 without_mark text =
     if starts_with nat_eq text (239 ∷ 187 ∷ 191 ∷ []) then drop 3 text else text
 
--- What one more field adds: whether it has the name, which no field has twice.
+-- What one more field adds: whether it has the name. Two fields may not have it.
 abbrev pub named_step : Option ℕ → ℕ → Bool → Result (Option ℕ) HeaderError
 named_step found at false = Ok found
 named_step None at true = Ok (Some at)
@@ -82,7 +82,7 @@ abbrev pub named_go : (Option ℕ → Result ℕ HeaderError) → Result (Option
 named_go more (Ok found) = more found
 named_go more (Err e) = Err e
 
--- The one field that has the name, by how many others stand before it.
+-- The index of the one field that has the name.
 abbrev pub named_from : Text → Option ℕ → ℕ → List Text → Result ℕ HeaderError
 named_from name found at [] = named_end found
 named_from name found at (field ∷ others) =

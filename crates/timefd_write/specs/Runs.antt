@@ -17,37 +17,37 @@ use Rattle.timefd_write.specs.Tables.{IsTable}
 use Rattle.timefd_write.specs.Warned.{warned_by}
 use Rattle.timefd_write.specs.Written.{Runs, RunsOver}
 
--- The lines of the input have moments; or the column has, where one is asked for.
+-- The moments are those of the input's lines, or those of a column if one is asked for.
 abbrev pub IsInputRun : Option Column → Otherwise → Source → BorrowedOutput → Option Text → Option Text
     → Option Text → Tally → Type 0
-IsInputRun None otherwise source o input before behind tally =
-    RunsOver otherwise source o input before behind tally
-IsInputRun (Some column) otherwise source o input before behind tally =
-    IsTable otherwise source o column input before behind tally
+IsInputRun None otherwise source o input before after tally =
+    RunsOver otherwise source o input before after tally
+IsInputRun (Some column) otherwise source o input before after tally =
+    IsTable otherwise source o column input before after tally
 
--- The words have moments; where there is none, the input has.
+-- The moments are those of the words, or those of the input if there is no word.
 abbrev pub IsRunOf : Option Column → Otherwise → Source → BorrowedOutput → List Text → Option Text
     → Option Text → Option Text → Tally → Type 0
-IsRunOf column otherwise source o [] input before behind tally =
-    IsInputRun column otherwise source o input before behind tally
-IsRunOf column otherwise source o (word ∷ words) input before behind tally =
-    Runs false otherwise source o (word ∷ words) before behind tally
+IsRunOf column otherwise source o [] input before after tally =
+    IsInputRun column otherwise source o input before after tally
+IsRunOf column otherwise source o (word ∷ words) input before after tally =
+    Runs false otherwise source o (word ∷ words) before after tally
 
--- By the description that the text spells; where it is refused, nothing is written. The warnings that are told are
--- those of the descriptions, unless they are left out.
+-- The run goes by the description that the text spells. If that is refused, nothing is written. The warnings
+-- that are reported are those of the descriptions, unless they are left out.
 abbrev pub IsRunFrom : Option Column → Otherwise → Source → Bool → Languages → Text → List Text → Option Text → Option Text
     → Option Text → RunEnd → Type 0
-IsRunFrom column otherwise source quiet languages text words input before behind ends.Refused =
-    IsFaulty languages.written text × (behind ≡ before)
-IsRunFrom column otherwise source quiet languages text words input before behind (ends.Done warned tally) =
+IsRunFrom column otherwise source quiet languages text words input before after ends.Refused =
+    IsFaulty languages.written text × (after ≡ before)
+IsRunFrom column otherwise source quiet languages text words input before after (ends.Done warned tally) =
     (o : BorrowedOutput) × IsDescribed languages.written text o
     × (warned ≡ warned_by quiet languages source o)
-    × IsRunOf column otherwise source o words input before behind tally
+    × IsRunOf column otherwise source o words input before after tally
 
--- Where the description to read by is refused, nothing is written.
+-- If the description to read by is refused, nothing is written.
 abbrev pub IsRun : Option Column → Otherwise → Clocks → Bool → Languages → Option (Bor Text) → Text → List Text
     → Option Text → Option Text → Option Text → RunEnd → Type 0
-IsRun column otherwise clocks quiet languages read text words input before behind end =
-    (IsSourceOf clocks languages.read read None × (behind ≡ before) × (end ≡ ends.Refused))
+IsRun column otherwise clocks quiet languages read text words input before after end =
+    (IsSourceOf clocks languages.read read None × (after ≡ before) × (end ≡ ends.Refused))
     ⊎ ((source : Source) × IsSourceOf clocks languages.read read (Some source)
-    × IsRunFrom column otherwise source quiet languages text words input before behind end)
+    × IsRunFrom column otherwise source quiet languages text words input before after end)

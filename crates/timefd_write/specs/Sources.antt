@@ -1,4 +1,4 @@
--- What words are, and the moments that they name or show.
+-- What the words of a run are, and the moments that they name or show.
 use Rattle.std.specs.Prelude.{◌≡◌, List, Option, Some, None, Result, ⊤}
 use denote.Ref.{Bor}
 use Rattle.timefd_component.specs.Tree.{Text}
@@ -19,7 +19,7 @@ use Rattle.timefd_write.specs.Moments.{IsNamed}
 use Rattle.timefd_write.specs.ReadBack.{IsMadeOf, IsReadBack}
 use Rattle.timefd_write.specs.Zones.{IsShownBy}
 
--- A text is refused for the fault that the rules assign to it.
+-- A text is refused only for the fault that the rules assign to it.
 abbrev pub IsFaulty : Language → Text → Type 0
 IsFaulty language text = (f : Fault) × FaultIn language nesting_limit text f
 
@@ -29,7 +29,7 @@ IsKindOf names language None (kinds.Texts o) = ⊥
 IsKindOf names language (Some text) (kinds.Names n) = ⊥
 IsKindOf names language (Some text) (kinds.Texts o) = IsDescribed language text.now o
 
--- Words are texts of a description where one is given, and else names.
+-- Words are texts of a description if one is given, and names otherwise.
 abbrev pub IsSourceOf : Clocks → Language → Option (Bor Text) → Option Source → Type 0
 IsSourceOf clocks language None None = ⊥
 IsSourceOf clocks language (Some text) None = IsFaulty language text.now
@@ -44,7 +44,7 @@ IsFoundBy (kinds.Texts o) word r = IsReadBack o word r
 abbrev pub IsFoundIn : Source → Text → Result Moment MomentError → Type 0
 IsFoundIn source word r = IsFoundBy source.kind word r
 
--- The same on the clock of the zone, where there is one.
+-- The moment of a word, shown on the clock of the zone if there is one.
 abbrev pub IsMomentIn : Source → Text → Result Moment MomentError → Type 0
 IsMomentIn source word r =
     (found : Result Moment MomentError) × IsFoundIn source word found × IsShownBy source.zone found r
@@ -53,11 +53,11 @@ abbrev pub IsTextOfKind : SourceKind → List Leaf → Type 0
 IsTextOfKind (kinds.Names n) leaves = ⊥
 IsTextOfKind (kinds.Texts o) leaves = IsMadeOf o leaves
 
--- The description that words are texts of is these components and literals in turn.
+-- The description to read by is the sequence of these components and literals.
 abbrev pub IsTextOf : Source → List Leaf → Type 0
 IsTextOf source leaves = IsTextOfKind source.kind leaves
 
--- The leaves, where some are given, are those of that description.
+-- If leaves are given, they are those of that description.
 abbrev pub AreLeavesIn : Source → Option (Bor (List Leaf)) → Type 0
 AreLeavesIn source None = ⊤
 AreLeavesIn source (Some leaves) = IsTextOf source leaves.now

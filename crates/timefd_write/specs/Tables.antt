@@ -1,4 +1,4 @@
--- What is written of a table, record after record.
+-- What is written of a table, one record after another.
 use Rattle.std.specs.Prelude.{ℕ, ◌≡◌, Bool, true, false, List, [], ◌∷◌, ◌⊎◌, Option, Some, None, Result, Ok, Err}
 use Rattle.std.specs.Io.KnownBytes.{Appends, IsAtEnd}
 use Rattle.timefd_component.specs.Tree.{Text}
@@ -19,14 +19,14 @@ use Rattle.timefd_write.specs.Records.{AreRecordsOf, IsNextRecord, is_open, name
 use Rattle.timefd_write.specs.Tallies.{at_end, both, refused}
 use Rattle.timefd_write.specs.Written.{IsTallyOf}
 
--- A record that has no such field stays as it is, unless it is to be left out or the run is to fail.
+-- A record without the field stays as it is, unless it is to be left out or the run should fail.
 abbrev pub ReplacesRecord : Otherwise → Text → Option Text → Option Text → Type 0
 ReplacesRecord otherwise.Nothing row before after = after ≡ before
 ReplacesRecord otherwise.Keep row before after = Appends before after row
 ReplacesRecord otherwise.Empty row before after = Appends before after row
 ReplacesRecord otherwise.Fail row before after = ⊥
 
--- What comes of a record by its field after some others, if it has one. That field alone is written anew.
+-- What a record becomes, by its field at this index, if it has one. Only that field is rewritten.
 abbrev pub IsFieldRecord : Option Text → Otherwise → Source → BorrowedOutput → ℕ → Text → Option Text
     → Option Text → Tally → Type 0
 IsFieldRecord None otherwise source o n row before after tally =
@@ -34,7 +34,7 @@ IsFieldRecord None otherwise source o n row before after tally =
 IsFieldRecord (Some field) otherwise source o n row before after tally = (cell : Cell) × IsCell n row cell
     × IsTallyOf otherwise source o (frames.Field cell) (text_of field) before after tally
 
--- An empty line has no field, and stays.
+-- An empty line has no field, and stays as it is.
 abbrev pub IsWholeRecord : Bool → Otherwise → Source → BorrowedOutput → ℕ → Text → Option Text
     → Option Text → Tally → Type 0
 IsWholeRecord true otherwise source o n row before after tally =
@@ -43,7 +43,7 @@ IsWholeRecord false otherwise source o n row before after tally =
     IsFieldRecord (field_after n (fields (without_newline row))) otherwise source o n row before after
     tally
 
--- A record whose last quotes don't end has no field that is sure.
+-- A record whose quotes aren't closed has no certain fields.
 abbrev pub IsRecordBy : Bool → Otherwise → Source → BorrowedOutput → ℕ → Text → Option Text
     → Option Text → Tally → Type 0
 IsRecordBy true otherwise source o n row before after tally =
@@ -51,13 +51,13 @@ IsRecordBy true otherwise source o n row before after tally =
 IsRecordBy false otherwise source o n row before after tally =
     IsWholeRecord (is_empty (without_newline row)) otherwise source o n row before after tally
 
--- What comes of a record.
+-- What a record becomes.
 abbrev pub IsRecord : Otherwise → Source → BorrowedOutput → ℕ → Text → Option Text → Option Text
     → Tally → Type 0
 IsRecord otherwise source o n row before after tally =
     IsRecordBy (is_open row) otherwise source o n row before after tally
 
--- What comes of each record in turn, and of the end after them, where a read has failed or not.
+-- What the records become, one after another, and what the end after them is: whether a read failed.
 abbrev pub RunsRecords : Bool → Otherwise → Source → BorrowedOutput → ℕ → List Text → Option Text
     → Option Text → Tally → Type 0
 RunsRecords failed otherwise source o n [] before after tally =
@@ -66,7 +66,7 @@ RunsRecords failed otherwise source o n (row ∷ records) before after tally = (
     × (between : Option Text) × (more : Tally) × IsRecord otherwise source o n row before between one
     × RunsRecords failed otherwise source o n records between after more × (tally ≡ both one more)
 
--- The records are those of a reader, all of them unless a read has failed.
+-- The records are those of a reader: all of them, unless a read failed.
 abbrev pub RunsRecordsOn : Bool → Otherwise → Source → BorrowedOutput → ℕ → Option Text → Option Text
     → Option Text → Tally → Type 0
 RunsRecordsOn failed otherwise source o n bytes before after tally = (records : List Text)
@@ -77,7 +77,8 @@ abbrev pub RunsRecordsOver : Otherwise → Source → BorrowedOutput → ℕ →
 RunsRecordsOver otherwise source o n bytes before after tally =
     (failed : Bool) × RunsRecordsOn failed otherwise source o n bytes before after tally
 
--- The first record is kept, and names the column of the others. Where it names none, nothing is written.
+-- The first record is kept, and names the column of the others. If it doesn't name it, nothing is
+-- written.
 abbrev pub IsAfterHeader : Result ℕ HeaderError → Otherwise → Source → BorrowedOutput → Text → Option Text
     → Option Text → Option Text → Tally → Type 0
 IsAfterHeader (Ok n) otherwise source o header rest before after tally = (between : Option Text)
@@ -85,7 +86,7 @@ IsAfterHeader (Ok n) otherwise source o header rest before after tally = (betwee
 IsAfterHeader (Err e) otherwise source o header rest before after tally =
     (after ≡ before) × (tally ≡ refused)
 
--- There is no first record, or it can't be read; or there is one.
+-- There is no first record; or it can't be read; or there is one.
 abbrev pub IsNamedTable : Otherwise → Source → BorrowedOutput → Text → Option Text → Option Text
     → Option Text → Tally → Type 0
 IsNamedTable otherwise source o name bytes before after tally =
@@ -93,7 +94,7 @@ IsNamedTable otherwise source o name bytes before after tally =
     ⊎ ((header : Text) × (rest : Option Text) × IsNextRecord bytes header rest
     × IsAfterHeader (named_in name header) otherwise source o header rest before after tally)
 
--- What comes of a table by the column that is written anew.
+-- What a table becomes, by the column that is rewritten.
 abbrev pub IsTable : Otherwise → Source → BorrowedOutput → Column → Option Text → Option Text
     → Option Text → Tally → Type 0
 IsTable otherwise source o (columns.After n) bytes before after tally =

@@ -1,4 +1,4 @@
--- What comes of words, and the exit status that tells it.
+-- What words come to, and the exit status that reports it.
 use Rattle.std.specs.Prelude.{ℕ, Bool, true, false, ◌||◌, if◌then◌else◌}
 use Rattle.timefd_write.specs.declared.end.RunEnd.{RunEnd}
 use Rattle.timefd_write.specs.declared.end.RunEnd.TheVariants as ends
@@ -21,7 +21,7 @@ is_not_text NotText = true
 abbrev pub at_end : Bool → Tally
 at_end failed = record { is_refused = false; not_text = false; has_failed = failed }
 
--- that of a record without the field that is asked for, and of a table without its column
+-- the tally of a record without the field that is asked for, or of a table without its column
 abbrev pub refused : Tally
 refused = record { is_refused = true; not_text = false; has_failed = false }
 

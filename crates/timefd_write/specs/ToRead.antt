@@ -1,4 +1,4 @@
--- Descriptions that texts are read by, and what is told of them.
+-- Descriptions that texts are read by, and what is reported about them.
 use Rattle.std.specs.Prelude.{ℕ, ◌≡◌, ◌==◌, Bool, true, false, Option, Some, None, codes, decimal, ◌++◌, if◌then◌else◌, string_bytes, ⊤}
 use Rattle.std.specs.declared.alloc.Global.{Global}
 use Rattle.std.specs.declared.string.String.{String}
@@ -24,7 +24,7 @@ abbrev pub IsUnreadIn : Wording → Text → DialectError → Type 0
 IsUnreadIn wording text e =
     (dialect : Dialect) × (wording ≡ wordings.Other dialect) × IsUnreadFor dialect text e
 
--- from this year on
+-- the sentence for texts that are read from this year on
 abbrev pub from_year : ℕ → Bool → Text
 from_year year true =
     codes "texts of the format are read from the year " ++ (decimal year
@@ -36,14 +36,14 @@ abbrev pub of_all_years : Bool → Option Text
 of_all_years true = Some (codes "texts of the format are read where their offset has whole minutes")
 of_all_years false = None
 
--- of which moments alone texts are read
-abbrev pub limits_told : Limits → Option Text
-limits_told limits =
+-- the sentence on which texts are read
+abbrev pub reading_limits_sentence : Limits → Option Text
+reading_limits_sentence limits =
     if limits.first_year == 0 then of_all_years limits.whole_minutes
     else Some (from_year limits.first_year limits.whole_minutes)
 
-abbrev pub IsTold : Option Text → Option (String Global) → Type 0
-IsTold None None = ⊤
-IsTold None (Some text) = ⊥
-IsTold (Some told) None = ⊥
-IsTold (Some told) (Some text) = string_bytes text ≡ told
+abbrev pub IsReported : Option Text → Option (String Global) → Type 0
+IsReported None None = ⊤
+IsReported None (Some text) = ⊥
+IsReported (Some reported) None = ⊥
+IsReported (Some reported) (Some text) = string_bytes text ≡ reported

@@ -1,4 +1,4 @@
--- The warnings that are told of descriptions.
+-- The warnings that are reported about descriptions.
 use Rattle.std.specs.Prelude.{Bool, true, false, List, ◌++◌}
 use Rattle.timefd_component.specs.Tree.{Text, Tree}
 use Rattle.timefd_drawing.specs.declared.draw.Format.{Format}
@@ -18,7 +18,7 @@ use Rattle.timefd_write.specs.declared.language.Languages.{Languages}
 use Rattle.timefd_write.specs.declared.source.Source.{Source}
 use Rattle.timefd_write.specs.declared.source.SourceKind.{SourceKind}
 use Rattle.timefd_write.specs.declared.source.SourceKind.TheVariants.{Names, Texts}
-use Rattle.timefd_write.specs.declared.warned.Warned as told
+use Rattle.timefd_write.specs.declared.warned.Warned as reported
 
 -- how components are written in the language
 abbrev pub spelling_of : Language → Style
@@ -28,18 +28,18 @@ abbrev pub level_if : Bool → Level
 level_if true = Warned
 level_if false = Allowed
 
--- Two warnings, each where parts have it: there is no component, and another language reads one in a text. All others
--- are allowed.
+-- Two warnings, each if the parts call for it: that there is no component, and that another language reads
+-- one in a literal. All others are allowed.
 abbrev pub warned_in : Style → List Tree → Levels
 warned_in style ts =
     with_level (with_level (all_at Allowed) NoComponent (level_if (warns style NoComponent ts))) OtherLanguage
     (level_if (warns style OtherLanguage ts))
 
--- those of a description of the language
+-- the warnings about a description of the language
 abbrev pub warned_of : Language → BorrowedOutput → Levels
 warned_of language o = warned_in (style_of language) (output_parts o)
 
--- none of a description that there is not
+-- no warnings if there is no description
 abbrev pub warned_of_kind : Language → SourceKind → Levels
 warned_of_kind language (Names now) = all_at Allowed
 warned_of_kind language (Texts o) = warned_of language o
@@ -47,16 +47,16 @@ warned_of_kind language (Texts o) = warned_of language o
 abbrev pub warned_of_source : Language → Source → Levels
 warned_of_source language source = warned_of_kind language source.kind
 
--- Each description has those of its own language and parts, unless warnings are left out.
-abbrev pub warned_by : Bool → Languages → Source → BorrowedOutput → told.Warned
+-- Each description gets the warnings of its own language and parts, unless they are left out.
+abbrev pub warned_by : Bool → Languages → Source → BorrowedOutput → reported.Warned
 warned_by true languages source o = record { read = all_at Allowed; written = all_at Allowed }
 warned_by false languages source o = record {
   read = warned_of_source languages.read source;
   written = warned_of languages.written o;
 }
 
--- The messages of the linter on both, in turn.
-abbrev pub warned_text : Bool → Origin → Origin → told.Warned → Text
+-- The linter's messages about both, in order.
+abbrev pub warned_text : Bool → Origin → Origin → reported.Warned → Text
 warned_text colored read written w =
     messages (record { format = Format.Human; is_colored = colored }) read w.read
     ++ messages (record { format = Format.Human; is_colored = colored }) written w.written

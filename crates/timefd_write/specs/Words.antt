@@ -1,4 +1,4 @@
--- What a word is where an option may stand, and what the values of options name.
+-- What a word means where an option may be given, and what the values of options name.
 use Rattle.std.specs.Prelude.{ℕ, zero, suc, ◌+◌, ◌-◌, ◌*◌, ◌&&◌, nat_le, [], ◌∷◌, Option, Some, None, codes, bytes_eq, nat_eq, if◌then◌else◌}
 use Rattle.std.specs.List.{starts_with}
 use denote.Ref.{Bor}
@@ -19,12 +19,12 @@ use Rattle.timefd_write.specs.declared.word.LanguageOption.TheVariants as option
 use Rattle.timefd_write.specs.declared.word.Word.{Word}
 use Rattle.timefd_write.specs.declared.word.Word.TheVariants as words
 
--- the word that an option is whose value is a language
+-- the option as it is written, if its value is a language
 abbrev pub option_name : LanguageOption → Text
 option_name options.Both = codes "--language"
 option_name options.Written = codes "--to-language"
 
--- what begins with a dash looks like an option
+-- a word that begins with a dash looks like an option
 abbrev pub other_word : Text → Word
 other_word word =
     if starts_with nat_eq word (codes "-") then words.Unknown else words.Description
@@ -47,7 +47,7 @@ word_of word =
     else if bytes_eq word (codes "--") then words.End
     else other_word word
 
--- where none is named
+-- the wording if no option names one
 abbrev pub default_wording : Wording
 default_wording = Own (languages.Version Three)
 
@@ -70,7 +70,7 @@ otherwise_named word =
 abbrev pub digit : ℕ → Option ℕ
 digit b = if nat_le 48 b && nat_le b 57 then Some (b - 48) else None
 
--- a digit worth this much, and a number after it
+-- a digit with this weight, and a number after it
 abbrev pub plus : ℕ → Option ℕ → Option ℕ → Option ℕ
 plus worth None more = None
 plus worth (Some d) None = None
@@ -94,7 +94,7 @@ abbrev pub column_by : Option ℕ → Bor Text → Option Column
 column_by (Some number) word = column_numbered number
 column_by None word = Some (Named word)
 
--- A number counts from 1; what is no number is a name.
+-- Numbers count from 1. A word that isn't a number is a name.
 abbrev pub column_named : Bor Text → Option Column
 column_named word = column_by (number_in word.now) word
 

@@ -29,12 +29,13 @@ use Rattle.timefd_write.specs.Frames.{Replaces, framed}
 use Rattle.timefd_write.specs.Sources.{IsMomentIn}
 use Rattle.timefd_write.specs.Tallies.{at_end, tally_of, both}
 
--- The text that a description and a moment determine, or the first component that shows nothing.
+-- The text that a description and a moment determine, or the first component that can't show the
+-- moment.
 abbrev pub written_of : Moment → BorrowedOutput → Result Text Unshown
 written_of m (Items items) = written_all m (trees (item_trees items.items))
 written_of m (Description d) = written m (description_tree d)
 
--- A room ends with that text, from the place on that is answered.
+-- The room ends with that text, from the returned index on.
 abbrev pub EndsWith : Result Text Unshown → Text → Result ℕ FormatError → Type 0
 EndsWith written room (Ok at) = (at ≤ length room) × (written ≡ Ok (drop at room))
 EndsWith written room (Err lacks.Room) = ⊤
@@ -45,7 +46,7 @@ abbrev pub IsLineOf : Result Text Unshown → Text → Type 0
 IsLineOf (Ok text) line = line ≡ text ++ codes "\n"
 IsLineOf (Err u) line = ⊥
 
--- A room ends with that line, from the place on that is answered.
+-- The room ends with that line, from the returned index on.
 abbrev pub EndsWithLine : Result Text Unshown → Text → Result ℕ FormatError → Type 0
 EndsWithLine written room (Ok at) = (at ≤ length room) × IsLineOf written (drop at room)
 EndsWithLine written room (Err lacks.Room) = ⊤
@@ -60,67 +61,67 @@ IsLine (Err v) (Ok line) = ⊥
 IsLine (Err v) (Err (fails.Unshown u)) = u ≡ v
 IsLine (Err v) (Err (fails.Memory e)) = ⊤
 
--- That text is appended with what stands around it, and no other byte.
+-- That text is appended with what is written around it, and no other byte.
 abbrev pub AppendsIn : Frame → Result Text Unshown → Option Text → Option Text → Type 0
-AppendsIn frame (Ok text) before behind = Appends before behind (framed frame text)
-AppendsIn frame (Err u) before behind = ⊥
+AppendsIn frame (Ok text) before after = Appends before after (framed frame text)
+AppendsIn frame (Err u) before after = ⊥
 
--- That text is appended; or nothing is, and this component shows nothing.
+-- That text is appended. Or this component can't show the moment, and nothing is appended.
 abbrev pub IsSent : Frame → Result Text Unshown → Option Text → Option Text → Option Unshown → Type 0
 IsSent frame written before after None = AppendsIn frame written before after
 IsSent frame written before after (Some u) = (written ≡ Err u) × (after ≡ before)
 
--- What comes of a moment of a word, beside what is written before it and behind it.
+-- What the moment of a word becomes, and how that changes what is written.
 abbrev pub IsOneOfMoment : Otherwise → Frame → Text → Moment → BorrowedOutput → Option Text → Option Text
     → Outcome → Type 0
-IsOneOfMoment otherwise frame word m o before behind (came.Written n) =
-    (n ≡ m) × AppendsIn frame (written_of m o) before behind
-IsOneOfMoment otherwise frame word m o before behind (came.Unshown n u) =
-    (n ≡ m) × (written_of m o ≡ Err u) × Replaces otherwise frame word before behind
-IsOneOfMoment otherwise frame word m o before behind (came.Unread e) = ⊥
-IsOneOfMoment otherwise frame word m o before behind came.NotText = ⊥
+IsOneOfMoment otherwise frame word m o before after (came.Written n) =
+    (n ≡ m) × AppendsIn frame (written_of m o) before after
+IsOneOfMoment otherwise frame word m o before after (came.Unshown n u) =
+    (n ≡ m) × (written_of m o ≡ Err u) × Replaces otherwise frame word before after
+IsOneOfMoment otherwise frame word m o before after (came.Unread e) = ⊥
+IsOneOfMoment otherwise frame word m o before after came.NotText = ⊥
 
--- What comes of a word. Where it names or shows a moment that the description shows, that is written; else
--- what is asked for in place of it.
+-- What a word becomes. If it names or shows a moment that the description can show, that is written;
+-- otherwise what `--else` asks for.
 abbrev pub IsOne : Otherwise → Source → BorrowedOutput → Frame → Text → Option Text → Option Text
     → Outcome → Type 0
-IsOne otherwise source o frame word before behind (came.Written m) =
-    IsMomentIn source word (Ok m) × AppendsIn frame (written_of m o) before behind
-IsOne otherwise source o frame word before behind (came.Unshown m u) =
-    IsMomentIn source word (Ok m) × (written_of m o ≡ Err u) × Replaces otherwise frame word before behind
-IsOne otherwise source o frame word before behind (came.Unread e) =
-    IsMomentIn source word (Err e) × Replaces otherwise frame word before behind
-IsOne otherwise source o frame word before behind came.NotText =
-    (¬ IsUtf8 word) × Replaces otherwise frame word before behind
+IsOne otherwise source o frame word before after (came.Written m) =
+    IsMomentIn source word (Ok m) × AppendsIn frame (written_of m o) before after
+IsOne otherwise source o frame word before after (came.Unshown m u) =
+    IsMomentIn source word (Ok m) × (written_of m o ≡ Err u) × Replaces otherwise frame word before after
+IsOne otherwise source o frame word before after (came.Unread e) =
+    IsMomentIn source word (Err e) × Replaces otherwise frame word before after
+IsOne otherwise source o frame word before after came.NotText =
+    (¬ IsUtf8 word) × Replaces otherwise frame word before after
 
 -- what a word adds to the tally
 abbrev pub IsTallyOf : Otherwise → Source → BorrowedOutput → Frame → Text → Option Text → Option Text
     → Tally → Type 0
-IsTallyOf otherwise source o frame word before behind tally =
-    (outcome : Outcome) × IsOne otherwise source o frame word before behind outcome
+IsTallyOf otherwise source o frame word before after tally =
+    (outcome : Outcome) × IsOne otherwise source o frame word before after outcome
     × (tally ≡ tally_of outcome)
 
--- What comes of each word in turn, and of the end behind them, where a read has failed or not.
+-- What the words become, one after another, and what the end after them is: whether a read failed.
 abbrev pub Runs : Bool → Otherwise → Source → BorrowedOutput → List Text → Option Text → Option Text
     → Tally → Type 0
-Runs failed otherwise source o [] before behind tally = (behind ≡ before) × (tally ≡ at_end failed)
-Runs failed otherwise source o (word ∷ words) before behind tally = (outcome : Outcome) × (between : Option Text)
+Runs failed otherwise source o [] before after tally = (after ≡ before) × (tally ≡ at_end failed)
+Runs failed otherwise source o (word ∷ words) before after tally = (outcome : Outcome) × (between : Option Text)
     × (more : Tally) × IsOne otherwise source o Line word before between outcome
-    × Runs failed otherwise source o words between behind more × (tally ≡ both (tally_of outcome) more)
+    × Runs failed otherwise source o words between after more × (tally ≡ both (tally_of outcome) more)
 
--- The words are the lines of a reader, all of them unless a read has failed.
+-- The words are the lines of a reader: all of them, unless a read failed.
 abbrev pub RunsOn : Bool → Otherwise → Source → BorrowedOutput → Option Text → Option Text → Option Text
     → Tally → Type 0
-RunsOn failed otherwise source o bytes before behind tally = (lines : List Text)
+RunsOn failed otherwise source o bytes before after tally = (lines : List Text)
     × AreLinesOf bytes lines failed
-    × Runs failed otherwise source o (map without_newline lines) before behind tally
+    × Runs failed otherwise source o (map without_newline lines) before after tally
 
 abbrev pub RunsOver : Otherwise → Source → BorrowedOutput → Option Text → Option Text → Option Text
     → Tally → Type 0
-RunsOver otherwise source o bytes before behind tally =
-    (failed : Bool) × RunsOn failed otherwise source o bytes before behind tally
+RunsOver otherwise source o bytes before after tally =
+    (failed : Bool) × RunsOn failed otherwise source o bytes before after tally
 
--- What a read of one more line does to some bytes: nothing is known of a reader that has failed.
+-- What reading one more line does to some bytes. Nothing is known about a reader that has failed.
 abbrev pub IsReadMore : Option Text → Option Text → Text → Text → LineRead → Type 0
 IsReadMore old new bytes longer reads.Line =
     (line : Text) × (longer ≡ bytes ++ line) × IsNextLine old line new
@@ -128,7 +129,7 @@ IsReadMore old new bytes longer reads.End =
     IsAtEnd old × (longer ≡ bytes) × IfSome old (λ xs. new ≡ Some [])
 IsReadMore old new bytes longer reads.Failed = ⊤
 
--- What a read of a line does: nothing is known of a reader that has failed.
+-- What reading a line does. Nothing is known about a reader that has failed.
 abbrev pub IsRead : Option Text → Option Text → Text → LineRead → Type 0
 IsRead old new line reads.Line = IsNextLine old line new
 IsRead old new line reads.End = IsAtEnd old

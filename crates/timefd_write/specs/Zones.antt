@@ -1,4 +1,4 @@
--- Moments on the clock of a time zone.
+-- Moments as the clock of a time zone shows them.
 use Rattle.std.specs.Prelude.{◌≡◌, Option, Some, None, Result, Ok, Err}
 use Rattle.jiff_core.specs.Timestamp.{IsTimestampNanos}
 use Rattle.jiff_tz.specs.declared.timezone.TimeZone.{TimeZone}
@@ -27,7 +27,8 @@ IsShownAt zone None r = r ≡ Err fails.NoInstant
 IsShownAt zone (Some u) (Ok m) = IsOnClock zone (instant u) m
 IsShownAt zone (Some u) (Err e) = (e ≡ fails.Years) × (IsTimestampNanos (instant u) → ⊥)
 
--- What a clock in the zone shows at the instant of the moment. None is beyond jiff's years, and of what is no instant.
+-- What a clock in the zone shows at the instant of the moment. It fails if the moment isn't an instant, or is
+-- outside of jiff's years.
 abbrev pub IsInZone : TimeZone → Moment → Result Moment MomentError → Type 0
 IsInZone zone m r = IsShownAt zone (instant_of m) r
 

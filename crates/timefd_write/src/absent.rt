@@ -1,4 +1,4 @@
-//! Days that there are not, as 31 February.
+//! Dates that don't exist, such as 31 February.
 
 ghost use Rattle.std.specs.Prelude.{◌≡◌, ◌≤◌, IfOk, string_bytes};
 ghost use Rattle.timefd_write.specs.Absent as spec;
@@ -7,10 +7,10 @@ use std::alloc::{AllocError, Global};
 use timefd_moment::{ComponentRange, Date};
 use timefd_read_dates::{Fields, Signed};
 
-/// A day that a month doesn't have: of February 2026 the day 31.
+/// A day that its month doesn't have: day 31 of February 2026, for example.
 #[derive(Clone, Copy)]
 pub struct AbsentDay {
-    /// The year, before the year 0 as a negative number.
+    /// The year. Years before the year 0 are negative.
     pub year: i32,
     /// The month, from 1.
     pub month: u8,
@@ -18,8 +18,8 @@ pub struct AbsentDay {
     pub day: u8,
 }
 
-/// The day that the fields have of a month which doesn't have it. `None` where it has, or where a year, a month
-/// and a day weren't all read.
+/// The date in the fields, if its month has no such day. `None` if the month has that day, or if year, month
+/// and day weren't all read.
 pub fn absent_day(fields: &Fields) -> Option<AbsentDay>
     ensures { result ≡ spec.absent_day fields.now }
 {
@@ -29,7 +29,7 @@ pub fn absent_day(fields: &Fields) -> Option<AbsentDay>
     }
 }
 
-// That of these numbers, as far as dates may have them.
+// The same check on the numbers themselves. `None` if they are larger than those of any date.
 fn absent_of(year: Signed, month: u16, day: u16) -> Option<AbsentDay>
     ensures { result ≡ spec.absent_of year month day }
 {

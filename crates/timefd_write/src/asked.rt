@@ -1,93 +1,96 @@
-//! What the words behind the program's name ask for.
+//! What the command line asks for.
 
 ghost use Rattle.std.specs.Prelude.{◌≡◌};
 ghost use Rattle.timefd_write.specs.Asked as spec;
 
+use crate::bare::is_bare;
 use crate::column::{Column, column_named};
 use crate::language::{Wording, Wordings, default_wording, wording_named};
 use crate::otherwise::{Otherwise, otherwise_named};
 use crate::word::{LanguageOption, Word, word_of};
-use timefd_parse::{DescriptionVersion, Language};
 
-/// A description, and the moments that are written by it.
+/// A run that writes moments by a description.
 #[derive(Clone, Copy)]
 pub struct Request<'a> {
     /// The wordings of both descriptions.
     pub wordings: Wordings,
-    /// The text of the description that moments are read by; none, where they are named.
+    /// The text of the description that moments are read by. `None` if moments are named, as `now` or
+    /// by their date.
     pub read: Option<&'a str>,
     /// The text of the description that they are written by.
     pub description: &'a str,
-    /// The column of the standard input that is written anew; none, where its lines are moments.
+    /// The column of the standard input to rewrite. `None` if each line of the input is a moment.
     pub column: Option<Column<'a>>,
-    /// What is written in place of a moment that has no line.
+    /// What is written instead of a moment that couldn't be read or written.
     pub otherwise: Otherwise,
-    /// The name of the time zone on whose clock moments are shown; none, where they stay as they are.
+    /// The name of the time zone whose clock the moments are shown on. `None` if they keep their
+    /// offset.
     pub zone: Option<&'a str>,
-    /// How many of the last words are moments: none, where the standard input is read.
+    /// How many of the last words are moments. With 0, moments come from the standard input.
     pub moment_count: usize,
-    /// Whether warnings are left out.
+    /// Whether to leave out warnings.
     pub is_quiet: bool,
 }
 
-/// Texts whose description is to be found.
+/// A run that looks for the description of some texts.
 #[derive(Clone, Copy)]
 pub struct GuessRequest {
-    /// How many of the last words are texts: none, where the standard input is read.
+    /// How many of the last words are texts. With 0, texts come from the standard input.
     pub text_count: usize,
-    /// Whether it is left out what texts don't tell apart.
+    /// Whether to leave out the note on texts that don't show which number is the day and which is the
+    /// month.
     pub is_quiet: bool,
 }
 
-/// What the words ask for.
+/// What the command line asks for.
 #[derive(Clone, Copy)]
 pub enum Asked<'a> {
-    /// How the program is used.
+    /// How to use the program.
     Help,
     /// The program's version.
     Version,
-    /// A run.
+    /// To write moments.
     Run(Request<'a>),
-    /// The descriptions that texts may be written by.
+    /// To find the descriptions that texts may be written by.
     Guess(GuessRequest),
 }
 
-/// Why words are no arguments of the program.
+/// Why the words are not a valid command line.
 #[derive(Clone, Copy)]
 pub enum OptionError<'a> {
-    /// The word looks like an option, and is none.
+    /// The word looks like an option, but isn't one.
     Unknown(&'a str),
-    /// No word stands after the option.
+    /// No word follows the option.
     MissingLanguage(LanguageOption),
-    /// No word stands behind `--read`.
+    /// No word follows `--read`.
     MissingRead,
-    /// `--read` stands twice.
+    /// `--read` is given twice.
     ReadTwice,
-    /// The word names no language, and is the value of the option.
+    /// The value of the option isn't the name of a language.
     NoLanguage(LanguageOption, &'a str),
-    /// No word stands after `--csv`.
+    /// No word follows `--csv`.
     MissingColumn,
-    /// `--csv` stands twice.
+    /// `--csv` is given twice.
     ColumnTwice,
     /// The value of `--csv` is the number 0.
     NoColumn,
-    /// No word stands after `--else`.
+    /// No word follows `--else`.
     MissingOtherwise,
-    /// The word is no value of `--else`.
+    /// The word isn't a value of `--else`.
     NoOtherwise(&'a str),
-    /// No word stands after `--zone`.
+    /// No word follows `--zone`.
     MissingZone,
-    /// A moment stands after the description beside `--csv`.
+    /// With `--csv`, a moment follows the description.
     MomentBesideColumn,
-    /// `--to-language` stands without `--read`.
+    /// `--to-language` is given without `--read`.
     NothingRead,
-    /// Another option than `--quiet` stands before `--guess`.
+    /// An option other than `--quiet` comes before `--guess`.
     GuessBeside,
     /// There is no description.
     NoDescription,
 }
 
-// What a word has to be, where it is the value of an option.
+// Which option the next word is the value of.
 #[derive(Clone, Copy)]
 enum Wanted {
     Nothing,
@@ -98,27 +101,27 @@ enum Wanted {
     Zone,
 }
 
-// What is known in front of a word.
+/// What the words so far have set.
 #[derive(Clone, Copy)]
-struct State<'a> {
-    language: Wording,
-    to_language: Option<Wording>,
-    read: Option<&'a str>,
-    column: Option<Column<'a>>,
-    otherwise: Option<Otherwise>,
-    zone: Option<&'a str>,
+pub(crate) struct State<'a> {
+    pub(crate) language: Wording,
+    pub(crate) to_language: Option<Wording>,
+    pub(crate) read: Option<&'a str>,
+    pub(crate) column: Option<Column<'a>>,
+    pub(crate) otherwise: Option<Otherwise>,
+    pub(crate) zone: Option<&'a str>,
     is_quiet: bool,
     wanted: Wanted,
 }
 
-// What a word makes of that.
+// What one more word leads to: a new state, or the end.
 #[derive(Clone, Copy)]
 enum Step<'a> {
     Next(State<'a>),
     Done(Result<Asked<'a>, OptionError<'a>>),
 }
 
-/// What the words behind the program's name ask for; or what is wrong with them.
+/// What the words after the program's name ask for, or what is wrong with them.
 #[tactic(auto, using(crate::proofs::AskedLemmas::goes_on, crate::proofs::AskedLemmas::is_done))]
 pub fn asked_of<'a>(words: &'a [&'a str]) -> Result<Asked<'a>, OptionError<'a>>
     ensures { result ≡ spec.asked_of words.now }
@@ -134,17 +137,17 @@ pub fn asked_of<'a>(words: &'a [&'a str]) -> Result<Asked<'a>, OptionError<'a>>
         wanted: Wanted::Nothing,
     };
     let mut rest = words;
-    'words: while let [word, behind @ ..] = rest {
-        match one_more(state, word, behind) {
+    'words: while let [word, after @ ..] = rest {
+        match one_more(state, word, after) {
             Step::Next(next) => state = next,
             Step::Done(asked) => return asked,
         }
-        rest = behind;
+        rest = after;
     }
     Err(at_end(state.wanted))
 }
 
-// What is missing where no word is left.
+// What is missing if there are no more words.
 fn at_end(wanted: Wanted) -> OptionError<'static>
     ensures { result ≡ spec.at_end wanted }
 {
@@ -158,12 +161,12 @@ fn at_end(wanted: Wanted) -> OptionError<'static>
     }
 }
 
-// What one more word comes to, with the words behind it.
-fn one_more<'a>(state: State<'a>, word: &'a str, behind: &'a [&'a str]) -> Step<'a>
-    ensures { result ≡ spec.one_more state.entry word.entry behind.now }
+// Takes one more word. Some options take all the words that follow it too.
+fn one_more<'a>(state: State<'a>, word: &'a str, after: &'a [&'a str]) -> Step<'a>
+    ensures { result ≡ spec.one_more state.entry word.entry after.now }
 {
     match state.wanted {
-        Wanted::Nothing => first(state, word, behind),
+        Wanted::Nothing => first(state, word, after),
         Wanted::Language(option) => with_language(state, option, word),
         Wanted::Read => Step::Next(State {
             read: Some(word),
@@ -180,7 +183,7 @@ fn one_more<'a>(state: State<'a>, word: &'a str, behind: &'a [&'a str]) -> Step<
     }
 }
 
-// A word that is to name the column.
+// Takes a word as the name of the column.
 fn with_column<'a>(state: State<'a>, word: &'a str) -> Step<'a>
     ensures { result ≡ spec.with_column state.entry word.entry }
 {
@@ -194,7 +197,7 @@ fn with_column<'a>(state: State<'a>, word: &'a str) -> Step<'a>
     }
 }
 
-// A word that is to name what stands where a line can't be written.
+// Takes a word as the value of `--else`.
 fn with_otherwise<'a>(state: State<'a>, word: &'a str) -> Step<'a>
     ensures { result ≡ spec.with_otherwise state.entry word.entry }
 {
@@ -208,7 +211,7 @@ fn with_otherwise<'a>(state: State<'a>, word: &'a str) -> Step<'a>
     }
 }
 
-// A word that is to name the language of an option.
+// Takes a word as the language of an option.
 fn with_language<'a>(state: State<'a>, option: LanguageOption, word: &'a str) -> Step<'a>
     ensures { result ≡ spec.with_language state.entry option word.entry }
 {
@@ -218,7 +221,7 @@ fn with_language<'a>(state: State<'a>, option: LanguageOption, word: &'a str) ->
     }
 }
 
-// What is known where an option has this language.
+// The state with this language for the option.
 fn with_option<'a>(state: State<'a>, option: LanguageOption, language: Wording) -> State<'a>
     ensures { result ≡ spec.with_option state.entry option language }
 {
@@ -236,9 +239,9 @@ fn with_option<'a>(state: State<'a>, option: LanguageOption, language: Wording) 
     }
 }
 
-// A word that may be an option.
-fn first<'a>(state: State<'a>, word: &'a str, behind: &'a [&'a str]) -> Step<'a>
-    ensures { result ≡ spec.first state.entry word.entry behind.now }
+// Takes a word that may be an option.
+fn first<'a>(state: State<'a>, word: &'a str, after: &'a [&'a str]) -> Step<'a>
+    ensures { result ≡ spec.first state.entry word.entry after.now }
 {
     match word_of(word) {
         Word::Language(option) => Step::Next(State {
@@ -251,7 +254,7 @@ fn first<'a>(state: State<'a>, word: &'a str, behind: &'a [&'a str]) -> Step<'a>
             wanted: Wanted::Otherwise,
             ..state
         }),
-        Word::Guess => Step::Done(guess(state, behind)),
+        Word::Guess => Step::Done(guess(state, after)),
         Word::Zone => Step::Next(State {
             wanted: Wanted::Zone,
             ..state
@@ -263,12 +266,12 @@ fn first<'a>(state: State<'a>, word: &'a str, behind: &'a [&'a str]) -> Step<'a>
         Word::Help => Step::Done(Ok(Asked::Help)),
         Word::Version => Step::Done(Ok(Asked::Version)),
         Word::Unknown => Step::Done(Err(OptionError::Unknown(word))),
-        Word::End => Step::Done(behind_end(state, behind)),
-        Word::Description => Step::Done(requested(state, word, behind)),
+        Word::End => Step::Done(after_end(state, after)),
+        Word::Description => Step::Done(requested(state, word, after)),
     }
 }
 
-// `--read`, which stands once.
+// `--read`, which may be given once.
 fn before_read<'a>(state: State<'a>) -> Step<'a>
     ensures { result ≡ spec.before_read state.entry }
 {
@@ -281,7 +284,7 @@ fn before_read<'a>(state: State<'a>) -> Step<'a>
     }
 }
 
-// `--guess`, behind which all words are texts.
+// `--guess`: all the words that follow are texts.
 fn guess<'a>(state: State<'a>, words: &'a [&'a str]) -> Result<Asked<'a>, OptionError<'a>>
     ensures { result ≡ spec.guess state.entry words.now }
 {
@@ -294,43 +297,7 @@ fn guess<'a>(state: State<'a>, words: &'a [&'a str]) -> Result<Asked<'a>, Option
     }))
 }
 
-// Whether no other option than `--quiet` is known.
-fn is_bare(state: State<'_>) -> bool
-    ensures { result ≡ spec.is_bare state.entry }
-{
-    is_version_three(state.language) && has_no_description(state) && has_no_table(state)
-}
-
-fn is_version_three(wording: Wording) -> bool
-    ensures { result ≡ spec.is_version_three wording }
-{
-    match wording {
-        Wording::Own(Language::Version(DescriptionVersion::Three)) => true,
-        Wording::Own(Language::Version(DescriptionVersion::One | DescriptionVersion::Two))
-        | Wording::Own(Language::Strftime)
-        | Wording::Other(_) => false,
-    }
-}
-
-fn has_no_description(state: State<'_>) -> bool
-    ensures { result ≡ spec.has_no_description state.entry.to_language state.entry.read }
-{
-    match (state.to_language, state.read) {
-        (None, None) => true,
-        (Some(_), _) | (None, Some(_)) => false,
-    }
-}
-
-fn has_no_table(state: State<'_>) -> bool
-    ensures { result ≡ spec.has_no_table state.entry.column state.entry.otherwise }
-{
-    match (state.column, state.otherwise) {
-        (None, None) => true,
-        (Some(_), _) | (None, Some(_)) => false,
-    }
-}
-
-// `--csv`, which stands once.
+// `--csv`, which may be given once.
 fn before_column<'a>(state: State<'a>) -> Step<'a>
     ensures { result ≡ spec.before_column state.entry }
 {
@@ -343,9 +310,9 @@ fn before_column<'a>(state: State<'a>) -> Step<'a>
     }
 }
 
-// The description behind `--`, and its moments.
-fn behind_end<'a>(state: State<'a>, words: &'a [&'a str]) -> Result<Asked<'a>, OptionError<'a>>
-    ensures { result ≡ spec.behind_end state.entry words.now }
+// After `--` comes the description, then its moments.
+fn after_end<'a>(state: State<'a>, words: &'a [&'a str]) -> Result<Asked<'a>, OptionError<'a>>
+    ensures { result ≡ spec.after_end state.entry words.now }
 {
     match words {
         [] => Err(OptionError::NoDescription),
@@ -378,8 +345,8 @@ fn requested<'a>(
     }
 }
 
-// What stands where a line can't be written. Where nothing else is asked for, a record of a table stays as
-// it is, and a line is left out.
+// What is written where a moment can't be. Without `--else`, a record of a table stays as it is, and a
+// line is left out.
 fn otherwise_of(state: State<'_>) -> Otherwise
     ensures { result ≡ spec.otherwise_of state.entry }
 {
@@ -390,7 +357,7 @@ fn otherwise_of(state: State<'_>) -> Otherwise
     }
 }
 
-// The wordings of both descriptions. `None` where one to write in is named, and nothing is read.
+// The wordings of both descriptions. `None` if a language to write in is named, but nothing to read by.
 fn wordings_of(state: State<'_>) -> Option<Wordings>
     ensures { result ≡ spec.wordings_of state.entry }
 {

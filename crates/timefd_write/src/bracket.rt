@@ -12,14 +12,14 @@ use jiff_tz::{TimeZone, TimeZoneDatabase};
 use timefd_jiff::{Error, offset_in_zone};
 use timefd_moment::{Moment, UnixTime, UtcOffset};
 
-/// Whether a word ends in a bracket.
+/// Whether a word ends with a closing bracket.
 pub fn ends_in_bracket(word: &str) -> bool
     ensures { result ≡ ends_with nat_eq word.now (codes "]") }
 {
     word.as_bytes().ends_with(b"]")
 }
 
-/// Whether the one closing bracket of a word is its end.
+/// Whether a word has a closing bracket at its end and nowhere before.
 pub fn closes_once(word: &str) -> bool
     ensures { result ≡ spec.closes_once word.now }
 {
@@ -29,7 +29,7 @@ pub fn closes_once(word: &str) -> bool
     }
 }
 
-// Where the first closing bracket stands.
+// The byte index of the first closing bracket.
 fn first_closing(word: &str) -> Option<usize>
     ensures value { result ≡ position_from spec.is_closing 0 word.now }
     ensures within { IfSome result (λ at. at < length word.now) }
@@ -37,8 +37,9 @@ fn first_closing(word: &str) -> Option<usize>
     word.as_bytes().iter().position(|byte| *byte == b']')
 }
 
-/// The moment, where the time zone of this name has its offset then. An `Err` says that it has none, that
-/// there is no such zone, or which offset the zone has.
+/// The moment, if its offset is the one that the named time zone has at that instant. An `Err` says that
+/// the moment has no offset, that there is no such zone, that the zone's offset is a different one, that
+/// the year is out of range, or that memory ran out.
 #[tactic(auto, using(crate::proofs::MomentLemmas::not_stored))]
 pub fn in_agreement(
     zones: &TimeZoneDatabase,
@@ -53,11 +54,12 @@ pub fn in_agreement(
     match zones.get(name) {
         Ok(zone) => with_offset_of(&zone, instant, moment),
         Err(Error::TimeZoneNotFound) => Err(MomentError::NoZone),
+        // The clause of `get` leaves no other error than this one.
         Err(_) => Err(MomentError::Memory),
     }
 }
 
-// The moment at this instant, where the zone has its offset then.
+// The moment, if the zone has its offset at this instant.
 fn with_offset_of(
     zone: &TimeZone<'_>,
     instant: UnixTime,
@@ -71,7 +73,7 @@ fn with_offset_of(
     }
 }
 
-// The moment, where this is its offset.
+// The moment, if this is its offset.
 fn compared(moment: Moment, offset: UtcOffset) -> Result<Moment, MomentError>
     ensures { IsCompared moment offset result }
 {

@@ -1,4 +1,4 @@
-//! The moment that is now.
+//! The current moment.
 
 ghost use Rattle.std.specs.Prelude.{IfSome};
 ghost use Rattle.timefd_jiff.specs.Zones.{IsOnClock, instant};
@@ -9,7 +9,7 @@ use std::time::{Clock, SystemTime};
 use timefd_jiff::moment_in_zone;
 use timefd_moment::{Moment, UnixTime};
 
-/// What a clock in the zone shows now; `None` where the clock can't be read, or shows a time before 1970.
+/// What a clock in the zone shows now. `None` if the clock can't be read, or is set before 1970.
 pub fn moment_now<C: Clock>(clock: &C, zone: &TimeZone<'_>) -> Option<Moment>
     ensures { IfSome result (λ moment. (known : Instant) × IsOnClock zone.now (instant known) moment) }
 {

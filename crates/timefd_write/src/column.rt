@@ -1,4 +1,4 @@
-//! The column that is written anew, as `--csv` names it.
+//! The column to rewrite, as `--csv` names it.
 
 ghost use Rattle.std.specs.Prelude.{◌≡◌, ◌≤◌, IfSome};
 ghost use Rattle.timefd_write.specs.Words as spec;
@@ -6,13 +6,13 @@ ghost use Rattle.timefd_write.specs.Words as spec;
 /// A column of a table.
 #[derive(Clone, Copy)]
 pub enum Column<'a> {
-    /// The one after this many others.
+    /// The column after this many others.
     After(usize),
-    /// The one that the first record names so.
+    /// The column that the first record gives this name.
     Named(&'a str),
 }
 
-/// The column that a word names: by its number, counted from 1, or by its name. `None` for the
+/// The column that a word names, by its number, counted from 1, or by its name. `None` for the
 /// number 0.
 pub fn column_named<'a>(word: &'a str) -> Option<Column<'a>>
     ensures { result ≡ spec.column_named word.entry }
@@ -23,7 +23,7 @@ pub fn column_named<'a>(word: &'a str) -> Option<Column<'a>>
     }
 }
 
-// The number that one to four digits are.
+// The number that a word of one to four digits spells.
 fn number_in(word: &str) -> Option<usize>
     ensures { result ≡ spec.number_in word.now }
 {

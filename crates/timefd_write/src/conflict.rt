@@ -1,8 +1,9 @@
-//! Offsets that disagree.
+//! A written offset that disagrees with the time zone in brackets.
 
 use timefd_moment::UtcOffset;
 
-/// An offset that is written, and another one that the time zone in brackets has then.
+/// The offset that is written, and the different one that the time zone in brackets has at that
+/// moment.
 #[derive(Clone, Copy)]
 pub struct Conflict {
     /// The offset before the brackets.

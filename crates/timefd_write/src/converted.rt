@@ -1,5 +1,4 @@
-//! Descriptions in a language of `time`: as they are given, or converted from a format of another
-//! language.
+//! Descriptions in a language of `time`: as given, or converted from a format of another language.
 
 ghost use Rattle.std.specs.Prelude.{◌≡◌, ◌++◌, IfOk, OnOk, string_bytes};
 ghost use Rattle.std.specs.Result.{IfErr};
@@ -13,14 +12,14 @@ use timefd_parse::{DescriptionVersion, Language};
 /// A description in a language of `time`.
 #[derive(Drop)]
 pub enum Described<'a> {
-    /// As it is given.
+    /// As given.
     Own(Language, &'a str),
     /// Converted from a format of another language.
     Converted(Converted),
 }
 
 impl<'a> Described<'a> {
-    /// Its language.
+    /// The language of its text.
     pub fn language(&self) -> Language
         ensures { result ≡ spec.language_of self.now }
     {
@@ -30,7 +29,7 @@ impl<'a> Described<'a> {
         }
     }
 
-    /// Its text.
+    /// The text of the description.
     pub fn text(&self) -> &str
         ensures { result.now ≡ spec.text_of self.now }
     {
@@ -40,7 +39,7 @@ impl<'a> Described<'a> {
         }
     }
 
-    /// Of which moments it writes the same as what was given.
+    /// The moments of which it writes the same as what was given.
     pub fn limits(&self) -> Limits
         ensures { result ≡ spec.limits_of self.now }
     {
@@ -51,9 +50,9 @@ impl<'a> Described<'a> {
     }
 }
 
-/// A description that is given, in a language of `time`. A format of another language is converted.
+/// The given description, in a language of `time`. A format of another language is converted.
 ///
-/// The error is that of a format: a part of it has no text of version 3, or memory ran out.
+/// An `Err` says that a part of the format can't be written in version 3, or that memory ran out.
 pub fn own_description<'a>(
     alloc: Global,
     wording: Wording,
@@ -71,7 +70,7 @@ pub fn own_description<'a>(
     }
 }
 
-/// Why a format is refused, in a sentence, and what to do.
+/// A sentence that says why a format is refused, and what to do. An `Err` says that memory ran out.
 pub fn refused_sentence(alloc: Global, refusal: Refusal) -> Result<String, AllocError>
     ensures { IfOk result (λ text. string_bytes text ≡ spec.refused_sentence refusal) }
 {
@@ -80,14 +79,14 @@ pub fn refused_sentence(alloc: Global, refusal: Refusal) -> Result<String, Alloc
     Ok(text)
 }
 
-/// Where a format is refused.
+/// Says where a format is refused, as a byte index.
 fn at_index(alloc: Global, index: usize) -> Result<String, AllocError>
     ensures { IfOk result (λ text. string_bytes text ≡ spec.at_index index) }
 {
     format!(in alloc; "at byte {index} of the format: ")
 }
 
-/// Appends what is said of a reason, and what to do.
+/// Appends the sentence on a reason, and what to do.
 fn push_why(text: &mut String, reason: Reason) -> Result<(), AllocError>
     ensures { OnOk result (string_bytes text.new ≡ string_bytes text.old ++ spec.why reason) }
 {
@@ -96,7 +95,8 @@ fn push_why(text: &mut String, reason: Reason) -> Result<(), AllocError>
     text.push_str(reason.cure())
 }
 
-/// Of which moments a format writes the same as its text, in a sentence; `None`, if of all.
+/// A sentence that says for which moments a format writes the same as this text. `None` if for all
+/// of them. An `Err` says that memory ran out.
 pub fn limits_sentence(alloc: Global, limits: Limits) -> Result<Option<String>, AllocError> {
     let year = limits.first_year;
     let sentence = match (year, limits.whole_minutes) {

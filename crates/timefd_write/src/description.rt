@@ -1,4 +1,4 @@
-//! A description that moments are written by.
+//! The description that moments are written by.
 
 ghost use Rattle.std.specs.Prelude.{IfOk};
 ghost use Rattle.timefd_parse.specs.declared.language.Language.TheVariants as languages;
@@ -11,16 +11,16 @@ use timefd_parse::{
     parse_strftime_borrowed,
 };
 
-/// What a text is read as.
+/// What reading a text as a description comes to.
 #[derive(Drop)]
 pub enum Reading<'a> {
     /// A description.
     Description(BorrowedOutput<'a>),
-    /// None, and this is wrong with it.
+    /// The text isn't a description, and this is wrong with it.
     Refused(Diagnostic),
 }
 
-/// Reads a text of a language. An `Err` says that memory ran out, and nothing of the text.
+/// Reads a text of a language. An `Err` says that memory ran out; it says nothing about the text.
 pub fn read<'a>(
     alloc: Global,
     language: Language,
@@ -35,7 +35,7 @@ pub fn read<'a>(
     }
 }
 
-// The description that a text spells.
+// The description that a valid text spells.
 fn described<'a>(
     alloc: Global,
     language: Language,

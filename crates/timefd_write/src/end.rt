@@ -1,4 +1,4 @@
-//! How a run ends, and the exit status that tells it.
+//! How a run ends, and its exit status.
 
 ghost use Rattle.std.specs.Prelude.{◌≡◌};
 ghost use Rattle.timefd_write.specs.Tallies as spec;
@@ -6,12 +6,12 @@ ghost use Rattle.timefd_write.specs.Tallies as spec;
 use crate::outcome::Tally;
 use crate::warned::Warned;
 
-/// How a run ends that came to its end.
+/// How a run ends that wasn't broken off.
 #[derive(Clone, Copy)]
 pub enum RunEnd {
     /// The description is refused, and nothing is written.
     Refused,
-    /// Each word was looked at, and these warnings are told of the descriptions.
+    /// Every moment was looked at. It carries the warnings about the descriptions.
     Done(Warned, Tally),
 }
 

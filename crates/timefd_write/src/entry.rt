@@ -1,4 +1,4 @@
-//! A text that is to be a moment, and what comes of it.
+//! One text that should be a moment, and what becomes of it.
 
 ghost use Rattle.std.specs.Prelude.{◌≡◌, IfErr, IfOk};
 ghost use Rattle.timefd_write.specs.Frames.{EndsOnlyAsAsked, IsFailure};
@@ -9,7 +9,7 @@ ghost use Rattle.timefd_write.specs.Written.{IsOne, IsOneOfMoment, IsSent, IsTal
 use crate::field::write_field;
 use crate::frame::{Entry, Frame, replace};
 use crate::line::write_line;
-use crate::message::{NOT_TEXT, tell, unread_message, unshown_message};
+use crate::message::{NOT_TEXT, report, unread_message, unshown_message};
 use crate::otherwise::Otherwise;
 use crate::outcome::{Outcome, RunError, Tally};
 use crate::source::{Source, moment_in};
@@ -21,10 +21,13 @@ use timefd_moment::Moment;
 use timefd_node_list::Leaf;
 use timefd_parse::BorrowedOutput;
 
-/// What one text adds to a tally: its moment is written, or why there is none is told, with the number of its
-/// line, and what is asked for in place of it is written. The leaves are those of the source and of the
-/// description, and the room holds the text where it has room for it. An `Err` says why that wasn't done:
-/// `Refused` that there is no moment, and the run is to end there.
+/// Takes one text and returns what it adds to the tally. Writes its moment; or reports why there is none,
+/// with the number of its line, and writes what `--else` asks for instead. The leaves are those of the source
+/// and of the description. The room should have space for the written text; if it is too small, memory is
+/// allocated.
+///
+/// `Err(RunError::Refused)` says that there is no moment, and that `--else` asks for the end of the run.
+/// Other errors say that memory ran out or that the output failed.
 pub fn tally_one<W: Write, E: Write>(
     alloc: Global,
     source: &Source<'_>,
@@ -58,7 +61,7 @@ pub fn tally_one<W: Write, E: Write>(
     Ok(Tally::of(outcome))
 }
 
-// Writes the moment that a text names or shows, or tells why there is none.
+// Writes the moment that a text names or shows, or reports why there is none.
 #[inline(always)]
 fn write_one<W: Write, E: Write>(
     alloc: Global,
@@ -79,7 +82,7 @@ fn write_one<W: Write, E: Write>(
     ensures ends { IfErr result (EndsOnlyAsAsked otherwise) }
 {
     let Ok(text) = str::from_utf8(entry.text) else {
-        tell(errors, NOT_TEXT.as_bytes());
+        report(errors, NOT_TEXT.as_bytes());
         replace(otherwise, entry, output)?;
         return Ok(Outcome::NotText);
     };
@@ -98,14 +101,14 @@ fn write_one<W: Write, E: Write>(
         ),
         Err(error) => {
             let message = unread_message(alloc, source, entry.line, text, error)?;
-            tell(errors, message.as_bytes());
+            report(errors, message.as_bytes());
             replace(otherwise, entry, output)?;
             Ok(Outcome::Unread(error))
         }
     }
 }
 
-// Writes the moment of a text; or tells which component shows nothing of it.
+// Writes the moment of a text, or reports which component can't show it.
 fn write_moment<W: Write, E: Write>(
     alloc: Global,
     moment: Moment,
@@ -135,14 +138,15 @@ fn write_moment<W: Write, E: Write>(
         None => Ok(Outcome::Written(moment)),
         Some(unshown) => {
             let message = unshown_message(alloc, text, unshown)?;
-            tell(errors, message.as_bytes());
+            report(errors, message.as_bytes());
             replace(otherwise, entry, output)?;
             Ok(Outcome::Unshown(moment, unshown))
         }
     }
 }
 
-// Writes a moment where its text belongs. `Some` has the component that shows nothing of it.
+// Writes a moment where its text belongs. `Some` is the component that can't show it; nothing is written
+// then.
 fn write_in<W: Write>(
     alloc: Global,
     moment: Moment,

@@ -1,4 +1,4 @@
-//! The literal of a description that a text doesn't go on with.
+//! The literal that a description expects where a text fails to match it.
 
 ghost use Rattle.std.specs.Prelude.{◌≡◌, ◌≤◌, ◌<◌, IfSome, length, map, take};
 ghost use Rattle.timefd_component.specs.Tree.{literal};
@@ -16,15 +16,15 @@ use timefd_node_list::Leaf;
 use timefd_parse::BorrowedOutput;
 use timefd_read_dates::{NO_FIELDS, ReadError, Reason, fill_item_fields, fill_leaf_fields};
 
-// The parts of a description in turn.
+// The parts of a description, in order.
 #[derive(Clone, Copy)]
 enum Parts<'p, 's> {
     Leaves(&'p [Leaf<'s>]),
     Items(&'p [BorrowedFormatItem<'s>]),
 }
 
-/// The literal of the description that the word doesn't go on with. `None` says nothing: it may be part of an
-/// alternative, or of something optional.
+/// The literal of the description that the word lacks, at the first part that doesn't match. `None` means
+/// that it isn't known: the literal may be part of an alternative, or of something optional.
 pub fn expected_in<'s>(
     source: &'s Source<'_>,
     leaves: Option<&[Leaf<'s>]>,
@@ -63,7 +63,7 @@ fn expected<'s>(parts: Parts<'_, 's>, word: &str) -> Option<&'s str>
     literal_at(parts, stop_of(parts, word)?)
 }
 
-// How many parts the word goes on with, where it doesn't go on with the literal after them.
+// How many parts the word matches, if it fails at the literal after them.
 fn stop_of(parts: Parts<'_, '_>, word: &str) -> Option<usize>
     ensures { IfSome result (IsStop (spec.part_trees parts.entry) word.now) }
 {
@@ -95,7 +95,7 @@ fn count_of(parts: Parts<'_, '_>) -> usize
     }
 }
 
-// Whether the word doesn't go on with a literal of the first so many parts.
+// Whether the word fails at a literal among the first `count` parts.
 #[tactic(auto, using(crate::proofs::ExpectedLemmas::taken))]
 fn stops(parts: Parts<'_, '_>, count: usize, word: &str) -> bool
     requires { count ≤ length (spec.part_trees parts) }
@@ -135,8 +135,8 @@ fn is_literal(read: Result<(), ReadError>) -> bool
     }
 }
 
-// The text of the part at this place, where it is a literal.
-#[tactic(auto, using(crate::proofs::ExpectedLemmas::at_place))]
+// The text of the part at this index, if it is a literal.
+#[tactic(auto, using(crate::proofs::ExpectedLemmas::at_position))]
 fn literal_at<'s>(parts: Parts<'_, 's>, at: usize) -> Option<&'s str>
     requires { at < length (spec.part_trees parts) }
     ensures { IfSome result (λ text. IsLiteral (spec.part_trees parts.entry) at text.now) }

@@ -1,4 +1,4 @@
-//! The text of a moment, written in place of a field.
+//! The text of a moment, written instead of a field.
 
 ghost use Rattle.std.specs.Prelude.{◌≡◌, ◌++◌, IfErr, IfOk, OnOk};
 ghost use Rattle.std.specs.Io.KnownBytes.{Appends};
@@ -20,9 +20,9 @@ use timefd_moment::Moment;
 use timefd_node_list::Leaf;
 use timefd_parse::BorrowedOutput;
 
-/// Writes the record of a field with the text of a moment in its place. `Some` has the component that
-/// shows nothing of it; nothing is written then. Where the room is too small, the text is written in
-/// memory of its own.
+/// Writes the record of a field with the moment's text instead of the field. `Some` is the component
+/// that can't show the moment; nothing is written then. If the room is too small, memory is allocated
+/// for the text.
 #[tactic(auto, using(crate::proofs::LineLemmas::field_sent))]
 pub fn write_field<W: Write>(
     alloc: Global,
@@ -52,7 +52,7 @@ pub fn write_field<W: Write>(
     }
 }
 
-// The text, written in memory of its own.
+// Writes the record with a text that is too long for the room: it gets memory of its own.
 fn write_long_field<W: Write>(
     alloc: Global,
     moment: Moment,
@@ -86,7 +86,7 @@ fn send_field<W: Write>(cell: Cell<'_>, text: &[u8], output: &mut W) -> Result<(
     send(cell.after, output)
 }
 
-// Writes a text in place of a field: with quotes where that had some, and where it wants some.
+// Writes a text instead of a field, in quotes if the field had some or the text needs them.
 fn send_text<W: Write>(field: &[u8], text: &[u8], output: &mut W) -> Result<(), RunError>
     ensures sent { OnOk result (Appends (W.contents output.old) (W.contents output.new)
         (spec.field_of field.now text.now)) }
@@ -99,7 +99,7 @@ fn send_text<W: Write>(field: &[u8], text: &[u8], output: &mut W) -> Result<(), 
     }
 }
 
-// Whether a byte of the text wants quotes around it.
+// Whether a byte of the text makes quotes necessary.
 #[tactic(auto, using(crate::proofs::FieldLemmas::nothing))]
 fn any_wants_quotes(text: &[u8]) -> bool
     ensures { result ≡ list_any spec.wants_quotes text.now }
@@ -132,7 +132,7 @@ fn send_quoted<W: Write>(text: &[u8], output: &mut W) -> Result<(), RunError>
     send(b"\"", output)
 }
 
-// Writes a text with each quote twice.
+// Writes a text with each quote doubled.
 #[tactic(auto, using(crate::proofs::FrameLemmas::one_more, crate::proofs::FrameLemmas::none_left))]
 fn send_doubled<W: Write>(text: &[u8], output: &mut W) -> Result<(), RunError>
     ensures sent { OnOk result (Appends (W.contents output.old) (W.contents output.new)
@@ -147,7 +147,7 @@ fn send_doubled<W: Write>(text: &[u8], output: &mut W) -> Result<(), RunError>
     Ok(())
 }
 
-// Writes a byte, and a quote twice.
+// Writes a byte; a quote is written twice.
 fn send_byte<W: Write>(byte: u8, output: &mut W) -> Result<(), RunError>
     ensures sent { OnOk result (Appends (W.contents output.old) (W.contents output.new)
         (spec.doubled_byte byte)) }

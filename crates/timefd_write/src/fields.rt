@@ -10,16 +10,16 @@ use crate::quoting::Quoting;
 use std::alloc::AllocError;
 use timefd_rewrite::without_newline;
 
-/// The first field of a record, and what is left after its comma, where one follows.
+/// The first field of a record, and what follows its comma, if it has one.
 #[derive(Clone, Copy)]
 pub struct Split<'a> {
     /// The field, byte for byte.
     pub field: &'a [u8],
-    /// The other fields.
+    /// What follows the comma: the other fields.
     pub rest: Option<&'a [u8]>,
 }
 
-/// The first field of a record without its newline.
+/// The first field of a record. The record comes without its newline.
 #[tactic(auto, using(crate::proofs::FieldLemmas::begins, crate::proofs::FieldLemmas::in_fits, crate::proofs::FieldLemmas::goes_on, crate::proofs::FieldLemmas::found, crate::proofs::FieldLemmas::ends))]
 pub fn split_field(row: &[u8]) -> Split<'_>
     ensures { IsSplit row.now result }
@@ -43,8 +43,8 @@ pub fn split_field(row: &[u8]) -> Split<'_>
     }
 }
 
-/// The field of a record after this many others, and what stands around it. `None` where there are no
-/// more than those.
+/// The field of a record after this many others, with what is before and after it. `None` if the
+/// record has no more fields than those.
 #[tactic(auto, using(crate::proofs::FieldLemmas::first_left, crate::proofs::FieldLemmas::next_left, crate::proofs::FieldLemmas::cell_found, crate::proofs::FieldLemmas::none_left, crate::proofs::FieldLemmas::left_fits, crate::proofs::FieldLemmas::field_fits, crate::proofs::FieldLemmas::next_shorter))]
 pub fn cell_after(count: usize, row: &[u8]) -> Option<Cell<'_>>
     ensures some { IfSome result (IsCell count row.now) }
@@ -71,7 +71,7 @@ pub fn cell_after(count: usize, row: &[u8]) -> Option<Cell<'_>>
     None
 }
 
-/// Puts the text of a field, without its quotes, in place of these bytes. An `Err` says that memory ran
+/// Replaces these bytes with the text of a field, without its quotes. An `Err` says that memory ran
 /// out.
 pub fn text_in(field: &[u8], bytes: &mut Vec<u8>) -> Result<(), AllocError>
     ensures { IfOk result (λ _. bytes.new.items ≡ spec.text_of field.now) }

@@ -1,4 +1,4 @@
-//! What stands around a text that is written, and what is written in place of one.
+//! What is written around a moment's text, and what is written instead of it.
 
 ghost use Rattle.std.specs.Prelude.{◌≡◌, ◌++◌, IfErr, OnOk};
 ghost use Rattle.std.specs.Io.KnownBytes.{Appends};
@@ -12,14 +12,14 @@ use crate::otherwise::Otherwise;
 use crate::outcome::RunError;
 use std::io::Write;
 
-/// A field of a record of comma-separated values, byte for byte, and what stands around it.
+/// A field of a record of comma-separated values, byte for byte, with what is before and after it.
 #[derive(Clone, Copy)]
 pub struct Cell<'a> {
     /// The fields before it, with their commas.
     pub front: &'a [u8],
-    /// The field with its quotes, where it has some.
+    /// The field, with its quotes if it has some.
     pub field: &'a [u8],
-    /// The comma after it, and all that follows, with the end of the line.
+    /// The comma after it and all that follows, with the end of the line.
     pub after: &'a [u8],
 }
 
@@ -28,18 +28,18 @@ pub struct Cell<'a> {
 pub enum Frame<'a> {
     /// On a line of its own.
     Line,
-    /// In place of a field.
+    /// Instead of a field.
     Field(Cell<'a>),
 }
 
-/// A text that is to be a moment, and where that is written.
+/// A text that should be a moment, and where the moment is written.
 #[derive(Clone, Copy)]
 pub struct Entry<'a> {
-    /// The number of its line, where it is one.
+    /// The number of its line, if the text came from a line.
     pub line: Option<u64>,
     /// The text.
     pub text: &'a [u8],
-    /// Where its moment is written.
+    /// Where the moment is written.
     pub frame: Frame<'a>,
 }
 
@@ -65,8 +65,8 @@ fn send_both<W: Write>(first: &[u8], second: &[u8], output: &mut W) -> Result<()
     send(second, output)
 }
 
-/// Writes what the option `--else` asks for in place of a moment. `Err(RunError::Refused)` says that it
-/// asks for the end of the run, and nothing is written then.
+/// Writes what the option `--else` asks for instead of a moment. `Err(RunError::Refused)` says that it
+/// asks for the end of the run; nothing is written then.
 pub fn replace<W: Write>(
     otherwise: Otherwise,
     entry: Entry<'_>,

@@ -5,18 +5,18 @@ use crate::guessed::write_guesses;
 use crate::outcome::RunError;
 use std::alloc::AllocError;
 use std::io::{BufRead, BufReader, BufWriter, ErrorKind, Write};
-use timefd_streams::lent;
+use timefd_streams::borrowed;
 
-/// What a run comes to that looks for a description.
+/// How a run ends that looks for a description.
 #[derive(Clone, Copy)]
 pub enum GuessEnd {
-    /// A description is found.
+    /// There is a description that all the texts may be written by.
     Found,
-    /// None is.
+    /// There is no such description.
     NotFound,
     /// There is no text.
     NoText,
-    /// A line is no UTF-8.
+    /// A line isn't UTF-8.
     NotText,
     /// Memory ran out.
     Memory,
@@ -37,8 +37,8 @@ impl From<AllocError> for GuessEnd {
     }
 }
 
-/// Writes the descriptions that the words may be written by, or the lines of the standard input where there
-/// is no word.
+/// Writes the descriptions that the words may be written by. Without words, the lines of the standard input
+/// are the texts.
 pub fn guess_end(rt: &HostRuntime, request: GuessRequest, words: &[&str]) -> GuessEnd {
     if !words.is_empty() {
         return end_of(rt, request, words);
@@ -51,7 +51,7 @@ pub fn guess_end(rt: &HostRuntime, request: GuessRequest, words: &[&str]) -> Gue
 
 fn input_end(rt: &HostRuntime, request: GuessRequest) -> Result<GuessEnd, GuessEnd> {
     let lines = input_lines(rt)?;
-    let words = lent(rt.alloc(), &lines)?;
+    let words = borrowed(rt.alloc(), &lines)?;
     Ok(end_of(rt, request, &words))
 }
 

@@ -4,14 +4,15 @@ ghost use Rattle.std.specs.Prelude.{◌≡◌, IfOk, string_bytes};
 ghost use Rattle.timefd_guess.specs.Found.{texts};
 ghost use Rattle.timefd_write.specs.Guessed as spec;
 
-use crate::message::tell;
+use crate::message::report;
 use crate::outcome::RunError;
 use std::alloc::{AllocError, Global};
 use std::io::Write;
 use timefd_guess::{Guess, guesses};
 
-/// Writes the descriptions that all texts may be written by, a line each, and answers whether there is one. The
-/// errors have how many texts don't tell day and month apart, unless that is left out.
+/// Writes the descriptions that all the texts may be written by, one a line, and returns whether there is
+/// any. Unless the run is quiet, `errors` gets a note on how many texts don't show which number is the day
+/// and which is the month.
 #[tactic(auto, using(crate::proofs::GuessLemmas::writes))]
 pub fn write_guesses<W: Write, E: Write>(
     alloc: Global,
@@ -25,7 +26,7 @@ pub fn write_guesses<W: Write, E: Write>(
 {
     let found = guesses(alloc, words)?;
     if !is_quiet {
-        tell_swapped(alloc, &found, words.len(), errors)?;
+        report_undecided(alloc, &found, words.len(), errors)?;
     }
     let lines = guess_lines(alloc, &found)?;
     match output.write_all(lines.as_bytes()) {
@@ -44,7 +45,7 @@ fn is_any(found: &[Guess]) -> bool
     }
 }
 
-// A line of each description.
+// The text of the descriptions, one a line.
 #[tactic(auto, using(crate::proofs::GuessLemmas::line_more, crate::proofs::GuessLemmas::lines_done))]
 fn guess_lines(alloc: Global, found: &[Guess]) -> Result<String, AllocError>
     ensures { IfOk result (λ lines. string_bytes lines ≡ spec.guess_lines found.now) }
@@ -59,8 +60,9 @@ fn guess_lines(alloc: Global, found: &[Guess]) -> Result<String, AllocError>
     Ok(lines)
 }
 
-// Tells how many texts don't tell day and month apart, of the first description that leaves some open.
-fn tell_swapped<E: Write>(
+// Reports how many texts leave open which number is the day and which is the month, for the first description
+// that has such texts.
+fn report_undecided<E: Write>(
     alloc: Global,
     found: &[Guess],
     count: usize,
@@ -70,7 +72,7 @@ fn tell_swapped<E: Write>(
         let undecided = found[at].undecided;
         if undecided > 0 {
             let message = swapped_message(alloc, undecided, count)?;
-            tell(errors, message.as_bytes());
+            report(errors, message.as_bytes());
             return Ok(());
         }
     }

@@ -7,19 +7,19 @@ use crate::fields::{split_field, text_in};
 use std::alloc::{AllocError, Global};
 use timefd_rewrite::without_newline;
 
-/// Why a name is that of no column.
+/// Why a name doesn't say which column is meant.
 #[derive(Clone, Copy)]
 pub enum HeaderError {
-    /// No column has it.
+    /// No column has the name.
     Missing,
-    /// More than one has it.
+    /// More than one column has the name.
     Twice,
 }
 
-// The mark of UTF-8 that some programs write before the first record.
+// The byte order mark of UTF-8, which some programs write before the first record.
 const MARK: &[u8] = b"\xEF\xBB\xBF";
 
-// The first record without that mark.
+// The first record without its byte order mark.
 fn without_mark(header: &[u8]) -> &[u8]
     ensures { result.now ≡ spec.without_mark header.now }
 {
@@ -29,7 +29,7 @@ fn without_mark(header: &[u8]) -> &[u8]
     }
 }
 
-// What one more field adds to the field that was found.
+// The column found so far, after one more field. An `Err` says that two columns have the name.
 fn named_step(found: Option<usize>, at: usize, has_name: bool) -> Result<Option<usize>, HeaderError>
     ensures { result ≡ spec.named_step found at has_name }
 {
@@ -40,8 +40,8 @@ fn named_step(found: Option<usize>, at: usize, has_name: bool) -> Result<Option<
     }
 }
 
-/// How many columns stand before the one that the first record names so; or why it names none. The
-/// outer `Err` says that memory ran out.
+/// How many columns come before the one with this name in the first record, or why there is no such
+/// number. The outer `Err` says that memory ran out.
 #[tactic(auto, using(crate::proofs::HeaderLemmas::starts, crate::proofs::HeaderLemmas::goes_on, crate::proofs::HeaderLemmas::is_done, crate::proofs::HeaderLemmas::at_end, crate::proofs::FieldLemmas::next_shorter))]
 pub fn named_in(
     alloc: Global,
@@ -71,7 +71,7 @@ pub fn named_in(
     }
 }
 
-// The number after this one. No memory holds as many fields.
+// The next number. It always fits, because no memory holds that many fields.
 fn next_of(at: usize) -> Result<usize, AllocError>
     ensures { IfOk result (λ next. next ≡ suc at) }
 {

@@ -18,22 +18,22 @@ pub enum Wording {
 /// The wordings of both descriptions.
 #[derive(Clone, Copy)]
 pub struct Wordings {
-    /// That of the description which moments are read by.
+    /// The wording of the description that moments are read by.
     pub read: Wording,
-    /// That of the description which they are written by.
+    /// The wording of the description that moments are written by.
     pub written: Wording,
 }
 
 /// The languages of both descriptions.
 #[derive(Clone, Copy)]
 pub struct Languages {
-    /// That of the description which moments are read by.
+    /// The language of the description that moments are read by.
     pub read: Language,
-    /// That of the description which they are written by.
+    /// The language of the description that moments are written by.
     pub written: Language,
 }
 
-/// The wording of a description where none is named.
+/// The wording of a description if no option names one.
 pub fn default_wording() -> Wording
     ensures { result ≡ spec.default_wording }
 {

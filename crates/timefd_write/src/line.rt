@@ -1,4 +1,4 @@
-//! The text of a moment, written as a line.
+//! The text of a moment, written on a line of its own.
 
 ghost use Rattle.std.specs.Prelude.{◌≡◌, ◌≤◌, IfErr, IfOk, IfSome, Ok, length, take};
 ghost use Rattle.timefd_write.specs.declared.frame.Frame.TheVariants as frames;
@@ -19,7 +19,7 @@ use timefd_moment::Moment;
 use timefd_node_list::Leaf;
 use timefd_parse::BorrowedOutput;
 
-/// What the description shows of the moment.
+/// The text of the moment by the description, in memory of its own.
 pub fn shown(
     alloc: Global,
     moment: Moment,
@@ -38,7 +38,7 @@ pub fn shown(
     }
 }
 
-/// The same, and a newline.
+/// The text of the moment, and a newline.
 fn line_of(
     alloc: Global,
     moment: Moment,
@@ -53,7 +53,7 @@ fn line_of(
     }
 }
 
-/// What the description shows of the moment, at the end of the room. It begins where is answered.
+/// Writes the text of the moment to the end of the room, and returns the index where it begins.
 #[tactic(auto, using(crate::proofs::LineLemmas::ends, crate::proofs::LineLemmas::ends_by_leaves))]
 pub fn text_in(
     moment: Moment,
@@ -75,7 +75,8 @@ pub fn text_in(
     }
 }
 
-/// The same, and a newline behind it.
+/// Writes the text of the moment and a newline to the end of the room, and returns the index where it
+/// begins.
 #[tactic(auto, using(crate::proofs::LineLemmas::line_ends))]
 fn line_in(
     moment: Moment,
@@ -95,8 +96,8 @@ fn line_in(
     }
 }
 
-/// Writes the line of a moment. `Some` has the component that shows nothing of it; nothing is written then.
-/// Where the room is too small, the line is written in memory of its own.
+/// Writes the line of a moment. `Some` is the component that can't show the moment; nothing is written
+/// then. If the room is too small, memory is allocated for the line.
 #[tactic(auto, using(crate::proofs::LineLemmas::line_sent))]
 pub fn write_line<W: Write>(
     alloc: Global,
@@ -125,8 +126,8 @@ pub fn write_line<W: Write>(
     }
 }
 
-/// What the description shows of the moment by its leaves, over the front of the room. It ends where is
-/// answered. `None` says nothing.
+/// Writes the text of the moment by its leaves to the front of the room, and returns the index where it
+/// ends. This is the fast way. `None` says only that it can't be taken, and nothing about the moment.
 #[inline(never)]
 #[tactic(auto, using(crate::proofs::FrontLemmas::text_put, crate::proofs::FrontLemmas::text_within))]
 pub fn text_in_front(
@@ -142,7 +143,7 @@ pub fn text_in_front(
     append_leaves(moment, leaves?, room, 0)
 }
 
-/// The same, and a newline behind it.
+/// The same with a newline after the text. It needs at least 32 bytes of room after the text.
 #[inline(never)]
 #[tactic(auto, using(crate::proofs::FrontLemmas::line_put, crate::proofs::FrontLemmas::line_within))]
 fn line_in_front(
@@ -163,7 +164,7 @@ fn line_in_front(
     append_literal(b"\n", room, end)
 }
 
-// The line, written in memory of its own.
+// Writes a line that is too long for the room: it gets memory of its own.
 fn write_long_line<W: Write>(
     alloc: Global,
     moment: Moment,

@@ -18,26 +18,27 @@ use timefd_node_list::Leaf;
 use timefd_parse::BorrowedOutput;
 use timefd_rewrite::without_newline;
 
-// How many bytes are kept for a line of items, whose length isn't known, and at most for one of a description.
+// How many bytes are reserved for a line: this many for items, whose length isn't known, and at most
+// `MOST_ROOM` for a description.
 const ITEM_ROOM: usize = 256;
 
 const MOST_ROOM: usize = 65_536;
 
-// So many bytes more, which a text wants that is written over the front.
+// Extra bytes. Writing a text from the front of the room needs some space after it.
 const SPARE_ROOM: usize = 64;
 
-/// What a read of a line comes to.
+/// What reading a line came to.
 #[derive(Clone, Copy)]
 pub enum LineRead {
     /// One more line.
     Line,
-    /// The end.
+    /// The end of the input.
     End,
     /// The read failed.
     Failed,
 }
 
-/// Reads one more line, with its newline, to the end of these bytes. An `Err` says that memory ran out.
+/// Reads one more line and appends it with its newline to these bytes. An `Err` says that memory ran out.
 #[tactic(auto, using(crate::proofs::ReadLemmas::one_line, crate::proofs::ReadLemmas::no_line))]
 pub fn read_more<R: BufRead>(reader: &mut R, bytes: &mut Vec<u8>) -> Result<LineRead, RunError>
     ensures read { IfOk result (IsReadMore (R.remaining reader.old) (R.remaining reader.new)
@@ -62,7 +63,7 @@ pub fn read_more<R: BufRead>(reader: &mut R, bytes: &mut Vec<u8>) -> Result<Line
     }
 }
 
-// Reads one more line into this room.
+// Reads one more line instead of these bytes.
 #[tactic(auto, using(crate::proofs::ReadLemmas::whole_line))]
 fn read_line<R: BufRead>(reader: &mut R, bytes: &mut Vec<u8>) -> Result<LineRead, RunError>
     ensures read { IfOk result (IsRead (R.remaining reader.old) (R.remaining reader.new)
@@ -73,7 +74,8 @@ fn read_line<R: BufRead>(reader: &mut R, bytes: &mut Vec<u8>) -> Result<LineRead
     read_more(reader, bytes)
 }
 
-/// Room for what the description shows, or for most texts.
+/// Room for the longest text of the description, or for most texts if that length is unknown or large. An
+/// `Err` says that memory ran out.
 pub fn line_room(alloc: Global, description: &BorrowedOutput<'_>) -> Result<Vec<u8>, AllocError> {
     let count = match description {
         BorrowedOutput::Items(_) => ITEM_ROOM,
@@ -84,9 +86,9 @@ pub fn line_room(alloc: Global, description: &BorrowedOutput<'_>) -> Result<Vec<
     vec![in alloc; 0u8; count]
 }
 
-/// Writes the line of the moment that each line of the reader names or shows, in turn. Those that have none
-/// are told, and the others are still written.
-#[tactic(auto, using(crate::proofs::LineLemmas::lent_in, crate::proofs::LineLemmas::lent_of))]
+/// Writes a line for each line of the reader: the moment that it names or shows. Lines without a moment are
+/// reported, and the others are still written.
+#[tactic(auto, using(crate::proofs::LineLemmas::borrowed_in, crate::proofs::LineLemmas::borrowed_of))]
 pub fn write_lines<R: BufRead, W: Write, E: Write>(
     alloc: Global,
     source: &Source<'_>,
@@ -115,7 +117,7 @@ pub fn write_lines<R: BufRead, W: Write, E: Write>(
     )
 }
 
-// The same by the leaves of both descriptions, where some were found.
+// Writes those lines by the leaves of both descriptions, if they have some.
 #[tactic(auto, using(crate::proofs::RunLemmas::lines_start))]
 fn write_by<R: BufRead, W: Write, E: Write>(
     alloc: Global,

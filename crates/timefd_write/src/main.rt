@@ -1,10 +1,11 @@
 //! `timefd_format [OPTION].. [--] DESCRIPTION [MOMENT]..`: writes moments by a format description,
-//! a line each; with `--read` those that texts of another description show.
-//! `docs/proof/COMMANDS.md` has the options, and what moments are read.
+//! one a line. With `--read` it takes the moments from texts of another description.
+//! `docs/proof/COMMANDS.md` lists the options, and how moments are written on the command line.
 #![tactic(auto)]
 
 mod absent;
 mod asked;
+mod bare;
 mod bracket;
 mod clock;
 mod column;
@@ -61,11 +62,11 @@ use std::io::{BufReader, BufWriter, IsTerminal, Write};
 use std::process::ExitCode;
 use timefd_dialect::DialectError;
 use timefd_jiff::Error;
-use timefd_streams::{WordsError, all_words, lent, shows_colors};
-use to_read::{description_to_read, limits_told};
+use timefd_streams::{WordsError, all_words, borrowed, shows_colors};
+use to_read::{description_to_read, reading_limits_sentence};
 use zones::{Zones, now_of};
 
-// The statuses of runs that did not come to their end.
+// Exit statuses of runs that were broken off.
 const REFUSED: u8 = 1;
 
 const WRONG_ARGUMENTS: u8 = 2;
@@ -76,36 +77,36 @@ const FAILED: u8 = 4;
 
 const NOT_TEXT: u8 = 5;
 
-// How many bytes are read at once.
+// How many bytes of the standard input are read at once.
 const BUFFER: usize = 65_536;
 
-// Says on the standard error why nothing more is written, and answers the status.
-fn told(rt: &HostRuntime, status: u8, sentence: &str) -> u8 {
+// Writes a sentence to the standard error, and returns the status.
+fn reported(rt: &HostRuntime, status: u8, sentence: &str) -> u8 {
     let _ = eprintln!(rt; "timefd_format: {sentence}");
     status
 }
 
 fn no_memory(rt: &HostRuntime) -> u8 {
-    told(rt, NO_MEMORY, "memory ran out")
+    reported(rt, NO_MEMORY, "memory ran out")
 }
 
 fn write_failed(rt: &HostRuntime) -> u8 {
-    told(rt, FAILED, "the standard output can't be written")
+    reported(rt, FAILED, "the standard output can't be written")
 }
 
 fn wrong_arguments(rt: &HostRuntime, error: OptionError<'_>) -> u8 {
     match usage::sentence(rt.alloc(), error) {
-        Ok(sentence) => told(rt, WRONG_ARGUMENTS, &sentence),
+        Ok(sentence) => reported(rt, WRONG_ARGUMENTS, &sentence),
         Err(AllocError) => no_memory(rt),
     }
 }
 
-// Whether a fault is drawn in colours.
+// Whether faults are drawn in colours.
 fn is_colored(rt: &HostRuntime) -> bool {
     rt.stderr().is_terminal() && shows_colors(rt)
 }
 
-// Writes a text to the standard output, and answers the status.
+// Writes a text to the standard output, and returns the status.
 fn written(rt: &HostRuntime, text: &str) -> u8 {
     match rt.stdout().write_all(text.as_bytes()) {
         Ok(()) => 0,
@@ -113,7 +114,7 @@ fn written(rt: &HostRuntime, text: &str) -> u8 {
     }
 }
 
-// The status of what the words behind the program's name ask for.
+// Does what the words after the program's name ask for, and returns the status.
 fn status(rt: &HostRuntime, words: &[&str]) -> u8 {
     match asked_of(words) {
         Ok(Asked::Help) => written(rt, usage::USAGE),
@@ -130,29 +131,30 @@ fn status(rt: &HostRuntime, words: &[&str]) -> u8 {
     }
 }
 
-// Why a format of another language is not converted.
+// Reports why a format of another language is not converted.
 fn not_converted(rt: &HostRuntime, error: DialectError) -> u8 {
     match error {
         DialectError::Refused(refusal) => match refused_sentence(rt.alloc(), refusal) {
-            Ok(sentence) => told(rt, REFUSED, &sentence),
+            Ok(sentence) => reported(rt, REFUSED, &sentence),
             Err(AllocError) => no_memory(rt),
         },
         DialectError::Memory(_) => no_memory(rt),
     }
 }
 
-// Says of which moments alone a format writes the same as its text.
-fn tell_limits(rt: &HostRuntime, description: &Described<'_>) -> Result<(), AllocError> {
+// Reports the moments for which a format writes the same as its text in version 3, unless that's
+// all of them.
+fn report_limits(rt: &HostRuntime, description: &Described<'_>) -> Result<(), AllocError> {
     if let Some(sentence) = limits_sentence(rt.alloc(), description.limits())? {
-        told(rt, 0, &sentence);
+        reported(rt, 0, &sentence);
     }
     Ok(())
 }
 
-// Says of which moments alone texts of a format are read.
-fn tell_reading_limits(rt: &HostRuntime, read: &Described<'_>) -> Result<(), AllocError> {
-    if let Some(sentence) = limits_told(rt.alloc(), read.limits())? {
-        told(rt, 0, &sentence);
+// Reports the moments for which texts of a format are read, unless that's all of them.
+fn report_reading_limits(rt: &HostRuntime, read: &Described<'_>) -> Result<(), AllocError> {
+    if let Some(sentence) = reading_limits_sentence(rt.alloc(), read.limits())? {
+        reported(rt, 0, &sentence);
     }
     Ok(())
 }
@@ -176,7 +178,7 @@ fn zones_of(rt: &HostRuntime, request: Request<'_>, moments: &[&str]) -> Result<
     }
 }
 
-// What stands in brackets at the end of a word.
+// What is in brackets at the end of a word.
 fn in_brackets(word: &str) -> Option<&str> {
     let (_, name) = word.strip_suffix(']')?.rsplit_once('[')?;
     Some(name)
@@ -196,10 +198,10 @@ fn run_status(rt: &HostRuntime, request: Request<'_>, moments: &[&str]) -> u8 {
     }
 }
 
-// Says that there is no such time zone, and names the nearest one.
+// Reports that there is no such time zone, and names the nearest one.
 fn unknown_zone(rt: &HostRuntime, zones: &Zones, name: &str) -> u8 {
     match zones.unknown_sentence(rt.alloc(), name) {
-        Ok(sentence) => told(rt, WRONG_ARGUMENTS, &sentence),
+        Ok(sentence) => reported(rt, WRONG_ARGUMENTS, &sentence),
         Err(AllocError) => no_memory(rt),
     }
 }
@@ -231,7 +233,7 @@ fn clocked_status(
         Ok(written) => written,
         Err(error) => return not_converted(rt, error),
     };
-    if !request.is_quiet && tell_limits(rt, &written).is_err() {
+    if !request.is_quiet && report_limits(rt, &written).is_err() {
         return no_memory(rt);
     }
     let Some(text) = request.read else {
@@ -241,7 +243,7 @@ fn clocked_status(
         Ok(read) => read,
         Err(error) => return not_converted(rt, error),
     };
-    if !request.is_quiet && tell_reading_limits(rt, &read).is_err() {
+    if !request.is_quiet && report_reading_limits(rt, &read).is_err() {
         return no_memory(rt);
     }
     described_status(rt, request, clocks, Some(&read), &written, moments)
@@ -250,11 +252,11 @@ fn clocked_status(
 fn guess_status(rt: &HostRuntime, request: GuessRequest, texts: &[&str]) -> u8 {
     match guess_end(rt, request, texts) {
         GuessEnd::Found => 0,
-        GuessEnd::NotFound => told(rt, REFUSED, "no description that is known reads all texts"),
-        GuessEnd::NoText => told(rt, REFUSED, "there is no text to find a description of"),
-        GuessEnd::NotText => told(rt, NOT_TEXT, "a line is no UTF-8"),
+        GuessEnd::NotFound => reported(rt, REFUSED, "no description that is known reads all texts"),
+        GuessEnd::NoText => reported(rt, REFUSED, "there is no text to find a description of"),
+        GuessEnd::NotText => reported(rt, NOT_TEXT, "a line isn't UTF-8"),
         GuessEnd::Memory => no_memory(rt),
-        GuessEnd::Read => told(rt, FAILED, "the standard input can't be read"),
+        GuessEnd::Read => reported(rt, FAILED, "the standard input can't be read"),
         GuessEnd::Write => write_failed(rt),
     }
 }
@@ -343,10 +345,10 @@ fn text_of<'a>(read: Option<&'a Described<'_>>) -> Option<&'a str> {
     }
 }
 
-// Says that the standard input was not read to its end, where it was not.
+// Reports if the standard input wasn't read to its end.
 fn end_status(rt: &HostRuntime, status: u8) -> u8 {
     if status == FAILED {
-        told(rt, status, "the standard input can't be read")
+        reported(rt, status, "the standard input can't be read")
     } else {
         status
     }
@@ -356,7 +358,7 @@ fn args_status(rt: &HostRuntime, args: &[String]) -> u8 {
     let [_, words @ ..] = args else {
         return status(rt, &[]);
     };
-    match lent(rt.alloc(), words) {
+    match borrowed(rt.alloc(), words) {
         Ok(words) => status(rt, &words),
         Err(AllocError) => no_memory(rt),
     }
@@ -365,7 +367,7 @@ fn args_status(rt: &HostRuntime, args: &[String]) -> u8 {
 fn main(rt: HostRuntime) -> ExitCode {
     let status = match all_words(&rt) {
         Ok(words) => args_status(&rt, &words),
-        Err(WordsError::NotText) => told(&rt, WRONG_ARGUMENTS, "an argument is no UTF-8"),
+        Err(WordsError::NotText) => reported(&rt, WRONG_ARGUMENTS, "an argument isn't UTF-8"),
         Err(WordsError::Memory) => no_memory(&rt),
     };
     ExitCode::from(status)

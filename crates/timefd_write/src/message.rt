@@ -1,4 +1,4 @@
-//! What is told of a word that isn't written.
+//! The messages about words that aren't written.
 
 ghost use Rattle.std.specs.Prelude.{◌≡◌, IfOk, string_bytes};
 ghost use Rattle.timefd_write.specs.Messages as spec;
@@ -18,28 +18,28 @@ use timefd_drawing::{Format, Origin, Style, drawn};
 use timefd_format::Unshown;
 use timefd_read_dates::{ReadError, Reason};
 
-/// How a run tells what is wrong with descriptions.
+/// How a run reports what is wrong with descriptions.
 #[derive(Clone, Copy)]
 pub struct Manner {
-    /// Whether that has colours.
+    /// Whether faults and warnings are drawn in colours.
     pub is_colored: bool,
-    /// Whether warnings are left out.
+    /// Whether to leave out warnings.
     pub is_quiet: bool,
 }
 
-/// What is told of a line that is no text.
-pub const NOT_TEXT: &str = "timefd_format: a line is no UTF-8\n";
+/// The message for a line that isn't UTF-8.
+pub const NOT_TEXT: &str = "timefd_format: a line isn't UTF-8\n";
 
-// Why words are no moments.
+// The reasons why a word isn't a moment.
 
 const NO_LOCAL_ZONE: &str =
     "timefd_format: `now` is in the zone of TZ, which names none; set it, as in TZ=Europe/Berlin or \
     TZ=UTC\n";
 
 const SECONDS: &str =
-    "after `@` stand whole seconds since 1970, as in @1700000000, of a year from -999999 to 999999";
+    "`@` is followed by whole seconds since 1970, as in @1700000000, of a year from -999999 to 999999";
 
-const BRACKETS: &str = "in brackets stands the name of one time zone and nothing else, as in \
+const BRACKETS: &str = "brackets hold the name of one time zone and nothing else, as in \
     2026-11-23T05:36:07+01:00[Europe/Berlin]";
 
 const NO_OFFSET: &str =
@@ -53,13 +53,15 @@ const YEARS: &str = "offsets of time zones are known in the years -9999 to 9999"
 const NO_INSTANT: &str =
     "`--zone` shows what has a date, a time and an offset, as 2026-11-23T05:36:07+01:00";
 
-/// Tells a message. Where it can't be written, nothing else is to be done.
-pub fn tell<E: Write>(errors: &mut E, message: &[u8]) {
+/// Writes a message to `errors`. A failure to write it is ignored, since it couldn't be reported
+/// either.
+pub fn report<E: Write>(errors: &mut E, message: &[u8]) {
     let _ = errors.write_all(message);
 }
 
-/// Tells the fault of a text that has this name, as the linter draws it.
-pub fn tell_fault<E: Write>(
+/// Reports the fault of a text, drawn as the linter does. `name` is what the text is called. An
+/// `Err` says that memory ran out.
+pub fn report_fault<E: Write>(
     alloc: Global,
     is_colored: bool,
     name: &str,
@@ -76,11 +78,12 @@ pub fn tell_fault<E: Write>(
         line: 1,
     };
     let drawing = drawn(alloc, style, origin, text, diagnostic)?;
-    tell(errors, &drawing);
+    report(errors, &drawing);
     Ok(())
 }
 
-/// What is told of a word that names or shows no moment, with the number of its line.
+/// The message for a word that names or shows no moment, with the number of its line. An `Err` says
+/// that memory ran out.
 #[tactic(auto, using(crate::proofs::MessageLemmas::unread))]
 pub fn unread_message(
     alloc: Global,
@@ -122,7 +125,7 @@ pub fn unread_message(
     }
 }
 
-// Why a part of a word doesn't read: the literal that was expected, where it is found.
+// Why a part of a word doesn't read. Names the literal that was expected, if it can be found.
 #[tactic(auto, using(crate::proofs::MessageLemmas::plain))]
 fn stop_sentence(
     alloc: Global,
@@ -163,7 +166,7 @@ fn expected_sentence(alloc: Global, literal: &str, index: usize) -> Result<Strin
     format!(in alloc; "`{literal}` was expected at byte {index}")
 }
 
-// Of a word that is no moment for this reason.
+// The message for a word that isn't a moment, for this reason.
 fn no_moment(alloc: Global, word: &str, reason: &str) -> Result<String, AllocError>
     ensures { IfOk result (λ message. string_bytes message ≡ spec.no_moment word.now reason.now) }
 {
@@ -171,7 +174,7 @@ fn no_moment(alloc: Global, word: &str, reason: &str) -> Result<String, AllocErr
     format!(in alloc; "timefd_format: `{word}` is no moment: {reason}\n")
 }
 
-// Of a word whose offset isn't that of the time zone in its brackets.
+// The message for a word whose offset isn't the one that the time zone in brackets has.
 fn conflicting(alloc: Global, word: &str, conflict: Conflict) -> Result<String, AllocError>
     ensures { IfOk result (λ message. string_bytes message ≡ spec.conflicting word.now conflict) }
 {
@@ -201,7 +204,7 @@ fn not_read(
     }
 }
 
-/// What is told of a moment that a component shows nothing of.
+/// The message for a moment that a component can't show. An `Err` says that memory ran out.
 pub fn unshown_message(alloc: Global, word: &str, unshown: Unshown) -> Result<String, AllocError>
     ensures { IfOk result (λ message. string_bytes message
         ≡ spec.unshown_message word.now unshown) }
@@ -210,14 +213,14 @@ pub fn unshown_message(alloc: Global, word: &str, unshown: Unshown) -> Result<St
     format!(in alloc; "timefd_format: `{word}` is not written: {unshown}\n")
 }
 
-/// What is told of a record without the column.
+/// The message for a record without the column. An `Err` says that memory ran out.
 pub fn no_field_message(alloc: Global, line: u64) -> Result<String, AllocError>
     ensures { IfOk result (λ message. string_bytes message ≡ spec.no_field_message line) }
 {
     format!(in alloc; "timefd_format: line {line} has too few fields to have the column\n")
 }
 
-/// What is told of quotes that don't end.
+/// The message for quotes that aren't closed. An `Err` says that memory ran out.
 pub fn open_message(alloc: Global, line: u64) -> Result<String, AllocError>
     ensures { IfOk result (λ message. string_bytes message ≡ spec.open_message line) }
 {
@@ -226,7 +229,7 @@ pub fn open_message(alloc: Global, line: u64) -> Result<String, AllocError>
     )
 }
 
-/// What is told of a table without a first record.
+/// The message for a table without a first record. An `Err` says that memory ran out.
 pub fn no_header_message(alloc: Global, name: &str) -> Result<String, AllocError>
     ensures { IfOk result (λ message. string_bytes message ≡ spec.no_header_message name.now) }
 {
@@ -234,7 +237,8 @@ pub fn no_header_message(alloc: Global, name: &str) -> Result<String, AllocError
     format!(in alloc; "timefd_format: there is no first line to name the column `{name}`\n")
 }
 
-/// What is told of a table whose first record doesn't name the column.
+/// The message for a table whose first record doesn't name the column. An `Err` says that memory
+/// ran out.
 pub fn unnamed_message(alloc: Global, name: &str, error: HeaderError) -> Result<String, AllocError>
     ensures { IfOk result (λ message. string_bytes message ≡ spec.unnamed_message name.now error) }
 {

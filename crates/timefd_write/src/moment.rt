@@ -20,35 +20,37 @@ pub enum MomentError {
     Clock,
     /// It is `now`, and `TZ` names no time zone.
     LocalZone,
-    /// After its `@` stand no whole seconds of a year from -999,999 to 999,999.
+    /// The part after `@` is not a whole number of seconds, or its year is not from -999,999 to
+    /// 999,999.
     Seconds,
-    /// It has something in brackets at its end that isn't the name of one time zone.
+    /// It ends with brackets that hold something other than the name of one time zone.
     Brackets,
-    /// It has a time zone in brackets, and no time or no offset that goes with it.
+    /// It has a time zone in brackets, but lacks a time or an offset to check it against.
     NoOffset,
-    /// The time zone in its brackets is not known.
+    /// The time zone in its brackets is unknown.
     NoZone,
-    /// Its offset is not the one that the time zone in its brackets has then.
+    /// Its offset isn't the one that the time zone in its brackets has at that instant.
     Conflict(Conflict),
-    /// What a time zone has in its year isn't known.
+    /// Its year is outside of those in which the offsets of time zones are known.
     Years,
-    /// A clock in a time zone is asked for, and it is no instant.
+    /// It should be shown on the clock of a time zone, but is not an instant: its date, time or offset
+    /// is missing.
     NoInstant,
     /// Memory ran out.
     Memory,
-    /// It is no moment, and this is wrong with it.
+    /// It isn't a moment, and this is wrong with it.
     Text(Error),
-    /// This part of it does not read by the description.
+    /// This part of it doesn't match the description.
     Unread(ReadError),
-    /// It reads, and there is no such day.
+    /// It matches the description, but there is no such day.
     Absent(AbsentDay),
-    /// It reads, and what was read is no moment.
+    /// It matches the description, but what was read isn't a moment.
     Value(ValueError),
 }
 
-/// The moment that a word names: `now`; after `@` the seconds of Unix time; or a date, with a time
-/// of day and an offset where they are written, and a time zone in brackets, which has to have that
-/// offset then.
+/// The moment that a word names: `now`; `@` and a number of seconds since 1970 began in UTC; or a date,
+/// which a time of day, an offset and a time zone in brackets may follow. That time zone must have this
+/// offset at that instant.
 pub fn moment_named(names: Names<'_>, word: &str) -> Result<Moment, MomentError>
     ensures { IsNamed names.entry word.now result }
 {
@@ -61,7 +63,7 @@ pub fn moment_named(names: Names<'_>, word: &str) -> Result<Moment, MomentError>
     }
 }
 
-// The moment that a word writes.
+// The moment that a word spells out.
 #[tactic(auto, using(crate::proofs::MomentLemmas::written_ok, crate::proofs::MomentLemmas::written_err))]
 fn moment_written(zones: &TimeZoneDatabase, word: &str) -> Result<Moment, MomentError>
     ensures { IsWritten zones.now word.now result }
@@ -72,8 +74,8 @@ fn moment_written(zones: &TimeZoneDatabase, word: &str) -> Result<Moment, Moment
     }
 }
 
-// The moment, where what stands in brackets agrees with it. The grammar passes over all but a time zone,
-// so a word with more is refused.
+// The moment, if what is in brackets agrees with it. The grammar skips all annotations but a time zone,
+// so a word with others is refused here.
 fn checked(
     zones: &TimeZoneDatabase,
     word: &str,

@@ -1,4 +1,4 @@
-//! What words name.
+//! What names on the command line refer to.
 
 ghost use Rattle.timefd_write.specs.Moments.{IsOfNow};
 
@@ -6,7 +6,7 @@ use crate::moment::MomentError;
 use jiff_tz::TimeZoneDatabase;
 use timefd_moment::Moment;
 
-/// The moment that `now` is.
+/// The current moment, if it is known.
 #[derive(Clone, Copy)]
 pub enum Now {
     /// What the clock shows.
@@ -30,11 +30,11 @@ impl Now {
     }
 }
 
-/// What words name.
+/// What names on the command line refer to.
 #[derive(Clone, Copy)]
 pub struct Names<'a> {
-    /// The moment that `now` is.
+    /// The moment that `now` names.
     pub now: Now,
-    /// The time zones that brackets name.
+    /// The time zones that brackets may name.
     pub zones: &'a TimeZoneDatabase,
 }

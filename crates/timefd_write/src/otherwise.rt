@@ -1,10 +1,10 @@
-//! What stands where a line can't be written.
+//! What is written where a moment can't be.
 
 ghost use Rattle.std.specs.Prelude.{◌≡◌};
 ghost use Rattle.timefd_write.specs.Words as spec;
 
-/// What is written in place of a moment that isn't read, or that a component shows nothing of. The
-/// reason is reported either way.
+/// What is written instead of a moment that isn't read, or that a component can't show. The reason
+/// is reported either way.
 #[derive(Clone, Copy)]
 pub enum Otherwise {
     /// Nothing, not even an empty line.
@@ -17,7 +17,7 @@ pub enum Otherwise {
     Fail,
 }
 
-/// What the value of `--else` names.
+/// The meaning of a value of `--else`.
 pub fn otherwise_named(word: &str) -> Option<Otherwise>
     ensures { result ≡ spec.otherwise_named word.now }
 {

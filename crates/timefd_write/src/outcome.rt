@@ -1,4 +1,4 @@
-//! What comes of a moment, and of all of them.
+//! What becomes of a moment, and of all of them.
 
 ghost use Rattle.std.specs.Prelude.{◌≡◌};
 ghost use Rattle.timefd_write.specs.Tallies as spec;
@@ -15,7 +15,7 @@ pub enum RunError {
     Memory,
     /// A write failed.
     Write,
-    /// A moment isn't written, and the run is to end there.
+    /// A moment isn't written, and `--else fail` ends the run there.
     Refused,
 }
 
@@ -30,32 +30,32 @@ impl From<AllocError> for RunError {
     }
 }
 
-/// What comes of a word that is to name a moment.
+/// What becomes of a word that should name a moment.
 #[derive(Clone, Copy)]
 pub enum Outcome {
     /// This moment is written.
     Written(Moment),
-    /// A component shows nothing of this moment, and nothing is written.
+    /// A component can't show this moment, and nothing is written.
     Unshown(Moment, Unshown),
     /// It names no moment.
     Unread(MomentError),
-    /// It is no UTF-8.
+    /// It isn't UTF-8.
     NotText,
 }
 
-/// What was found in the words so far.
+/// What the words so far have come to.
 #[derive(Clone, Copy)]
 pub struct Tally {
-    /// A word names no moment, or a component shows nothing of it.
+    /// A word names no moment, or its moment can't be shown.
     pub is_refused: bool,
-    /// A line is no UTF-8.
+    /// A line isn't UTF-8.
     pub not_text: bool,
     /// The standard input was not read to its end.
     pub has_failed: bool,
 }
 
 impl Tally {
-    /// That of no word, behind a read that failed or not.
+    /// The tally of no words, after a read that failed or didn't.
     pub fn at_end(has_failed: bool) -> Tally
         ensures { result ≡ spec.at_end has_failed }
     {
@@ -66,7 +66,7 @@ impl Tally {
         }
     }
 
-    /// That of a record without the field that is asked for, and of a table without its column.
+    /// The tally of a record without the field that is asked for, or of a table without its column.
     pub fn refused() -> Tally
         ensures { result ≡ spec.refused }
     {
@@ -77,7 +77,7 @@ impl Tally {
         }
     }
 
-    /// That of one word.
+    /// The tally of one word.
     pub fn of(outcome: Outcome) -> Tally
         ensures { result ≡ spec.tally_of outcome }
     {
@@ -88,7 +88,7 @@ impl Tally {
         }
     }
 
-    /// With what was found in other words.
+    /// The tally of these words and others.
     pub fn and(self, other: Tally) -> Tally
         ensures { result ≡ spec.both self other }
     {

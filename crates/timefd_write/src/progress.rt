@@ -1,20 +1,20 @@
-//! How many lines of the standard input are read, shown at a terminal.
+//! Shows at a terminal how many lines of the standard input are read.
 
 use std::cell::Cell;
 use std::io::{self, IsTerminal, Read, Stdin};
 use std::time::{Duration, Instant};
 
-// After how many milliseconds of a run lines are counted aloud.
+// After how many milliseconds of a run the first line of progress is shown.
 const FIRST: u64 = 1000;
 
-// How many each line of progress stands at least.
+// The least number of milliseconds between two lines of progress.
 const BETWEEN: u64 = 100;
 
-// What takes a line of progress away: the start of the line, and all after it cleared.
+// Removes a line of progress: goes to the start of the line, and clears all after it.
 const CLEAR: &str = "\r\x1b[K";
 
-/// How far a run is that takes more than a second. It is shown on the standard error, where that is a
-/// terminal, and neither the standard input nor the standard output is.
+/// How far a run is, once it takes more than a second. Shown on the standard error if that is a
+/// terminal, and if neither the standard input nor the standard output is one.
 #[derive(Drop)]
 pub struct Progress<'a> {
     rt: &'a HostRuntime,
@@ -25,7 +25,7 @@ pub struct Progress<'a> {
 }
 
 impl<'a> Progress<'a> {
-    /// That of a run which begins now.
+    /// The progress of a run that begins at this moment.
     pub fn new(rt: &'a HostRuntime) -> Progress<'a> {
         Progress {
             rt,
@@ -38,15 +38,15 @@ impl<'a> Progress<'a> {
         }
     }
 
-    /// Takes the line of progress away, if one stands there.
+    /// Removes the line of progress, if there is one.
     pub fn end(&self) {
         if self.has_shown.get() {
             let _ = eprint!(self.rt; "{CLEAR}");
         }
     }
 
-    // Counts the lines that end in these bytes, and shows how many were read where it is time to. The
-    // cursor stands at the start of the line then, so that a longer message takes its place.
+    // Counts the newlines in these bytes, and shows the count of lines if it is time to. The cursor
+    // is at the start of the line after that, so a longer message overwrites it.
     fn pass(&self, bytes: &[u8]) {
         if !self.shows {
             return;
@@ -60,7 +60,7 @@ impl<'a> Progress<'a> {
         }
     }
 
-    // Whether the next line of progress is due. Without a clock none is.
+    // Whether the next line of progress is due. Without a clock it never is.
     fn is_time(&self) -> bool {
         match (self.next.get(), Instant::now(self.rt)) {
             (Some(next), Ok(now)) => next <= now,
@@ -69,7 +69,7 @@ impl<'a> Progress<'a> {
     }
 }
 
-// So many milliseconds from now. `None` without a clock.
+// The instant this many milliseconds from now. `None` without a clock.
 fn after_now(rt: &HostRuntime, milliseconds: u64) -> Option<Instant> {
     let now = Instant::now(rt).ok()?;
     now.checked_add(Duration::from_millis(milliseconds))
@@ -80,7 +80,7 @@ fn newlines(bytes: &[u8]) -> u64 {
     bytes.iter().filter(|byte| **byte == b'\n').count() as u64
 }
 
-/// The standard input, whose lines are counted as they are read.
+/// The standard input, with its lines counted as they are read.
 #[derive(Drop)]
 pub struct Watched<'a> {
     progress: &'a Progress<'a>,
@@ -88,7 +88,7 @@ pub struct Watched<'a> {
 }
 
 impl<'a> Watched<'a> {
-    /// Counts them for this progress.
+    /// The input with its lines counted for this progress.
     pub fn new(progress: &'a Progress<'a>, input: Stdin) -> Watched<'a> {
         Watched { progress, input }
     }

@@ -3,21 +3,21 @@
 ghost use Rattle.std.specs.Prelude.{◌≡◌, [], ◌∷◌, if◌then◌else◌};
 ghost use Rattle.timefd_write.specs.Fields as spec;
 
-/// Where a byte stands in its field.
+/// Where a byte is in its field.
 #[derive(Clone, Copy)]
 pub enum Quoting {
     /// At its start.
     Start,
-    /// After its start, in no quotes.
+    /// After its start, not in quotes.
     Bare,
-    /// In its quotes.
+    /// In quotes.
     Inside,
-    /// After a quote within them, which is their end, or the first of two.
+    /// After a quote within quotes, which closes them or is the first of two.
     Closed,
 }
 
 impl Quoting {
-    /// What it is after one byte more.
+    /// The state after one more byte.
     pub fn after(self, byte: u8) -> Quoting
         ensures { result ≡ spec.after self byte }
     {
@@ -29,7 +29,7 @@ impl Quoting {
         }
     }
 
-    /// Whether a comma here ends the field.
+    /// Whether this byte is a comma that ends the field.
     pub fn ends_field(self, byte: u8) -> bool
         ensures { result ≡ spec.ends_field self byte }
     {
@@ -39,7 +39,8 @@ impl Quoting {
         }
     }
 
-    /// Whether a byte here is one of the field's text, and no quote that opens or closes.
+    /// Whether this byte belongs to the text of the field, and isn't a quote that opens or closes
+    /// it.
     pub fn shows(self, byte: u8) -> bool
         ensures { spec.shown self byte ≡ if result then byte ∷ [] else [] }
     {
@@ -59,7 +60,7 @@ impl Quoting {
         }
     }
 
-    /// What it is after some bytes more.
+    /// The state after these bytes.
     #[tactic(auto, using(crate::proofs::FieldLemmas::nothing))]
     pub fn after_all(self, bytes: &[u8]) -> Quoting
         ensures { result ≡ spec.after_all self bytes.now }
@@ -104,7 +105,7 @@ fn after_quote(byte: u8) -> Quoting
     }
 }
 
-// After a byte in no quotes.
+// The state after a byte outside of quotes.
 fn bare_after(byte: u8) -> Quoting
     ensures { result ≡ spec.bare_after byte }
 {

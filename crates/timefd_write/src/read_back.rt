@@ -1,4 +1,4 @@
-//! The moment that a text shows by a description.
+//! The moment that a text shows, read by a description.
 
 ghost use Rattle.std.specs.Prelude.{Err, IfOk, IfSome, Ok};
 ghost use Rattle.timefd_read_dates.specs.Reads.{Fills, fields_of};
@@ -18,8 +18,8 @@ use timefd_read_dates::{
 };
 use timefd_read_moment::{ValueError, moment, moment_of_numbers};
 
-/// The components and literals that a description is, where it is no more than those in turn. They
-/// are found once, and many texts read by them.
+/// The components and literals of a description, if it is only a sequence of those. They are found once, so
+/// that many texts can be read by them. An `Err` says that memory ran out.
 pub fn leaves_of<'d>(
     alloc: Global,
     description: &'d BorrowedOutput<'_>,
@@ -32,9 +32,9 @@ pub fn leaves_of<'d>(
     }
 }
 
-/// The moment that a whole text shows by the description, or by the leaves that were found of it.
-/// An `Err` tells which part does not read, and the byte index where it begins; or why what was
-/// read is no moment.
+/// The moment that a whole text shows, read by the description, or by its leaves if those were found. An
+/// `Err` says which part doesn't match and the byte index where it begins, or why what was read isn't a
+/// moment.
 pub fn moment_read(
     description: &BorrowedOutput<'_>,
     leaves: Option<&[Leaf<'_>]>,
@@ -49,7 +49,8 @@ pub fn moment_read(
     moment_by_fields(description, leaves, text)
 }
 
-// The moment of a text that shows numbers of two digits and a year of four, and no more. `None` says nothing.
+// The moment of a text with two-digit numbers and a four-digit year only, which is the fast case. `None` says
+// nothing about the text.
 #[inline(never)]
 #[tactic(auto, using(crate::proofs::ReadBackLemmas::by_numbers))]
 fn moment_shown(
@@ -64,7 +65,7 @@ fn moment_shown(
     moment_of_numbers(numbers)
 }
 
-// The same of any text, by its fields.
+// The moment of any text, by its fields.
 #[inline(never)]
 fn moment_by_fields(
     description: &BorrowedOutput<'_>,
@@ -84,7 +85,7 @@ fn moment_by_fields(
     }
 }
 
-// Why the fields are those of no moment.
+// Why the fields aren't those of a moment.
 fn no_moment(fields: &Fields, error: ValueError) -> MomentError
     requires { IsMomentOf fields.now (Err error) }
     ensures { IsNoMoment fields.now result }
@@ -98,7 +99,7 @@ fn no_moment(fields: &Fields, error: ValueError) -> MomentError
     }
 }
 
-// Puts the fields that the text shows in place of these.
+// Replaces these fields with those that the text shows.
 fn fill(
     description: &BorrowedOutput<'_>,
     leaves: Option<&[Leaf<'_>]>,

@@ -9,20 +9,20 @@ use crate::outcome::RunError;
 use crate::quoting::Quoting;
 use std::io::BufRead;
 
-/// What a read of a record comes to.
+/// What reading a record came to.
 #[derive(Clone, Copy)]
 pub enum RecordRead {
     /// One more record, of this many lines.
     Record(u64),
-    /// What is left, whose last quotes don't end.
+    /// The rest of the input, because its quotes aren't closed.
     Open,
-    /// The end.
+    /// The end of the input.
     End,
     /// The read failed.
     Failed,
 }
 
-/// Reads one more record in place of these bytes, with its newline. An `Err` says that memory ran out.
+/// Replaces these bytes with one more record, with its newline. An `Err` says that memory ran out.
 #[tactic(auto, using(crate::proofs::RecordLemmas::starts, crate::proofs::RecordLemmas::line_more, crate::proofs::RecordLemmas::row_done, crate::proofs::RecordLemmas::row_ended))]
 pub fn read_record<R: BufRead>(reader: &mut R, row: &mut Vec<u8>) -> Result<RecordRead, RunError>
     ensures read { IfOk result (IsRecordRead (R.remaining reader.old) (R.remaining reader.new)
@@ -47,7 +47,7 @@ pub fn read_record<R: BufRead>(reader: &mut R, row: &mut Vec<u8>) -> Result<Reco
     Ok(RecordRead::Failed)
 }
 
-// What the end comes to after these bytes of a record.
+// What the end of the input means after these bytes of a record.
 fn at_end(row: &[u8], quoting: Quoting) -> RecordRead
     ensures { result ≡ spec.at_end row.now quoting }
 {

@@ -1,4 +1,4 @@
-//! A whole run: from a description and words to lines.
+//! A whole run: from descriptions and words to lines.
 
 ghost use Rattle.std.specs.Prelude.{IfErr, IfOk};
 ghost use Rattle.timefd_diagnosis.specs.Words.{texts};
@@ -10,21 +10,22 @@ use crate::description::{Reading, read};
 use crate::end::RunEnd;
 use crate::language::Languages;
 use crate::lines::write_lines;
-use crate::message::{Manner, tell_fault};
+use crate::message::{Manner, report_fault};
 use crate::otherwise::Otherwise;
 use crate::outcome::{RunError, Tally};
 use crate::source::{Clocks, Source, source_of};
 use crate::table::write_table;
-use crate::warned::{WRITTEN, tell_warned};
+use crate::warned::{WRITTEN, report_warned};
 use crate::words::write_words;
 use std::alloc::Global;
 use std::io::{BufRead, Write};
 use timefd_parse::{BorrowedOutput, StrftimeTables};
 
-/// Writes the moments that the words name by the description, a line each; those of the lines of
-/// the input, where there is no word. With a description to read by, the words are texts of it.
-/// Where a description is refused, its fault is drawn for the errors, and nothing is written. Else the
-/// errors have the warnings of the descriptions first.
+/// Writes the moments that the words name, by the description, one a line. Without words, the moments
+/// come from the input. If there is a description to read by, the moments are texts of it.
+///
+/// If a description is refused, its fault is written to `errors`, and nothing to the output.
+/// Otherwise `errors` gets the warnings about the descriptions first.
 pub fn run<I: BufRead, W: Write, E: Write>(
     alloc: Global,
     clocks: Clocks<'_>,
@@ -71,7 +72,7 @@ pub fn run<I: BufRead, W: Write, E: Write>(
     }
 }
 
-// Tells the warnings of the descriptions, and writes the moments that the words name or show.
+// Reports the warnings about the descriptions, and writes the moments that the words name or show.
 fn run_from<I: BufRead, W: Write, E: Write>(
     alloc: Global,
     source: &Source<'_>,
@@ -93,7 +94,7 @@ fn run_from<I: BufRead, W: Write, E: Write>(
     let tables = StrftimeTables::new();
     match read(alloc, languages.written, &tables, description)? {
         Reading::Refused(diagnostic) => {
-            tell_fault(
+            report_fault(
                 alloc,
                 manner.is_colored,
                 WRITTEN,
@@ -104,7 +105,7 @@ fn run_from<I: BufRead, W: Write, E: Write>(
             Ok(RunEnd::Refused)
         }
         Reading::Description(description) => {
-            let warned = tell_warned(alloc, manner, languages, source, &description, errors)?;
+            let warned = report_warned(alloc, manner, languages, source, &description, errors)?;
             let tally = write_all(
                 alloc,
                 source,
@@ -121,7 +122,7 @@ fn run_from<I: BufRead, W: Write, E: Write>(
     }
 }
 
-// The moments of the words, or of the lines of the input.
+// Writes the moments of the words, or those of the input.
 fn write_all<I: BufRead, W: Write, E: Write>(
     alloc: Global,
     source: &Source<'_>,
@@ -153,7 +154,7 @@ fn write_all<I: BufRead, W: Write, E: Write>(
     }
 }
 
-// The moments of the input: those of its lines, or those of a column.
+// Writes the moments of the input: one from each line, or from a column.
 fn write_input<I: BufRead, W: Write, E: Write>(
     alloc: Global,
     source: &Source<'_>,

@@ -1,4 +1,4 @@
-//! Moments that are named by seconds of Unix time.
+//! Moments named by their seconds of Unix time.
 
 ghost use Rattle.timefd_write.specs.Seconds as spec;
 ghost use Rattle.timefd_write.specs.Seconds.{IsAtSeconds, IsUnixTime, text_of};
@@ -9,7 +9,7 @@ use timefd_moment::{Moment, UnixTime};
 
 const NANOSECONDS: u128 = 1_000_000_000;
 
-/// What follows the `@` that a word begins with. `None` where it begins with none.
+/// What follows the `@` at the start of a word. `None` if the word doesn't start with one.
 #[tactic(auto, using(crate::proofs::SecondsLemmas::after))]
 pub fn after_at(word: &str) -> Option<&str>
     ensures { text_of result ≡ spec.after_at word.now }
@@ -17,7 +17,7 @@ pub fn after_at(word: &str) -> Option<&str>
     word.strip_prefix('@')
 }
 
-/// The moment so many seconds after 1970 began in UTC, or before it.
+/// The moment this many seconds after 1970 began in UTC. Before 1970 the number is negative.
 pub fn moment_at(seconds: &str) -> Result<Moment, MomentError>
     ensures { IsAtSeconds seconds.now result }
 {
@@ -30,7 +30,7 @@ pub fn moment_at(seconds: &str) -> Result<Moment, MomentError>
     }
 }
 
-// The instant of these seconds, where they are a number.
+// The instant of these seconds. `None` if they aren't a whole number.
 fn unix_time_in(seconds: &str) -> Option<UnixTime>
     ensures { IsUnixTime seconds.now result }
 {

@@ -1,10 +1,10 @@
-//! What words are: names of moments, or texts of a description.
+//! What the words of a run are: names of moments, or texts of a description.
 
 ghost use Rattle.std.specs.Prelude.{◌≡◌, IfErr, IfOk, IfSome};
 ghost use Rattle.timefd_write.specs.Sources.{AreLeavesIn, IsFoundIn, IsMomentIn, IsSourceOf, IsTextOf};
 
 use crate::description::{Reading, read};
-use crate::message::tell_fault;
+use crate::message::report_fault;
 use crate::moment::{MomentError, moment_named};
 use crate::names::Names;
 use crate::outcome::RunError;
@@ -18,7 +18,7 @@ use timefd_moment::Moment;
 use timefd_node_list::Leaf;
 use timefd_parse::{BorrowedOutput, Language, StrftimeTables};
 
-/// What words are.
+/// What the words of a run are.
 #[derive(Drop)]
 pub enum SourceKind<'a> {
     /// Names of moments.
@@ -27,27 +27,26 @@ pub enum SourceKind<'a> {
     Texts(BorrowedOutput<'a>),
 }
 
-/// What words are, and what is made of the moments that they name or show.
+/// What the words of a run are, and how the moments that they name or show are changed.
 #[derive(Drop)]
 pub struct Source<'a> {
-    /// What words are.
+    /// What the words are.
     pub kind: SourceKind<'a>,
-    /// The time zone on whose clock a moment is shown. Without one it stays as it is.
+    /// The time zone whose clock shows the moments. Without one they stay as they are.
     pub zone: Option<TimeZone<'a>>,
 }
 
-/// What the moments of a run depend on, beside their words.
+/// What the moments of a run depend on, besides its words.
 #[derive(Clone, Copy)]
 pub struct Clocks<'a> {
-    /// What words name.
+    /// What names on the command line refer to.
     pub names: Names<'a>,
-    /// The time zone on whose clock moments are shown.
+    /// The time zone whose clock shows the moments.
     pub zone: Option<TimeZone<'a>>,
 }
 
-/// What the words of a run are: texts of the description that `--read` has, or names. `None` where
-/// that description is refused; its fault is then drawn for the errors. An `Err` says that memory
-/// ran out.
+/// What the words of a run are: texts of the description that `--read` gives, or names. `None` if that
+/// description is refused; its fault is then written to `errors`. An `Err` says that memory ran out.
 pub fn source_of<'a, E: Write>(
     alloc: Global,
     clocks: Clocks<'a>,
@@ -68,7 +67,7 @@ pub fn source_of<'a, E: Write>(
     };
     match read(alloc, language, tables, text)? {
         Reading::Refused(diagnostic) => {
-            tell_fault(alloc, is_colored, READ, text, &diagnostic, errors)?;
+            report_fault(alloc, is_colored, READ, text, &diagnostic, errors)?;
             Ok(None)
         }
         Reading::Description(description) => {
@@ -80,8 +79,8 @@ pub fn source_of<'a, E: Write>(
     }
 }
 
-/// The components and literals of the description that words are texts of, where it is no more than
-/// those in turn.
+/// The components and literals of the description to read by, if it is only a sequence of those. An `Err`
+/// says that memory ran out.
 pub fn source_leaves<'s>(
     alloc: Global,
     source: &'s Source<'_>,
@@ -94,8 +93,8 @@ pub fn source_leaves<'s>(
     }
 }
 
-/// The moment that a word names, or that it shows by the description or its leaves, on the clock of the time
-/// zone that the source has.
+/// The moment that a word names, or shows by the description or its leaves. If the source has a time zone,
+/// its clock shows the moment.
 #[tactic(auto, using(crate::proofs::MomentLemmas::shown_in))]
 pub fn moment_in(
     source: &Source<'_>,
@@ -114,7 +113,7 @@ pub fn moment_in(
     }
 }
 
-// The moment that a word names, or that it shows by the description or its leaves.
+// The moment that a word names, or shows by the description or its leaves.
 fn moment_found(
     source: &Source<'_>,
     leaves: Option<&[Leaf<'_>]>,

@@ -1,4 +1,4 @@
-//! A table of comma-separated values, with one column written anew.
+//! A table of comma-separated values, with one column rewritten.
 
 ghost use Rattle.std.specs.Prelude.{◌≡◌, false, IfErr, IfOk, OnOk};
 ghost use Rattle.timefd_write.specs.Frames.{EndsOnlyAsAsked};
@@ -14,7 +14,7 @@ use crate::fields::{cell_after, text_in};
 use crate::frame::{Entry, Frame, send};
 use crate::header::named_in;
 use crate::lines::line_room;
-use crate::message::{no_field_message, no_header_message, open_message, tell, unnamed_message};
+use crate::message::{no_field_message, no_header_message, open_message, report, unnamed_message};
 use crate::otherwise::Otherwise;
 use crate::outcome::{RunError, Tally};
 use crate::read_back::leaves_of;
@@ -26,10 +26,10 @@ use timefd_node_list::Leaf;
 use timefd_parse::BorrowedOutput;
 use timefd_rewrite::without_newline;
 
-/// Writes the records of a reader in turn, each with the moment of one field in its place, and every
-/// other byte as it is. Fields that are no moment are told, with the number of their line, and what is
-/// asked for stands in their place.
-#[tactic(auto, using(crate::proofs::LineLemmas::lent_in, crate::proofs::LineLemmas::lent_of))]
+/// Writes the records of a reader, one after another. In each, one field is replaced with its moment's
+/// text, and every other byte stays as it is. A field that isn't a moment is reported with the number
+/// of its line, and what `--else` asks for is written instead.
+#[tactic(auto, using(crate::proofs::LineLemmas::borrowed_in, crate::proofs::LineLemmas::borrowed_of))]
 pub fn write_table<R: BufRead, W: Write, E: Write>(
     alloc: Global,
     source: &Source<'_>,
@@ -75,7 +75,7 @@ pub fn write_table<R: BufRead, W: Write, E: Write>(
     }
 }
 
-// The same by the name that the first record gives the column.
+// Writes the table by the column that the first record gives this name.
 fn write_named<R: BufRead, W: Write, E: Write>(
     alloc: Global,
     source: &Source<'_>,
@@ -100,7 +100,7 @@ fn write_named<R: BufRead, W: Write, E: Write>(
         RecordRead::Open => 1,
         RecordRead::End => {
             let message = no_header_message(alloc, name)?;
-            tell(errors, message.as_bytes());
+            report(errors, message.as_bytes());
             return Ok(Tally::refused());
         }
         RecordRead::Failed => return Ok(Tally::at_end(true)),
@@ -124,13 +124,13 @@ fn write_named<R: BufRead, W: Write, E: Write>(
         }
         Err(error) => {
             let message = unnamed_message(alloc, name, error)?;
-            tell(errors, message.as_bytes());
+            report(errors, message.as_bytes());
             Ok(Tally::refused())
         }
     }
 }
 
-// The records from a line on, by the field after some others.
+// Writes the records from a line on. The field to replace is the one after `count` others.
 #[tactic(auto, using(crate::proofs::TableLemmas::starts, crate::proofs::TableLemmas::row_more, crate::proofs::TableLemmas::row_open, crate::proofs::TableLemmas::rows_end, crate::proofs::TableLemmas::records_fail))]
 fn write_records<R: BufRead, W: Write, E: Write>(
     alloc: Global,
@@ -188,7 +188,7 @@ fn write_records<R: BufRead, W: Write, E: Write>(
     Ok(tally.and(Tally::at_end(true)))
 }
 
-// What a record adds to a tally.
+// Writes a record, and returns what it adds to the tally.
 #[tactic(auto, using(crate::proofs::TableLemmas::of_cell))]
 fn tally_record<W: Write, E: Write>(
     alloc: Global,
@@ -238,14 +238,14 @@ fn tally_record<W: Write, E: Write>(
         }
         None => {
             let message = no_field_message(alloc, line)?;
-            tell(errors, message.as_bytes());
+            report(errors, message.as_bytes());
             replace_record(otherwise, row, output)?;
             Ok(Tally::refused())
         }
     }
 }
 
-// What is left, whose last quotes don't end, adds to a tally.
+// Writes the rest of an input whose quotes aren't closed, and returns what it adds to the tally.
 fn tally_open<W: Write, E: Write>(
     alloc: Global,
     otherwise: Otherwise,
@@ -260,12 +260,12 @@ fn tally_open<W: Write, E: Write>(
     ensures ends { IfErr result (EndsOnlyAsAsked otherwise) }
 {
     let message = open_message(alloc, line)?;
-    tell(errors, message.as_bytes());
+    report(errors, message.as_bytes());
     replace_record(otherwise, row, output)?;
     Ok(Tally::refused())
 }
 
-// Writes what stands in place of a record that has no such field.
+// Writes what `--else` asks for instead of a record that has no such field.
 fn replace_record<W: Write>(
     otherwise: Otherwise,
     row: &[u8],

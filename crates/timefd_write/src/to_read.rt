@@ -1,4 +1,4 @@
-//! Descriptions that texts are read by.
+//! The description that texts are read by.
 
 ghost use Rattle.std.specs.Prelude.{◌≡◌, IfOk, string_bytes};
 ghost use Rattle.std.specs.Result.{IfErr};
@@ -9,11 +9,11 @@ use crate::language::Wording;
 use std::alloc::{AllocError, Global};
 use timefd_dialect::{DialectError, Limits, to_version_three_for_reading};
 
-/// A description that texts are read by, in a language of `time`. A format of another language is
-/// converted to read what it writes.
+/// The description that texts are read by, in a language of `time`. A format of another language is
+/// converted to a description that reads what the format writes.
 ///
-/// The error is that of a format: a part of it has no text of version 3 or tells too little, or
-/// memory ran out.
+/// An `Err` says that a part of the format can't be written in version 3, that it shows too little
+/// to be read, or that memory ran out.
 pub fn description_to_read<'a>(
     alloc: Global,
     wording: Wording,
@@ -31,9 +31,10 @@ pub fn description_to_read<'a>(
     }
 }
 
-/// Of which moments alone texts of a format are read, in a sentence; `None`, if of all.
-pub fn limits_told(alloc: Global, limits: Limits) -> Result<Option<String>, AllocError>
-    ensures { IfOk result (spec.IsTold (spec.limits_told limits)) }
+/// A sentence that says which texts of a format are read. `None` if all of them are. An `Err` says
+/// that memory ran out.
+pub fn reading_limits_sentence(alloc: Global, limits: Limits) -> Result<Option<String>, AllocError>
+    ensures { IfOk result (spec.IsReported (spec.reading_limits_sentence limits)) }
 {
     if limits.first_year == 0 {
         return of_all_years(alloc, limits.whole_minutes);
@@ -42,7 +43,7 @@ pub fn limits_told(alloc: Global, limits: Limits) -> Result<Option<String>, Allo
 }
 
 fn of_all_years(alloc: Global, whole_minutes: bool) -> Result<Option<String>, AllocError>
-    ensures { IfOk result (spec.IsTold (spec.of_all_years whole_minutes)) }
+    ensures { IfOk result (spec.IsReported (spec.of_all_years whole_minutes)) }
 {
     if whole_minutes {
         Ok(Some(String::from_str(

@@ -1,4 +1,4 @@
-//! What the program says of itself, and of arguments that are none of its.
+//! What the program says about itself, and about arguments that it can't use.
 
 ghost use Rattle.std.specs.Prelude.{◌≡◌, IfOk, string_bytes};
 ghost use Rattle.timefd_write.specs.Messages as spec;
@@ -47,7 +47,7 @@ refused, 2 at wrong arguments, 3 where memory ran out, 4 where a read or a write
 line is no UTF-8.
 ";
 
-/// What is wrong with the arguments, in a sentence.
+/// A sentence that says what is wrong with the arguments. An `Err` says that memory ran out.
 pub fn sentence(alloc: Global, error: OptionError<'_>) -> Result<String, AllocError>
     ensures { IfOk result (λ text. string_bytes text ≡ spec.option_sentence error.entry) }
 {
@@ -55,7 +55,7 @@ pub fn sentence(alloc: Global, error: OptionError<'_>) -> Result<String, AllocEr
         OptionError::Unknown(word) => {
             let word = safe(alloc, word)?;
             format!(in alloc;
-                "there is no option `{word}`; --help lists them, and behind `--` it is a description"
+                "there is no option `{word}`; --help lists them, and after `--` it is a description"
             )
         }
         OptionError::MissingLanguage(option) => {
@@ -68,7 +68,7 @@ pub fn sentence(alloc: Global, error: OptionError<'_>) -> Result<String, AllocEr
         OptionError::MissingRead => {
             String::from_str(alloc, "`--read` wants a value: a description to read by")
         }
-        OptionError::ReadTwice => String::from_str(alloc, "`--read` stands twice"),
+        OptionError::ReadTwice => String::from_str(alloc, "`--read` is given twice"),
         OptionError::NoLanguage(option, word) => no_language(alloc, option, word),
         OptionError::MissingColumn => String::from_str(
             alloc,
@@ -77,7 +77,7 @@ pub fn sentence(alloc: Global, error: OptionError<'_>) -> Result<String, AllocEr
         OptionError::ColumnTwice => {
             String::from_str(
                 alloc,
-                "`--csv` stands twice, and one run changes one column",
+                "`--csv` is given twice, and one run changes one column",
             )
         }
         OptionError::NoColumn => {
@@ -98,7 +98,7 @@ pub fn sentence(alloc: Global, error: OptionError<'_>) -> Result<String, AllocEr
         }
         OptionError::MomentBesideColumn => String::from_str(
             alloc,
-            "`--csv` reads the standard input; no moment stands after the description then",
+            "`--csv` reads the standard input; no moment follows the description then",
         ),
         OptionError::NothingRead => String::from_str(
             alloc,
@@ -106,7 +106,7 @@ pub fn sentence(alloc: Global, error: OptionError<'_>) -> Result<String, AllocEr
         ),
         OptionError::GuessBeside => String::from_str(
             alloc,
-            "`--guess` stands behind no other option than `--quiet`; it finds a description",
+            "`--guess` goes with no option but `--quiet`; it finds a description",
         ),
         OptionError::NoDescription => {
             String::from_str(alloc, "there is no description; --help shows the usage")
@@ -114,7 +114,7 @@ pub fn sentence(alloc: Global, error: OptionError<'_>) -> Result<String, AllocEr
     }
 }
 
-// A word that is no value of the option.
+// The sentence for a word that isn't a value of the option.
 fn no_language(alloc: Global, option: LanguageOption, word: &str) -> Result<String, AllocError>
     ensures { IfOk result (λ text. string_bytes text ≡ spec.no_language option word.now) }
 {

@@ -1,4 +1,4 @@
-//! The warnings that are told of descriptions.
+//! The warnings about the descriptions of a run.
 
 ghost use Rattle.std.specs.Prelude.{◌≡◌, IfOk};
 ghost use Rattle.timefd_lint_warnings.specs.Found.{output_parts};
@@ -6,7 +6,7 @@ ghost use Rattle.timefd_warnings.specs.Parts.{parts};
 ghost use Rattle.timefd_write.specs.Warned as spec;
 
 use crate::language::Languages;
-use crate::message::{Manner, tell};
+use crate::message::{Manner, report};
 use crate::source::{Source, SourceKind};
 use std::alloc::{AllocError, Global};
 use std::io::Write;
@@ -15,23 +15,25 @@ use timefd_lint_warnings::messages;
 use timefd_parse::{BorrowedOutput, Language};
 use timefd_warnings::{Description, Level, Levels, Style as Spelling, Warning, warns};
 
-/// What the description of `--read` is called where something is told of it.
+/// What messages call the description of `--read`.
 pub const READ: &str = "<read>";
 
-/// What the description that moments are written by is called there.
+/// What messages call the description that moments are written by.
 pub const WRITTEN: &str = "<description>";
 
-/// The warnings that are told of the descriptions of a run.
+/// The warnings that are reported about the descriptions of a run.
 #[derive(Clone, Copy)]
 pub struct Warned {
-    /// Those of the description that moments are read by; none, where they are named.
+    /// The warnings about the description that moments are read by. All are allowed if moments are
+    /// named.
     pub read: Levels,
-    /// Those of the description that they are written by.
+    /// The warnings about the description that moments are written by.
     pub written: Levels,
 }
 
-/// Tells the warnings of both descriptions, unless they are left out, and answers those that are told.
-pub fn tell_warned<E: Write>(
+/// Reports the warnings about both descriptions, unless they are left out, and returns those that were
+/// reported. An `Err` says that memory ran out.
+pub fn report_warned<E: Write>(
     alloc: Global,
     manner: Manner,
     languages: Languages,
@@ -43,23 +45,23 @@ pub fn tell_warned<E: Write>(
         ≡ spec.warned_by manner.is_quiet languages source.now description.now) }
 {
     let warned = warned_by(manner.is_quiet, languages, source, description);
-    let told = warned_text(
+    let reported = warned_text(
         alloc,
         manner.is_colored,
         named(READ),
         named(WRITTEN),
         warned,
     )?;
-    tell(errors, &told);
+    report(errors, &reported);
     Ok(warned)
 }
 
-// A description by its name.
+// The origin of a description that is called this.
 fn named(file: &str) -> Origin<'_> {
     Origin { file, line: 1 }
 }
 
-// What is told of both, in turn.
+// The messages about both descriptions, in order.
 #[tactic(auto, using(crate::proofs::WarnedLemmas::joined))]
 fn warned_text(
     alloc: Global,
@@ -68,17 +70,17 @@ fn warned_text(
     written: Origin<'_>,
     warned: Warned,
 ) -> Result<Vec<u8>, AllocError>
-    ensures { IfOk result (λ told. told.items
+    ensures { IfOk result (λ reported. reported.items
         ≡ spec.warned_text is_colored read.entry written.entry warned) }
 {
     let style = Style {
         format: Format::Human,
         is_colored,
     };
-    let mut told = messages(alloc, style, read, warned.read)?;
-    let behind = messages(alloc, style, written, warned.written)?;
-    told.extend_from_slice(&behind)?;
-    Ok(told)
+    let mut reported = messages(alloc, style, read, warned.read)?;
+    let after = messages(alloc, style, written, warned.written)?;
+    reported.extend_from_slice(&after)?;
+    Ok(reported)
 }
 
 // The warnings of both descriptions, unless they are left out.
@@ -111,7 +113,7 @@ fn warned_of_source(language: Language, source: &Source<'_>) -> Levels
     }
 }
 
-// The warnings of a description of this language.
+// The warnings about a description of this language.
 fn warned_of(language: Language, description: &BorrowedOutput<'_>) -> Levels
     ensures { result ≡ spec.warned_of language description.now }
 {
@@ -128,7 +130,7 @@ fn warned_of(language: Language, description: &BorrowedOutput<'_>) -> Levels
     }
 }
 
-// Two warnings, each where the description has it. All others are left to the linter.
+// Checks for two warnings. All others are left to the linter.
 fn warned_in(spelling: Spelling, description: Description<'_, '_>) -> Levels
     ensures { result ≡ spec.warned_in spelling (parts description.entry) }
 {

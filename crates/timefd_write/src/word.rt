@@ -1,4 +1,4 @@
-//! What a word is where an option may stand.
+//! What a word means where an option may be given.
 
 ghost use Rattle.std.specs.Prelude.{◌≡◌};
 ghost use Rattle.timefd_write.specs.Words as spec;
@@ -6,14 +6,14 @@ ghost use Rattle.timefd_write.specs.Words as spec;
 /// An option whose value is a language.
 #[derive(Clone, Copy)]
 pub enum LanguageOption {
-    /// `--language`: that of both descriptions.
+    /// `--language`: the language of both descriptions.
     Both,
-    /// `--to-language`: that of the description which moments are written by.
+    /// `--to-language`: the language of the description that moments are written by.
     Written,
 }
 
 impl LanguageOption {
-    /// The word that it is.
+    /// The option as it is written.
     pub fn name(self) -> &'static str
         ensures { result.now ≡ spec.option_name self }
     {
@@ -24,20 +24,20 @@ impl LanguageOption {
     }
 }
 
-/// What a word is where an option may stand.
+/// What a word means where an option may be given.
 #[derive(Clone, Copy)]
 pub enum Word {
-    /// `--language` or `--to-language`, whose value is the word after it.
+    /// `--language` or `--to-language`. The next word is its value.
     Language(LanguageOption),
-    /// `--read`, whose value is the word behind it.
+    /// `--read`. The next word is its value.
     Read,
-    /// `--csv`, whose value is the word after it.
+    /// `--csv`. The next word is its value.
     Csv,
-    /// `--else`, whose value is the word after it.
+    /// `--else`. The next word is its value.
     Else,
-    /// `--guess`, behind which all words are texts.
+    /// `--guess`. All words after it are texts.
     Guess,
-    /// `--zone`, whose value is the word after it.
+    /// `--zone`. The next word is its value.
     Zone,
     /// `--quiet` or `-q`.
     Quiet,
@@ -45,15 +45,15 @@ pub enum Word {
     Help,
     /// `--version` or `-V`.
     Version,
-    /// `--`, behind which the description stands, whatever it begins with.
+    /// `--`. The next word is the description, whatever it begins with.
     End,
-    /// What looks like an option and is none.
+    /// A word that looks like an option but isn't one.
     Unknown,
     /// The description.
     Description,
 }
 
-/// What a word is where an option may stand.
+/// What a word means where an option may be given.
 pub fn word_of(word: &str) -> Word
     ensures { result ≡ spec.word_of word.now }
 {
@@ -73,7 +73,7 @@ pub fn word_of(word: &str) -> Word
     }
 }
 
-// What a word is that is no option.
+// What a word means that isn't an option.
 fn other_word(word: &str) -> Word
     ensures { result ≡ spec.other_word word.now }
 {

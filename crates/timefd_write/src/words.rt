@@ -14,7 +14,7 @@ use std::alloc::Global;
 use std::io::Write;
 use timefd_parse::BorrowedOutput;
 
-/// Writes the line of the moment that each word names or shows, in turn. Those that have none are told, and
+/// Writes a line for each word: the moment that it names or shows. Words without a moment are reported, and
 /// the others are still written.
 #[tactic(auto, using(crate::proofs::RunLemmas::starts, crate::proofs::RunLemmas::is_done))]
 pub fn write_words<W: Write, E: Write>(
@@ -32,7 +32,7 @@ pub fn write_words<W: Write, E: Write>(
 {
     let mut tally = Tally::at_end(false);
     let mut rest = words;
-    'words: while let [word, behind @ ..] = rest {
+    'words: while let [word, after @ ..] = rest {
         let one = tally_one(
             alloc,
             source,
@@ -50,7 +50,7 @@ pub fn write_words<W: Write, E: Write>(
             errors,
         )?;
         tally = tally.and(one);
-        rest = behind;
+        rest = after;
     }
     Ok(tally)
 }

@@ -1,4 +1,4 @@
-//! Moments on the clock of a time zone.
+//! Moments as the clock of a time zone shows them.
 
 ghost use Rattle.std.specs.Prelude.{◌≡◌};
 ghost use Rattle.timefd_write.specs.Zones as spec;
@@ -9,7 +9,7 @@ use jiff_tz::TimeZone;
 use timefd_jiff::moment_in_zone;
 use timefd_moment::{Moment, UnixTime};
 
-/// The instant of a moment whose date, time and offset are known.
+/// The instant of a moment. `None` if its date, its time or its offset isn't known.
 pub fn instant_of(moment: Moment) -> Option<UnixTime>
     ensures { result ≡ spec.instant_of moment }
 {
@@ -19,8 +19,8 @@ pub fn instant_of(moment: Moment) -> Option<UnixTime>
     }
 }
 
-/// What a clock in the zone shows at the instant of a moment. An `Err` says that it is no instant, or beyond
-/// the years in which zones are known.
+/// What a clock in the zone shows at the instant of a moment. An `Err` says that the moment isn't an
+/// instant, or that its year is outside of those in which zones are known.
 pub fn in_zone(zone: &TimeZone<'_>, moment: Moment) -> Result<Moment, MomentError>
     ensures { IsInZone zone.now moment result }
 {

@@ -1,4 +1,4 @@
-//! The time zones of the system, from its files.
+//! The time zones of the system, read from its files.
 
 use crate::clock::moment_now;
 use crate::names::Now;
@@ -10,27 +10,28 @@ use strsim::damerau_levenshtein;
 use timefd_drawing::shown::safe;
 use timefd_jiff::Error;
 
-// Where systems keep their zones.
+// Where systems keep their time zones.
 const FOLDERS: [&str; 3] = [
     "/usr/share/zoneinfo",
     "/usr/share/lib/zoneinfo",
     "/etc/zoneinfo",
 ];
 
-// The longest file that is read as a zone. Those of the Time Zone Database have a few kilobytes.
+// The longest file that is read as a time zone. The files of the Time Zone Database have a few
+// kilobytes.
 const LONGEST: u64 = 1 << 20;
 
 /// Time zones that were read, all or some of them.
 #[derive(Drop)]
 pub struct Zones {
-    /// Those that were read.
+    /// The time zones that were read.
     pub database: TimeZoneDatabase,
-    /// Whether these are all.
+    /// Whether these are all zones of the system.
     is_whole: bool,
 }
 
 impl Zones {
-    /// None but `UTC`.
+    /// No time zone but `UTC`.
     pub fn new(rt: &HostRuntime) -> Zones {
         Zones {
             database: TimeZoneDatabase::new(rt.alloc()),
@@ -38,19 +39,20 @@ impl Zones {
         }
     }
 
-    /// All zones of the system.
+    /// All zones of the system. An `Err` says that memory ran out.
     pub fn all(rt: &HostRuntime) -> Result<Zones, AllocError> {
         match TimeZoneDatabase::from_env(rt) {
             Ok(database) => Ok(Zones {
                 database,
                 is_whole: true,
             }),
+            // What can't be read is left out of the database: memory that ran out is the only error.
             Err(_) => Err(AllocError),
         }
     }
 
-    /// Reads the zone of this name, in any case, where the system has one. One file is read, where that is
-    /// its name, and else all are.
+    /// Adds the zone of this name, in upper or lower case, if the system has one. Reads the one file of
+    /// that name if there is one, and all zones otherwise. An `Err` says that memory ran out.
     pub fn with(mut self, rt: &HostRuntime, name: &str) -> Result<Zones, AllocError> {
         if self.is_whole || self.has(name)? {
             return Ok(self);
@@ -63,7 +65,7 @@ impl Zones {
         }
     }
 
-    /// What is told of a name that no zone has.
+    /// The message for a name that no zone has. An `Err` says that memory ran out.
     pub fn unknown_sentence(&self, alloc: Global, name: &str) -> Result<String, AllocError> {
         let nearest = self.nearest(alloc, name)?;
         let name = safe(alloc, name)?;
@@ -79,7 +81,7 @@ impl Zones {
         }
     }
 
-    // The name to which the fewest edits lead, where that are few.
+    // The most similar name of a zone: the one that the fewest edits lead to, if those are few.
     fn nearest(&self, alloc: Global, name: &str) -> Result<Option<&str>, AllocError> {
         let mut fewest = name.len() / 3 + 1;
         let mut found = None;
@@ -97,13 +99,14 @@ impl Zones {
         match self.database.get(name) {
             Ok(_) => Ok(true),
             Err(Error::TimeZoneNotFound) => Ok(false),
+            // There is no other error of a name that there is no zone of, but memory that ran out.
             Err(_) => Err(AllocError),
         }
     }
 }
 
-/// The moment that is now, on the clock of the zone that `TZ` names; where that isn't set, of the zone of
-/// `/etc/localtime`, and of UTC where there is no such file.
+/// The current moment, on the clock of the zone that `TZ` names. If `TZ` isn't set, the zone is that of
+/// `/etc/localtime`, or UTC if there is no such file. An `Err` says that memory ran out.
 pub fn now_of(rt: &HostRuntime) -> Result<Now, AllocError> {
     match SystemTimeZone::read(rt) {
         Ok(system) => now_in(rt, &system),
@@ -159,7 +162,7 @@ fn insert_zone(
     Ok(())
 }
 
-// Whether a name may be that of a zone's file below a folder: `Etc/GMT+5`, and neither `../zone` nor `/zone`.
+// Whether a name may be that of a zone's file below a folder: `Etc/GMT+5`, but not `../zone` or `/zone`.
 fn is_file_name(name: &str) -> bool {
     !name.starts_with('/')
         && name.bytes().all(|byte| {
@@ -167,7 +170,7 @@ fn is_file_name(name: &str) -> bool {
         })
 }
 
-// Reads the zone's file in the folder into the database. The answer is whether there is one.
+// Reads the zone's file in the folder into the database, and returns whether there is one.
 fn insert_from(
     rt: &HostRuntime,
     zones: &mut TimeZoneDatabase,
@@ -185,7 +188,8 @@ fn insert_from(
     }
 }
 
-// The bytes of a file that may be a zone's.
+// The bytes of a file that may be a time zone. `None` if it can't be read, or is longer than the longest
+// that is read: the front of a time zone isn't the zone.
 fn bytes_of(rt: &HostRuntime, path: &str) -> Result<Option<Vec<u8>>, AllocError> {
     let is_file = match fs::metadata(rt, path) {
         Ok(metadata) => metadata.is_file(),
@@ -198,7 +202,8 @@ fn bytes_of(rt: &HostRuntime, path: &str) -> Result<Option<Vec<u8>>, AllocError>
         return Ok(None);
     };
     let mut bytes = Vec::new(rt.alloc());
-    match file.take(LONGEST).read_to_end(&mut bytes) {
+    match file.take(LONGEST + 1).read_to_end(&mut bytes) {
+        Ok(_) if bytes.len() as u64 > LONGEST => Ok(None),
         Ok(_) => Ok(Some(bytes)),
         Err(error) if error.kind() == ErrorKind::OutOfMemory => Err(AllocError),
         Err(_) => Ok(None),

@@ -69,25 +69,25 @@ impl Quoted {
         self.places.push(inner.end);
     }
 
-    /// Reads what a backslash stands before, and answers what is behind that.
+    /// Reads what a backslash stands before, and answers what is after that.
     fn read_escape<'s>(&mut self, rest: &'s str, place: usize) -> &'s str {
-        let (kind, behind) = rest.split_at(rest.chars().next().map_or(0, char::len_utf8));
-        let (character, behind) = match kind {
-            "n" => ('\n', behind),
-            "r" => ('\r', behind),
-            "t" => ('\t', behind),
-            "0" => ('\0', behind),
-            "x" => of_digits(&behind[..2], &behind[2..]),
+        let (kind, after) = rest.split_at(rest.chars().next().map_or(0, char::len_utf8));
+        let (character, after) = match kind {
+            "n" => ('\n', after),
+            "r" => ('\r', after),
+            "t" => ('\t', after),
+            "0" => ('\0', after),
+            "x" => of_digits(&after[..2], &after[2..]),
             "u" => {
-                let (digits, behind) = behind.split_once('}').unwrap_or((behind, ""));
-                of_digits(digits.trim_start_matches('{'), behind)
+                let (digits, after) = after.split_once('}').unwrap_or((after, ""));
+                of_digits(digits.trim_start_matches('{'), after)
             }
-            // The line goes on behind white space.
-            "\n" | "\r" => return behind.trim_start_matches([' ', '\t', '\n', '\r']),
-            _ => (kind.chars().next().unwrap_or('\\'), behind),
+            // The line goes on after white space.
+            "\n" | "\r" => return after.trim_start_matches([' ', '\t', '\n', '\r']),
+            _ => (kind.chars().next().unwrap_or('\\'), after),
         };
         self.push(character, place);
-        behind
+        after
     }
 
     fn push(&mut self, character: char, place: usize) {
@@ -96,8 +96,8 @@ impl Quoted {
     }
 }
 
-/// The character of a number, and what is behind it.
-fn of_digits<'s>(digits: &str, behind: &'s str) -> (char, &'s str) {
+/// The character of a number, and what is after it.
+fn of_digits<'s>(digits: &str, after: &'s str) -> (char, &'s str) {
     let number = u32::from_str_radix(&digits.replace('_', ""), 16).ok();
-    (number.and_then(char::from_u32).unwrap_or(char::REPLACEMENT_CHARACTER), behind)
+    (number.and_then(char::from_u32).unwrap_or(char::REPLACEMENT_CHARACTER), after)
 }

@@ -17,7 +17,7 @@ use crate::unsupported::Unsupported;
 /// # Errors
 ///
 /// The first component that `chrono` lacks. Of a fraction of a second it has three, six and nine
-/// digits behind a point, or nine; of an offset hours and minutes behind one another, or with a colon
+/// digits after a point, or nine; of an offset hours and minutes one after another, or with a colon
 /// between them.
 pub fn to_items<'a>(description: &'a FormatDescription<'_>) -> Result<Vec<Item<'a>>, Unsupported> {
     let parts: Vec<Part<'a>> = description.parts().collect();

@@ -1,4 +1,4 @@
-//! Faults told whole: which one, the bytes at fault, and the nearest word.
+//! Faults reported whole: which one, the bytes at fault, and the nearest word.
 
 use std::error::Error;
 use std::iter::successors;
@@ -84,7 +84,7 @@ fn no_error_repeats_its_cause() {
     }
     let day = THREE.parse("[day]").expect("a description");
     let unwritten = day.write_to(&Moment::default(), &mut String::new()).expect_err("no date");
-    assert_eq!(chain(&unwritten), "the component `day` shows nothing: the moment has no date");
+    assert_eq!(chain(&unwritten), "the component `day` shows nothing: the value has no date");
     let far = Moment { offset_seconds: Some(93_600), ..Moment::default() };
     let unwritten = day.write_to_io(&far, &mut Vec::new()).expect_err("the offset is too far");
     assert_eq!(chain(&unwritten), "offset must be less than 26 hours from UTC");

@@ -42,14 +42,14 @@ fn moments_are_written_and_read() {
         let moment: Moment = row.rfc_3339.parse().expect(row.rfc_3339);
         let (date, time) = (moment.date.map(Moment::from), moment.time.map(Moment::from));
         let local = Moment { offset_seconds: None, ..moment };
-        let presets: [(&Preset, &str, Option<Moment>); 7] = [
-            (&RFC_3339, row.rfc_3339, Some(moment)),
-            (&RFC_2822, row.rfc_2822, Some(moment)),
-            (&ISO_8601_DATE, &row.rfc_3339[..10], date),
-            (&ISO_8601_ORDINAL_DATE, row.ordinal, date),
-            (&ISO_8601_WEEK_DATE, row.week, date),
-            (&ISO_8601_TIME, &row.rfc_3339[11..19], time),
-            (&ISO_8601_DATE_TIME, &row.rfc_3339[..19], Some(local)),
+        let presets: [(Preset, &str, Option<Moment>); 7] = [
+            (RFC_3339, row.rfc_3339, Some(moment)),
+            (RFC_2822, row.rfc_2822, Some(moment)),
+            (ISO_8601_DATE, &row.rfc_3339[..10], date),
+            (ISO_8601_ORDINAL_DATE, row.ordinal, date),
+            (ISO_8601_WEEK_DATE, row.week, date),
+            (ISO_8601_TIME, &row.rfc_3339[11..19], time),
+            (ISO_8601_DATE_TIME, &row.rfc_3339[..19], Some(local)),
         ];
         for (preset, text, shown) in presets {
             assert_eq!(preset.format(&moment).as_deref(), Ok(text), "{preset:?}");
@@ -59,11 +59,11 @@ fn moments_are_written_and_read() {
 }
 
 /// Other texts that presets read, and what they are by RFC 3339.
-const OTHERS: &[(&Preset, &str, &str)] = &[
-    (&RFC_3339, "2026-11-23T05:06:07.5+01:00", "2026-11-23T05:06:07.5+01:00"),
-    (&RFC_2822, "23 Nov 2026 05:06 +0100", "2026-11-23T05:06:00+01:00"),
-    (&RFC_2822, "Sun, 1 Nov 2026 05:06:07 -0000", "2026-11-01T05:06:07+00:00"),
-    (&ISO_8601_DATE_TIME, "2026-11-23T05:06:07.000000001", "2026-11-23T05:06:07.000000001"),
+const OTHERS: &[(Preset, &str, &str)] = &[
+    (RFC_3339, "2026-11-23T05:06:07.5+01:00", "2026-11-23T05:06:07.5+01:00"),
+    (RFC_2822, "23 Nov 2026 05:06 +0100", "2026-11-23T05:06:00+01:00"),
+    (RFC_2822, "Sun, 1 Nov 2026 05:06:07 -0000", "2026-11-01T05:06:07+00:00"),
+    (ISO_8601_DATE_TIME, "2026-11-23T05:06:07.000000001", "2026-11-23T05:06:07.000000001"),
 ];
 
 #[test]

@@ -7,39 +7,40 @@ use crate::kind::Kind;
 use std::alloc::Global;
 use std::process::Abort;
 
-/// Expects that a run whose reader fails behind so many bytes says so, and writes nothing.
-fn expect_failed_read(rt: &impl Abort, alloc: Global, kind: Kind, bytes: &[u8], behind: usize) {
+/// Expects that a run whose reader fails after this many bytes reports that, and writes nothing.
+fn expect_failed_read(rt: &impl Abort, alloc: Global, kind: Kind, bytes: &[u8], after: usize) {
     let mut reader = Feed::new(bytes);
     reader.most = 1;
-    reader.failure = Countdown(Some(behind));
+    reader.failure = Countdown(Some(after));
     let mut writer = Log::new(alloc);
     let end = run_over(alloc, kind, &mut reader, &mut writer);
     assert_eq!(rt;
         end,
         RunEnd::ReadFailed,
-        "{kind:?} {bytes:?} behind {behind}"
+        "{kind:?} {bytes:?} behind {after}"
     );
     assert!(rt;
         writer.written.is_empty(),
-        "{kind:?} {bytes:?} behind {behind}"
+        "{kind:?} {bytes:?} behind {after}"
     );
 }
 
-/// Expects the same of each read of these bytes, one byte at a time, also of the one at their end.
+/// Expects that each failed read of these bytes is reported, one byte at a time, also the read at
+/// their end.
 fn expect_failed_reads(rt: &impl Abort, alloc: Global, kind: Kind, bytes: &[u8]) {
-    for behind in 0..=bytes.len() {
-        expect_failed_read(rt, alloc, kind, bytes, behind);
+    for after in 0..=bytes.len() {
+        expect_failed_read(rt, alloc, kind, bytes, after);
     }
 }
 
-/// Expects the same of bytes that are no text.
+/// Expects that for bytes that aren't UTF-8.
 fn expect_failed_reads_of_no_text(rt: &impl Abort, alloc: Global, kind: Kind) {
     for bytes in NO_TEXTS {
         expect_failed_reads(rt, alloc, kind, bytes);
     }
 }
 
-// Each read of each text fails in turn, and so does each where what came before is no text.
+// Each read of each text fails, one after another, also where the bytes before it aren't UTF-8.
 #[test]
 fn reads(rt: HostRuntime) {
     for row in ROWS {
@@ -50,32 +51,32 @@ fn reads(rt: HostRuntime) {
     }
 }
 
-/// Whether a run whose writer fails, or takes no byte, behind so many bytes of the line says so, and
-/// has written the front of the line. Behind all of them it is the flush that fails.
-fn fails_behind(alloc: Global, kind: Kind, text: &str, behind: usize, stalls: bool) -> bool {
+/// Whether a run whose writer fails, or takes no byte, after this many bytes of the line reports
+/// that, and has written the front of the line. After all of them it is the flush that fails.
+fn fails_after(alloc: Global, kind: Kind, text: &str, after: usize, stalls: bool) -> bool {
     let mut reader = Feed::new(text.as_bytes());
     let mut writer = Log::new(alloc);
     writer.most = 1;
-    writer.failure = Countdown(Some(behind));
+    writer.failure = Countdown(Some(after));
     writer.stalls = stalls;
     let end = run_over(alloc, kind, &mut reader, &mut writer);
-    end == RunEnd::WriteFailed && writer.written.len() == behind && !writer.is_flushed
+    end == RunEnd::WriteFailed && writer.written.len() == after && !writer.is_flushed
 }
 
-fn expect_failed_write(rt: &impl Abort, alloc: Global, row: &Row, behind: usize, stalls: bool) {
-    let fails = fails_behind(alloc, row.kind, row.text, behind, stalls);
-    assert!(rt; fails, "{} behind {behind}", row.text);
+fn expect_failed_write(rt: &impl Abort, alloc: Global, row: &Row, after: usize, stalls: bool) {
+    let fails = fails_after(alloc, row.kind, row.text, after, stalls);
+    assert!(rt; fails, "{} behind {after}", row.text);
 }
 
-/// Expects that each write of the line fails, and the flush.
+/// Expects that each failed write of the line is reported, and a failed flush too.
 fn expect_failed_writes(rt: &impl Abort, alloc: Global, row: &Row) {
-    for behind in 0..=row.line.len() {
-        expect_failed_write(rt, alloc, row, behind, false);
-        expect_failed_write(rt, alloc, row, behind, true);
+    for after in 0..=row.line.len() {
+        expect_failed_write(rt, alloc, row, after, false);
+        expect_failed_write(rt, alloc, row, after, true);
     }
 }
 
-// Each write of each line fails in turn, and then the flush.
+// Each write of each line fails, one after another, and then the flush.
 #[test]
 fn writes(rt: HostRuntime) {
     for row in ROWS {

@@ -1,4 +1,4 @@
-//! A reader and a writer over memory, of which one call may fail.
+//! A reader and a writer over memory, one of whose calls may fail.
 
 use crate::end::RunEnd;
 use crate::kind::Kind;
@@ -8,7 +8,7 @@ use std::io;
 use std::io::{ErrorKind, Read, Write};
 use timefd_streams::{FromReader, ToWriter};
 
-/// What a test says where an allocation fails.
+/// What a test says if an allocation fails.
 pub const AMPLE: &str = "memory suffices";
 
 /// Counts calls down to the one that fails.
@@ -24,7 +24,7 @@ impl Countdown {
     }
 }
 
-/// A reader of bytes, at most so many a call.
+/// A reader of bytes, at most `most` per call.
 #[derive(Drop)]
 pub struct Feed<'a> {
     pub left: &'a [u8],
@@ -55,7 +55,8 @@ impl Read for Feed<'_> {
     }
 }
 
-/// A writer that takes at most so many bytes a call, and either fails at a call or takes no byte.
+/// A writer that takes at most `most` bytes per call. The call that fails returns an error, or
+/// takes no byte if the writer stalls.
 #[derive(Drop)]
 pub struct Log {
     pub written: Vec<u8>,

@@ -1,4 +1,4 @@
-//! The whole program where it says nothing: wrong arguments, bytes that are no text, and failures.
+//! The whole program where it says nothing: wrong arguments, bytes that aren't UTF-8, and failures.
 
 use super::arguments::owned;
 use super::memory::{Countdown, Feed, Log};
@@ -7,7 +7,7 @@ use std::alloc::Global;
 use std::process::Abort;
 use timefd_streams::{FromReader, ToWriter};
 
-/// A run of the program with these arguments: the status that it ends with.
+/// Runs the program with these arguments, and returns its exit status.
 fn ends(
     rt: &impl Abort,
     alloc: Global,

@@ -69,10 +69,10 @@ pub const ROWS: &[Row] = &[
 
 pub const KINDS: &[Kind] = &[Kind::One, Kind::Two, Kind::Three, Kind::Strftime];
 
-/// Bytes that are no UTF-8.
+/// Bytes that aren't UTF-8.
 pub const NO_TEXTS: &[&[u8]] = &[b"\xff", b"\xc3", b"[day]\xed\xa0\x80"];
 
-/// Expects the line of a reader and a writer that move at most so many bytes a call.
+/// Expects the row's line with a reader and a writer that move at most `most` bytes per call.
 fn expect_line(rt: &impl Abort, alloc: Global, row: &Row, most: usize) {
     let mut reader = Feed::new(row.text.as_bytes());
     reader.most = most;
@@ -89,7 +89,7 @@ fn expect_line(rt: &impl Abort, alloc: Global, row: &Row, most: usize) {
     assert!(rt; writer.is_flushed, "{}", row.text);
 }
 
-/// Expects that a text of many pieces is one text.
+/// Expects that a text that arrives in many pieces is read as one text.
 fn expect_line_of_long_text(rt: &impl Abort, alloc: Global) {
     let text = vec![in alloc; b']'; 200_000].expect(rt, AMPLE);
     let mut writer = Log::new(alloc);
@@ -120,7 +120,8 @@ fn strftime_within_the_least_limit(rt: HostRuntime) {
     assert_eq!(rt; log.written.as_slice(), b"ok items 2\n".as_slice());
 }
 
-/// Expects that the bytes are no text, by a reader that moves at most so many a call.
+/// Expects that the bytes are refused as no UTF-8, with a reader that moves at most `most` bytes
+/// per call.
 fn expect_no_text(rt: &impl Abort, alloc: Global, kind: Kind, bytes: &[u8], most: usize) {
     let mut reader = Feed::new(bytes);
     reader.most = most;
@@ -130,7 +131,7 @@ fn expect_no_text(rt: &impl Abort, alloc: Global, kind: Kind, bytes: &[u8], most
     assert!(rt; writer.written.is_empty(), "{kind:?} {bytes:?}");
 }
 
-/// Expects the same of all bytes that are no text.
+/// Expects that for all bytes that aren't UTF-8.
 fn expect_no_texts(rt: &impl Abort, alloc: Global, kind: Kind) {
     for bytes in NO_TEXTS {
         expect_no_text(rt, alloc, kind, bytes, 1);

@@ -77,7 +77,7 @@ pub fn c_rows(byte: u8) -> &'static [Row]
     }
 }
 
-/// Those of the directives with a flag, a digit or another mark there, the longest first.
+/// The rows of directives with a flag, a digit or another mark after the `%`, the longest first.
 #[tactic(auto, unfolding(crate::specs::C::c_marked))]
 fn marked_rows(byte: u8) -> &'static [Row]
     ensures { entries result.now ≡ rows_at byte c_marked }
@@ -103,7 +103,7 @@ fn marked_rows(byte: u8) -> &'static [Row]
     }
 }
 
-/// The bytes that find rows.
+/// The bytes that select rows.
 #[tactic(auto, unfolding(crate::specs::C::c_groups, crate::specs::C::c_marked))]
 pub fn c_keys() -> &'static [u8]
     ensures { result.now ≡ keys_of c_groups }

@@ -78,7 +78,7 @@ pub fn chrono_rows(byte: u8) -> &'static [Row]
     }
 }
 
-/// The bytes that find rows.
+/// The bytes that select rows.
 #[tactic(auto, unfolding(crate::specs::Chrono::chrono_groups))]
 pub fn chrono_keys() -> &'static [u8]
     ensures { result.now ≡ keys_of chrono_groups }

@@ -33,7 +33,7 @@ pub fn go_rows(byte: u8) -> &'static [Row]
     }
 }
 
-/// The bytes that find rows.
+/// The bytes that select rows.
 #[tactic(auto, unfolding(crate::specs::Go::go_groups))]
 pub fn go_keys() -> &'static [u8]
     ensures { result.now ≡ keys_of go_groups }

@@ -75,7 +75,7 @@ pub fn java_rows(byte: u8) -> &'static [Row]
     }
 }
 
-/// The bytes that find rows.
+/// The bytes that select rows.
 #[tactic(auto, unfolding(crate::specs::Java::java_groups))]
 pub fn java_keys() -> &'static [u8]
     ensures { result.now ≡ keys_of java_groups }

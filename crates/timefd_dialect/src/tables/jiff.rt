@@ -69,7 +69,7 @@ pub fn jiff_rows(byte: u8) -> &'static [Row]
     }
 }
 
-/// Those of the directives with a flag, a digit or another mark there, the longest first.
+/// The rows of directives with a flag, a digit or another mark after the `%`, the longest first.
 #[tactic(auto, unfolding(crate::specs::Jiff::jiff_marked))]
 fn marked_rows(byte: u8) -> &'static [Row]
     ensures { entries result.now ≡ rows_at byte jiff_marked }
@@ -96,7 +96,7 @@ fn marked_rows(byte: u8) -> &'static [Row]
     }
 }
 
-/// The bytes that find rows.
+/// The bytes that select rows.
 #[tactic(auto, unfolding(crate::specs::Jiff::jiff_groups, crate::specs::Jiff::jiff_marked))]
 pub fn jiff_keys() -> &'static [u8]
     ensures { result.now ≡ keys_of jiff_groups }

@@ -49,7 +49,7 @@ pub fn moment_rows(byte: u8) -> &'static [Row]
     }
 }
 
-/// The bytes that find rows.
+/// The bytes that select rows.
 #[tactic(auto, unfolding(crate::specs::Moment::moment_groups))]
 pub fn moment_keys() -> &'static [u8]
     ensures { result.now ≡ keys_of moment_groups }

@@ -74,7 +74,7 @@ pub fn python_rows(byte: u8) -> &'static [Row]
     }
 }
 
-/// The bytes that find rows.
+/// The bytes that select rows.
 #[tactic(auto, unfolding(crate::specs::Python::python_groups))]
 pub fn python_keys() -> &'static [u8]
     ensures { result.now ≡ keys_of python_groups }

@@ -71,7 +71,7 @@ pub fn ruby_rows(byte: u8) -> &'static [Row]
     }
 }
 
-/// Those of the directives with a flag, a digit or another mark there, the longest first.
+/// The rows of directives with a flag, a digit or another mark after the `%`, the longest first.
 #[tactic(auto, unfolding(crate::specs::Ruby::ruby_marked))]
 fn marked_rows(byte: u8) -> &'static [Row]
     ensures { entries result.now ≡ rows_at byte ruby_marked }
@@ -98,7 +98,7 @@ fn marked_rows(byte: u8) -> &'static [Row]
     }
 }
 
-/// The bytes that find rows.
+/// The bytes that select rows.
 #[tactic(auto, unfolding(crate::specs::Ruby::ruby_groups, crate::specs::Ruby::ruby_marked))]
 pub fn ruby_keys() -> &'static [u8]
     ensures { result.now ≡ keys_of ruby_groups }

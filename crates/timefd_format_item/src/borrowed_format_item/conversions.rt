@@ -1,4 +1,4 @@
-//! From what an item may hold to the item and back, and equality with it.
+//! Conversions from what an item may hold to the item and back, and equality with what it holds.
 
 ghost use Rattle.std.specs.Prelude.{◌≡◌, ◌↔◌, IsTrue, IfOk, IfErr, Some, None};
 ghost use Rattle.timefd_format_item.specs.Meaning.{item_tree, item_trees};
@@ -54,8 +54,8 @@ impl TryFrom<BorrowedFormatItem<'_>> for Component {
 }
 
 impl<'a> BorrowedFormatItem<'a> {
-    /// The items of a compound. An `Err` comes for every other variant. It stands for `TryFrom`
-    /// onto a slice.
+    /// The items of a compound, or an `Err` for any other variant. This is used instead of `TryFrom`
+    /// for a slice.
     pub fn into_items(self) -> Result<&'a [BorrowedFormatItem<'a>], DifferentVariant>
         ensures content { IfOk result (λ items. self.entry ≡ BorrowedFormatItem.Compound items) }
         ensures ok { IfOk result (λ items. trees_in (item_tree self.entry) ≡ Some
@@ -68,7 +68,8 @@ impl<'a> BorrowedFormatItem<'a> {
         }
     }
 
-    /// Whether this is `Component` of an equal component. It stands for `==` with a component.
+    /// Whether this is `Component` of an equal component. This is used instead of `==` with a
+    /// component.
     pub fn eq_component(&self, other: &Component) -> bool
         ensures { IsTrue result ↔ (component_in (item_tree self.now) ≡ Some other.now) }
     {
@@ -78,7 +79,7 @@ impl<'a> BorrowedFormatItem<'a> {
         }
     }
 
-    /// Whether this is `Compound` of equal items. It stands for `==` with a slice.
+    /// Whether this is `Compound` of equal items. This is used instead of `==` with a slice.
     pub fn eq_items(&self, other: &[BorrowedFormatItem<'_>]) -> bool
         ensures { IsTrue result ↔ (trees_in (item_tree self.now) ≡ Some
             (trees (item_trees other.now))) }

@@ -1,4 +1,4 @@
-//! How items print under `{:?}`: a literal is its text alone.
+//! How items print with `{:?}`: a literal prints as its text, without quotes.
 
 use super::BorrowedFormatItem;
 use std::fmt;
@@ -37,7 +37,7 @@ fn write_items<W: fmt::Write>(
     f.write_str("]")
 }
 
-/// The bytes as text. Where they aren't UTF-8, each that isn't ASCII becomes U+FFFD.
+/// Writes the bytes as text. If they aren't UTF-8, each byte that isn't ASCII becomes U+FFFD.
 fn write_bytes<W: fmt::Write>(bytes: &[u8], f: &mut fmt::Formatter<W>) -> fmt::Result {
     match str::from_utf8(bytes) {
         Ok(text) => f.write_str(text),

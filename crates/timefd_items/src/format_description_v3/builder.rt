@@ -1,4 +1,4 @@
-//! Descriptions put together part by part.
+//! Descriptions that are built part by part.
 
 ghost use Rattle.std.specs.Prelude.{◌≡◌, ◌+◌, ◌-◌, ◌^◌, ◌≤◌, length};
 ghost use Rattle.timefd_node_list.specs.NodeTrees.{list_trees, node_count, room as list_room};
@@ -11,15 +11,16 @@ use timefd_component::Component;
 use timefd_node_list::node_list::NodeList;
 use timefd_node_list::tally::ending_tally;
 
-/// A description that is put together part by part: trees side by side, to which literals and
-/// components are added, and of which the last become one. After an `Err`, which comes where there
-/// is no memory left, they are as they were. It is this port's own.
+/// A description that is built part by part. It holds trees side by side: literals and components
+/// are added to them, and the last ones are made into one. An `Err` says that memory ran out, and
+/// leaves the trees as they were. This type is this port's own.
 #[derive(Drop)]
 pub struct DescriptionBuilder<'a> {
     list: NodeList<'a>,
-    // How many nodes stand inside of trees. Adding a part leaves that as it is.
+    // How many nodes are inside of trees. Adding a part doesn't change that.
     inner: usize,
-    // Whether it is known what all of them reserve, and then that, at most `usize::MAX`.
+    // Whether it is known how many bytes all trees reserve, and if so that number, at most
+    // `usize::MAX`.
     known: bool,
     bytes: usize,
     ghost counted: { inner + length (list_trees list) ≡ node_count list },
@@ -45,8 +46,8 @@ impl<'a> DescriptionBuilder<'a> {
         DescriptionBuilder::empty(NodeList::new(alloc))
     }
 
-    /// No trees, with room for so many parts, where a caller knows how many it will add. An `Err`
-    /// comes where there is no memory left.
+    /// No trees, with room for `count` parts, for a caller who knows how many it will add. An `Err`
+    /// says that memory ran out.
     pub fn with_capacity(alloc: Global, count: usize) -> Result<Self, AllocError>
         ensures empty { IfOk result (λ builder. built builder ≡ []) }
         ensures room { IfOk result (λ builder. count ≤ room builder) }
@@ -70,8 +71,8 @@ impl<'a> DescriptionBuilder<'a> {
         }
     }
 
-    /// Makes room for so many parts at once, where a caller knows how many it will add: literals,
-    /// components, and trees made of the last ones. Without it room grows as it is needed.
+    /// Makes room for `count` parts at once, for a caller who knows how many it will add: literals,
+    /// components, and trees made from the last ones. Without this call the room grows as needed.
     pub fn reserve(&mut self, count: usize) -> Result<(), AllocError>
         ensures kept { built self.new ≡ built self.old }
         ensures no_memory { count ≡ 0 → IsOk result }
@@ -82,7 +83,7 @@ impl<'a> DescriptionBuilder<'a> {
         self.list.reserve(count)
     }
 
-    /// For how many parts more there is room: so many calls that add a part, or make one of the
+    /// For how many more parts there is room: this many calls that add a part, or make one from the
     /// last ones, take no memory.
     pub fn room(&self) -> usize
         ensures { result ≡ room self.now }
@@ -97,7 +98,7 @@ impl<'a> DescriptionBuilder<'a> {
         self.list.node_count() - self.inner
     }
 
-    /// Whether a `usize` counts the bytes that the last trees, so many, reserve.
+    /// Whether the bytes that the last `count` trees reserve fit a `usize`.
     pub fn fits(&self, count: usize) -> bool
         requires { count ≤ length (built self.now) }
         ensures { result ≡ nat_le (reserve_all (trees (ending count (built self.now)))) usize.MAX }
@@ -132,8 +133,9 @@ impl<'a> DescriptionBuilder<'a> {
         Ok(())
     }
 
-    /// Makes the last trees, so many, one: a tree alone stays what it is, and takes no memory, and
-    /// any other number becomes their compound. The bytes that they reserve have to fit.
+    /// Makes the last `count` trees one. A single tree stays as it is and takes no memory; any
+    /// other number of trees becomes their compound. The bytes that they reserve have to fit a
+    /// `usize`.
     #[tactic(auto, using(crate::proofs::BuilderLemmas::one_stays))]
     pub fn pack(&mut self, count: usize) -> Result<(), AllocError>
         requires there { count ≤ length (built self.old) }
@@ -155,7 +157,7 @@ impl<'a> DescriptionBuilder<'a> {
         Ok(())
     }
 
-    /// Makes the last tree one that a parser may skip.
+    /// Makes the last tree one that a parser may skip. `format` says whether a formatter writes it.
     pub fn optional(&mut self, format: bool) -> Result<(), AllocError>
         requires { 1 ≤ length (built self.old) }
         ensures made { OnOk result (built self.new ≡ before 1 (built self.old) ++ optional format
@@ -171,7 +173,7 @@ impl<'a> DescriptionBuilder<'a> {
         Ok(())
     }
 
-    /// Makes the last trees, so many, the alternatives of one.
+    /// Makes the last `count` trees the alternatives of one tree.
     pub fn first(&mut self, count: usize) -> Result<(), AllocError>
         requires { count ≤ length (built self.old) }
         ensures made { OnOk result (built self.new ≡ before count (built self.old) ++ first
@@ -187,8 +189,9 @@ impl<'a> DescriptionBuilder<'a> {
         Ok(())
     }
 
-    /// The description of all trees as one, whose bytes have to fit. That of none takes no memory,
-    /// and an `Err` drops the trees.
+    /// The description of all trees as one, whose reserved bytes have to fit a `usize`. A
+    /// description of no trees takes no memory. An `Err` says that memory ran out, and drops the
+    /// trees.
     pub fn finish(self) -> Result<FormatDescriptionV3<'a>, AllocError>
         requires { reserve_all (trees (built self)) ≤ usize.MAX }
         ensures ok { IfOk result (λ description. description_tree description ≡ pack

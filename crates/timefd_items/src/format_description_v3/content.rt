@@ -1,4 +1,4 @@
-//! What a tree is, whether its parts are lent or owned.
+//! What a tree is, whether its parts are borrowed or owned.
 
 ghost use Rattle.std.specs.Prelude.{◌≡◌, IfSome, IsTrue};
 ghost use Rattle.std.specs.Option.{is_none};
@@ -8,14 +8,15 @@ ghost use Rattle.timefd_items.specs.Meaning.{inner_tree, owned_parts, owns};
 use super::inner::FormatDescriptionV3Inner;
 use timefd_component::Component;
 
-/// What a tree is, its parts lent: a lent and an owned part of one content are one case.
+/// What a tree is, with its parts borrowed: a borrowed and an owned part with the same content are
+/// one case.
 #[derive(Clone, Copy)]
 pub(super) enum Content<'t, 'a> {
     /// A component.
     Component(Component),
-    /// Text as it stands.
+    /// Text as it is written.
     Literal(&'t str),
-    /// Descriptions in turn.
+    /// Descriptions one after another.
     Compound(&'t [FormatDescriptionV3Inner<'a>]),
     /// A description that a parser may skip.
     Optional {
@@ -39,7 +40,7 @@ impl<'a> FormatDescriptionV3Inner<'a> {
         self.owned_content()
     }
 
-    /// What this tree is where it is an owned part.
+    /// What this tree is, if it is an owned part.
     pub(super) fn owned_content(&self) -> Content<'_, 'a>
         requires { IsTrue (owns self.now) }
         ensures same { content_tree result ≡ inner_tree self.now }
@@ -57,7 +58,8 @@ impl<'a> FormatDescriptionV3Inner<'a> {
         }
     }
 
-    /// What this tree is where it owns nothing, lent for as long as it borrows that.
+    /// What this tree is, if it isn't an owned part, borrowed for as long as the tree itself
+    /// borrows it.
     pub(super) fn borrowed_content(&self) -> Option<Content<'a, 'a>>
         ensures same { IfSome result (λ content. content_tree content ≡ inner_tree self.now) }
         ensures owns { is_none result ≡ owns self.now }

@@ -1,4 +1,4 @@
-//! Copies of descriptions, of the same meaning.
+//! Copies of descriptions, with the same meaning.
 
 ghost use Rattle.std.specs.Prelude.{◌≡◌, ◌+◌, IfOk, IsFalse, IsOk, map};
 ghost use Rattle.timefd_items.specs.Content.{content_tree};
@@ -11,7 +11,7 @@ use std::alloc::{AllocError, Global};
 
 impl<'a> FormatDescriptionV3Inner<'a> {
     /// A copy of the same meaning, which borrows what this one borrows and owns what it owns. An
-    /// `Err` comes where there is no memory left for it; a component or what borrows takes none.
+    /// `Err` says that memory ran out. A component or a borrowed part takes none.
     #[cycle(clone)]
     pub fn clone(&self, alloc: Global) -> Result<Self, AllocError>
         ensures same { IfOk result (λ copy. inner_tree copy ≡ inner_tree self.now) }
@@ -19,7 +19,7 @@ impl<'a> FormatDescriptionV3Inner<'a> {
         ensures no_memory { IsFalse (owns self.now) → IsOk result }
     {
         if let Some(content) = self.borrowed_content() {
-            return Ok(Self::of_lent(content));
+            return Ok(Self::of_borrowed(content));
         }
         match self.owned_content() {
             Content::Component(_) => unreachable!(),
@@ -54,10 +54,10 @@ impl<'a> FormatDescriptionV3Inner<'a> {
         Ok(copies)
     }
 
-    // The part that lends this.
-    fn of_lent(content: Content<'a, 'a>) -> Self
+    // The borrowed part with this content.
+    fn of_borrowed(content: Content<'a, 'a>) -> Self
         ensures same { inner_tree result ≡ content_tree content.entry }
-        ensures lent { owned_parts result ≡ 0 }
+        ensures borrowed { owned_parts result ≡ 0 }
     {
         match content {
             Content::Component(component) => FormatDescriptionV3Inner::from(component),

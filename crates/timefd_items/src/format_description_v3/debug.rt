@@ -1,4 +1,4 @@
-//! How descriptions print under `{:?}`: a lent and an owned part of one content alike.
+//! How descriptions print under `{:?}`: a borrowed and an owned part with the same content alike.
 
 use super::FormatDescriptionV3;
 use super::content::Content;

@@ -18,7 +18,7 @@ fn and_one(nodes: usize, limit: usize) -> Option<usize>
 }
 
 impl<'a> FormatDescriptionV3Inner<'a> {
-    /// How many nodes it takes, where they are at most the limit.
+    /// How many nodes the tree takes, if they are at most `limit`.
     #[cycle(count)]
     pub(super) fn nodes_within(&self, limit: usize) -> Option<usize>
         ensures { result ≡ within limit (tree_count (inner_tree self.now)) }
@@ -49,7 +49,7 @@ impl<'a> FormatDescriptionV3Inner<'a> {
         requires { HasRoom list.old (tree_count (inner_tree self)) }
         ensures { Adds list.old list.new (inner_tree self.entry ∷ []) }
     {
-        if self.flatten_lent_parts(list) {
+        if self.flatten_borrowed_parts(list) {
             return;
         }
         match self {
@@ -72,8 +72,8 @@ impl<'a> FormatDescriptionV3Inner<'a> {
         }
     }
 
-    /// Adds this tree if it owns nothing, and says whether it did.
-    fn flatten_lent_parts(&self, list: &mut NodeList<'a>) -> bool
+    /// Adds this tree if it isn't an owned part, and returns whether it did.
+    fn flatten_borrowed_parts(&self, list: &mut NodeList<'a>) -> bool
         requires { HasRoom list.old (tree_count (inner_tree self.now)) }
         ensures added { IsTrue result → Adds list.old list.new (inner_tree self.now ∷ []) }
         ensures left { IsFalse result → (list.new ≡ list.old) × (owns self.now ≡ true) }
@@ -100,7 +100,7 @@ impl<'a> FormatDescriptionV3Inner<'a> {
 
 impl<'a> Content<'a, 'a> {
     /// Adds the tree of this content, for which there is room.
-    #[cycle(flatten_lent)]
+    #[cycle(flatten_borrowed)]
     fn flatten(self, list: &mut NodeList<'a>)
         requires { HasRoom list.old (tree_count (content_tree self)) }
         ensures { Adds list.old list.new (content_tree self.entry ∷ []) }
@@ -125,7 +125,7 @@ impl<'a> Content<'a, 'a> {
         }
     }
 
-    #[cycle(flatten_lent)]
+    #[cycle(flatten_borrowed)]
     fn flatten_all(items: &'a [FormatDescriptionV3Inner<'a>], list: &mut NodeList<'a>)
         requires { HasRoom list.old (trees_count (trees (map inner_tree items.now))) }
         ensures { Adds list.old list.new (map inner_tree items.now) }

@@ -10,7 +10,7 @@ use crate::format_description_v3::inner::FormatDescriptionV3Inner;
 use std::alloc::{AllocError, Global};
 use timefd_node_list::node::Node;
 
-/// The trees that nodes are. An `Err` comes where there is no memory left for them.
+/// The trees that the nodes are. An `Err` says that memory ran out.
 pub fn all_trees<'a>(
     alloc: Global,
     nodes: &[Node<'a>],
@@ -50,7 +50,7 @@ fn one_tree<'a>(
     }
 }
 
-/// The compound of the last trees, so many, which are taken off.
+/// The compound of the last `count` trees, which are taken off.
 fn compound<'a>(
     trees: &mut Vec<FormatDescriptionV3Inner<'a>>,
     count: usize,
@@ -65,7 +65,7 @@ fn compound<'a>(
     Ok(compound_of(items))
 }
 
-/// The last trees, so many, as alternatives, which are taken off.
+/// The last `count` trees as alternatives, which are taken off.
 fn first<'a>(
     trees: &mut Vec<FormatDescriptionV3Inner<'a>>,
     count: usize,

@@ -1,4 +1,4 @@
-//! From a tree made by hand to a description.
+//! From a tree that a caller has made to a description.
 
 ghost use Rattle.std.specs.Prelude.{◌≡◌, ◌<◌, ◌≤◌, ◌↔◌, [], map, IfOk, IfSome, IsOk};
 ghost use Rattle.std.specs.Result.{IfErr};
@@ -15,18 +15,18 @@ use timefd_node_list::node_list::NodeList;
 /// Why a tree was not made a description.
 #[derive(Debug, Clone, Copy, PartialEq, Eq)]
 pub enum OpaqueCause {
-    /// It reserves more bytes than a `usize` counts.
+    /// The bytes that it reserves don't fit a `usize`.
     TooManyBytes,
-    /// There was no memory left.
+    /// Memory ran out.
     Memory,
 }
 
 /// A tree that was not made a description, and why.
 #[derive(Debug, Drop)]
 pub struct NotOpaque<'a> {
-    /// The tree, as it was handed in.
+    /// The tree, as it was passed in.
     pub tree: FormatDescriptionV3Inner<'a>,
-    /// Why no description was made of it.
+    /// Why it wasn't made a description.
     pub cause: OpaqueCause,
 }
 
@@ -34,9 +34,9 @@ impl<'a> FormatDescriptionV3Inner<'a> {
     ghost use Rattle.timefd_items.specs.Description.{description_tree};
     ghost use Rattle.timefd_node_list.specs.NodeTrees.{HasRoom, list_trees};
 
-    /// The description of this tree. An `Err` hands the same tree back: whether its bytes fit is
-    /// looked at first, then whether there is memory, and only then is the tree taken apart. The
-    /// compound of none takes no memory.
+    /// The description of this tree. An `Err` gives the same tree back: the call checks first
+    /// whether its reserved bytes fit a `usize`, then whether there is memory, and only then takes
+    /// the tree apart. The compound of nothing takes no memory.
     pub fn into_opaque(self, alloc: Global) -> Result<FormatDescriptionV3<'a>, NotOpaque<'a>>
         ensures ok { IfOk result (λ description. description_tree description ≡ inner_tree
             self.entry) }
@@ -77,8 +77,8 @@ impl<'a> FormatDescriptionV3Inner<'a> {
         }
     }
 
-    /// An empty list with room for its nodes, where there is memory for them. Where there are more
-    /// than a `usize` counts, the greatest room is asked for, which no memory has.
+    /// An empty list with room for the nodes of this tree, if there is memory for them. If their
+    /// number doesn't fit a `usize`, the greatest room is asked for, which no memory has.
     fn room(&self, alloc: Global) -> Option<NodeList<'a>>
         ensures empty { IfSome result (λ list. list_trees list ≡ []) }
         ensures room { IfSome result (λ list. HasRoom list (tree_count (inner_tree self.now))) }

@@ -16,7 +16,7 @@ fn up_to(bytes: usize, limit: usize) -> Option<usize>
 }
 
 impl FormatDescriptionV3Inner<'_> {
-    /// The reserved bytes, where they are at most the limit.
+    /// The reserved bytes, if they are at most `limit`.
     #[cycle(bytes)]
     pub fn bytes_within(&self, limit: usize) -> Option<usize>
         ensures { result ≡ within limit (reserve (inner_tree self.now)) }

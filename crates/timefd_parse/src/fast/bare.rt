@@ -1,4 +1,4 @@
-//! Brackets that hold the name of a component and nothing else, as most brackets do.
+//! Brackets that hold only the name of a component, as most brackets do.
 
 ghost use Rattle.std.specs.Prelude.{◌≡◌, ◌++◌, ◌∷◌, [], IfSome, MatchOption, Ok, ⊤};
 ghost use Rattle.timefd_component.specs.Modern.{modern};
@@ -19,8 +19,8 @@ use timefd_modifier::{
     UnixTimestampSecond, WeekNumberIso, WeekdayLong,
 };
 
-/// This component, which is that of the name with no modifiers and reserves so many bytes, if the text
-/// begins with the name and `]`, and what follows.
+/// The component, the bytes it reserves, and what follows, if the text begins with `closed`: the name
+/// and `]`. The component is that of the name without modifiers.
 #[inline(always)]
 fn alone<'a>(
     version: DescriptionVersion,
@@ -40,7 +40,7 @@ fn alone<'a>(
     Some((component, bytes, rest))
 }
 
-/// The component of `year` with no modifiers, whose range of years depends on the version.
+/// The component of `year` without modifiers. Its range of years depends on the version.
 #[inline(always)]
 fn plain_year(version: DescriptionVersion) -> Component
     ensures { (row_for names.ComponentName.Year).component (defaults (is_version_three version))
@@ -56,7 +56,7 @@ fn plain_year(version: DescriptionVersion) -> Component
     }
 }
 
-/// How many bytes it reserves.
+/// How many bytes `year` without modifiers reserves.
 #[inline(always)]
 fn plain_year_bytes(version: DescriptionVersion) -> usize
     ensures { (c : Component) → (row_for names.ComponentName.Year).component
@@ -68,8 +68,8 @@ fn plain_year_bytes(version: DescriptionVersion) -> usize
     }
 }
 
-/// The component of the bracket that has this inside, if that is its name alone and as it is spelled
-/// in every version, and what follows the bracket.
+/// The component of a bracket that holds only a name, the bytes it reserves, and what follows the
+/// bracket. `inside` is the text after the `[`. `None` if the name isn't spelled as in every version.
 #[inline(always)]
 pub fn bare<'a>(version: DescriptionVersion, inside: &'a str) -> Option<(Component, usize, &'a str)>
     ensures component { MatchOption result ⊤ (λ x. IsBare version inside.now x.0 x.2.now) }
@@ -185,7 +185,7 @@ pub fn bare<'a>(version: DescriptionVersion, inside: &'a str) -> Option<(Compone
     }
 }
 
-/// The same of the parts of an offset.
+/// The result of `bare` for the parts of an offset.
 #[inline(always)]
 fn offset<'a>(version: DescriptionVersion, inside: &'a str) -> Option<(Component, usize, &'a str)>
     ensures component { MatchOption result ⊤ (λ x. IsBare version inside.now x.0 x.2.now) }

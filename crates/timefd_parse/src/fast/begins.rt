@@ -1,4 +1,4 @@
-//! Whether bytes begin with a word, four or eight of them compared at once.
+//! Whether bytes begin with a word, with four or eight of them compared at once.
 
 ghost use Rattle.std.specs.Prelude.{◌≡◌, ◌≤◌, ◌+◌, IsTrue, length, take};
 ghost use Rattle.std.specs.Simd.Lanes.{chunk};
@@ -6,8 +6,8 @@ ghost use Rattle.std.specs.Simd.Lanes.{chunk};
 use std::simd::prelude::*;
 use timefd_language::same::equal;
 
-/// Whether the bytes begin with the word, which has at most sixteen. Where it is a constant, its front
-/// and its end are compared with no loop and no call.
+/// Whether the bytes begin with the word; `false` for every word of more than 16 bytes. If the word is
+/// a constant, its front and its end are compared without a loop or a call.
 #[inline(always)]
 pub fn begins(word: &[u8], bytes: &[u8]) -> bool
     requires { length word.now ≤ length bytes.now }
@@ -26,7 +26,7 @@ pub fn begins(word: &[u8], bytes: &[u8]) -> bool
     equal(word, &bytes[..len])
 }
 
-/// Whether the `N` bytes at a place are the same in both.
+/// Whether the `N` bytes from index `at` on are the same in both.
 #[inline(always)]
 fn same_at<const N: usize>(word: &[u8], bytes: &[u8], at: usize) -> bool
     requires lanes { N ≤ 64 }

@@ -1,57 +1,56 @@
-//! Brackets that hold the name of a component and modifiers, in the letters of the tables and with one
-//! space before each.
+//! Brackets that hold the name of a component and modifiers, spelled as in the tables, with one space
+//! before each modifier.
 
 ghost use Rattle.std.specs.Prelude.{◌≡◌, IsFalse, IsTrue, MatchOption, ⊤};
 ghost use Rattle.timefd_language.specs.Bytes.{is_version_three};
 ghost use Rattle.timefd_language.specs.Settings.{defaults};
-ghost use Rattle.timefd_parse.specs.Places.{no_places};
+ghost use Rattle.timefd_parse.specs.Positions.{no_positions};
 ghost use Rattle.timefd_parse.specs.Quick.{IsModified, IsNoted, TakesModifiers};
 ghost use Rattle.timefd_parse.specs.Read.{IsBare};
 
 use crate::fast::values::value_in;
 use crate::fast::words::{after_word, key_in, name_in};
 use crate::head_verdict::combination_fault;
-use crate::places::Places;
+use crate::positions::Positions;
 use timefd_items::Component;
 use timefd_language::component::component_of;
 use timefd_language::description_version::DescriptionVersion;
 use timefd_language::key::Key;
 use timefd_language::name::ComponentName;
 use timefd_language::setting::{Setting, Settings};
-use timefd_language::text::behind_colon;
+use timefd_language::text::after_colon;
 
-/// The component of the bracket that has this inside, if that is a name and modifiers, and what
-/// follows the bracket.
+/// The component of a bracket that holds a name and modifiers, and what follows the bracket. `inside` is
+/// the text after the `[`.
 #[inline(never)]
 pub fn with_modifiers(version: DescriptionVersion, inside: &str) -> Option<(Component, &str)>
     ensures { MatchOption result ⊤ (λ x. IsBare version inside.now x.0 x.1.now) }
 {
     let (name, text) = name_in(inside)?;
     let mut settings = Settings::new(version);
-    let mut places = Places::new();
-    let rest = take(version, name, text, &mut settings, &mut places)?;
+    let mut positions = Positions::new();
+    let rest = take(version, name, text, &mut settings, &mut positions)?;
     let component = component_of(name, settings)?;
-    if combination_fault(version, component, &places).is_some() {
+    if combination_fault(version, component, &positions).is_some() {
         return None;
     }
     Some((component, rest))
 }
 
-/// Takes the modifiers that the text behind a name begins with, up to the `]`, and answers what
-/// follows that.
+/// Takes the modifiers after a name, up to the `]`, and returns what follows the `]`.
 #[inline(always)]
 fn take<'a>(
     version: DescriptionVersion,
     name: ComponentName,
     text: &'a str,
     settings: &mut Settings,
-    places: &mut Places,
+    positions: &mut Positions,
 ) -> Option<&'a str>
     requires settings { settings.old ≡ defaults (is_version_three version) }
-    requires places { places.old ≡ no_places }
+    requires positions { positions.old ≡ no_positions }
     ensures { MatchOption result ⊤ (λ rest. TakesModifiers (is_version_three version) name text.now
         settings.new
-        places.new rest.now) }
+        positions.new rest.now) }
 {
     let mut rest = text;
     'modifiers: loop {
@@ -60,7 +59,7 @@ fn take<'a>(
         }
         let word = after_word(rest, " ")?;
         let (key, setting, after) = modifier(name, word)?;
-        if repeated(version, places, key, word.len()) {
+        if repeated(version, positions, key, word.len()) {
             return None;
         }
         settings.set(setting);
@@ -68,20 +67,25 @@ fn take<'a>(
     }
 }
 
-/// Whether the key stands in these places, where version 3 is read, which refuses that; if not, its place
-/// is noted. The other versions ask for no places.
+/// Whether the key is a repeated one, which version 3 refuses. If it isn't, its position is noted. The
+/// other versions accept repeated keys and need no positions.
 #[inline(always)]
-fn repeated(version: DescriptionVersion, places: &mut Places, key: Key, remaining: usize) -> bool
-    ensures { IsFalse result → IsTrue (is_version_three version) → IsNoted places.old key remaining
-        places.new }
+fn repeated(
+    version: DescriptionVersion,
+    positions: &mut Positions,
+    key: Key,
+    remaining: usize,
+) -> bool
+    ensures { IsFalse result → IsTrue (is_version_three version) → IsNoted positions.old key remaining
+        positions.new }
 {
     if !version.is_strict() {
         return false;
     }
-    if places.of(key).is_some() {
+    if positions.of(key).is_some() {
         return true;
     }
-    places.set(key, remaining);
+    positions.set(key, remaining);
     false
 }
 
@@ -91,6 +95,6 @@ fn modifier(name: ComponentName, text: &str) -> Option<(Key, Setting, &str)>
     ensures { MatchOption result ⊤ (λ x. IsModified name text.now x.0 x.1 x.2.now) }
 {
     let (key, after) = key_in(name, text)?;
-    let (setting, rest) = value_in(key, behind_colon(after)?)?;
+    let (setting, rest) = value_in(key, after_colon(after)?)?;
     Some((key, setting, rest))
 }

@@ -1,4 +1,4 @@
-//! Values of the keys named `repr`, told by their first bytes and compared in place.
+//! Values of the keys named `repr`, distinguished by their first bytes and compared in place.
 
 ghost use Rattle.std.specs.Prelude.{MatchOption, ⊤};
 ghost use Rattle.timefd_language.specs.declared.key.Key.TheVariants as keys;
@@ -9,7 +9,7 @@ use timefd_language::key::Key;
 use timefd_language::setting::Setting;
 use timefd_modifier::{MonthRepr, WeekNumberRepr, WeekdayRepr, YearRepr};
 
-/// What the `repr` of an hour that a text begins with sets, and what follows.
+/// What the `repr` of an hour sets, if the text begins with it, and what follows.
 #[inline(always)]
 pub fn hour_repr(text: &str) -> Option<(Setting, &str)>
     ensures { MatchOption result ⊤ (λ x. BeginsWithValue keys.HourRepr text.now x.0 x.1.now) }
@@ -20,7 +20,7 @@ pub fn hour_repr(text: &str) -> Option<(Setting, &str)>
     }
 }
 
-/// The same of a month.
+/// What the `repr` of a month sets, if the text begins with it, and what follows.
 #[inline(always)]
 pub fn month_repr(text: &str) -> Option<(Setting, &str)>
     ensures { MatchOption result ⊤ (λ x. BeginsWithValue keys.MonthRepr text.now x.0 x.1.now) }
@@ -47,7 +47,7 @@ pub fn month_repr(text: &str) -> Option<(Setting, &str)>
     }
 }
 
-/// The same of a weekday.
+/// What the `repr` of a weekday sets, if the text begins with it, and what follows.
 #[inline(always)]
 pub fn weekday_repr(text: &str) -> Option<(Setting, &str)>
     ensures { MatchOption result ⊤ (λ x. BeginsWithValue keys.WeekdayRepr text.now x.0 x.1.now) }
@@ -80,7 +80,7 @@ pub fn weekday_repr(text: &str) -> Option<(Setting, &str)>
     }
 }
 
-/// The same of the number of a week.
+/// What the `repr` of a week number sets, if the text begins with it, and what follows.
 #[inline(always)]
 pub fn week_number_repr(text: &str) -> Option<(Setting, &str)>
     ensures { MatchOption result ⊤ (λ x. BeginsWithValue keys.WeekNumberRepr text.now x.0 x.1.now) }
@@ -107,7 +107,7 @@ pub fn week_number_repr(text: &str) -> Option<(Setting, &str)>
     }
 }
 
-/// The same of a year.
+/// What the `repr` of a year sets, if the text begins with it, and what follows.
 #[inline(always)]
 pub fn year_repr(text: &str) -> Option<(Setting, &str)>
     ensures { MatchOption result ⊤ (λ x. BeginsWithValue keys.YearRepr text.now x.0 x.1.now) }

@@ -1,4 +1,4 @@
-//! Values of the keys of brackets, told by their first bytes and compared in place.
+//! Values of the keys of brackets, distinguished by their first bytes and compared in place.
 
 ghost use Rattle.std.specs.Prelude.{◌≡◌, MatchOption, Some, true, false, ⊤};
 ghost use Rattle.timefd_language.specs.Bytes.{OneOrMore, is_word_byte};
@@ -14,7 +14,7 @@ use timefd_language::key::Key;
 use timefd_language::setting::Setting;
 use timefd_modifier::{Padding, SubsecondDigits, TrailingInput, UnixTimestampPrecision, YearRange};
 
-/// What the value that a text begins with sets the key to, and what follows.
+/// What the value that a text begins with sets the key to, and what follows the value.
 #[inline(always)]
 pub fn value_in(key: Key, text: &str) -> Option<(Setting, &str)>
     ensures { MatchOption result ⊤ (λ x. BeginsWithValue key text.now x.0 x.1.now) }
@@ -39,7 +39,7 @@ pub fn value_in(key: Key, text: &str) -> Option<(Setting, &str)>
     }
 }
 
-/// The same of `padding`.
+/// The result of `value_in` for `padding`.
 #[inline(always)]
 fn padding(text: &str) -> Option<(Setting, &str)>
     ensures { MatchOption result ⊤ (λ x. BeginsWithValue keys.Padding text.now x.0 x.1.now) }
@@ -56,7 +56,7 @@ fn padding(text: &str) -> Option<(Setting, &str)>
     }
 }
 
-/// The same of `sign`.
+/// The result of `value_in` for `sign`.
 #[inline(always)]
 fn sign(text: &str) -> Option<(Setting, &str)>
     ensures { MatchOption result ⊤ (λ x. BeginsWithValue keys.Sign text.now x.0 x.1.now) }
@@ -72,7 +72,7 @@ fn sign(text: &str) -> Option<(Setting, &str)>
     }
 }
 
-/// The same of `case`.
+/// The result of `value_in` for `case`.
 #[inline(always)]
 fn case(text: &str) -> Option<(Setting, &str)>
     ensures { MatchOption result ⊤ (λ x. BeginsWithValue keys.Case text.now x.0 x.1.now) }
@@ -83,7 +83,7 @@ fn case(text: &str) -> Option<(Setting, &str)>
     }
 }
 
-/// The same of `case_sensitive`.
+/// The result of `value_in` for `case_sensitive`.
 #[inline(always)]
 fn case_sensitive(text: &str) -> Option<(Setting, &str)>
     ensures { MatchOption result ⊤ (λ x. BeginsWithValue keys.CaseSensitive text.now x.0 x.1.now) }
@@ -104,7 +104,7 @@ fn case_sensitive(text: &str) -> Option<(Setting, &str)>
     }
 }
 
-/// The same of `one_indexed`.
+/// The result of `value_in` for `one_indexed`.
 #[inline(always)]
 fn one_indexed(text: &str) -> Option<(Setting, &str)>
     ensures { MatchOption result ⊤ (λ x. BeginsWithValue keys.OneIndexed text.now x.0 x.1.now) }
@@ -115,7 +115,7 @@ fn one_indexed(text: &str) -> Option<(Setting, &str)>
     }
 }
 
-/// The same of `range`.
+/// The result of `value_in` for `range`.
 #[inline(always)]
 fn range(text: &str) -> Option<(Setting, &str)>
     ensures { MatchOption result ⊤ (λ x. BeginsWithValue keys.Range text.now x.0 x.1.now) }
@@ -136,7 +136,7 @@ fn range(text: &str) -> Option<(Setting, &str)>
     }
 }
 
-/// The same of `base`.
+/// The result of `value_in` for `base`.
 #[inline(always)]
 fn base(text: &str) -> Option<(Setting, &str)>
     ensures { MatchOption result ⊤ (λ x. BeginsWithValue keys.Base text.now x.0 x.1.now) }
@@ -147,7 +147,7 @@ fn base(text: &str) -> Option<(Setting, &str)>
     }
 }
 
-/// The same of `trailing_input`.
+/// The result of `value_in` for `trailing_input`.
 #[inline(always)]
 fn trailing_input(text: &str) -> Option<(Setting, &str)>
     ensures { MatchOption result ⊤ (λ x. BeginsWithValue keys.TrailingInput text.now x.0 x.1.now) }
@@ -168,7 +168,7 @@ fn trailing_input(text: &str) -> Option<(Setting, &str)>
     }
 }
 
-/// The same of `precision`.
+/// The result of `value_in` for `precision`.
 #[inline(always)]
 fn precision(text: &str) -> Option<(Setting, &str)>
     ensures { MatchOption result ⊤ (λ x. BeginsWithValue keys.Precision text.now x.0 x.1.now) }
@@ -201,7 +201,7 @@ fn precision(text: &str) -> Option<(Setting, &str)>
     }
 }
 
-/// The same of `digits`.
+/// The result of `value_in` for `digits`.
 #[inline(always)]
 fn digits(text: &str) -> Option<(Setting, &str)>
     ensures { MatchOption result ⊤ (λ x. BeginsWithValue keys.Digits text.now x.0 x.1.now) }
@@ -221,7 +221,7 @@ fn digits(text: &str) -> Option<(Setting, &str)>
     }
 }
 
-/// The same of one word, which sets so many digits.
+/// The result of `digits` for one word, which sets this many digits.
 #[inline(always)]
 fn digit<'a>(text: &'a str, word: &str, digits: SubsecondDigits) -> Option<(Setting, &'a str)>
     requires word { OneOrMore is_word_byte word.now }

@@ -1,5 +1,5 @@
-//! Names and keys of brackets, told by their first bytes and compared in place: those that the tables of
-//! all brackets have.
+//! Names and keys of brackets, those of the tables, distinguished by their first bytes and compared in
+//! place.
 
 ghost use Rattle.std.specs.Prelude.{◌≡◌, ◌++◌, MatchOption, Some, true, false, ⊤};
 ghost use Rattle.std.specs.Str.{IsUtf8};
@@ -14,8 +14,8 @@ use timefd_language::key::Key;
 use timefd_language::name::ComponentName;
 use timefd_language::setting::Setting;
 
-/// What follows the word, if the text begins with it. Its bytes are compared in place, where its
-/// length and they are constants.
+/// What follows the word, if the text begins with it. A constant word is compared in place: its length
+/// and its bytes are constants too.
 #[inline(always)]
 pub fn after_word<'a>(text: &'a str, word: &str) -> Option<&'a str>
     ensures { MatchOption result ⊤ (λ rest. (text.now ≡ word.now ++ rest.now) × IsUtf8 rest.now) }
@@ -30,7 +30,8 @@ pub fn after_word<'a>(text: &'a str, word: &str) -> Option<&'a str>
     }
 }
 
-/// The name that a few of the bytes tell, if the inside of a bracket begins with it, and what follows.
+/// The name that the inside of a bracket begins with, and what follows. A few of the bytes say which
+/// name to compare.
 #[inline(always)]
 pub fn name_in(inside: &str) -> Option<(ComponentName, &str)>
     ensures { MatchOption result ⊤ (λ x. BeginsWithName inside.now x.0 x.1.now) }
@@ -56,7 +57,7 @@ pub fn name_in(inside: &str) -> Option<(ComponentName, &str)>
     }
 }
 
-/// The name and what follows it, if the inside begins with that.
+/// The name and what follows it, if the inside begins with the name.
 #[inline(always)]
 fn named(inside: &str, name: ComponentName) -> Option<(ComponentName, &str)>
     ensures { MatchOption result ⊤ (λ x. BeginsWithName inside.now x.0 x.1.now) }
@@ -65,7 +66,7 @@ fn named(inside: &str, name: ComponentName) -> Option<(ComponentName, &str)>
     Some((name, rest))
 }
 
-/// The key that a text begins with, of those that the name takes, and what follows.
+/// The key that a text begins with, one of those that the name takes, and what follows.
 #[inline(always)]
 pub fn key_in(name: ComponentName, text: &str) -> Option<(Key, &str)>
     ensures { MatchOption result ⊤ (λ x. BeginsWithKey name text.now x.0 x.1.now) }
@@ -120,7 +121,7 @@ pub fn key_in(name: ComponentName, text: &str) -> Option<(Key, &str)>
     }
 }
 
-/// The key and what follows it, if the text begins with that. The name takes it.
+/// The key and what follows it, if the text begins with the key. The name takes this key.
 #[inline(always)]
 fn keyed(name: ComponentName, text: &str, key: Key) -> Option<(Key, &str)>
     requires exactly { spec.key_in true (key_for key).key (row_for name).keys ≡ Some (key_for key) }
@@ -131,7 +132,8 @@ fn keyed(name: ComponentName, text: &str, key: Key) -> Option<(Key, &str)>
     Some((key, rest))
 }
 
-/// The setting and what follows the word, if the text begins with that. The word sets the key to it.
+/// The setting and what follows the word, if the text begins with the word. The word sets the key to
+/// this setting.
 #[inline(always)]
 pub fn valued<'a>(
     key: Key,

@@ -1,9 +1,9 @@
-//! The one answer that all languages of a row gave.
+//! The one answer that all languages of a row give.
 
 use crate::fault::RowFault;
 use std::alloc::Global;
 
-/// The answers of one row, which are to be one answer.
+/// The answers of one row, which have to be the same answer.
 #[derive(Drop)]
 pub struct Answers {
     first: Option<String>,
@@ -34,7 +34,7 @@ impl Answers {
         Ok(())
     }
 
-    /// The answer that all gave, or each one by itself.
+    /// The one answer if all agree, otherwise each answer by itself.
     pub fn agreed(self) -> Result<String, RowFault> {
         let Answers { first, all, differ } = self;
         if differ {

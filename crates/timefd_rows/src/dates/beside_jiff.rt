@@ -1,4 +1,4 @@
-//! What is written and read by letters of strftime, beside what `jiff_strtime` writes and reads.
+//! What is written and read by letters of strftime, next to what `jiff_strtime` writes and reads.
 
 use super::jiff::{date_by_jiff, offset_by_jiff, time_by_jiff, written_by_jiff};
 use super::moments::{EARLY, LATE, MomentFields, moment_of};
@@ -17,20 +17,21 @@ use timefd_read_moment::{date, offset, time};
 /// What is asked of both.
 #[derive(Clone, Copy)]
 pub enum JiffAsk {
-    /// `written-beside-jiff DESCRIPTION DATE TIME OFFSET`: what is written here, and what `jiff_strtime` writes where
-    /// that is another text.
+    /// `written-beside-jiff DESCRIPTION DATE TIME OFFSET`: what is written here, and what `jiff_strtime`
+    /// writes if that differs.
     Written,
-    /// `written-beside-jiff-at-each DESCRIPTION`: `same` where both write one text of each moment of a list, else
-    /// both texts of the first moment of which they don't.
+    /// `written-beside-jiff-at-each DESCRIPTION`: `same` if both write the same text for each moment of a
+    /// list, otherwise both texts for the first moment where they differ.
     AtEach,
-    /// `written-beside-jiff-late DESCRIPTION`: the same of moments of the years 1 to 9999 alone.
+    /// `written-beside-jiff-late DESCRIPTION`: what `written-beside-jiff-at-each` answers for only the
+    /// moments of the years 1 to 9999.
     Late,
-    /// `date-beside-jiff DESCRIPTION TEXT`: the date that is read here, or `refused`, and what `jiff_strtime` reads
-    /// where that is another.
+    /// `date-beside-jiff DESCRIPTION TEXT`: the date that is read here, or `refused`, and what `jiff_strtime`
+    /// reads if that differs.
     Date,
-    /// `time-beside-jiff DESCRIPTION TEXT`: the same of a time of day.
+    /// `time-beside-jiff DESCRIPTION TEXT`: the time of day, in the same way.
     Time,
-    /// `offset-beside-jiff DESCRIPTION TEXT`: the same of an offset.
+    /// `offset-beside-jiff DESCRIPTION TEXT`: the offset, in the same way.
     Offset,
 }
 
@@ -110,7 +111,7 @@ fn written(alloc: Global, by: &str, moment: Moment) -> Result<String, RowFault> 
     beside(alloc, written_here(alloc, by, moment)?, "jiff", &theirs)
 }
 
-/// What both write of the first of these moments of which they write two texts.
+/// What both write for the first of these moments where they differ.
 fn first_difference(
     alloc: Global,
     by: &str,

@@ -1,5 +1,5 @@
-//! What the calendar says of dates, what is out of range, and how dates, times of day, offsets and weekdays are
-//! printed.
+//! What the calendar says about dates, what is out of range, and how dates, times of day, offsets and
+//! weekdays are printed.
 
 use super::moments::{
     TimeNumbers, date_numbers, date_of, offset_of, offset_seconds, time_numbers, time_of,
@@ -9,16 +9,16 @@ use std::alloc::Global;
 use std::fmt::Display;
 use timefd_moment::{ComponentRange, Date, Time, UtcOffset, Weekday};
 
-/// What is asked of numbers.
+/// What is asked about numbers.
 #[derive(Clone, Copy)]
 pub enum CalendarAsk {
-    /// `calendar DATE`: its place in the year, in the week, and among the weeks.
-    Places,
+    /// `calendar DATE`: its position in the year, in the week, and the number of its week.
+    Positions,
     /// `date-fault DATE`: which number is out of range.
     DateFault,
-    /// `time-fault TIME`: the same of a time of day.
+    /// `time-fault TIME`: which number of a time of day is out of range.
     TimeFault,
-    /// `offset-fault SECONDS`: the same of an offset.
+    /// `offset-fault SECONDS`: whether an offset is out of range.
     OffsetFault,
     /// `date-sentence DATE`: the sentence about the number that is out of range.
     DateSentence,
@@ -28,7 +28,8 @@ pub enum CalendarAsk {
     Time,
     /// `offset SECONDS`, as it is printed.
     Offset,
-    /// `weekday NAME`, as it is printed, its places in the week and the day after it.
+    /// `weekday NAME`, as it is printed, its number in the week from Monday and from Sunday, and the days
+    /// before and after it.
     Weekday,
 }
 
@@ -36,7 +37,7 @@ impl CalendarAsk {
     /// The ask that the word names.
     pub fn of_word(word: &str) -> Option<CalendarAsk> {
         match word {
-            "calendar" => Some(CalendarAsk::Places),
+            "calendar" => Some(CalendarAsk::Positions),
             "date-fault" => Some(CalendarAsk::DateFault),
             "time-fault" => Some(CalendarAsk::TimeFault),
             "offset-fault" => Some(CalendarAsk::OffsetFault),
@@ -51,7 +52,7 @@ impl CalendarAsk {
 
     fn fields(self) -> &'static str {
         match self {
-            CalendarAsk::Places
+            CalendarAsk::Positions
             | CalendarAsk::DateFault
             | CalendarAsk::DateSentence
             | CalendarAsk::Date => "DATE",
@@ -68,7 +69,7 @@ pub fn answer(alloc: Global, ask: CalendarAsk, fields: &[&str]) -> Result<String
         return Err(RowFault::Fields(ask.fields()));
     };
     match ask {
-        CalendarAsk::Places => places(alloc, field),
+        CalendarAsk::Positions => positions(alloc, field),
         CalendarAsk::DateFault => name_of(alloc, date_fault(alloc, field)),
         CalendarAsk::TimeFault => name_of(alloc, time_fault(alloc, field)),
         CalendarAsk::OffsetFault => name_of(alloc, offset_fault(field)),
@@ -80,7 +81,7 @@ pub fn answer(alloc: Global, ask: CalendarAsk, fields: &[&str]) -> Result<String
     }
 }
 
-/// What was read of a field, as it is printed.
+/// The value of a field, as it is printed.
 pub fn printed<V: Display + Drop>(
     alloc: Global,
     read: Result<V, RowFault>,
@@ -91,9 +92,9 @@ pub fn printed<V: Display + Drop>(
     }
 }
 
-/// The place of a date in its year, in its week, and of its week in the year of ISO 8601 and in years whose weeks
-/// begin on Sunday or Monday.
-fn places(alloc: Global, field: &str) -> Result<String, RowFault> {
+/// The position of a date in its year and in its week, and the number of its week in the year of ISO 8601 and
+/// in years whose weeks begin on Sunday or Monday.
+fn positions(alloc: Global, field: &str) -> Result<String, RowFault> {
     let date = date_of(alloc, field)?;
     let mut text = String::new(alloc);
     write!(text, "day {} of {}; ", date.ordinal(), date.year())?;

@@ -6,10 +6,10 @@ use crate::fault::RowFault;
 use std::alloc::Global;
 use timefd_moment::{Moment, UnixTime};
 
-/// What is asked of an instant or a moment.
+/// What is asked about an instant or a moment.
 #[derive(Clone, Copy)]
 pub enum InstantAsk {
-    /// `nanoseconds DATE TIME OFFSET`: the nanoseconds after the start of 1970.
+    /// `nanoseconds DATE TIME OFFSET`: the nanoseconds since the start of 1970.
     Nanoseconds,
     /// `utc NANOSECONDS`: the date, the time of day and the offset of the instant, or what is out of range.
     Utc,
@@ -52,7 +52,7 @@ pub fn answer(alloc: Global, ask: InstantAsk, fields: &[&str]) -> Result<String,
     }
 }
 
-/// The instant so many nanoseconds after the start of 1970.
+/// The instant at this many nanoseconds since the start of 1970.
 fn unix_of(field: &str) -> Result<UnixTime, RowFault> {
     match field.parse::<i128>() {
         Ok(count) => Ok(UnixTime::from_nanoseconds(count)),
@@ -78,7 +78,7 @@ fn in_utc(alloc: Global, count: &str) -> Result<String, RowFault> {
     }
 }
 
-/// A moment as rows name it.
+/// A moment, as rows write it.
 fn moment_numbers(alloc: Global, moment: Moment) -> Result<String, RowFault> {
     let mut numbers = String::new(alloc);
     match moment.date {

@@ -29,7 +29,7 @@ fn broken_down(moment: Moment) -> Result<BrokenDownTime<'static>, RowFault> {
     })
 }
 
-/// What `jiff_strtime` writes by a text in the locale of POSIX.
+/// What `jiff_strtime` writes by a text, in the POSIX locale.
 pub fn written_by_jiff(alloc: Global, moment: Moment, by: &str) -> Result<String, RowFault> {
     let config = Config {
         locale: Locale::Posix,

@@ -4,7 +4,7 @@ use crate::fault::RowFault;
 use std::alloc::Global;
 use timefd_moment::{Date, Moment, Time, UtcOffset};
 
-/// A date, a time of day and an offset, as a row names them.
+/// A date, a time of day and an offset, as a row writes them.
 pub type MomentFields = (&'static str, &'static str, &'static str);
 
 /// The moments of the rows that are written at each moment.
@@ -22,8 +22,8 @@ pub const EACH: &[MomentFields] = &[
     ("1969,12,31", "23,59,59,999500000", "0"),
 ];
 
-/// Moments of the years 1 to 9999: both noons, first and last days of years with 52 and 53 weeks, leap days,
-/// offsets of whole minutes.
+/// Moments of the years 1 to 9999: noon and midnight, first and last days of years with 52 and 53 weeks,
+/// leap days, offsets of whole minutes.
 pub const LATE: &[MomentFields] = &[
     ("2026,11,23", "5,36,7,12345678", "3600"),
     ("2024,2,29", "12,0,0,500000000", "-19800"),

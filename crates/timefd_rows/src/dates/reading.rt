@@ -15,16 +15,16 @@ use timefd_read_dates::{
     Fields, NO_FIELDS, ReadError, fill_leaf_fields, leaves_in_turn, read_fields, read_item_fields,
 };
 
-/// What is asked of a description and a text.
+/// What is asked about a description and a text.
 #[derive(Clone, Copy)]
 pub enum ReadingAsk {
     /// `fields LANGUAGE DESCRIPTION TEXT`: each field that the text shows. A description of version 3 that is
-    /// components and literals in turn is read by these too.
+    /// only components and literals in a row is also read part by part.
     Fields,
     /// `read-VALUE LANGUAGE DESCRIPTION TEXT`: the value that the text shows, or why it shows none.
     Value(Value),
-    /// `read-beside-time LANGUAGE DESCRIPTION TEXT ANSWER`: the moment that the text shows, or `refused`, and what
-    /// `time` answers where that is another.
+    /// `read-beside-time LANGUAGE DESCRIPTION TEXT ANSWER`: the moment that the text shows, or `refused`, and
+    /// the answer of `time` if it differs.
     BesideTime,
 }
 
@@ -70,7 +70,7 @@ pub fn answer(alloc: Global, ask: ReadingAsk, fields: &[&str]) -> Result<String,
     }
 }
 
-/// An answer, with that of another program after it where it is another.
+/// An answer, with the answer of another program after it if that differs.
 pub fn beside(
     alloc: Global,
     ours: String,
@@ -84,7 +84,7 @@ pub fn beside(
     }
 }
 
-/// The fields that a text shows, or what isn't read.
+/// The fields that a text shows, or what doesn't read.
 pub fn read_by(
     alloc: Global,
     language: Language,
@@ -126,7 +126,7 @@ fn all_fields(alloc: Global, word: &str, by: &str, text: &str) -> Result<String,
     answers.agreed()
 }
 
-/// Reads the text by components and literals in turn, where the description is no more.
+/// Reads the text component by component and literal by literal, if the description is nothing else.
 fn add_by_leaves(
     alloc: Global,
     by: &str,

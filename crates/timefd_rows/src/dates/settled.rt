@@ -1,4 +1,4 @@
-//! Whether descriptions are settled: whether what is written by them is read back.
+//! Whether descriptions are settled: whether what they write is read back.
 
 use super::answers::Answers;
 use crate::fault::RowFault;

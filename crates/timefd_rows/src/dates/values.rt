@@ -18,7 +18,7 @@ pub enum Value {
     Instant,
 }
 
-/// What stands for a value that there isn't.
+/// What is printed instead of a value if there is none.
 pub const REFUSED: &str = "refused";
 
 /// The value, or the sentence that says why there is none.

@@ -1,4 +1,4 @@
-//! What descriptions and components write of moments.
+//! What descriptions and components write for moments.
 
 use super::answers::Answers;
 use super::moments::{EACH, moment_of};
@@ -16,20 +16,22 @@ use timefd_parse::{
     parse_borrowed, parse_strftime_borrowed,
 };
 
-/// What is asked of a description.
+/// What is asked about a description.
 #[derive(Clone, Copy)]
 pub enum WritingAsk {
-    /// `written LANGUAGE DESCRIPTION DATE TIME OFFSET`: what it writes of the moment, or why nothing.
+    /// `written LANGUAGE DESCRIPTION DATE TIME OFFSET`: what it writes for the moment, or why it writes
+    /// nothing.
     Written,
-    /// `written-at-each LANGUAGES DESCRIPTION`: what it writes of each moment of a list.
+    /// `written-at-each LANGUAGES DESCRIPTION`: what it writes for each moment of a list.
     AtEach,
-    /// `written-within BYTES LANGUAGE DESCRIPTION DATE TIME OFFSET`: what it writes in so many bytes, or what
-    /// shows nothing, and why.
+    /// `written-within BYTES LANGUAGE DESCRIPTION DATE TIME OFFSET`: what it writes into a buffer of this
+    /// many bytes, or which component shows nothing, and why.
     Within,
-    /// `written-component BYTES DESCRIPTION DATE TIME OFFSET`: what its one component writes by itself in so many
-    /// bytes.
+    /// `written-component BYTES DESCRIPTION DATE TIME OFFSET`: what its one component writes by itself into a
+    /// buffer of this many bytes.
     Component,
-    /// `written-in-memory DESCRIPTION DATE TIME OFFSET`: what a description of version 3 writes in memory of its own.
+    /// `written-in-memory DESCRIPTION DATE TIME OFFSET`: what a description of version 3 writes into a new
+    /// string.
     InMemory,
 }
 
@@ -98,7 +100,7 @@ fn buffer(alloc: Global, bytes: usize) -> Result<Vec<u8>, RowFault> {
     Ok(vec![in alloc; b'#'; bytes]?)
 }
 
-/// The text at the end of a buffer. What is in front of it is to be untouched.
+/// The text at the end of a buffer. What is in front of it has to be untouched.
 fn text_from(alloc: Global, buffer: &[u8], at: usize) -> Result<String, RowFault> {
     let (Some(front), Some(text)) = (buffer.get(..at), buffer.get(at..)) else {
         return Ok(format!(in alloc; "begins at byte {at} of {}", buffer.len())?);
@@ -112,7 +114,7 @@ fn text_from(alloc: Global, buffer: &[u8], at: usize) -> Result<String, RowFault
     }
 }
 
-/// What is written by a description into the end of the buffer.
+/// Writes the moment by a description into the end of the buffer.
 fn write_by(
     alloc: Global,
     language: Language,
@@ -156,7 +158,7 @@ fn written(
     }
 }
 
-/// What is written of each moment, with a bar between two.
+/// What is written for each moment, with a bar between two.
 fn cells(alloc: Global, language: Language, by: &str) -> Result<String, RowFault> {
     let mut cells = String::new(alloc);
     for (index, (date, time, offset)) in EACH.iter().enumerate() {
@@ -186,7 +188,7 @@ fn bytes_of(field: &str) -> Result<usize, RowFault> {
     }
 }
 
-/// The name of the variant that is printed so.
+/// The name of the variant in what `Debug` printed.
 fn variant_in(printed: &str) -> &str {
     match printed.find('(') {
         Some(end) => printed.get(..end).unwrap_or(printed),
@@ -194,7 +196,7 @@ fn variant_in(printed: &str) -> &str {
     }
 }
 
-/// What shows nothing, by the name of its variant, and why.
+/// The component that shows nothing, by the name of its variant, and why.
 fn unshown_text(alloc: Global, unshown: Unshown) -> Result<String, RowFault> {
     let component = unshown.component;
     let printed = format!(in alloc; "{component:?}")?;

@@ -1,4 +1,4 @@
-//! Whether a version reads what a text is rewritten to as the version before it reads the text.
+//! Whether a version reads the rewritten text as the version before it reads the text.
 
 use crate::fault::RowFault;
 use crate::trees::reading::described;
@@ -16,7 +16,8 @@ pub fn reads_alike(alloc: Global, from: &str, text: &str) -> Result<String, RowF
     }
 }
 
-/// Version 1 cuts literals where version 2 doesn't, so neighbouring ones count as one.
+/// Compares versions 1 and 2. Version 1 cuts literals where version 2 doesn't, so neighbouring literals count
+/// as one.
 fn of_one(alloc: Global, text: &str) -> Result<String, RowFault> {
     let rewritten = accepted(v1_to_v2(alloc, text))?;
     let before = joined(alloc, &items(alloc, DescriptionVersion::One, text)?)?;
@@ -61,7 +62,7 @@ fn items(
     }
 }
 
-/// The items in print, with neighbouring literals as one, which may be empty.
+/// The items in print, with neighbouring literals as one. That one may be empty.
 fn joined(alloc: Global, items: &[BorrowedFormatItem<'_>]) -> Result<String, RowFault> {
     let mut printed = String::new(alloc);
     let mut literal = String::new(alloc);
@@ -91,7 +92,7 @@ fn in_turn(alloc: Global, items: &[BorrowedFormatItem<'_>]) -> Result<String, Ro
     Ok(printed)
 }
 
-/// The literals and components of a description in print. What the members of a compound are is printed before it.
+/// The literals and components of a description in print. The members of a compound are printed before it.
 fn parts(alloc: Global, description: &FormatDescriptionV3<'_>) -> Result<String, RowFault> {
     let mut printed = String::new(alloc);
     for part in description.view().walk() {

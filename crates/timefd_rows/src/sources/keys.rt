@@ -5,7 +5,7 @@ use crate::fields::one;
 use crate::sources::shown::all_shown;
 use std::alloc::{AllocError, Global};
 use timefd_keys::{Format, Key, descriptions_by, format_named, key_fault, key_of};
-use timefd_sources::{Description, place_of};
+use timefd_sources::{Description, index_in_source};
 
 fn format_of(word: &str) -> Result<Format, RowFault> {
     match word {
@@ -41,22 +41,22 @@ pub fn keys(alloc: Global, fields: &[&str]) -> Result<String, RowFault> {
     Ok(all_shown(alloc, &found(alloc, fields)?)?)
 }
 
-/// The places of a value's bytes, and that of what closes it.
-fn places_of(alloc: Global, description: &Description) -> Result<Vec<usize>, AllocError> {
-    let mut places = Vec::new(alloc);
-    for index in 0..description.unescaped.places.len() {
-        places.push(place_of(description, index))?;
+/// The position in the source of each byte of a value, and of what closes the value.
+fn positions_of(alloc: Global, description: &Description) -> Result<Vec<usize>, AllocError> {
+    let mut positions = Vec::new(alloc);
+    for index in 0..description.unescaped.positions.len() {
+        positions.push(index_in_source(description, index))?;
     }
-    places.push(place_of(description, description.unescaped.places.len()))?;
-    Ok(places)
+    positions.push(index_in_source(description, description.unescaped.positions.len()))?;
+    Ok(positions)
 }
 
-/// The places of each value.
-pub fn places(alloc: Global, fields: &[&str]) -> Result<String, RowFault> {
+/// The positions of the bytes of each value.
+pub fn positions(alloc: Global, fields: &[&str]) -> Result<String, RowFault> {
     let mut shown = String::new(alloc);
     for description in &found(alloc, fields)? {
-        let places = places_of(alloc, description)?;
-        shown.push_str(&format!(in alloc; "{places:?}")?)?;
+        let positions = positions_of(alloc, description)?;
+        shown.push_str(&format!(in alloc; "{positions:?}")?)?;
     }
     Ok(shown)
 }
@@ -70,7 +70,7 @@ pub fn key(alloc: Global, fields: &[&str]) -> Result<String, RowFault> {
     }
 }
 
-/// Why a word is no key.
+/// Why a word isn't a key.
 pub fn fault(alloc: Global, fields: &[&str]) -> Result<String, RowFault> {
     let word = one(fields, "WORD")?;
     let fault = key_fault(word);

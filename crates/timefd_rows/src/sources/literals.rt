@@ -1,4 +1,4 @@
-//! Literals of Rust: the texts that they stand for, and what stands between their quotes.
+//! Literals of Rust: the texts that they mean, and what is between their quotes.
 
 use crate::fault::RowFault;
 use crate::fields::two;
@@ -9,10 +9,10 @@ use timefd_sources::{
     pieces_of,
 };
 
-/// The answer where no literal is right.
+/// The answer if there is no such literal.
 const NONE: &str = "none";
 
-/// What the first literal of a source stands for.
+/// The text of the first literal of a source.
 fn first_text(alloc: Global, source: &str) -> Result<Option<Unescaped>, AllocError> {
     for piece in &pieces_of(alloc, source)? {
         if let Token::Literal(kind) = piece.token {
@@ -22,20 +22,20 @@ fn first_text(alloc: Global, source: &str) -> Result<Option<Unescaped>, AllocErr
     Ok(None)
 }
 
-/// The text in quotes, or as numbers where it is none, and the places of its bytes.
-fn with_places(alloc: Global, unescaped: &Unescaped) -> Result<String, AllocError> {
-    let places = unescaped.places.as_slice();
+/// The text in quotes, or as numbers if it isn't UTF-8, and the positions of its bytes.
+fn with_positions(alloc: Global, unescaped: &Unescaped) -> Result<String, AllocError> {
+    let positions = unescaped.positions.as_slice();
     let bytes = unescaped.text.as_slice();
     match str::from_utf8(bytes) {
-        Ok(text) => format!(in alloc; "{text:?} at {places:?}"),
-        Err(_) => format!(in alloc; "{bytes:?} at {places:?}"),
+        Ok(text) => format!(in alloc; "{text:?} at {positions:?}"),
+        Err(_) => format!(in alloc; "{bytes:?} at {positions:?}"),
     }
 }
 
-/// What the first literal of a source stands for, and the place of each byte of it.
+/// The text of the first literal of a source, and the position in the source of each of its bytes.
 pub fn literal(alloc: Global, source: &str) -> Result<String, RowFault> {
     match first_text(alloc, source)? {
-        Some(unescaped) => Ok(with_places(alloc, &unescaped)?),
+        Some(unescaped) => Ok(with_positions(alloc, &unescaped)?),
         None => Ok(String::from_str(alloc, NONE)?),
     }
 }
@@ -63,7 +63,7 @@ fn body_shown(alloc: Global, found: Option<Vec<u8>>) -> Result<String, RowFault>
     }
 }
 
-/// What stands between the quotes of a literal of a kind, to stand for a text.
+/// What to write between the quotes of a literal of a kind, so that it means a text.
 pub fn body(alloc: Global, fields: &[&str]) -> Result<String, RowFault> {
     let (kind, text) = two(fields, "KIND TEXT")?;
     body_shown(alloc, body_for(alloc, kind_of(kind)?, text.as_bytes())?)
@@ -76,7 +76,7 @@ fn first_alike(alloc: Global, source: &str, text: &str) -> Result<Option<Vec<u8>
     }
 }
 
-/// What stands between the quotes of a source's first description, to stand for another text.
+/// What to write between the quotes of a source's first description, so that it means another text.
 pub fn alike(alloc: Global, fields: &[&str]) -> Result<String, RowFault> {
     let (source, text) = two(fields, "SOURCE TEXT")?;
     body_shown(alloc, first_alike(alloc, source, text)?)

@@ -1,4 +1,4 @@
-//! What texts and sources are mended or converted to.
+//! Texts and sources, mended or converted.
 
 use crate::fault::RowFault;
 use crate::fields::{three, two};
@@ -40,7 +40,7 @@ fn new_source(alloc: Global, fields: &[&str]) -> Result<NewSource, RowFault> {
     Ok(rewrite_source(alloc, change_of(change)?, source)?)
 }
 
-/// How many descriptions are rewritten, how many refused, and the new source.
+/// How many descriptions are rewritten, how many are refused, and the new source.
 pub fn rewritten(alloc: Global, fields: &[&str]) -> Result<String, RowFault> {
     let new = new_source(alloc, fields)?;
     let rewritten = count_rewritten(&new.outcomes);

@@ -30,7 +30,7 @@ pub fn all_shown(alloc: Global, descriptions: &[Description]) -> Result<String, 
     Ok(shown)
 }
 
-/// The bytes as the text that they are; those that are none as numbers.
+/// The bytes as text if they are UTF-8, and as numbers otherwise.
 pub fn text_of(alloc: Global, bytes: &[u8]) -> Result<String, AllocError> {
     match str::from_utf8(bytes) {
         Ok(text) => String::from_str(alloc, text),

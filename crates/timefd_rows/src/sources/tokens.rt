@@ -3,7 +3,7 @@
 use crate::fault::RowFault;
 use crate::sources::shown::all_shown;
 use std::alloc::{AllocError, Global};
-use timefd_sources::{Encoding, Kind, Token, VersionPlace, descriptions_of, pieces_of};
+use timefd_sources::{Encoding, Kind, Token, VersionPosition, descriptions_of, pieces_of};
 
 fn encoding_mark(encoding: Encoding) -> &'static str {
     match encoding {
@@ -27,7 +27,7 @@ fn token_mark(token: Token) -> &'static str {
     }
 }
 
-/// The tokens of a source but white ones, each as its kind and its text, between bars.
+/// The tokens of a source except white space, each as its kind and its text, between bars.
 pub fn tokens(alloc: Global, source: &str) -> Result<String, RowFault> {
     let mut shown = String::new(alloc);
     for piece in &pieces_of(alloc, source)? {
@@ -46,20 +46,21 @@ pub fn descriptions(alloc: Global, source: &str) -> Result<String, RowFault> {
     Ok(all_shown(alloc, &descriptions_of(alloc, source)?)?)
 }
 
-fn place_mark(alloc: Global, version: VersionPlace) -> Result<String, AllocError> {
+fn position_mark(alloc: Global, version: VersionPosition) -> Result<String, AllocError> {
     match version {
-        VersionPlace::Digit(at) => format!(in alloc; "{at}"),
-        VersionPlace::Unsaid => String::from_str(alloc, "unsaid"),
-        VersionPlace::Call => String::from_str(alloc, "call"),
-        VersionPlace::Elsewhere => String::from_str(alloc, "elsewhere"),
+        VersionPosition::Digit(at) => format!(in alloc; "{at}"),
+        VersionPosition::Unsaid => String::from_str(alloc, "unsaid"),
+        VersionPosition::Call => String::from_str(alloc, "call"),
+        VersionPosition::Elsewhere => String::from_str(alloc, "elsewhere"),
     }
 }
 
-/// Where the versions of a source's descriptions are said: a byte, or a word, between bars.
+/// Where the version of each description of a source is given, a byte index or a word, between
+/// bars.
 pub fn versions(alloc: Global, source: &str) -> Result<String, RowFault> {
     let mut shown = String::new(alloc);
     for description in &descriptions_of(alloc, source)? {
-        shown.push_str(&place_mark(alloc, description.version)?)?;
+        shown.push_str(&position_mark(alloc, description.version)?)?;
         shown.push_str("|")?;
     }
     Ok(shown)

@@ -13,7 +13,8 @@ pub fn component(alloc: Global, text: &str) -> Result<String, RowFault> {
     Ok(format!(in alloc; "{component:?}")?)
 }
 
-/// The leaf that the component becomes: the tree, its description, and the tree of that print alike.
+/// The leaf that the component becomes. The tree, its description and the description's tree print
+/// alike.
 pub fn leaf(alloc: Global, text: &str) -> Result<String, RowFault> {
     let tree = FormatDescriptionV3Inner::from(component_of(alloc, text)?);
     let leaf = format!(in alloc; "{tree:?}")?;

@@ -30,7 +30,7 @@ pub fn debug(alloc: Global, language: &str, text: &str) -> Result<String, RowFau
     Ok(format!(in alloc; "{fault:?}")?)
 }
 
-/// The fault for which the text is refused.
+/// The fault that the text is refused for.
 fn fault_of(
     alloc: Global,
     language: &str,

@@ -7,7 +7,7 @@ use crate::longest_literal::longest_literal;
 use std::alloc::Global;
 use timefd_items::{FormatDescriptionV3Inner, Members, Shape, View};
 
-/// Each part after its members, and a semicolon after each.
+/// Each part, after its members and with a semicolon after it.
 pub fn parts(alloc: Global, text: &str) -> Result<String, RowFault> {
     let description = described(alloc, text)?;
     let mut names = String::new(alloc);
@@ -17,7 +17,7 @@ pub fn parts(alloc: Global, text: &str) -> Result<String, RowFault> {
     Ok(names)
 }
 
-/// What a part is, but for its members, and a semicolon.
+/// What a part is, without its members, and a semicolon.
 fn push_name(names: &mut String, part: View<'_, '_>) -> Result<(), RowFault> {
     match part.shape() {
         Shape::Component(component) => write!(names, "{component:?}; ")?,
@@ -39,7 +39,7 @@ fn members_of<'v, 'a>(view: View<'v, 'a>) -> Result<Members<'v, 'a>, RowFault> {
     }
 }
 
-/// The members in turn, with a semicolon after each.
+/// The members in order, with a semicolon after each.
 pub fn members(alloc: Global, text: &str) -> Result<String, RowFault> {
     let description = described(alloc, text)?;
     let mut names = String::new(alloc);
@@ -49,7 +49,7 @@ pub fn members(alloc: Global, text: &str) -> Result<String, RowFault> {
     Ok(names)
 }
 
-/// The same from the last one to the first.
+/// The members from the last one to the first, with a semicolon after each.
 pub fn members_back(alloc: Global, text: &str) -> Result<String, RowFault> {
     let description = described(alloc, text)?;
     let mut names = String::new(alloc);
@@ -64,15 +64,15 @@ pub fn members_back(alloc: Global, text: &str) -> Result<String, RowFault> {
     Ok(names)
 }
 
-/// The members in turn, each as `Debug` prints it, in place and in the tree of its own.
+/// The members in order, each as `Debug` prints it, both as a view and as a tree of its own.
 pub fn member_trees(alloc: Global, text: &str) -> Result<String, RowFault> {
     let description = described(alloc, text)?;
-    let mut in_place = String::new(alloc);
+    let mut as_view = String::new(alloc);
     for member in members_of(description.view())?.in_turn() {
-        write!(in_place, "{member:?}; ")?;
+        write!(as_view, "{member:?}; ")?;
     }
     let tree = description.to_inner(alloc)?;
-    agreed(alloc, in_place, &print_members(alloc, &tree)?)
+    agreed(alloc, as_view, &print_members(alloc, &tree)?)
 }
 
 /// The members of a compound, each as `Debug` prints it.
@@ -97,7 +97,8 @@ pub fn longest(alloc: Global, text: &str) -> Result<String, RowFault> {
     Ok(format!(in alloc; "{bytes}")?)
 }
 
-/// How many bytes the tree reserves: as many within any limit that is no less, and none within one that is less.
+/// How many bytes the tree reserves. Within that limit it reserves as many, and a limit of one byte less
+/// refuses it.
 pub fn reserved(alloc: Global, text: &str) -> Result<String, RowFault> {
     let tree = described(alloc, text)?.to_inner(alloc)?;
     reserved_by(alloc, &tree)

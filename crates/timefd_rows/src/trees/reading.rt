@@ -1,4 +1,4 @@
-//! What the readers answer, in print.
+//! What the readers return, in print.
 
 use crate::agreed::agreed;
 use crate::fault::RowFault;
@@ -24,7 +24,7 @@ pub fn version(alloc: Global, number: &str) -> Result<String, RowFault> {
     }
 }
 
-/// What the text is read as in this language, or in every version.
+/// Reads the text in this language, or in every version, and prints the result.
 pub fn tree(alloc: Global, language: &str, text: &str) -> Result<String, RowFault> {
     if language == "every" {
         return in_every_version(alloc, text);
@@ -42,7 +42,7 @@ fn in_every_version(alloc: Global, text: &str) -> Result<String, RowFault> {
     agreed(alloc, agreed(alloc, one, &two)?, &three)
 }
 
-/// Version 1 has two calls, which have to agree.
+/// Reads the text in a version. Version 1 has two calls, which have to agree.
 fn in_version(alloc: Global, version: DescriptionVersion, text: &str) -> Result<String, RowFault> {
     let answer = output(alloc, parse_borrowed(alloc, version, text))?;
     if version != DescriptionVersion::One {
@@ -57,7 +57,7 @@ fn in_strftime(alloc: Global, text: &str) -> Result<String, RowFault> {
     items_or_fault(alloc, parse_strftime_borrowed(alloc, &tables, text))
 }
 
-/// What the text is read as with this nesting limit.
+/// Reads the text with this nesting limit, and prints the result.
 pub fn tree_within(
     alloc: Global,
     limit: &str,
@@ -103,7 +103,8 @@ pub fn sentence(alloc: Global, error: ParseError) -> Result<String, RowFault> {
     }
 }
 
-/// The bytes that a description reserves, and its tree, which prints alike in place and looked into.
+/// The number of bytes that a description reserves, and its tree, which prints alike as a view and
+/// as a tree of its own.
 fn print_description(
     alloc: Global,
     description: &FormatDescriptionV3<'_>,
@@ -115,7 +116,7 @@ fn print_description(
     agreed(alloc, printed, &looked_into)
 }
 
-/// The items in turn, each literal in quotes, and a compound in brackets.
+/// The items in order, each literal in quotes, and a compound in brackets.
 fn print_items(alloc: Global, items: &[BorrowedFormatItem<'_>]) -> Result<String, RowFault> {
     let mut printed = String::new(alloc);
     for item in items {

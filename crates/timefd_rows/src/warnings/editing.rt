@@ -1,4 +1,4 @@
-//! Documents in an editor: their places, and what is shown of them and offered.
+//! Documents in an editor: positions in them, what is shown about them, and what is offered.
 
 use crate::fault::RowFault;
 use crate::fields::{one, three, two};
@@ -19,14 +19,14 @@ fn number(field: &str) -> Result<usize, RowFault> {
     }
 }
 
-/// The line and the unit where the byte at an index stands.
+/// The line and the UTF-16 unit of the byte at an index.
 pub fn position(alloc: Global, fields: &[&str]) -> Result<String, RowFault> {
     let (text, index) = two(fields, "TEXT INDEX")?;
     let Position { line, character } = position_of(text, number(index)?);
     Ok(format!(in alloc; "{line} {character}")?)
 }
 
-/// The index of the byte that stands in a line, at a unit.
+/// The index of the byte in a line, at a UTF-16 unit.
 pub fn index(alloc: Global, fields: &[&str]) -> Result<String, RowFault> {
     let (text, line, character) = three(fields, "TEXT LINE UNIT")?;
     let position = Position {
@@ -45,15 +45,15 @@ fn rust(text: &str) -> Source<'_> {
     }
 }
 
-fn place_shown(alloc: Global, position: Position) -> Result<String, AllocError> {
+fn position_shown(alloc: Global, position: Position) -> Result<String, AllocError> {
     format!(in alloc; "({}, {})", position.line, position.character)
 }
 
 fn finding_shown(alloc: Global, count: usize, first: &Finding) -> Result<String, AllocError> {
     let code = first.code;
     let message = &first.message;
-    let start = place_shown(alloc, first.range.start)?;
-    let end = place_shown(alloc, first.range.end)?;
+    let start = position_shown(alloc, first.range.start)?;
+    let end = position_shown(alloc, first.range.end)?;
     match message.split_once('\n') {
         Some((sentence, help)) => {
             format!(in alloc; "{count} {code} {start} {end} {sentence} | {help}")
@@ -62,7 +62,8 @@ fn finding_shown(alloc: Global, count: usize, first: &Finding) -> Result<String,
     }
 }
 
-/// How many findings a source of Rust has; the code of the first, where it begins and ends, and its message.
+/// How many findings a source of Rust has; then the code of the first, where it begins and ends, and its
+/// message.
 pub fn all_findings(alloc: Global, fields: &[&str]) -> Result<String, RowFault> {
     let text = one(fields, "SOURCE")?;
     let levels = Some(Levels::all_at(Level::Warned));
@@ -86,7 +87,7 @@ fn push_action(alloc: Global, shown: &mut String, action: &Action) -> Result<(),
     shown.push_str("\n")
 }
 
-/// The actions that are offered from one byte of a source of Rust to another: a line each.
+/// The actions that are offered from one byte of a source of Rust to another, one per line.
 pub fn all_actions(alloc: Global, fields: &[&str]) -> Result<String, RowFault> {
     let (text, start, end) = three(fields, "SOURCE START END")?;
     let mut shown = String::new(alloc);
@@ -96,7 +97,7 @@ pub fn all_actions(alloc: Global, fields: &[&str]) -> Result<String, RowFault> {
     Ok(shown)
 }
 
-/// The part that stands at a byte, and what is shown of it.
+/// The part at a byte, and what is shown about it.
 pub fn hovered(alloc: Global, fields: &[&str]) -> Result<String, RowFault> {
     let (text, index) = two(fields, "SOURCE INDEX")?;
     match hover(alloc, rust(text), number(index)?)? {

@@ -27,7 +27,7 @@ pub fn pattern(alloc: Global, fields: &[&str]) -> Result<String, RowFault> {
     }
 }
 
-/// Whether a line has a pattern, and what that says.
+/// Whether a line has a pattern, and what the pattern says.
 pub fn line(alloc: Global, fields: &[&str]) -> Result<String, RowFault> {
     let line = one(fields, "LINE")?;
     let answer = match pattern_of(alloc, line.as_bytes())? {

@@ -6,8 +6,8 @@ use std::alloc::{AllocError, Global};
 use std::io::ErrorKind;
 use timefd_lint_files::{Entry, FileSystem, Kind, ReadError};
 
-/// A few folders, and one, `deep`, that holds a folder of its own name, and so on. Three of them, `made`,
-/// `young` and `linked`, are those of repositories.
+/// A few folders. One of them, `deep`, holds a folder with its own name, and so on. Three of them,
+/// `made`, `young` and `linked`, are folders of repositories.
 pub struct Fake;
 
 fn push(alloc: Global, entries: &mut Vec<Entry>, name: &str, kind: Kind) -> Result<(), AllocError> {
@@ -59,7 +59,7 @@ fn one(alloc: Global, name: &str, kind: Kind) -> Result<Vec<Entry>, AllocError> 
     Ok(entries)
 }
 
-/// The entries of a folder of a repository, or in it.
+/// The entries of a repository's folder, or of a folder in it.
 fn of_repository(alloc: Global, folder: &str) -> Result<Vec<Entry>, ReadError> {
     if folder == "made/" || folder == "young/" {
         return Ok(repository(alloc, Kind::Folder)?);

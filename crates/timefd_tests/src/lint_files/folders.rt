@@ -1,4 +1,4 @@
-//! Which files a name of the command line stands for.
+//! Which files a name on the command line means.
 
 use crate::lint_files::fake::Fake;
 use std::alloc::{AllocError, Global};
@@ -11,7 +11,7 @@ const RUST: Sought<'static> = Sought {
     excluded: "",
 };
 
-/// Names, and those that they stand for, each after a bar.
+/// Names on the command line, and the names of the files that they mean, each after a bar.
 const EXPANDED: &[(&[&str], &str)] = &[
     // Folders and files.
     (
@@ -59,15 +59,15 @@ fn fails(alloc: Global, name: &str, path: &str, reason: Reason) -> bool {
     match expanded(&Fake, alloc, RUST, &[name]) {
         Err(
             WalkError::Failed {
-                path: told,
+                path: reported,
                 reason: why,
             },
-        ) => told.as_str() == path && why == reason,
+        ) => reported.as_str() == path && why == reason,
         Err(WalkError::Memory) | Ok(_) => false,
     }
 }
 
-/// How long the name of the folder is that stands in too many others below this one.
+/// The length in bytes of the name of the folder that is nested too deep below this one.
 fn length_too_deep(alloc: Global, name: &str) -> Option<usize> {
     match expanded(&Fake, alloc, RUST, &[name]) {
         Err(WalkError::Failed { path, reason }) => {

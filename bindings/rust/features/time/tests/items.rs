@@ -51,6 +51,7 @@ fn ours(description: &FormatDescription<'_>) -> Vec<Result<String, timefd::Compo
     joined(description.parts().map(|part| match part {
         Part::Literal(text) => Ok(text.to_owned()),
         Part::Component(component) => Err(component),
+        other => panic!("{other:?}"),
     }))
 }
 

@@ -1,11 +1,11 @@
 use Rattle.std.proofs.Common.{◌≡◌, IsUtf8, false, true, subst, sym}
-use Rattle.timefd_fault.specs.BorrowedFaults.{lent_fault, IsLent, IsLentOf, IsMemory, IsRefusal}
+use Rattle.timefd_fault.specs.BorrowedFaults.{to_borrowed_fault, IsBorrowed, IsBorrowedOf, IsMemory, IsRefusal}
 use Rattle.timefd_language.specs.Grammar.{nesting_limit}
 use Rattle.timefd_parse.specs.declared.language.Language.TheVariants.{Strftime}
 use Rattle.timefd_parse.specs.Language.{FaultIn}
 use Rattle.timefd_c.specs.Composites.{ReadsComposites}
 use Rattle.timefd_c.proofs.CompositeLemmas.{composites_faulted, composites_reported}
-use Rattle.timefd_c.proofs.ReadingLemmas.{told}
+use Rattle.timefd_c.proofs.ReadingLemmas.{reported}
 use Rattle.timefd_c.proofs.composites.timefd_read_composites.Goals as goal
 
 pub returns-in-Ok-read_composites : goal.returns-in-Ok-read_composites
@@ -18,7 +18,7 @@ returns-in-Ok-read_composites c =
     let ms = c.read_composites.new.nodes in
     let b = c.read_composites.new.literals in
     record {
-      reads = subst (λ bytes. ReadsComposites bytes ns ms a b (told report)) text.0
+      reads = subst (λ bytes. ReadsComposites bytes ns ms a b (reported report)) text.0
           (composites_reported c.in-Ok.text.now ns ms a b report (subst IsUtf8 (sym text.0) text.1)
           r.found r.spelled r.refused);
     }
@@ -36,14 +36,14 @@ returns-in-Err-Invalid c =
     record {
       reads = subst (λ t. ReadsComposites t ns ms a b c.plain-in-Err-Invalid.result) text.0
           (subst (ReadsComposites bytes ns ms a b) (sym c.plain-in-Err-Invalid.ensures)
-          (composites_faulted bytes ns ms a b (lent_fault c.in-Err-Invalid.fault)
+          (composites_faulted bytes ns ms a b (to_borrowed_fault c.in-Err-Invalid.fault)
           (subst IsUtf8 (sym text.0) text.1)
-          (subst (IsLentOf (FaultIn Strftime nesting_limit bytes)) is r.fault)
+          (subst (IsBorrowedOf (FaultIn Strftime nesting_limit bytes)) is r.fault)
           (λ list s. subst IsMemory is (r.spelled list s))
-          (λ g h. subst (IsLent g) is (r.refused g h))
+          (λ g h. subst (IsBorrowed g) is (r.refused g h))
           (λ nil. let no : false ≡ true = r.empty nil in absurd cc)));
     }
 
--- It takes no memory.
+-- Reading takes no memory.
 pub unreachable-requires : goal.unreachable-requires
 unreachable-requires c = subst IsRefusal c.in-Err-Memory.field-0-is c.in-Err-Memory.ensures.memory

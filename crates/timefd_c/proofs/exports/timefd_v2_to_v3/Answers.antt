@@ -38,7 +38,8 @@ returns-in-Err c =
     let buffer = c.args.buffer.now in
     record {
       converts = subst (λ bytes. ConvertsBy (Version Two) IsWrittenOf KeepsItemsOf bytes buffer buffer c.of_error.result) read.0
-          (subst (ConvertsBy (Version Two) IsWrittenOf KeepsItemsOf text buffer buffer) (sym c.of_error.ensures) (unconverted (Version Two) IsWrittenOf KeepsItemsOf text buffer c.in-Err.error (subst IsUtf8 (sym read.0) read.1) v.fault
+          (subst (ConvertsBy (Version Two) IsWrittenOf KeepsItemsOf text buffer buffer) (sym c.of_error.ensures)
+          (unconverted (Version Two) IsWrittenOf KeepsItemsOf text buffer c.in-Err.error (subst IsUtf8 (sym read.0) read.1) v.fault
           (λ other other_is. v.spelled other_is.0 other_is.1) v.refused
           (λ nil. let no : false ≡ true = v.empty nil in absurd cc)));
     }

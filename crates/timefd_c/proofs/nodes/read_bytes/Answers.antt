@@ -1,7 +1,7 @@
 use Rattle.std.proofs.Common.{◌≡◌, ◌∙◌, Some, IsUtf8, false, true, subst, sym}
 use Rattle.timefd_c.specs.Reading.{Reads}
-use Rattle.timefd_c.proofs.ReadingLemmas.{reported, faulted, told}
-use Rattle.timefd_fault.specs.BorrowedFaults.{lent_fault, IsLent, IsLentOf, IsMemory}
+use Rattle.timefd_c.proofs.ReadingLemmas.{nodes_reported, faulted, reported}
+use Rattle.timefd_fault.specs.BorrowedFaults.{to_borrowed_fault, IsBorrowed, IsBorrowedOf, IsMemory}
 use Rattle.timefd_parse.specs.Language.{FaultIn}
 use Rattle.timefd_c.proofs.nodes.read_bytes.Goals as goal
 
@@ -10,7 +10,7 @@ returns-in-Ok-read_within c =
     let text = c.in-Ok.ensures.cases in
     let r = c.in-Ok-read_within.ensures in
     let limit = c.args.limit in
-    let answer = told c.in-Ok-read_within.report in
+    let answer = reported c.in-Ok-read_within.report in
     let ns = c.args.nodes.now in
     let a = c.args.literals.now in
     let ms = c.read_within.new.nodes in
@@ -18,7 +18,7 @@ returns-in-Ok-read_within c =
     subst (λ l. Reads l limit c.args.text.now ns ms a b answer)
     (sym c.in-Some.is ∙ c.from_number.ensures)
     (subst (λ bytes. Reads (Some c.in-Some.language) limit bytes ns ms a b answer) text.0
-    (reported c.in-Some.language limit c.in-Ok.text.now ns ms a b c.in-Ok-read_within.report
+    (nodes_reported c.in-Some.language limit c.in-Ok.text.now ns ms a b c.in-Ok-read_within.report
     (subst IsUtf8 (sym text.0) text.1) r.found r.spelled r.refused))
 
 pub returns-in-Err-Invalid : goal.returns-in-Err-Invalid
@@ -37,9 +37,9 @@ returns-in-Err-Invalid c =
     (sym c.in-Some.is ∙ c.from_number.ensures)
     (subst (λ t. Reads (Some language) limit t ns ms a b c.plain-in-Err-Invalid.result) text.0
     (subst (Reads (Some language) limit bytes ns ms a b) (sym c.plain-in-Err-Invalid.ensures)
-    (faulted language limit bytes ns ms a b (lent_fault c.in-Err-Invalid.fault)
+    (faulted language limit bytes ns ms a b (to_borrowed_fault c.in-Err-Invalid.fault)
     (subst IsUtf8 (sym text.0) text.1)
-    (subst (IsLentOf (FaultIn language limit bytes)) is r.fault)
+    (subst (IsBorrowedOf (FaultIn language limit bytes)) is r.fault)
     (λ list s. subst IsMemory is (r.spelled list s))
-    (λ g h. subst (IsLent g) is (r.refused g h))
+    (λ g h. subst (IsBorrowed g) is (r.refused g h))
     (λ nil. let no : false ≡ true = r.empty nil in absurd cc))))

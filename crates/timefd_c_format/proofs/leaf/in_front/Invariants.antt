@@ -3,7 +3,7 @@ use Rattle.timefd_node_list.specs.Nodes.{before}
 use Rattle.timefd_c_format.specs.Nodes.{node_fault, node_trees}
 use Rattle.timefd_c_format.proofs.leaf.in_front.Given as goal
 
--- the trees that are wanted are those in front of the last ones that are left to be skipped
+-- the wanted trees are in front of the last `left` ones, which are still to be skipped
 abbrev pub invariant-nodes : goal.invariant-nodes
 invariant-nodes l =
     (node_fault l.literals l.front ≡ None) × (l.left ≤ length (node_trees l.literals l.front))

@@ -2,7 +2,7 @@ use Rattle.std.proofs.Common.{◌≡◌, None, length}
 use Rattle.timefd_c_format.specs.Nodes.{node_fault, node_leaves}
 use Rattle.timefd_c_format.proofs.leaf.split_last.Given as goal
 
--- the nodes that are left have all leaves
+-- the remaining nodes have all leaves
 abbrev pub invariant-nodes : goal.invariant-nodes
 invariant-nodes l =
     (node_fault l.literals l.left ≡ None) × (node_leaves l.literals l.nodes ≡ node_leaves l.literals l.left)

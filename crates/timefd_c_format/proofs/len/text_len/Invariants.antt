@@ -3,7 +3,7 @@ use Rattle.timefd_c_format.specs.Nodes.{node_fault, node_leaves}
 use Rattle.timefd_c_format.proofs.WriteLemmas.{IsLenTo}
 use Rattle.timefd_c_format.proofs.len.text_len.Given as goal
 
--- the leaves after these are counted, and these are left
+-- the leaves after these are counted, and these remain
 abbrev pub invariant-nodes : goal.invariant-nodes
 invariant-nodes l =
     (node_fault l.literals l.left ≡ None)

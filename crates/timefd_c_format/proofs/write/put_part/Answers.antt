@@ -5,7 +5,7 @@ use Rattle.timefd_format.specs.Written.{written_all}
 use Rattle.timefd_c_format.specs.declared.part.Part.{Part}
 use Rattle.timefd_c_format.specs.declared.part.Part.TheVariants as part
 use Rattle.timefd_c_format.specs.Parts.{role}
-use Rattle.timefd_c_format.specs.Places.{TriesToWrite}
+use Rattle.timefd_c_format.specs.Cursors.{TriesToWrite}
 use Rattle.timefd_c_format.specs.Walk.{leaves_here}
 use Rattle.timefd_c_format.proofs.WriteLemmas.{component_by_itself}
 use Rattle.timefd_c_format.proofs.write.put_part.Goals as goal

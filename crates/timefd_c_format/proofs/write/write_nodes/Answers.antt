@@ -3,8 +3,8 @@ use Rattle.timefd_c_format.specs.Parts.{part_role, role}
 use Rattle.timefd_component.specs.Tree.{trees}
 use Rattle.timefd_format.specs.Written.{written_all}
 use Rattle.timefd_c_format.specs.Nodes.{node_trees}
-use Rattle.timefd_c_format.specs.Places.{TriesToWrite}
-use Rattle.timefd_format.specs.declared.place.Place.TheVariants as place
+use Rattle.timefd_c_format.specs.Cursors.{TriesToWrite}
+use Rattle.timefd_format.specs.declared.cursor.WriteCursor.TheVariants as cursor
 use Rattle.timefd_c_format.proofs.WalkLemmas.{all_written, meaningless, not_written, one_walked, too_few}
 use Rattle.timefd_c_format.proofs.write.write_nodes.Goals as goal
 
@@ -12,7 +12,7 @@ pub nodes-preserved : goal.nodes-preserved
 nodes-preserved c =
     one_walked c.args.moment c.args.literals.now c.args.nodes.now _ (role c.in_ok-part.part) c.nodes.left
     c.nodes.need c.nodes.skip (c.nodes.left - 1) c.in_ok-need.need c.skipped-skip.result c.args.buffer.now
-    c.nodes.buffer c.put_part.new.buffer (place.At c.nodes.at) (place.At c.in_ok-at.at)
+    c.nodes.buffer c.put_part.new.buffer (cursor.At c.nodes.at) (cursor.At c.in_ok-at.at)
     c.nodes.invariant refl (omega (arith, c.nodes-test.true))
     (sym c.part_of.ensures ∙ ap part_role c.in_ok-part.was) c.in_ok-need.ensures.0 c.in_ok-need.ensures.1
     c.skipped-skip.ensures c.in_ok-at.ensures
@@ -20,18 +20,18 @@ nodes-preserved c =
 pub returns-clause-writes : goal.returns-clause-writes
 returns-clause-writes c = λ _.
     all_written c.args.moment c.args.literals.now c.args.nodes.now c.nodes.left c.nodes.need c.nodes.skip
-    c.args.buffer.now c.nodes.buffer (place.At c.nodes.at) c.nodes.invariant (omega (arith, c.nodes-test.false))
+    c.args.buffer.now c.nodes.buffer (cursor.At c.nodes.at) c.nodes.invariant (omega (arith, c.nodes-test.false))
 
 pub returns-in_err-part-clause-writes : goal.returns-in_err-part-clause-writes
 returns-in_err-part-clause-writes c = λ sound. absurd
     (meaningless c.args.moment c.args.literals.now c.args.nodes.now _ c.nodes.left c.nodes.need c.nodes.skip
-    (c.nodes.left - 1) c.args.buffer.now c.nodes.buffer (place.At c.nodes.at) c.nodes.invariant refl
+    (c.nodes.left - 1) c.args.buffer.now c.nodes.buffer (cursor.At c.nodes.at) c.nodes.invariant refl
     (omega (arith, c.nodes-test.true)) (sym c.part_of.ensures ∙ ap part_role c.in_err-part.was) sound)
 
 pub returns-in_err-need-clause-writes : goal.returns-in_err-need-clause-writes
 returns-in_err-need-clause-writes c = λ sound. absurd
     (too_few c.args.moment c.args.literals.now c.args.nodes.now _ (role c.in_ok-part.part) c.nodes.left c.nodes.need
-    c.nodes.skip (c.nodes.left - 1) c.args.buffer.now c.nodes.buffer (place.At c.nodes.at) c.nodes.invariant refl
+    c.nodes.skip (c.nodes.left - 1) c.args.buffer.now c.nodes.buffer (cursor.At c.nodes.at) c.nodes.invariant refl
     (omega (arith, c.nodes-test.true)) (sym c.part_of.ensures ∙ ap part_role c.in_ok-part.was) c.in_err-need.ensures
     sound)
 

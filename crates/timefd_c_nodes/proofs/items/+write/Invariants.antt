@@ -7,7 +7,7 @@ use Rattle.timefd_node_list.specs.Views.{walked_all}
 use Rattle.timefd_c_nodes.proofs.WithinLemmas.{Part}
 use Rattle.timefd_c_nodes.proofs.items.+write.Given as goal
 
--- the items that are left are left to be written, and their bytes to be added
+-- the remaining items are still to be written, and their bytes to be added
 abbrev pub invariant-write_all-items : goal.invariant-write_all-items
 invariant-write_all-items l = record {
   part : Part (walked_all (trees (map item_tree l.items)))

@@ -2,7 +2,7 @@ use Rattle.std.proofs.Common.{subst}
 use Rattle.timefd_component.specs.Reserved.{reserve}
 use Rattle.timefd_items.specs.Description.{description_tree}
 use Rattle.timefd_node_list.specs.Views.{walked}
-use Rattle.timefd_c_nodes.specs.declared.place.TheConstants.{START}
+use Rattle.timefd_c_nodes.specs.declared.position.TheConstants.{START}
 use Rattle.timefd_c_nodes.specs.Writing.{WritesWithin}
 use Rattle.timefd_c_read.proofs.ReportLemmas.{reports_within}
 use Rattle.timefd_c_read.proofs.nested.report_description.Goals as goal

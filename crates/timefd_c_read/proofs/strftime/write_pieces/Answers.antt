@@ -1,7 +1,7 @@
 use Rattle.std.proofs.Common.{◌∷◌, ◌++◌, [], arith, refl, subst, sym}
 use Rattle.std.proofs.lemmas.Result.{err_from_is_err_and}
 use Rattle.timefd_strftime.specs.PieceMeaning.{piece_tree}
-use Rattle.timefd_strftime.proofs.DirectiveLemmas.{IsNext, all_read, continues_more, fault_behind}
+use Rattle.timefd_strftime.proofs.DirectiveLemmas.{IsNext, all_read, continues_more, fault_after}
 use Rattle.timefd_c_read.proofs.PieceLemmas.{piece_counted, pieces_more}
 use Rattle.timefd_c_read.specs.declared.progress.Progress.{Progress}
 use Rattle.timefd_c_read.proofs.CountedLemmas.{FitsIf, fits_more, none_past}
@@ -11,7 +11,7 @@ pub returns-in_err-piece-clause-pieces : goal.returns-in_err-piece-clause-pieces
 returns-in_err-piece-clause-pieces g c =
     let p = err_from_is_err_and c.from_residual.result c.from_residual.ensures.1 in
     rw (p.1, p.2)
-    (fault_behind _ c.pieces.rest.now _ _ c.pieces.invariant.3 c.in_err-piece.ensures)
+    (fault_after _ c.pieces.rest.now _ _ c.pieces.invariant.3 c.in_err-piece.ensures)
 
 pub returns-in_default-clause-pieces : goal.returns-in_default-clause-pieces
 returns-in_default-clause-pieces g c = (

@@ -5,7 +5,7 @@ use Rattle.timefd_format_item.specs.Meaning.{item_trees}
 use Rattle.timefd_print.specs.Printed.{printed_all}
 use Rattle.timefd_convert.proofs.item.push_members.Given as goal
 
--- what is printed so far, and the members that are left, are what is printed of all
+-- what is printed so far and the members that are left give the text of all members
 abbrev pub invariant-members : goal.invariant-members
 invariant-members l =
     AreLeafItems (drop l.at l.members)

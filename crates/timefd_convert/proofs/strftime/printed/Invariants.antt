@@ -5,7 +5,7 @@ use Rattle.timefd_format_item.specs.Meaning.{item_trees}
 use Rattle.timefd_print.specs.Printed.{printed_all}
 use Rattle.timefd_convert.proofs.strftime.printed.Given as goal
 
--- what is printed so far, and the items that are left, are what is printed of all
+-- what is printed so far and the items that are left give the text of all items
 abbrev pub invariant-items : goal.invariant-items
 invariant-items l =
     AreShallowItems (drop l.at l.items)

@@ -7,7 +7,7 @@ use Rattle.timefd_parse.specs.Answers.{IsOutput}
 use Rattle.timefd_parse.specs.declared.language.Language.TheVariants as languages
 use Rattle.timefd_parse.specs.Language.{FaultIn}
 use Rattle.timefd_read_dates.specs.Reads.{fields_of}
-use Rattle.timefd_description.proofs.ReadTextLemmas.{description_read, fault_kept, fault_told, items_read, memory_told, no_fault}
+use Rattle.timefd_description.proofs.ReadTextLemmas.{description_read, fault_kept, fault_reported, items_read, memory_reported, no_fault}
 use Rattle.timefd_description.specs.ReadAnswers.{fields_in}
 use Rattle.timefd_description.proofs.reading.by_version.Goals as goal
 
@@ -46,12 +46,12 @@ returns-in-Ok-Description-clause-fault c =
 
 pub returns-in-Err-clause-spelled : goal.returns-in-Err-clause-spelled
 returns-in-Err-clause-spelled c = λ list spelled.
-    memory_told (fields_in list c.args.text.now) c.in-Err.error c.of_parse_error.result
+    memory_reported (fields_in list c.args.text.now) c.in-Err.error c.of_parse_error.result
     c.of_parse_error.ensures (c.in-Err.ensures.spelled list spelled)
 
 pub returns-in-Err-clause-refused : goal.returns-in-Err-clause-refused
 returns-in-Err-clause-refused c = λ f has.
-    fault_told f c.in-Err.error c.of_parse_error.result c.of_parse_error.ensures
+    fault_reported f c.in-Err.error c.of_parse_error.result c.of_parse_error.ensures
     (c.in-Err.ensures.refused f has)
 
 pub returns-in-Err-clause-fault : goal.returns-in-Err-clause-fault

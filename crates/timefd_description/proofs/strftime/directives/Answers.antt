@@ -2,7 +2,7 @@ use Rattle.std.proofs.Common.{◌∷◌, ◌++◌, ◌∙◌, [], ap, arith, sub
 use Rattle.std.proofs.lemmas.List.{map-append}
 use Rattle.std.proofs.lemmas.Result.{err_from_is_err_and}
 use Rattle.timefd_language.proofs.ModernPieces.{strftime_modernity_law}
-use Rattle.timefd_strftime.proofs.DirectiveLemmas.{IsNext, all_read, continues_more, fault_behind}
+use Rattle.timefd_strftime.proofs.DirectiveLemmas.{IsNext, all_read, continues_more, fault_after}
 use Rattle.timefd_strftime.specs.PieceMeaning.{piece_tree}
 use Rattle.timefd_description.proofs.ModernLemmas.{list_modern}
 use Rattle.timefd_description.proofs.strftime.directives.Goals as goal
@@ -12,7 +12,7 @@ pub returns-in_err-piece-clause-pieces : goal.returns-in_err-piece-clause-pieces
 returns-in_err-piece-clause-pieces c =
     let p = err_from_is_err_and c.from_residual.result c.from_residual.ensures.1 in
     rw (p.1, p.2)
-    (fault_behind _ c.pieces.rest.now _ _ c.pieces.invariant.3 c.in_err-piece.ensures)
+    (fault_after _ c.pieces.rest.now _ _ c.pieces.invariant.3 c.in_err-piece.ensures)
 
 pub returns-in_default-clause-pieces : goal.returns-in_default-clause-pieces
 returns-in_default-clause-pieces c =

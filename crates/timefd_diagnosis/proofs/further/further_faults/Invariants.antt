@@ -4,7 +4,7 @@ use Rattle.timefd_diagnosis.specs.Further.{without}
 use Rattle.timefd_diagnosis.proofs.FurtherLemmas.{IsFoundTo}
 use Rattle.timefd_diagnosis.proofs.further.further_faults.Given as goal
 
--- What is wrong with the rest stands behind what is found.
+-- What is wrong with the rest comes after what is found.
 abbrev pub invariant-faults : goal.invariant-faults
 invariant-faults l =
     IsFoundTo l.most l.count l.language (without l.language l.text (fault_of l.first.fault))

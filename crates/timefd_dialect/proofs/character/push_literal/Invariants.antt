@@ -4,7 +4,7 @@ use denote.Shadow.{shadow}
 use Rattle.timefd_dialect.specs.Quotes.{escaped}
 use Rattle.timefd_dialect.proofs.character.push_literal.Given as goal
 
--- what is written so far, and of the rest, is what is written of the literal
+-- what is written so far, and then what is written for the rest, is what is written for the literal
 abbrev pub invariant-characters : goal.invariant-characters
 invariant-characters l =
     shadow (Utf8 l.rest)

@@ -1,4 +1,4 @@
-use Rattle.timefd_dialect.proofs.AnswerLemmas.{meant_converted, refused_told}
+use Rattle.timefd_dialect.proofs.AnswerLemmas.{meant_converted, refused_reported}
 use Rattle.timefd_dialect.proofs.reading.to_version_three.Goals as goal
 
 pub returns-clause-means : goal.returns-clause-means
@@ -8,5 +8,5 @@ returns-clause-means c =
 
 pub returns-clause-refused : goal.returns-clause-refused
 returns-clause-refused c =
-    refused_told c.args.dialect c.args.format.now c.text_of_format.result
+    refused_reported c.args.dialect c.args.format.now c.text_of_format.result
     c.text_of_format.ensures.converted c.text_of_format.ensures.fault

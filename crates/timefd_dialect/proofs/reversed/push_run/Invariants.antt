@@ -4,7 +4,7 @@ use denote.Shadow.{shadow}
 use Rattle.timefd_component.specs.Tree.{Text}
 use Rattle.timefd_dialect.proofs.reversed.push_run.Given as goal
 
--- the rest ends the text, after a front with bytes
+-- the text is a front with bytes, and then the rest
 abbrev pub invariant-characters : goal.invariant-characters
 invariant-characters l =
     shadow (Utf8 l.rest) × (length l.rest < length l.text)

@@ -3,7 +3,7 @@ use Rattle.timefd_dialect.specs.Rows.{entries}
 use Rattle.timefd_dialect.specs.ToRead.{named}
 use Rattle.timefd_dialect.proofs.to_read.row_named.Given as goal
 
--- what is left decides
+-- the remaining rows decide
 abbrev pub invariant-rows : goal.invariant-rows
 invariant-rows l = named (entries l.rest) l.text ≡ named (entries l.fn.rows) l.text
 

@@ -4,7 +4,7 @@ use denote.Shadow.{shadow}
 use Rattle.timefd_dialect.proofs.ToReadLemmas.{HasToRead}
 use Rattle.timefd_dialect.proofs.to_read.text_to_read.Given as goal
 
--- the pieces in front of the rest are read by
+-- the pieces in front of the rest were found
 abbrev pub invariant-pieces : goal.invariant-pieces
 invariant-pieces l =
     shadow (Utf8 l.rest)

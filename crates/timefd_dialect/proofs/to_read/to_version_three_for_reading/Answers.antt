@@ -1,4 +1,4 @@
-use Rattle.timefd_dialect.proofs.ToReadLemmas.{reading_converted, unread_told}
+use Rattle.timefd_dialect.proofs.ToReadLemmas.{reading_converted, unread_reported}
 use Rattle.timefd_dialect.proofs.to_read.to_version_three_for_reading.Goals as goal
 
 pub returns-clause-reads : goal.returns-clause-reads
@@ -8,5 +8,5 @@ returns-clause-reads c =
 
 pub returns-clause-refused : goal.returns-clause-refused
 returns-clause-refused c =
-    unread_told c.args.dialect c.args.format.now c.text_to_read.result
+    unread_reported c.args.dialect c.args.format.now c.text_to_read.result
     c.text_to_read.ensures.converted c.text_to_read.ensures.fault

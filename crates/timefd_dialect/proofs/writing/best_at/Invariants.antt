@@ -4,7 +4,7 @@ use Rattle.timefd_dialect.specs.Rows.{found_entry}
 use Rattle.timefd_dialect.specs.Tables.{groups_of}
 use Rattle.timefd_dialect.proofs.writing.best_at.Given as goal
 
--- the best so far and the bytes that are left decide
+-- the best so far and the remaining bytes decide
 abbrev pub invariant-keys : goal.invariant-keys
 invariant-keys l =
     best_at (found_entry l.best) (drop l.at l.keys) (groups_of l.dialect) l.text

@@ -3,7 +3,7 @@ use Rattle.timefd_dialect.specs.Back.{best_from}
 use Rattle.timefd_dialect.specs.Rows.{entries, found_entry}
 use Rattle.timefd_dialect.proofs.writing.best_from.Given as goal
 
--- the best so far and the rows that are left decide
+-- the best so far and the remaining rows decide
 abbrev pub invariant-rows : goal.invariant-rows
 invariant-rows l =
     best_from (found_entry l.best) (entries (drop l.at l.rows)) l.text

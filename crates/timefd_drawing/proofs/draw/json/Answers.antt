@@ -3,7 +3,6 @@ use Rattle.std.proofs.lemmas.Result.{IfOk-weaker}
 use Rattle.timefd_drawing.proofs.DrawLemmas.{drawn_json}
 use Rattle.timefd_drawing.proofs.draw.json.Goals as goal
 
--- src/draw.rt:99:1
 pub returns : goal.returns
 returns c =
     IfOk-weaker c.object.result _ _

@@ -4,7 +4,7 @@ use Rattle.std.specs.Str.{encode_utf8_all}
 use Rattle.timefd_drawing.specs.People.{all_seen_of}
 use Rattle.timefd_drawing.proofs.people.push_seen.Given as goal
 
--- What is left adds the rest.
+-- The characters that are left add the rest.
 abbrev pub invariant-chars : goal.invariant-chars
 invariant-chars l =
     string_bytes l.shown ++ encode_utf8_all (all_seen_of l.is_colored l.rest)

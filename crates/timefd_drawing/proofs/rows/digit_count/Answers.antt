@@ -3,7 +3,7 @@ use Rattle.std.proofs.lemmas.Fmt.{decimal_digit, decimal_step, length-decimal-le
 use Rattle.std.specs.Fmt.{decimal}
 use Rattle.timefd_drawing.proofs.rows.digit_count.Goals as goal
 
--- the last digit stands behind some others
+-- The last digit follows the others.
 one_longer : (n : ℕ) → 10 ≤ n → n < 2 ^ 64 → length (decimal n) ≡ length (decimal (n / 10)) + 1
 one_longer n long small = ap length (decimal_step n long small) ∙ length-append _ _
 

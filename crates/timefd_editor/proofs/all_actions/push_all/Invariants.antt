@@ -1,13 +1,13 @@
 use Rattle.std.proofs.Common.{drop}
-use Rattle.timefd_editor.proofs.EachLemmas.{IsTold}
+use Rattle.timefd_editor.proofs.EachLemmas.{IsReported}
 use Rattle.timefd_editor.specs.Actions.{AreActionsIn}
 use Rattle.timefd_editor.specs.Positions.{IsCounted}
 use Rattle.timefd_editor.proofs.all_actions.push_all.Given as goal
 
--- What is left decides.
+-- The remaining descriptions decide.
 abbrev pub invariant-loop-description : goal.invariant-loop-description
 invariant-loop-description l = record {
   counted : IsCounted l.text l.counter;
-  told : IsTold (AreActionsIn l.text l.start l.end) l.descriptions (drop l.description-index l.descriptions)
+  reported : IsReported (AreActionsIn l.text l.start l.end) l.descriptions (drop l.description-index l.descriptions)
       l.fn.actions.items l.actions.items;
 }

@@ -6,9 +6,9 @@ use Rattle.timefd_editor.proofs.all_findings.push_all.Goals as goal
 pub loop-description-preserved : goal.loop-description-preserved
 loop-description-preserved c = record {
   counted = c.counted-counter.ensures.counted;
-  told = one_more (AreOn c.args.levels c.args.text.now) c.args.descriptions.now
+  reported = one_more (AreOn c.args.levels c.args.text.now) c.args.descriptions.now
       c.loop-description.description-index c.description-item.result c.description-item.result
       c.args.found.now.items c.loop-description.found.items c.push_on.new.found.items
       (first_of (search rules, omega (arith, c.loop-description-test.true)))
-      c.description-item.is c.loop-description.invariant.told c.in_ok-push_on.ensures;
+      c.description-item.is c.loop-description.invariant.reported c.in_ok-push_on.ensures;
 }

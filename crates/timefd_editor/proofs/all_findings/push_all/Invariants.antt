@@ -1,13 +1,13 @@
 use Rattle.std.proofs.Common.{drop}
-use Rattle.timefd_editor.proofs.EachLemmas.{IsTold}
+use Rattle.timefd_editor.proofs.EachLemmas.{IsReported}
 use Rattle.timefd_editor.specs.Findings.{AreOn}
 use Rattle.timefd_editor.specs.Positions.{IsCounted}
 use Rattle.timefd_editor.proofs.all_findings.push_all.Given as goal
 
--- What is left decides.
+-- The remaining descriptions decide.
 abbrev pub invariant-loop-description : goal.invariant-loop-description
 invariant-loop-description l = record {
   counted : IsCounted l.text l.counter;
-  told : IsTold (AreOn l.levels l.text) l.descriptions (drop l.description-index l.descriptions)
+  reported : IsReported (AreOn l.levels l.text) l.descriptions (drop l.description-index l.descriptions)
       l.fn.found.items l.found.items;
 }

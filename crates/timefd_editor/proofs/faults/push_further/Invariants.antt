@@ -1,10 +1,10 @@
 use Rattle.std.proofs.Common.{drop, true}
-use Rattle.timefd_editor.proofs.EachLemmas.{IsTold}
+use Rattle.timefd_editor.proofs.EachLemmas.{IsReported}
 use Rattle.timefd_editor.specs.Findings.{IsFault}
 use Rattle.timefd_editor.proofs.faults.push_further.Given as goal
 
--- What is left decides.
+-- The remaining faults decide.
 abbrev pub invariant-loop-diagnostic : goal.invariant-loop-diagnostic
 invariant-loop-diagnostic l =
-    IsTold (IsFault l.fn.spot.text.now l.fn.spot.description.now true) l.further
+    IsReported (IsFault l.fn.spot.text.now l.fn.spot.description.now true) l.further
     (drop l.diagnostic-index l.further) l.fn.found.items l.found.items

@@ -6,15 +6,15 @@ use Rattle.timefd_editor.proofs.hovering.hover_at.Goals.{in-None, in-Some}
 
 pub returns : goal.returns
 returns c = elim c.match-branch-2.branch [
-  | in-Some w ↦ subst (λ r. IfOk r (IsShownWhere c.args.text.now c.args.description.now c.args.told.now c.args.at))
+  | in-Some w ↦ subst (λ r. IfOk r (IsShownWhere c.args.text.now c.args.description.now c.args.reported.now c.args.at))
       (sym w.result-is)
-      (refused c.args.text.now c.args.description.now c.language_of-language.result c.args.told.now c.args.at
-      c.in_ok-diagnose.field-0 w.in-Some.field-0 c.language_of-language.ensures c.utf8.told w.in-Some.is
+      (refused c.args.text.now c.args.description.now c.language_of-language.result c.args.reported.now c.args.at
+      c.in_ok-diagnose.field-0 w.in-Some.field-0 c.language_of-language.ensures c.utf8.reported w.in-Some.is
       c.in_ok-diagnose.ensures.refused)
   | in-None w ↦
       let k = c.in_ok-diagnose.ensures.accepted w.in-None.is in
-      subst (λ r. IfOk r (IsShownWhere c.args.text.now c.args.description.now c.args.told.now c.args.at))
+      subst (λ r. IfOk r (IsShownWhere c.args.text.now c.args.description.now c.args.reported.now c.args.at))
       (sym w.result-is)
-      (accepted c.args.text.now c.args.description.now c.language_of-language.result c.args.told.now c.args.at k.0
-      w.shown.result c.language_of-language.ensures c.utf8.told k.1 w.shown.ensures)
+      (accepted c.args.text.now c.args.description.now c.language_of-language.result c.args.reported.now c.args.at k.0
+      w.shown.result c.language_of-language.ensures c.utf8.reported k.1 w.shown.ensures)
 ]

@@ -1,4 +1,4 @@
-use Rattle.timefd_editor.proofs.PlaceLemmas.{round_trip}
+use Rattle.timefd_editor.proofs.PositionLemmas.{round_trip}
 use Rattle.timefd_editor.proofs.laws.round_trip.Goals as goal
 
 pub returns : goal.returns

@@ -1,10 +1,10 @@
 use Rattle.std.proofs.Common.{drop}
-use Rattle.timefd_editor.proofs.EachLemmas.{IsTold}
+use Rattle.timefd_editor.proofs.EachLemmas.{IsReported}
 use Rattle.timefd_editor.specs.Finding.{IsWarned}
 use Rattle.timefd_editor.proofs.warned.push_each.Given as goal
 
--- What is left decides.
+-- The remaining warnings decide.
 abbrev pub invariant-loop-warning : goal.invariant-loop-warning
 invariant-loop-warning l =
-    IsTold (IsWarned l.fn.spot.text.now l.fn.spot.description.now l.warned) l.warnings
+    IsReported (IsWarned l.fn.spot.text.now l.fn.spot.description.now l.warned) l.warnings
     (drop l.warning-index l.warnings) l.fn.found.items l.found.items

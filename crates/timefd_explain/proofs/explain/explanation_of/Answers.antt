@@ -11,7 +11,7 @@ returns-clause-parts c = λ list s.
     adds_all (all_parts 0 (trees list)) _ _ (c.in_ok-bytes.ensures.parts 0 list refl s)
     (search rules)
 
-pub returns-clause-places : goal.returns-clause-places
-returns-clause-places c = λ list s.
+pub returns-clause-positions : goal.returns-clause-positions
+returns-clause-positions c = λ list s.
     all_stand (PiecesStand c.args.language (trees list) 0 c.args.text.now) _ _
-    (c.in_ok-bytes.ensures.places list (omega (arith, c.type_inv.text)) s) (search rules)
+    (c.in_ok-bytes.ensures.positions list (omega (arith, c.type_inv.text)) s) (search rules)

@@ -2,7 +2,7 @@ use Rattle.std.proofs.Common.{◌∙◌, [], ◌∷◌, IsTrue, ap, subst, sym}
 use Rattle.timefd_component.specs.Tree.{compound}
 use Rattle.timefd_format_item.specs.Meaning.{item_trees}
 use Rattle.timefd_language.specs.Strings.{are_of_strings}
-use Rattle.timefd_fault.specs.Told.{MemoryAlone}
+use Rattle.timefd_fault.specs.Reported.{MemoryAlone}
 use Rattle.timefd_explain.proofs.members.push_members.Goals as goal
 
 pub push_composite-requires : goal.push_composite-requires
@@ -15,18 +15,18 @@ returns-in-Ok-clause-parts c = λ d ts is s.
     c.push_composite.ensures.parts d ts is
     (ap item_trees c.deref.ensures.value ∙ c.in-Ok.ensures.spelled (compound ts ∷ []) s)
 
--- a text that is spelled has no fault
+-- A text that is spelled has no fault.
 pub returns-in-Err-Invalid-clause-parts : goal.returns-in-Err-Invalid-clause-parts
 returns-in-Err-Invalid-clause-parts c = λ d ts is s.
     absurd (subst MemoryAlone c.in-Err-Invalid.field-0-is
     (c.in-Err-Invalid.ensures.spelled (compound ts ∷ []) s))
 
-pub returns-in-Ok-clause-places : goal.returns-in-Ok-clause-places
-returns-in-Ok-clause-places c = λ ts s.
-    c.push_composite.ensures.places ts
+pub returns-in-Ok-clause-positions : goal.returns-in-Ok-clause-positions
+returns-in-Ok-clause-positions c = λ ts s.
+    c.push_composite.ensures.positions ts
     (ap item_trees c.deref.ensures.value ∙ c.in-Ok.ensures.spelled (compound ts ∷ []) s)
 
-pub returns-in-Err-Invalid-clause-places : goal.returns-in-Err-Invalid-clause-places
-returns-in-Err-Invalid-clause-places c = λ ts s.
+pub returns-in-Err-Invalid-clause-positions : goal.returns-in-Err-Invalid-clause-positions
+returns-in-Err-Invalid-clause-positions c = λ ts s.
     absurd (subst MemoryAlone c.in-Err-Invalid.field-0-is
     (c.in-Err-Invalid.ensures.spelled (compound ts ∷ []) s))

@@ -1,7 +1,7 @@
 use Rattle.std.proofs.Common.{◌∙◌, ◌∷◌, [], IsTrue, ap, subst, sym}
 use Rattle.timefd_format_item.specs.Meaning.{item_trees}
 use Rattle.timefd_language.specs.Strings.{are_of_strings}
-use Rattle.timefd_fault.specs.Told.{MemoryAlone}
+use Rattle.timefd_fault.specs.Reported.{MemoryAlone}
 use Rattle.timefd_explain.proofs.piece.directive_piece.Goals as goal
 
 pub item_piece-requires : goal.item_piece-requires
@@ -20,7 +20,7 @@ returns-in-Ok c = λ tree s.
     c.item_piece.ensures tree (ap item_trees c.deref.ensures.value ∙
     c.in-Ok.ensures.spelled (tree ∷ []) s)
 
--- a text that is spelled has no fault
+-- A text that is spelled has no fault.
 pub unreachable-requires : goal.unreachable-requires
 unreachable-requires c =
     subst MemoryAlone c.in-Err-Invalid.field-0-is

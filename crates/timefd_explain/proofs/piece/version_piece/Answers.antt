@@ -1,7 +1,7 @@
 use Rattle.std.proofs.Common.{◌∙◌, ◌∷◌, [], IfOk, IsTrue, ap, subst, sym}
 use Rattle.timefd_format_item.specs.Meaning.{item_trees}
 use Rattle.timefd_language.specs.Strings.{are_of_strings}
-use Rattle.timefd_fault.specs.Told.{MemoryAlone}
+use Rattle.timefd_fault.specs.Reported.{MemoryAlone}
 use Rattle.timefd_parse.specs.Answers.{HasStrings}
 use Rattle.timefd_explain.specs.Shown.{ShowsOne}
 use Rattle.timefd_explain.proofs.ShownLemmas.{description_of, items_of}
@@ -32,7 +32,7 @@ returns-in-Ok-Items c = λ tree s.
     items_of c.args.version (tree ∷ []) _ _ c.in-Ok-Items.field-0-is
     (c.in-Ok-Items.ensures.spelled (tree ∷ []) s))
 
--- a text that is spelled has no fault
+-- A text that is spelled has no fault.
 pub unreachable-requires : goal.unreachable-requires
 unreachable-requires c =
     subst MemoryAlone c.in-Err-Invalid.field-0-is

@@ -3,7 +3,7 @@ use Rattle.timefd_node_list.specs.Nodes.{kept_bytes}
 use Rattle.timefd_explain.proofs.ShownLemmas.{sum}
 use Rattle.timefd_explain.proofs.pieces.bytes_of.Given as goal
 
--- the bytes so far, and those of the pieces that are left, are all
+-- The bytes so far and those of the pieces that are left make the sum.
 abbrev pub invariant-pieces : goal.invariant-pieces
 invariant-pieces l = record {
   capped : l.bytes ≡ kept_bytes l.bytes;

@@ -8,7 +8,7 @@ use Rattle.timefd_explain.specs.Shown.{texts}
 use Rattle.timefd_explain.proofs.ShownLemmas.{Continues}
 use Rattle.timefd_explain.proofs.pieces.pieces_of.Given as goal
 
--- the pieces so far
+-- The pieces so far.
 abbrev pub invariant-pieces : goal.invariant-pieces
 invariant-pieces l =
     shadow (Utf8 l.rest) × (length (texts l.shown.items) + length l.rest ≤ length l.text)

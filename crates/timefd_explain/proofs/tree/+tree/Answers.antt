@@ -20,14 +20,14 @@ push_described-returns-clause-parts t c = λ d list is s.
 pub push_nested-nested-init : goal.push_nested-nested-init
 push_nested-nested-init t c = (
   search rules,
-  c.behind_head-rest.ensures.within,
+  c.after_head-rest.ensures.within,
   λ e. e,
   λ d tree is s n.
-      nesting_first d c.args.text.now tree c.behind_head-rest.result.now c.args.nodes.now.items
-      c.behind_head-rest.ensures.behind s n,
+      nesting_first d c.args.text.now tree c.after_head-rest.result.now c.args.nodes.now.items
+      c.after_head-rest.ensures.after s n,
   λ tree s n room.
-      nesting_at_first c.args.start c.args.text.now tree c.behind_head-rest.result.now c.args.nodes.now.items
-      c.behind_head-rest.ensures.behind s n,
+      nesting_at_first c.args.start c.args.text.now tree c.after_head-rest.result.now c.args.nodes.now.items
+      c.after_head-rest.ensures.after s n,
 )
 
 pub push_nested-nested-preserved : goal.push_nested-nested-preserved
@@ -36,7 +36,7 @@ push_nested-nested-preserved t c = (
   omega (arith, c.nested.invariant.1, c.in-Some.ensures.shorter),
   λ e. c.in_ok-push_described.ensures.examples (c.nested.invariant.2 e),
   λ d tree is s n.
-      nesting_more d tree c.nested.rest.now c.in-Some.inner.now c.in-Some.behind.now
+      nesting_more d tree c.nested.rest.now c.in-Some.inner.now c.in-Some.after.now
       c.args.nodes.now.items c.nested.nodes.items c.push_described.new.nodes.items
       c.in-Some.ensures.found
       (λ white w x list all spells e. c.in-Some.ensures.nested white w x list all spells e)
@@ -45,13 +45,13 @@ push_nested-nested-preserved t c = (
   λ tree s n room.
       let before = c.nested.invariant.4 tree s n room in
       let ends = nested_ends c.args.start tree c.args.text.now c.nested.rest.now c.in-Some.inner.now
-      c.in-Some.behind.now c.args.nodes.now.items c.nested.nodes.items c.in-Some.ensures.found before in
-      let at : ℕ = c.args.start + (length c.args.text.now - (length c.in-Some.behind.now + length c.in-Some.inner.now + 2)) in
+      c.in-Some.after.now c.args.nodes.now.items c.nested.nodes.items c.in-Some.ensures.found before in
+      let at : ℕ = c.args.start + (length c.args.text.now - (length c.in-Some.after.now + length c.in-Some.inner.now + 2)) in
       nesting_at_more c.args.start tree c.args.text.now c.nested.rest.now c.in-Some.inner.now
-      c.in-Some.behind.now at c.args.nodes.now.items c.nested.nodes.items c.push_described.new.nodes.items
+      c.in-Some.after.now at c.args.nodes.now.items c.nested.nodes.items c.push_described.new.nodes.items
       c.in-Some.ensures.found
       (λ white w x list all spells e. c.in-Some.ensures.nested white w x list all spells e) refl
-      (λ list spells. c.in_ok-push_described.ensures.places at list (omega (arith, ends, room))
+      (λ list spells. c.in_ok-push_described.ensures.positions at list (omega (arith, ends, room))
       (omega (arith, ends, room)) spells) before,
 )
 
@@ -129,12 +129,12 @@ push_pieces-pieces-preserved t c = (
         same_long c.as_slice-shown.result.now c.pieces.at c.index-shown-at.result
             c.index-shown-at-in-pieces.result c.pieces-test.true c.index-shown-at.is,
       ))
-      (λ tree spells shown. c.in_ok-push_piece.ensures.places tree (omega (arith, within, room)) spells shown)
+      (λ tree spells shown. c.in_ok-push_piece.ensures.positions tree (omega (arith, within, room)) spells shown)
       before,
 )
 
-pub push_pieces-returns-clause-places : goal.push_pieces-returns-clause-places
-push_pieces-returns-clause-places t c = λ list room s.
+pub push_pieces-returns-clause-positions : goal.push_pieces-returns-clause-positions
+push_pieces-returns-clause-positions t c = λ list room s.
     walked_at_end c.args.language list c.args.begins c.args.text.now c.as_slice-shown.result.now c.pieces.at
     c.pieces.start c.args.nodes.now.items c.pieces.nodes.items c.pieces-test.false
     (c.pieces.invariant.2 list room s)
@@ -145,24 +145,24 @@ push_pieces-returns-clause-parts t c = λ d list is s.
     c.args.nodes.now.items c.pieces.nodes.items c.pieces-test.false
     (c.pieces.invariant.1 d list is s)
 
--- Where they stand.
+-- Where the nodes are.
 
-pub push_described-returns-clause-places : goal.push_described-returns-clause-places
-push_described-returns-clause-places t c = λ at list is room s.
+pub push_described-returns-clause-positions : goal.push_described-returns-clause-positions
+push_described-returns-clause-positions t c = λ at list is room s.
     described_at list c.args.begins at c.args.inner.now c.args.nodes.now.items
     c.push_description.new.nodes.items c.push_pieces.new.nodes.items is s
-    (c.in_ok-push_description.ensures.places at is room)
-    (c.in_ok-push_pieces.ensures.places list (omega (arith, is, room)) s)
+    (c.in_ok-push_description.ensures.positions at is room)
+    (c.in_ok-push_pieces.ensures.positions list (omega (arith, is, room)) s)
 
-pub push_nested-returns-clause-places : goal.push_nested-returns-clause-places
-push_nested-returns-clause-places t c = λ tree room s n.
+pub push_nested-returns-clause-positions : goal.push_nested-returns-clause-positions
+push_nested-returns-clause-positions t c = λ tree room s n.
     nesting_at_end c.args.start tree c.args.text.now c.nested.rest.now c.args.nodes.now.items
     c.nested.nodes.items
     (λ white w x list all spells e. c.in_default.ensures.nested white w x list all spells e)
     (c.nested.invariant.4 tree s n room)
 
-pub push_piece-returns-in-Optional-clause-places : goal.push_piece-returns-in-Optional-clause-places
-push_piece-returns-in-Optional-clause-places t c = λ tree room s shown.
+pub push_piece-returns-in-Optional-clause-positions : goal.push_piece-returns-in-Optional-clause-positions
+push_piece-returns-in-Optional-clause-positions t c = λ tree room s shown.
     optional_at c.push_nested.result c.args.language c.args.piece.now.text.now c.args.start tree
     c.in_ok-node_of.field-0 c.args.nodes.now.items c.push.new.self.items c.push_nested.new.nodes.items s
     c.in_ok-push.ensures.items
@@ -170,10 +170,10 @@ push_piece-returns-in-Optional-clause-places t c = λ tree room s shown.
     (c.args.start + length c.args.piece.now.text.now) c.in_ok-node_of.ensures.start
     (omega (arith, c.in_ok-node_of.ensures.end, room))) c.in-Optional.field-0
     (subst (λ w. IsWhat w tree) c.in-Optional.is shown.what)
-    (λ u spells nests. c.push_nested.ensures.places u room spells nests)
+    (λ u spells nests. c.push_nested.ensures.positions u room spells nests)
 
-pub push_piece-returns-in-First-clause-places : goal.push_piece-returns-in-First-clause-places
-push_piece-returns-in-First-clause-places t c = λ tree room s shown.
+pub push_piece-returns-in-First-clause-positions : goal.push_piece-returns-in-First-clause-positions
+push_piece-returns-in-First-clause-positions t c = λ tree room s shown.
     first_at c.push_nested-in-First.result c.args.language c.args.piece.now.text.now c.args.start tree
     c.in_ok-node_of.field-0 c.args.nodes.now.items c.push.new.self.items c.push_nested-in-First.new.nodes.items s
     c.in_ok-push.ensures.items
@@ -181,10 +181,10 @@ push_piece-returns-in-First-clause-places t c = λ tree room s shown.
     (c.args.start + length c.args.piece.now.text.now) c.in_ok-node_of.ensures.start
     (omega (arith, c.in_ok-node_of.ensures.end, room)))
     (subst (λ w. IsWhat w tree) c.in-First.is shown.what)
-    (λ u spells nests. c.push_nested-in-First.ensures.places u room spells nests)
+    (λ u spells nests. c.push_nested-in-First.ensures.positions u room spells nests)
 
-pub push_piece-returns-in-Several-clause-places : goal.push_piece-returns-in-Several-clause-places
-push_piece-returns-in-Several-clause-places t c = λ tree room s shown.
+pub push_piece-returns-in-Several-clause-positions : goal.push_piece-returns-in-Several-clause-positions
+push_piece-returns-in-Several-clause-positions t c = λ tree room s shown.
     several_at c.push_members.result c.args.language c.args.piece.now.text.now c.args.start tree
     c.in_ok-node_of.field-0 c.args.nodes.now.items c.push.new.self.items c.push_members.new.nodes.items s
     c.in_ok-push.ensures.items
@@ -192,4 +192,4 @@ push_piece-returns-in-Several-clause-places t c = λ tree room s shown.
     (c.args.start + length c.args.piece.now.text.now) c.in_ok-node_of.ensures.start
     (omega (arith, c.in_ok-node_of.ensures.end, room)))
     (subst (λ w. IsWhat w tree) c.in-Several.is shown.what)
-    (λ ts spells. c.push_members.ensures.places ts spells)
+    (λ ts spells. c.push_members.ensures.positions ts spells)

@@ -4,7 +4,7 @@ use Rattle.std.proofs.lemmas.List.{drop-set, drop_all, length-set}
 use Rattle.std.specs.Fmt.{decimal}
 use Rattle.timefd_fault.proofs.digits.write_digits.Goals as goal
 
--- the last digit stands behind some others
+-- the last digit follows some others
 one_longer : (n : ℕ) → 10 ≤ n → n < 2 ^ 64
     → (length (decimal n) ≡ length (decimal (n / 10)) + 1) × (0 < length (decimal (n / 10)))
 one_longer n long small = (

@@ -2,7 +2,7 @@ use Rattle.std.proofs.Common.{◌≡◌, ◌+◌, ◌<◌, ◌≤◌, ◌++◌, 
 use Rattle.std.specs.Fmt.{decimal}
 use Rattle.timefd_fault.proofs.digits.write_digits.Given as goal
 
--- the digits that are left have room, and those behind them are written
+-- the digits that are left have room, and those after them are written
 abbrev pub invariant-loop-left : goal.invariant-loop-left
 invariant-loop-left l =
     (length (decimal l.left) ≤ l.start + 1) × (l.start < 20) × (length l.bytes ≡ 20)

@@ -1,7 +1,7 @@
 use Rattle.timefd_format.proofs.DigitLemmas.{IsPutTo}
 use Rattle.timefd_format.proofs.digits.put_decimal.Given as goal
 
--- the digits behind those of what is left are put
+-- The digits after those of `left` are put.
 abbrev pub invariant-pairs : goal.invariant-pairs
 invariant-pairs l = IsPutTo l.number l.left l.fn.buffer l.buffer l.fn.end l.at
 

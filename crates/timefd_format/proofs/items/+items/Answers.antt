@@ -12,12 +12,12 @@ write_all-items-preserved t c =
     let last : l.left ≡ l.left - 1 + 1 = omega (arith, c.items-test.true) in
     let m = c.args.moment in
     let rest = subst (λ n. Writes (written_all m (trees (map item_tree (drop n c.args.items.now))))
-    c.args.buffer.now c.args.place l.buffer l.at) last l.invariant.2 in (
+    c.args.buffer.now c.args.cursor l.buffer l.at) last l.invariant.2 in (
       omega (arith, l.invariant.0),
       writes_in _ l.buffer c.write-at.new.buffer l.at c.write-at.result l.invariant.1 c.write-at.ensures,
       one_more item_tree m c.args.items.now (l.left - 1) c.index-items-left.result
           (omega (arith, l.invariant.0, c.items-test.true)) c.index-items-left.is
-          c.args.buffer.now l.buffer c.write-at.new.buffer c.args.place l.at c.write-at.result c.requires rest
+          c.args.buffer.now l.buffer c.write-at.new.buffer c.args.cursor l.at c.write-at.result c.requires rest
           c.write-at.ensures,
     )
 
@@ -25,4 +25,4 @@ pub write_all-returns : goal.write_all-returns
 write_all-returns t c =
     let none : c.items.left ≡ 0 = omega (arith, c.items-test.false) in
     subst (λ n. Writes (written_all c.args.moment (trees (map item_tree (drop n c.args.items.now))))
-    c.args.buffer.now c.args.place c.items.buffer c.items.at) none c.items.invariant.2
+    c.args.buffer.now c.args.cursor c.items.buffer c.items.at) none c.items.invariant.2

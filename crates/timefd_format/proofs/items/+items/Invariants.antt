@@ -5,12 +5,12 @@ use Rattle.timefd_format.specs.Writes.{IsIn, Writes}
 use Rattle.timefd_format.specs.Written.{written_all}
 use Rattle.timefd_format.proofs.items.+items.Given as goal
 
--- the items behind are written, and those in front are left
+-- The items after these are written, and these are left.
 abbrev pub invariant-write_all-items : goal.invariant-write_all-items
 invariant-write_all-items l =
     (l.left ≤ length l.items) × IsIn (length l.buffer) l.at
     × Writes (written_all l.moment (trees (map item_tree (drop l.left l.items)))) l.fn.buffer
-    l.fn.place l.buffer l.at
+    l.fn.cursor l.buffer l.at
 
 abbrev pub decreases-write_all-items : goal.decreases-write_all-items
 decreases-write_all-items l = l.left

@@ -5,12 +5,12 @@ use Rattle.timefd_format.specs.Writes.{IsIn, Writes}
 use Rattle.timefd_format.specs.Written.{written_all}
 use Rattle.timefd_format.proofs.leaves.write_all.Given as goal
 
--- the leaves behind are written, and those in front are left
+-- The leaves after these are written, and these are left.
 abbrev pub invariant-leaves : goal.invariant-leaves
 invariant-leaves l =
     (l.left ≤ length l.leaves) × IsIn (length l.buffer) l.at
     × Writes (written_all l.moment (trees (map leaf_tree (drop l.left l.leaves)))) l.fn.buffer
-    l.fn.place l.buffer l.at
+    l.fn.cursor l.buffer l.at
 
 abbrev pub decreases-leaves : goal.decreases-leaves
 decreases-leaves l = l.left

@@ -5,7 +5,7 @@ use Rattle.timefd_format.specs.Written.{written_all}
 use Rattle.timefd_format.specs.Fronts.{IsLen}
 use Rattle.timefd_format.proofs.len.text_len.Given as goal
 
--- the leaves after these are counted
+-- The leaves after these are counted.
 abbrev pub invariant-leaves : goal.invariant-leaves
 invariant-leaves l =
     (l.left ≤ length l.leaves) × IsLen (written_all l.moment (trees (map leaf_tree (drop l.left l.leaves)))) l.len

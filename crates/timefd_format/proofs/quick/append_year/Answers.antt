@@ -8,9 +8,11 @@ use Rattle.timefd_format.proofs.quick.append_year.Goals as goal
 
 pub returns-in-Zero : goal.returns-in-Zero
 returns-in-Zero c shape greatest enough =
-    subst (λ p. TriesToAppend (text_of shape (year greatest 4 1 p c.args.is_mandatory c.args.years)) c.args.room.now c.args.at c.append_four.new.room (Some c.append_four.result))
+    subst (λ p. TriesToAppend (text_of shape (year greatest 4 1 p c.args.is_mandatory c.args.years))
+    c.args.room.now c.args.at c.append_four.new.room (Some c.append_four.result))
     (sym c.in-Zero.is)
-    (subst (λ b. TriesToAppend (text_of shape (year greatest 4 1 Padding.Zero b c.args.years)) c.args.room.now c.args.at c.append_four.new.room (Some c.append_four.result))
+    (subst (λ b. TriesToAppend (text_of shape (year greatest 4 1 Padding.Zero b c.args.years))
+    c.args.room.now c.args.at c.append_four.new.room (Some c.append_four.result))
     (sym c.if-is_mandatory.false)
     (year_appended shape greatest c.args.years c.args.room.now c.append_four.new.room c.args.at c.append_four.result enough
     c.if-years-lt1000000.false c.if-years-ge1010000.false c.append_four.ensures))

@@ -5,7 +5,7 @@ use Rattle.timefd_node_list.specs.Views.{view_tree}
 use Rattle.timefd_format.proofs.ResolveLemmas.{IsFoundTo}
 use Rattle.timefd_format.proofs.resolve.written_leaves.Given as goal
 
--- the leaves after these are found, and these are left
+-- The leaves after these are found, and these are left.
 abbrev pub invariant-leaves : goal.invariant-leaves
 invariant-leaves l = IsFoundTo (leaves (view_tree l.view)) (leaves_left l.leaves) l.found.items
 

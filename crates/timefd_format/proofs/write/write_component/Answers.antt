@@ -13,7 +13,7 @@ use Rattle.timefd_format.proofs.OutcomeLemmas.{ends_utf8, placed}
 use Rattle.timefd_format.proofs.Utf8Lemmas.{shown_utf8}
 use Rattle.timefd_format.proofs.write.write_component.Goals as goal
 
--- the text of its field, at the end of the buffer
+-- The text of its field, at the end of the buffer.
 text_placed : (m : Moment) (c d : Component) (r : Result Field Lack) (f : Field) (old new : Text) (at : ℕ)
     → d ≡ modern c → r ≡ field m d → r ≡ Ok f → Puts (field_text f) old (length old) new (Some at)
     → IsOutcome (shown m c) old new (Ok at)

@@ -4,7 +4,7 @@ use Rattle.timefd_format_item.specs.Meaning.{item_tree}
 use Rattle.timefd_format_item.specs.Equality.{same_trees}
 use Rattle.timefd_format_item.proofs.borrowed_format_item.+same.Given as goal
 
--- what is left decides
+-- the items that are left decide
 abbrev pub invariant-same_all-items : goal.invariant-same_all-items
 invariant-same_all-items l =
     same_trees (trees (map item_tree l.left)) (trees (map item_tree l.right))

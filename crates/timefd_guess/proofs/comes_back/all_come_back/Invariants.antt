@@ -4,7 +4,7 @@ use Rattle.timefd_guess.proofs.FoundLemmas.{Decides}
 use Rattle.timefd_node_list.specs.Views.{view_tree}
 use Rattle.timefd_guess.proofs.comes_back.all_come_back.Given as goal
 
--- what is left decides
+-- the result depends only on what is left
 abbrev pub invariant-texts : goal.invariant-texts
 invariant-texts l = Decides (view_tree l.view) (texts l.fn.texts) (texts l.rest)
 

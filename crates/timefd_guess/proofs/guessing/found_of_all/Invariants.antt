@@ -4,7 +4,7 @@ use Rattle.timefd_guess.specs.Found.{texts}
 use Rattle.timefd_guess.proofs.FoundLemmas.{Finds}
 use Rattle.timefd_guess.proofs.guessing.found_of_all.Given as goal
 
--- what is found of the groups that are left comes after
+-- what the remaining groups give comes after
 abbrev pub invariant-groups : goal.invariant-groups
 invariant-groups l = Finds all_entries (texts l.texts) (rows_in l.rest) [] l.found.items
 

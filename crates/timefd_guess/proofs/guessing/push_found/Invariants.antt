@@ -4,7 +4,7 @@ use Rattle.timefd_guess.specs.Found.{texts}
 use Rattle.timefd_guess.proofs.FoundLemmas.{Finds}
 use Rattle.timefd_guess.proofs.guessing.push_found.Given as goal
 
--- what is found of the rest comes after
+-- what the rest gives comes after
 abbrev pub invariant-candidates : goal.invariant-candidates
 invariant-candidates l =
     Finds (entries l.fn.candidates) (texts l.texts) (entries l.rest) l.fn.found.items l.found.items

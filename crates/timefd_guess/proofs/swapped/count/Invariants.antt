@@ -4,7 +4,7 @@ use Rattle.timefd_guess.proofs.FoundLemmas.{Counting}
 use Rattle.timefd_node_list.specs.Views.{view_tree}
 use Rattle.timefd_guess.proofs.swapped.count.Given as goal
 
--- what is left is added
+-- the count of what is left is added
 abbrev pub invariant-texts : goal.invariant-texts
 invariant-texts l =
     Counting (view_tree l.view) (texts l.fn.texts) (texts l.rest) l.count

@@ -2,7 +2,7 @@ use Rattle.std.proofs.Common.{◌≡◌, length}
 use Rattle.timefd_keys.specs.Keys.{dialect_of}
 use Rattle.timefd_keys.proofs.key.dialect_of.Given as goal
 
--- What is left decides.
+-- The answer for the rest is the answer for everything.
 abbrev pub invariant-keys : goal.invariant-keys
 invariant-keys l = dialect_of l.rest l.name ≡ dialect_of l.fn.keys l.name
 

@@ -3,4 +3,4 @@ use Rattle.timefd_keys.specs.Found.{IsWithin}
 use Rattle.timefd_keys.proofs.lies.are_within.Given as goal
 
 abbrev pub invariant-loop-at : goal.invariant-loop-at
-invariant-loop-at l = (k : ℕ) → k < l.at → IsWithin l.start l.closing (get_or l.places k 0)
+invariant-loop-at l = (k : ℕ) → k < l.at → IsWithin l.start l.closing (get_or l.positions k 0)

@@ -2,7 +2,7 @@ use Rattle.std.proofs.Common.{◌≡◌, length}
 use Rattle.timefd_keys.specs.Names.{without_blanks}
 use Rattle.timefd_keys.proofs.name.without_blanks.Given as goal
 
--- What is left decides.
+-- The answer for the rest is the answer for everything.
 abbrev pub invariant-bytes : goal.invariant-bytes
 invariant-bytes l = without_blanks l.rest ≡ without_blanks l.fn.text
 

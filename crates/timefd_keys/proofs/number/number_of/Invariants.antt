@@ -3,7 +3,7 @@ use Rattle.std.specs.Prelude.{MatchOption, Some, ⊤}
 use Rattle.timefd_keys.specs.Escapes.{number}
 use Rattle.timefd_keys.proofs.number.number_of.Given as goal
 
--- What is left decides.
+-- The answer for the rest is the answer for everything.
 abbrev pub invariant-digits : goal.invariant-digits
 invariant-digits l = record {
   number : number l.left l.value l.rest ≡ number l.fn.count (Some 0) l.fn.text;

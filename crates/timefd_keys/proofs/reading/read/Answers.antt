@@ -6,8 +6,8 @@ use Rattle.timefd_keys.proofs.reading.read.Goals as goal
 
 pub returns-then-closes : goal.returns-then-closes
 returns-then-closes c =
-    c.told_as.ensures
-    ∙ at_closing c.args.style c.args.end c.parts.text.items c.parts.places.items
+    c.reported_as.ensures
+    ∙ at_closing c.args.style c.args.end c.parts.text.items c.parts.positions.items
     (get_or c.parts.rest.now 0 0) (take (length c.parts.rest.now - 1) (drop 1 c.parts.rest.now))
     c.parts.rest.now c.args.all.now c.closes.result (c.args.end - length c.parts.rest.now)
     c.parts.invariant c.closes.ensures c.if-closes.true
@@ -15,7 +15,7 @@ returns-then-closes c =
 
 pub returns-in_default-part_of : goal.returns-in_default-part_of
 returns-in_default-part_of c =
-    faulty c.args.style c.args.end c.parts.text.items c.parts.places.items
+    faulty c.args.style c.args.end c.parts.text.items c.parts.positions.items
     (get_or c.parts.rest.now 0 0) (take (length c.parts.rest.now - 1) (drop 1 c.parts.rest.now))
     c.parts.rest.now c.args.all.now c.closes.result c.part_of.result
     c.parts.invariant c.closes.ensures c.if-closes.false c.part_of.ensures.part
@@ -25,7 +25,7 @@ returns-in_default-part_of c =
 pub parts-preserved : goal.parts-preserved
 parts-preserved c =
     one_more c.args.style c.args.end c.parts.text.items c.push_part.new.text.items
-    c.parts.places.items c.push_part.new.places.items
+    c.parts.positions.items c.push_part.new.positions.items
     (get_or c.parts.rest.now 0 0) (take (length c.parts.rest.now - 1) (drop 1 c.parts.rest.now))
     c.parts.rest.now c.args.all.now c.closes.result c.part_of.result c.in-Some.next
     c.parts.invariant c.closes.ensures c.if-closes.false c.part_of.ensures.part
@@ -37,15 +37,15 @@ parts-preserved c =
 
 pub returns-then-is_closed_by_end : goal.returns-then-is_closed_by_end
 returns-then-is_closed_by_end c =
-    c.told_as-then-is_closed_by_end.ensures
-    ∙ ended c.args.style c.args.end c.parts.text.items c.parts.places.items c.parts.rest.now
+    c.reported_as-then-is_closed_by_end.ensures
+    ∙ ended c.args.style c.args.end c.parts.text.items c.parts.positions.items c.parts.rest.now
     c.args.all.now c.is_closed_by_end.result c.parts.invariant
     (none c.parts.rest.now (omega (arith, c.in_default.len_below)))
     c.is_closed_by_end.ensures c.if-is_closed_by_end.true
 
 pub returns : goal.returns
 returns c =
-    unended c.args.style c.args.end c.parts.text.items c.parts.places.items c.parts.rest.now
+    unended c.args.style c.args.end c.parts.text.items c.parts.positions.items c.parts.rest.now
     c.args.all.now c.is_closed_by_end.result c.parts.invariant
     (none c.parts.rest.now (omega (arith, c.in_default.len_below)))
     c.is_closed_by_end.ensures c.if-is_closed_by_end.false

@@ -1,4 +1,4 @@
-use Rattle.timefd_language.proofs.PlacesBetween.{placed_between_law}
+use Rattle.timefd_language.proofs.PositionsBetween.{placed_between_law}
 use Rattle.timefd_language.proofs.laws.placed_between.Goals as goal
 
 pub returns : goal.returns

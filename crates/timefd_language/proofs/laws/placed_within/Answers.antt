@@ -1,4 +1,4 @@
-use Rattle.timefd_language.proofs.PlacesWithin.{placed_within_law}
+use Rattle.timefd_language.proofs.PositionsWithin.{placed_within_law}
 use Rattle.timefd_language.proofs.laws.placed_within.Goals as goal
 
 pub returns : goal.returns

@@ -1,4 +1,4 @@
-use Rattle.timefd_language.proofs.PlacesBetween.{strftime_placed_between_law}
+use Rattle.timefd_language.proofs.PositionsBetween.{strftime_placed_between_law}
 use Rattle.timefd_language.proofs.laws.strftime_placed_between.Goals as goal
 
 pub returns : goal.returns

@@ -1,7 +1,7 @@
 use Rattle.std.proofs.Common.{◌∙◌, ap}
 use Rattle.std.specs.List.{prefix_len}
 use Rattle.timefd_language.specs.Cut.{class_test}
-use Rattle.timefd_language.proofs.CutLemmas.{boundary, cut_at_prefix, utf8_behind}
+use Rattle.timefd_language.proofs.CutLemmas.{boundary, cut_at_prefix, utf8_after}
 use Rattle.timefd_language.proofs.text.cut.Goals as goal
 
 pub split_at-requires : goal.split_at-requires
@@ -16,6 +16,6 @@ returns-clause-parts c =
 
 pub returns-clause-utf8 : goal.returns-clause-utf8
 returns-clause-utf8 c =
-    utf8_behind c.args.class c.args.text.now _ c.class_len.result
+    utf8_after c.args.class c.args.text.now _ c.class_len.result
     (c.class_len.ensures.len ∙ ap (prefix_len (class_test c.args.class)) c.as_bytes.ensures.value)
     c.utf8.text c.split_at.ensures.back

@@ -4,7 +4,8 @@ use denote.Shadow.{shadow}
 use Rattle.timefd_lift.specs.Bytewise.{outside, EndsOrIsEscaped}
 use Rattle.timefd_lift.proofs.from_one.escaped.Given as goal
 
--- what is written so far, and what is to be written of the rest, is what is written of the text
+-- what is written so far, followed by what will be written for the rest, is what is written for the
+-- text
 abbrev pub invariant-loop-escape : goal.invariant-loop-escape
 invariant-loop-escape l =
     shadow (Utf8 l.rest)

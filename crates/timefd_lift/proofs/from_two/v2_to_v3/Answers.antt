@@ -17,6 +17,6 @@ pub returns-in-Err-clause-refused : goal.returns-in-Err-clause-refused
 returns-in-Err-clause-refused c = λ f h.
     owned_fault f _ _ (c.in-Err.ensures.refused f h) c.into_owned.ensures
 
-pub returns-in-Err-clause-place : goal.returns-in-Err-clause-place
-returns-in-Err-clause-place c =
-    owned_placed c.args.s.now _ _ c.in-Err.ensures.place c.into_owned.ensures
+pub returns-in-Err-clause-position : goal.returns-in-Err-clause-position
+returns-in-Err-clause-position c =
+    owned_placed c.args.s.now _ _ c.in-Err.ensures.position c.into_owned.ensures

@@ -4,7 +4,8 @@ use Rattle.timefd_lift.specs.Plain.{ArePlainItems}
 use Rattle.timefd_lift.specs.Written.{written}
 use Rattle.timefd_lift.proofs.from_two.written.Given as goal
 
--- what is written so far, and the items that are left, are what is written of all
+-- what is written so far, followed by what the items that are left give, is what is written for all
+-- items
 abbrev pub invariant-items : goal.invariant-items
 invariant-items l =
     ArePlainItems (drop l.at l.items)

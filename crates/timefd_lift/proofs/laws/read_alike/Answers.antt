@@ -1,4 +1,4 @@
-use Rattle.timefd_lift.proofs.Anew.{read_alike_law}
+use Rattle.timefd_lift.proofs.Rewritten.{read_alike_law}
 use Rattle.timefd_lift.proofs.laws.read_alike.Goals as goal
 
 pub returns : goal.returns

@@ -15,13 +15,13 @@ returns-in_ok-further-in-Some-clause-said g c =
     let d = c.in-Some.diagnostic in
     let language = c.args.options.language in
     let text = c.args.text.now in
-    let telling = c.args.options.telling in
+    let reporting = c.args.options.reporting in
     let others = c.in_ok-further-in-Some.further.items in
     let faulty : FaultIn language nesting_limit text (fault_of d.fault) = search rules in
     let diagnosed : IsDiagnosis language text d = search rules in
     let further : AreFurther most_further language (without language text (fault_of d.fault)) others = search rules in
     let is : IfOk c.refused.result (λ e. e ≡ Refused) = search rules in
     let written : OnOk c.refused.result (Appends (g.W.Write.contents c.args.writer.now)
-    (g.W.Write.contents c.refused.new.writer) (drawn_all telling.style c.args.origin text d others)) = search rules in
-    fault_said language telling c.args.origin text d others (g.W.Write.contents c.args.writer.now)
+    (g.W.Write.contents c.refused.new.writer) (drawn_all reporting.style c.args.origin text d others)) = search rules in
+    fault_said language reporting c.args.origin text d others (g.W.Write.contents c.args.writer.now)
     (g.W.Write.contents c.refused.new.writer) c.refused.result faulty diagnosed further is written

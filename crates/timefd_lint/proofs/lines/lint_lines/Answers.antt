@@ -1,11 +1,11 @@
 use Rattle.std.proofs.Common.{refl}
 use Rattle.std.specs.declared.io.ErrorKind.TheVariants.{Other}
-use Rattle.timefd_lint.proofs.ToldLemmas.{ends_here, goes_on, fails_here, fails_last}
+use Rattle.timefd_lint.proofs.ReportedLemmas.{ends_here, goes_on, fails_here, fails_last}
 use Rattle.timefd_lint.proofs.lines.lint_lines.Goals as goal
 
 pub returns-in-None : goal.returns-in-None
 returns-in-None g c =
-    ends_here c.lines.is_first c.args.options.language c.args.options.comment c.args.options.telling
+    ends_here c.lines.is_first c.args.options.language c.args.options.comment c.args.options.reporting
     c.args.name c.lines.line
     (g.R.Read.remaining c.args.reader.now)
     (g.R.Read.remaining c.lines.reader) (g.R.Read.remaining c.lint_next.new.reader)
@@ -15,7 +15,7 @@ returns-in-None g c =
 
 pub returns-then-tally : goal.returns-then-tally
 returns-then-tally g c =
-    fails_here c.lines.is_first c.args.options.language c.args.options.comment c.args.options.telling
+    fails_here c.lines.is_first c.args.options.language c.args.options.comment c.args.options.reporting
     c.args.name c.lines.line
     (g.R.Read.remaining c.args.reader.now)
     (g.R.Read.remaining c.lines.reader) (g.R.Read.remaining c.lint_next.new.reader)
@@ -27,7 +27,7 @@ returns-then-tally g c =
 
 pub lines-preserved : goal.lines-preserved
 lines-preserved g c =
-    goes_on c.lines.is_first c.args.options.language c.args.options.comment c.args.options.telling
+    goes_on c.lines.is_first c.args.options.language c.args.options.comment c.args.options.reporting
     c.args.name c.lines.line
     (g.R.Read.remaining c.args.reader.now)
     (g.R.Read.remaining c.lines.reader) (g.R.Read.remaining c.lint_next.new.reader)
@@ -39,7 +39,7 @@ lines-preserved g c =
 
 pub returns : goal.returns
 returns g c =
-    fails_last c.lines.is_first c.args.options.language c.args.options.comment c.args.options.telling
+    fails_last c.lines.is_first c.args.options.language c.args.options.comment c.args.options.reporting
     c.args.name c.lines.line
     (g.R.Read.remaining c.args.reader.now)
     (g.R.Read.remaining c.lines.reader) (g.R.Read.remaining c.lines.reader)

@@ -1,17 +1,17 @@
 use Rattle.std.proofs.Common.{rules, ◌&&◌, ◌<◌, length, ap, subst, ◌∙◌}
 use Rattle.timefd_rewrite.specs.Lines.{without_newline}
 use Rattle.timefd_lint.specs.Marks.{Notes, has_mark}
-use Rattle.timefd_lint.proofs.ToldLemmas.{next_told, read_fails}
+use Rattle.timefd_lint.proofs.ReportedLemmas.{next_reported, read_fails}
 use Rattle.timefd_lint.proofs.lines.lint_next.Goals as goal
 
 pub returns-in_ok-lint_line-in-Ok : goal.returns-in_ok-lint_line-in-Ok
 returns-in_ok-lint_line-in-Ok g c =
     let some : 0 < length c.read_until.new.buf.items = search rules in
-    next_told c.args.is_first _ _ _ _ _ _ _ _ _ c.clear.new.self.items c.read_until.new.buf.items _ _
+    next_reported c.args.is_first _ _ _ _ _ _ _ _ _ c.clear.new.self.items c.read_until.new.buf.items _ _
     c.in_ok-lint_line-in-Ok.ensures.end
     (c.without_newline-line.ensures ∙ ap without_newline c.deref-in-Ok.ensures.value)
     c.in-Ok.ensures.bytes c.clear.ensures.items c.in-Ok.ensures.rest some
-    (subst (λ t. Notes (c.args.is_first && has_mark t) c.args.options.telling.style c.args.origin
+    (subst (λ t. Notes (c.args.is_first && has_mark t) c.args.options.reporting.style c.args.origin
     (g.W.Write.contents c.args.writer.now)
     (g.W.Write.contents c.note_mark.new.writer)) c.deref.ensures.value
     c.in_ok-note_mark-in-Ok.ensures)
@@ -19,7 +19,7 @@ returns-in_ok-lint_line-in-Ok g c =
 
 pub returns-in_ok-read_error-in-Err : goal.returns-in_ok-read_error-in-Err
 returns-in_ok-read_error-in-Err g c =
-    read_fails c.args.is_first c.args.options.language c.args.options.comment c.args.options.telling
+    read_fails c.args.is_first c.args.options.language c.args.options.comment c.args.options.reporting
     c.args.origin
     (g.R.Read.remaining c.args.reader.now) (g.R.Read.remaining c.read_until.new.self)
     (g.W.Write.contents c.args.writer.now) (g.W.Write.contents c.read_error.new.writer)

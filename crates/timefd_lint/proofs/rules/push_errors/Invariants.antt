@@ -1,9 +1,9 @@
 use Rattle.std.proofs.Common.{drop}
-use Rattle.timefd_editor.proofs.EachLemmas.{IsTold}
+use Rattle.timefd_editor.proofs.EachLemmas.{IsReported}
 use Rattle.timefd_lint.specs.Rules.{IsErrorRule}
 use Rattle.timefd_lint.proofs.rules.push_errors.Given as goal
 
--- What is left decides.
+-- The remaining items decide.
 abbrev pub invariant-loop-code : goal.invariant-loop-code
 invariant-loop-code l =
-    IsTold IsErrorRule l.errors (drop l.code-index l.errors) l.fn.out.items l.out.items
+    IsReported IsErrorRule l.errors (drop l.code-index l.errors) l.fn.out.items l.out.items

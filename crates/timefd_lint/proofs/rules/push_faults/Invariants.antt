@@ -1,9 +1,9 @@
 use Rattle.std.proofs.Common.{drop}
-use Rattle.timefd_editor.proofs.EachLemmas.{IsTold}
+use Rattle.timefd_editor.proofs.EachLemmas.{IsReported}
 use Rattle.timefd_lint.specs.Rules.{IsFaultRule}
 use Rattle.timefd_lint.proofs.rules.push_faults.Given as goal
 
--- What is left decides.
+-- The remaining items decide.
 abbrev pub invariant-loop-code : goal.invariant-loop-code
 invariant-loop-code l =
-    IsTold IsFaultRule l.faults (drop l.code-index l.faults) l.fn.out.items l.out.items
+    IsReported IsFaultRule l.faults (drop l.code-index l.faults) l.fn.out.items l.out.items

@@ -22,5 +22,5 @@ names-preserved g c =
     (g.W.Write.contents c.names.writer) (g.W.Write.contents c.lint_named.new.writer)
     c.names.tally c.in_ok-lint_named.field-0 c.and-tally.result
     (split_names c.names.rest.now _ _ (search rules) c.in-len1-up.len_at_least)
-    c.and-tally.ensures c.names.invariant c.in_ok-lint_named.ensures.told
+    c.and-tally.ensures c.names.invariant c.in_ok-lint_named.ensures.reported
     c.in_ok-lint_named.ensures.named

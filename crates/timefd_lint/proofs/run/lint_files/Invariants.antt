@@ -2,7 +2,7 @@ use Rattle.std.proofs.Common.{length}
 use Rattle.timefd_lint.proofs.FilesLemmas.{IsRunTo}
 use Rattle.timefd_lint.proofs.run.lint_files.Given as goal
 
--- What is left decides.
+-- The remaining names decide.
 abbrev pub invariant-names : goal.invariant-names
 invariant-names g l =
     IsRunTo (g.S.Source.opens l.source) (g.S.Source.fails l.source) l.options

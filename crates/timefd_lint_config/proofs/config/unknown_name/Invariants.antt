@@ -3,7 +3,7 @@ use Rattle.toml.specs.View.{members_view}
 use Rattle.timefd_lint_config.specs.Config.{unknown_name}
 use Rattle.timefd_lint_config.proofs.config.unknown_name.Given as goal
 
--- What is left decides.
+-- The remaining names decide.
 abbrev pub invariant-names : goal.invariant-names
 invariant-names l =
     (goal.iterator-names).can_next l.name-iterator ×

@@ -3,7 +3,7 @@ use Rattle.toml.specs.View.{items_view}
 use Rattle.timefd_lint_config.specs.Config.{before, patterns_in}
 use Rattle.timefd_lint_config.proofs.exclude.patterns_in.Given as goal
 
--- The lines so far, and behind them those of what is left.
+-- The lines so far, followed by those of the remaining values.
 abbrev pub invariant-values : goal.invariant-values
 invariant-values l =
     before (string_bytes l.text) (patterns_in (items_view l.rest)) ≡ patterns_in (items_view l.fn.values)

@@ -1,12 +1,12 @@
 use Rattle.std.proofs.Common.{◌≡◌}
 use Rattle.toml.specs.View.{members_view}
 use Rattle.timefd_lint_config.specs.Config.{keys_in, named_all}
-use Rattle.timefd_lint_config.proofs.ConfigLemmas.{behind}
+use Rattle.timefd_lint_config.proofs.ConfigLemmas.{after}
 use Rattle.timefd_lint_config.proofs.keys.keys_in.Given as goal
 
--- The keys so far, and behind them those of what is left.
+-- The keys so far, followed by those of the remaining entries.
 abbrev pub invariant-keys : goal.invariant-keys
 invariant-keys l =
     (goal.iterator-keys).can_next l.name-iterator ×
     (goal.iterator-keys).is_finite l.name-iterator ×
-    (behind (named_all l.keys.items) (keys_in (members_view l.name-iterator)) ≡ keys_in (members_view l.table.entries))
+    (after (named_all l.keys.items) (keys_in (members_view l.name-iterator)) ≡ keys_in (members_view l.table.entries))

@@ -2,7 +2,7 @@ use Rattle.std.proofs.Common.{◌≡◌, ◌≤◌, false, length, drop}
 use Rattle.timefd_lint_files.specs.Lines.{has_slash}
 use Rattle.timefd_lint_files.proofs.last_name.file_name.Given as goal
 
--- No slash stands from this place on.
+-- There is no slash from this position on.
 abbrev pub invariant-bytes : goal.invariant-bytes
 invariant-bytes l = record {
   within : l.from ≤ length l.path;

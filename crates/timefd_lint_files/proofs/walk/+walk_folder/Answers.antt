@@ -17,7 +17,8 @@ entries-preserved-in_default g t c =
     first_of (search rules, grind (arith, common_steps)) in record {
       kept = c.look_at.ensures.ignores ∙ c.entries.invariant.kept;
       so_far = one_looked_at c.args.choice.endings.now c.args.choice.excluded.now
-          (IsWalk c.args.choice.endings.now c.args.choice.excluded.now (g.S.FileSystem.lists c.args.system.now) (g.S.FileSystem.holds c.args.system.now) (c.args.depth - 1))
+          (IsWalk c.args.choice.endings.now c.args.choice.excluded.now (g.S.FileSystem.lists c.args.system.now)
+          (g.S.FileSystem.holds c.args.system.now) (c.args.depth - 1))
           c.add_own.new.ignores.items c.entries.walk.ignores.items c.args.folder.now
           c.in_ok-entries.entries.items c.index.result.now c.entries.at (texts c.args.walk.now.names.items)
           (texts c.entries.walk.names.items) (texts c.look_at.new.walk.names.items)
@@ -36,7 +37,8 @@ entries-preserved g t c =
     let below = c.in_ok-walk_folder.ensures.found in record {
       kept = c.in_ok-walk_folder.ensures.ignores ∙ (c.look_at.ensures.ignores ∙ c.entries.invariant.kept);
       so_far = one_walked c.args.choice.endings.now c.args.choice.excluded.now
-          (IsWalk c.args.choice.endings.now c.args.choice.excluded.now (g.S.FileSystem.lists c.args.system.now) (g.S.FileSystem.holds c.args.system.now) (c.args.depth - 1))
+          (IsWalk c.args.choice.endings.now c.args.choice.excluded.now (g.S.FileSystem.lists c.args.system.now)
+          (g.S.FileSystem.holds c.args.system.now) (c.args.depth - 1))
           c.add_own.new.ignores.items c.entries.walk.ignores.items c.look_at.new.walk.ignores.items
           c.args.folder.now c.in_ok-entries.entries.items c.index.result.now c.entries.at
           (string_bytes c.in-Some.below) c.deref-in-entries.result.now
@@ -53,10 +55,12 @@ returns-clause-found g t c =
     first_of (omega arith, search rules, grind (arith, common_steps)) in
     let deep : c.args.depth ≡ suc (c.args.depth - 1) =
     first_of (omega arith, search rules, grind (arith, common_steps)) in
-    let lent : c.deref.result.now ≡ c.in_ok-entries.entries.items =
+    let borrowed : c.deref.result.now ≡ c.in_ok-entries.entries.items =
     first_of (search rules, cc, grind (arith, common_steps)) in
     let last = at_last
-    (Gives c.args.choice.endings.now c.args.choice.excluded.now (IsWalk c.args.choice.endings.now c.args.choice.excluded.now (g.S.FileSystem.lists c.args.system.now) (g.S.FileSystem.holds c.args.system.now) (c.args.depth - 1))
+    (Gives c.args.choice.endings.now c.args.choice.excluded.now
+    (IsWalk c.args.choice.endings.now c.args.choice.excluded.now (g.S.FileSystem.lists c.args.system.now)
+    (g.S.FileSystem.holds c.args.system.now) (c.args.depth - 1))
     c.add_own.new.ignores.items c.args.folder.now)
     c.in_ok-entries.entries.items c.entries.at (texts c.args.walk.now.names.items)
     (texts c.entries.walk.names.items) end c.entries.invariant.so_far in (
@@ -64,7 +68,7 @@ returns-clause-found g t c =
       last.1,
       walked c.args.choice.endings.now c.args.choice.excluded.now (g.S.FileSystem.lists c.args.system.now) (g.S.FileSystem.holds c.args.system.now) c.args.depth
           (c.args.depth - 1) c.args.walk.now.ignores.items c.add_own.new.ignores.items c.args.folder.now
-          c.in_ok-entries.entries.items c.deref.result.now last.0 deep c.in_ok-entries.ensures.listed lent
+          c.in_ok-entries.entries.items c.deref.result.now last.0 deep c.in_ok-entries.ensures.listed borrowed
           c.in_ok-add_own.ensures.added last.2,
     )
 
@@ -74,7 +78,8 @@ returns-in_err-walk_folder-clause-error g t c =
     first_of (search rules, cc, grind (arith, common_steps)) in
     let p = err_from_is_err_and c.from_residual-in_err-walk_folder.result
     c.from_residual-in_err-walk_folder.ensures.1 in
-    rw (p.1, p.2) (deeper (g.S.FileSystem.fails c.args.system.now) c.args.choice.endings.now c.args.choice.excluded.now c.entries.walk.ignores.items c.args.folder.now
+    rw (p.1, p.2) (deeper (g.S.FileSystem.fails c.args.system.now) c.args.choice.endings.now
+    c.args.choice.excluded.now c.entries.walk.ignores.items c.args.folder.now
     c.index.result.now (texts c.entries.walk.names.items) (texts c.look_at.new.walk.names.items)
     (string_bytes c.in-Some.below) c.deref-in-entries.result.now (text_any c.in_ok-below.field-0) c.args.depth
     c.in_err-walk_folder.field-0.0 (omega (arith, c.if-depth-eq0.false)) c.in_ok-below.ensures.looked

@@ -1,5 +1,5 @@
 use Rattle.std.proofs.Common.{rules}
-use Rattle.timefd_lint_sources.proofs.ItemLemmas.{behind_one, closed_here, end_behind}
+use Rattle.timefd_lint_sources.proofs.ItemLemmas.{after_one, closed_here, end_after}
 use Rattle.timefd_lint_sources.proofs.item.after_bracket.Goals as goal
 
 pub nested-preserved : goal.nested-preserved
@@ -7,10 +7,10 @@ nested-preserved c = record {
   text = (search rules);
   found = λ rest end.
       c.nested.invariant.found rest
-      (behind_one c.args.version c.nested.left.now c.in-Some.field-0-0.now c.in-Some.after.now rest
+      (after_one c.args.version c.nested.left.now c.in-Some.field-0-0.now c.in-Some.after.now rest
       c.in-Some.ensures.found end);
   all = λ rest end.
-      end_behind c.args.version c.nested.left.now rest c.first_nested.result
+      end_after c.args.version c.nested.left.now rest c.first_nested.result
       (c.in-Some.field-0-0, c.in-Some.after) c.first_nested.ensures.nested c.in-Some.is
       c.in-Some.ensures.found (c.nested.invariant.all rest end);
 }

@@ -3,7 +3,7 @@ use Rattle.timefd_component.specs.Tree.{Text}
 use Rattle.timefd_lint_sources.specs.Items.{HasEnd}
 use Rattle.timefd_lint_sources.proofs.item.after_bracket.Given as goal
 
--- The bracket ends as what is left of it does.
+-- The bracket ends where its rest ends.
 abbrev pub invariant-nested : goal.invariant-nested
 invariant-nested l = record {
   text : IsUtf8 l.left;

@@ -2,7 +2,7 @@ use Rattle.std.proofs.Common.{◌≡◌, ◌++◌, length}
 use Rattle.timefd_lint_sources.specs.Remarks as spec
 use Rattle.timefd_lint_sources.proofs.remark.push_remarks.Given as goal
 
--- What is left adds all of it.
+-- The items so far, followed by those of the rest, are all items.
 abbrev pub invariant-remarks : goal.invariant-remarks
 invariant-remarks l = record {
   ends : l.ends.items ++ spec.ends_of l.rest ≡ l.fn.ends.items ++ spec.ends_of l.fn.remarks;

@@ -9,11 +9,11 @@ use Rattle.timefd_lint_warnings.proofs.found.found_in.Goals as goal
 pub returns-in-Version : goal.returns-in-Version
 returns-in-Version c =
     subst (λ l. (list : List Tree) → SpellsIn l nesting_limit c.args.text.now list
-    → IfOk c.found_in_version.result (λ told. told ≡ found_in l c.args.levels list))
+    → IfOk c.found_in_version.result (λ reported. reported ≡ found_in l c.args.levels list))
     (sym c.in-Version.is) c.found_in_version.ensures
 
 pub returns-in-Strftime : goal.returns-in-Strftime
 returns-in-Strftime c =
     subst (λ l. (list : List Tree) → SpellsIn l nesting_limit c.args.text.now list
-    → IfOk c.found_in_strftime.result (λ told. told ≡ found_in l c.args.levels list))
+    → IfOk c.found_in_strftime.result (λ reported. reported ≡ found_in l c.args.levels list))
     (sym c.in-Strftime.is) c.found_in_strftime.ensures

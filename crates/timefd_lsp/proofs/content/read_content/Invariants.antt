@@ -2,7 +2,7 @@ use Rattle.std.proofs.Common.{◌≡◌, ◌-◌, ◌≤◌, length}
 use Rattle.std.specs.Io.KnownBytes.{Consumes}
 use Rattle.timefd_lsp.proofs.content.read_content.Given as goal
 
--- What has gone from the source is in the list.
+-- The list has what was read from the source.
 abbrev pub invariant-pieces : goal.invariant-pieces
 invariant-pieces g l = record {
   room : length l.piece ≡ 8192;

@@ -2,7 +2,7 @@ use Rattle.std.proofs.Common.{◌≡◌, ◌-◌, ◌≤◌, List, ℕ, length}
 use Rattle.std.specs.Io.KnownBytes.{Consumes}
 use Rattle.timefd_lsp.proofs.content.skip_content.Given as goal
 
--- So many bytes have gone from the source.
+-- This many bytes were read from the source.
 abbrev pub invariant-pieces : goal.invariant-pieces
 invariant-pieces g l = record {
   room : length l.piece ≡ 8192;

@@ -3,7 +3,7 @@ use Rattle.std.specs.Io.KnownBytes.{Consumes}
 use Rattle.timefd_lsp.specs.Heads.{IsOpen}
 use Rattle.timefd_lsp.proofs.head.read_head.Given as goal
 
--- What has gone from the source is in the list, and doesn't end a head.
+-- The list has what was read from the source, and doesn't end a head.
 abbrev pub invariant-bytes : goal.invariant-bytes
 invariant-bytes g l = record {
   read : Consumes (g.R.Source.remaining l.fn.source) (g.R.Source.remaining l.source) l.bytes.items;

@@ -2,7 +2,7 @@ use Rattle.std.proofs.Common.{◌≡◌, length}
 use Rattle.timefd_lsp.specs.Lengths as spec
 use Rattle.timefd_lsp.proofs.length.is_named.Given as goal
 
--- What is left of the name decides.
+-- The rest of the name decides.
 abbrev pub invariant-letters : goal.invariant-letters
 invariant-letters l = spec.begins_with l.name l.rest ≡ spec.is_named l.bytes
 

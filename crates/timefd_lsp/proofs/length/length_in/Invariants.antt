@@ -2,7 +2,7 @@ use Rattle.std.proofs.Common.{◌≡◌, length}
 use Rattle.timefd_lsp.specs.Lengths as spec
 use Rattle.timefd_lsp.proofs.length.length_in.Given as goal
 
--- What is left decides.
+-- The remaining bytes decide.
 abbrev pub invariant-bytes : goal.invariant-bytes
 invariant-bytes l = spec.length_from l.begins_line l.rest ≡ spec.length_in l.head
 

@@ -2,7 +2,7 @@ use Rattle.std.proofs.Common.{◌≡◌, length}
 use Rattle.timefd_lsp.specs.Lengths as spec
 use Rattle.timefd_lsp.proofs.length.number.Given as goal
 
--- What is left decides.
+-- The remaining bytes decide.
 abbrev pub invariant-digits : goal.invariant-digits
 invariant-digits l = spec.number_from l.value l.rest ≡ spec.number l.bytes
 

@@ -2,7 +2,7 @@ use Rattle.std.proofs.Common.{◌≡◌, length}
 use Rattle.timefd_lsp.specs.Lengths as spec
 use Rattle.timefd_lsp.proofs.length.value_of.Given as goal
 
--- What is left decides.
+-- The remaining bytes decide.
 abbrev pub invariant-bytes : goal.invariant-bytes
 invariant-bytes l = spec.value_of l.rest ≡ spec.value_of l.bytes
 

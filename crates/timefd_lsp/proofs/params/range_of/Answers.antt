@@ -4,4 +4,4 @@ use Rattle.timefd_lsp.specs.Params as spec
 use Rattle.timefd_lsp.proofs.params.range_of.Goals as goal
 
 pub returns : goal.returns
-returns c = c.range_from.ensures ∙ ap₂ spec.range_from c.place_by-start.ensures c.place_by-end.ensures
+returns c = c.range_from.ensures ∙ ap₂ spec.range_from c.position_by-start.ensures c.position_by-end.ensures

@@ -1,6 +1,6 @@
 use Rattle.std.proofs.Common.{arith}
 use Rattle.timefd_lsp.proofs.ServedLemmas.{ended, ended_at_most, none_served, one_more_served}
-use Rattle.timefd_lsp.proofs.SessionLemmas.{ended_behind, more_written, none_written}
+use Rattle.timefd_lsp.proofs.SessionLemmas.{ended_after, more_written, none_written}
 use Rattle.timefd_lsp.specs.Sessions.{at}
 use Rattle.timefd_lsp.proofs.session.serve.Goals as goal
 
@@ -13,7 +13,7 @@ frames-init g c = record {
 
 pub returns-in-Some-clause-frames : goal.returns-in-Some-clause-frames
 returns-in-Some-clause-frames g c =
-    ended_behind (g.W.Sink.contents c.args.sink.now) (g.W.Sink.contents c.frames.sink)
+    ended_after (g.W.Sink.contents c.args.sink.now) (g.W.Sink.contents c.frames.sink)
     (g.W.Sink.contents c.turn.new.sink) c.in-Some.end c.frames.invariant.frames c.in-Some.ensures.frames
 
 pub returns-in-Some-clause-served : goal.returns-in-Some-clause-served

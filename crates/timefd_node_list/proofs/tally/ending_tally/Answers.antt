@@ -28,8 +28,8 @@ overflow_add-inner_nodes c =
       length-parts c.args.nodes.now,
     )
 
-pub behind-tally-requires : goal.behind-tally-requires
-behind-tally-requires c =
+pub after-tally-requires : goal.after-tally-requires
+after-tally-requires c =
     let here : c.trees.at < length (grown_by [] (map part c.args.nodes.now)) =
     omega (arith, c.trees-test.true, c.requires.there) in
     let o : OneBack (map part c.args.nodes.now) c.trees.at c.trees.tally.nodes
@@ -49,7 +49,7 @@ trees-preserved c =
     let o : OneBack (map part c.args.nodes.now) c.trees.at c.trees.tally.nodes
     (part c.index-nodes-nodes.result) =
     node_back _ _ _ _ c.requires.fit here c.trees.invariant.nodes c.index-nodes-nodes.is in
-    tally_in_front _ _ o.tree c.trees.tally c.behind-tally.result _ _ c.trees.invariant
+    tally_in_front _ _ o.tree c.trees.tally c.after-tally.result _ _ c.trees.invariant
     (ap (λ n. ending n (grown_by [] (map part c.args.nodes.now))) (add-one c.trees.at) ∙ o.ends)
     (ap (λ n. 1 + n) c.inner_nodes.ensures ∙ o.nodes) (c.bytes.ensures ∙ o.bytes)
-    c.behind-tally.ensures
+    c.after-tally.ensures

@@ -10,7 +10,7 @@ overflow_sub-rest c =
       arith,
       length-parts c.args.nodes.now,
       count_inside (map part c.args.nodes.now) c.args.count c.requires.fit c.requires.there,
-      c.ending_tally-behind.ensures.nodes,
+      c.ending_tally-after.ensures.nodes,
     )
 
 pub returns-clause-fit : goal.returns-clause-fit
@@ -18,4 +18,4 @@ returns-clause-fit c = fit_take [] c.args.nodes.now _ c.requires.fit
 
 pub returns-clause-left : goal.returns-clause-left
 returns-clause-left c = left_without c.args.nodes.now c.args.count _ c.requires.fit c.requires.there
-    c.ending_tally-behind.ensures.nodes
+    c.ending_tally-after.ensures.nodes

@@ -1,10 +1,10 @@
 use Rattle.std.proofs.Common.{List, refl, sym, subst}
 use Rattle.timefd_fault.specs.Faults.{Fault}
 use Rattle.timefd_component.specs.Tree.{Tree}
-use Rattle.timefd_fault.specs.BorrowedFaults.{IsLent, IsMemory}
+use Rattle.timefd_fault.specs.BorrowedFaults.{IsBorrowed, IsMemory}
 use Rattle.timefd_fault.specs.Placed.{IsPlaced}
-use Rattle.timefd_language.proofs.PlacedLemmas.{is_placed, lent_more}
-use Rattle.timefd_language.proofs.ShortWords.{short_fault, short_lent}
+use Rattle.timefd_language.proofs.PlacedLemmas.{is_placed, borrowed_more}
+use Rattle.timefd_language.proofs.ShortWords.{short_fault, short_borrowed}
 use Rattle.timefd_language.specs.declared.description_version.DescriptionVersion.TheVariants.{Three}
 use Rattle.timefd_language.specs.Broken.{FaultOf}
 use Rattle.timefd_language.specs.Grammar.{Spells}
@@ -23,28 +23,28 @@ returns-in-Err-clause-spelled c = subst (λ v. (list : List Tree)
 
 pub returns-in-Err-clause-refused : goal.returns-in-Err-clause-refused
 returns-in-Err-clause-refused c = subst (λ v. (f : Fault) → FaultOf v c.args.limit c.args.s.now f
-    → IsLent f c.in-Err.error) (sym c.in-Three.is) c.in-Err.ensures.refused
+    → IsBorrowed f c.in-Err.error) (sym c.in-Three.is) c.in-Err.ensures.refused
 
 pub returns-in-Err-clause-words : goal.returns-in-Err-clause-words
 returns-in-Err-clause-words c =
-    short_lent (FaultOf Three c.args.limit c.args.s.now)
+    short_borrowed (FaultOf Three c.args.limit c.args.s.now)
     (short_fault Three c.args.limit c.args.s.now)
     c.in-Err.error c.in-Err.ensures.fault
 
 pub returns-in-Err-parse_items-clause-words : goal.returns-in-Err-parse_items-clause-words
 returns-in-Err-parse_items-clause-words c =
-    short_lent (FaultOf c.args.version c.args.limit c.args.s.now)
+    short_borrowed (FaultOf c.args.version c.args.limit c.args.s.now)
     (short_fault c.args.version c.args.limit c.args.s.now) _ c.in-Err-parse_items.ensures.fault
 
-pub returns-in-Err-clause-place : goal.returns-in-Err-clause-place
-returns-in-Err-clause-place c =
-    lent_more (FaultOf Three c.args.limit c.args.s.now) (IsPlaced c.args.s.now)
+pub returns-in-Err-clause-position : goal.returns-in-Err-clause-position
+returns-in-Err-clause-position c =
+    borrowed_more (FaultOf Three c.args.limit c.args.s.now) (IsPlaced c.args.s.now)
     (is_placed Three c.args.limit c.args.s.now c.utf8.s)
     c.in-Err.error c.in-Err.ensures.fault
 
-pub returns-in-Err-parse_items-clause-place : goal.returns-in-Err-parse_items-clause-place
-returns-in-Err-parse_items-clause-place c =
-    lent_more (FaultOf c.args.version c.args.limit c.args.s.now) (IsPlaced c.args.s.now)
+pub returns-in-Err-parse_items-clause-position : goal.returns-in-Err-parse_items-clause-position
+returns-in-Err-parse_items-clause-position c =
+    borrowed_more (FaultOf c.args.version c.args.limit c.args.s.now) (IsPlaced c.args.s.now)
     (is_placed c.args.version c.args.limit c.args.s.now c.utf8.s) _
     c.in-Err-parse_items.ensures.fault
 
@@ -57,7 +57,7 @@ returns-in-Ok-parse_items c =
       fault = tt;
       spelled = λ list s. items_output _ _ list lax (c.in-Ok-parse_items.ensures.spelled list s);
       refused = c.in-Ok-parse_items.ensures.refused;
-      place = tt;
+      position = tt;
       words = tt;
       strings = found.2.1;
       reserved = tt;

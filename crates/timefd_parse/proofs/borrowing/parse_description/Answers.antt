@@ -50,7 +50,7 @@ returns-in-Ok-members-clause-empty c = λ e.
     ap (λ ts. ts ++ m.0) c.in-Ok.ensures.empty ∙
     none_read _ _ _ _ _ m.1 e)
 
--- where memory ran out behind the last piece, the text has no fault
+-- if memory ran out after the last piece, the text has no fault
 pub returns-in-Ok-members-clause-refused : goal.returns-in-Ok-members-clause-refused
 returns-in-Ok-members-clause-refused c = λ f h.
     no_fault_in _ _ _ _ _ f c.in-Ok-members.ensures.members.1 h

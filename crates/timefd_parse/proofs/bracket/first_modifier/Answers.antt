@@ -7,13 +7,13 @@ returns-in-Ok-clause-found c =
     modified _ _ _ c.in-Ok.modifier c.cut.ensures.parts (false-eqb _ 0 c.if-is_empty.ensures) c.in-Ok.ensures
 
 pub returns-in-Ok-clause-modifiers : goal.returns-in-Ok-clause-modifiers
-returns-in-Ok-clause-modifiers c = λ m behind is stops whole.
-    modifier_found _ _ _ m behind c.in-Ok.modifier c.cut.ensures.parts is stops whole
+returns-in-Ok-clause-modifiers c = λ m after is stops whole.
+    modifier_found _ _ _ m after c.in-Ok.modifier c.cut.ensures.parts is stops whole
     c.in-Ok.ensures
 
 pub returns-in-Err-clause-modifiers : goal.returns-in-Err-clause-modifiers
-returns-in-Err-clause-modifiers c = λ m behind is stops whole.
-    never_misfit _ _ _ m behind c.in-Err.ensures.0 c.in-Err.ensures.1 _ _ c.cut.ensures.parts is
+returns-in-Err-clause-modifiers c = λ m after is stops whole.
+    never_misfit _ _ _ m after c.in-Err.ensures.0 c.in-Err.ensures.1 _ _ c.cut.ensures.parts is
     stops whole c.in-Err.ensures.2 c.in-Err.ensures.3
 
 pub returns-in-Ok-clause-shorter : goal.returns-in-Ok-clause-shorter

@@ -4,7 +4,7 @@ use Rattle.timefd_component.specs.Reserved.{reserve, reserve_all}
 use Rattle.timefd_component.specs.Tree.{trees}
 use Rattle.timefd_items.specs.Builder.{built}
 use Rattle.timefd_language.specs.declared.description_version.DescriptionVersion.TheVariants.{Three}
-use Rattle.timefd_parse.proofs.AmountLemmas.{lent-in-version}
+use Rattle.timefd_parse.proofs.AmountLemmas.{borrowed-in-version}
 use Rattle.timefd_parse.proofs.BuildingLemmas.{list_within}
 use Rattle.timefd_parse.proofs.CountingLemmas.{none_built, pack_sum}
 use Rattle.timefd_parse.proofs.ParseLemmas.{is_amount, none_read, no_fault_in}
@@ -71,7 +71,7 @@ pub returns : goal.returns
 returns c =
     record {
       found = tt;
-      fault = lent-in-version _ _ _ _ c.error_of.ensures.fault;
+      fault = borrowed-in-version _ _ _ _ c.error_of.ensures.fault;
       spelled = c.error_of.ensures.spelled;
       refused = c.error_of.ensures.refused;
       memory = λ lax. absurd (true≢false lax);

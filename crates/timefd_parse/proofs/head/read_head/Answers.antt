@@ -8,7 +8,7 @@ use Rattle.timefd_parse.proofs.head.read_head.Goals.{then-is_empty-2, else-is_em
 
 pub returns-then-is_empty : goal.returns-then-is_empty
 returns-then-is_empty c = λ v limit n none.
-    let place : c.if-is_empty-2.remaining + name_wanted_index c.cut.result.0.now ≡ length
+    let position : c.if-is_empty-2.remaining + name_wanted_index c.cut.result.0.now ≡ length
     c.args.inside.now + 1 =
     elim c.if-is_empty-2.branch [
       | then-is_empty-2 w ↦ omega (
@@ -23,7 +23,7 @@ returns-then-is_empty c = λ v limit n none.
       )
     ] in
     nameless_fault v limit n _ _ _ _ _ _ none c.cut.ensures.parts c.cut-2.ensures.parts
-    (eqb-true _ 0 (sym c.if-is_empty.ensures)) place
+    (eqb-true _ 0 (sym c.if-is_empty.ensures)) position
 
 pub modifiers-init : goal.modifiers-init
 modifiers-init c = record {

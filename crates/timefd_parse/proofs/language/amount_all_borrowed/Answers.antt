@@ -1,11 +1,11 @@
 use Rattle.std.proofs.Common.{◌≡◌, List, IfOk, IfErr, IsFalse, MatchResult, sym, subst}
 use Rattle.timefd_fault.specs.Faults.{Fault}
 use Rattle.timefd_component.specs.Tree.{Tree}
-use Rattle.timefd_fault.specs.BorrowedFaults.{HasShortFault, IsLent, IsLentOf, IsMemory}
+use Rattle.timefd_fault.specs.BorrowedFaults.{HasShortFault, IsBorrowed, IsBorrowedOf, IsMemory}
 use Rattle.timefd_parse.specs.Language.{SpellsIn, FaultIn, amount, takes_memory}
 use Rattle.timefd_fault.specs.Placed.{IsPlaced}
-use Rattle.timefd_language.proofs.PlacedLemmas.{lent_more}
-use Rattle.timefd_language.proofs.ShortWords.{short_lent}
+use Rattle.timefd_language.proofs.PlacedLemmas.{borrowed_more}
+use Rattle.timefd_language.proofs.ShortWords.{short_borrowed}
 use Rattle.timefd_parse.proofs.AmountLemmas.{builds_nothing, if_err_more, placed_in, short_in}
 use Rattle.timefd_parse.proofs.language.amount_all_borrowed.Goals as goal
 
@@ -17,7 +17,7 @@ returns-in-Version-clause-found c =
 
 pub returns-in-Version-clause-fault : goal.returns-in-Version-clause-fault
 returns-in-Version-clause-fault c =
-    subst (λ l. IfErr c.version_amount.result (IsLentOf (FaultIn l c.args.limit c.args.text.now)))
+    subst (λ l. IfErr c.version_amount.result (IsBorrowedOf (FaultIn l c.args.limit c.args.text.now)))
     (sym c.in-Version.is) c.version_amount.ensures.fault
 
 pub returns-in-Version-clause-spelled : goal.returns-in-Version-clause-spelled
@@ -29,7 +29,7 @@ returns-in-Version-clause-spelled c =
 pub returns-in-Version-clause-refused : goal.returns-in-Version-clause-refused
 returns-in-Version-clause-refused c =
     subst (λ l. (f : Fault) → FaultIn l c.args.limit c.args.text.now f
-    → MatchResult c.version_amount.result (λ _. ⊥) (IsLent f)) (sym c.in-Version.is)
+    → MatchResult c.version_amount.result (λ _. ⊥) (IsBorrowed f)) (sym c.in-Version.is)
     c.version_amount.ensures.refused
 
 pub returns-in-Strftime-clause-found : goal.returns-in-Strftime-clause-found
@@ -40,7 +40,7 @@ returns-in-Strftime-clause-found c =
 
 pub returns-in-Strftime-clause-fault : goal.returns-in-Strftime-clause-fault
 returns-in-Strftime-clause-fault c =
-    subst (λ l. IfErr c.strftime_amount.result (IsLentOf (FaultIn l c.args.limit c.args.text.now)))
+    subst (λ l. IfErr c.strftime_amount.result (IsBorrowedOf (FaultIn l c.args.limit c.args.text.now)))
     (sym c.in-Strftime.is) c.strftime_amount.ensures.fault
 
 pub returns-in-Strftime-clause-spelled : goal.returns-in-Strftime-clause-spelled
@@ -52,43 +52,43 @@ returns-in-Strftime-clause-spelled c =
 pub returns-in-Strftime-clause-refused : goal.returns-in-Strftime-clause-refused
 returns-in-Strftime-clause-refused c =
     subst (λ l. (f : Fault) → FaultIn l c.args.limit c.args.text.now f
-    → MatchResult c.strftime_amount.result (λ _. ⊥) (IsLent f)) (sym c.in-Strftime.is)
+    → MatchResult c.strftime_amount.result (λ _. ⊥) (IsBorrowed f)) (sym c.in-Strftime.is)
     c.strftime_amount.ensures.refused
 
 pub returns-in-Version-clause-words : goal.returns-in-Version-clause-words
 returns-in-Version-clause-words c =
-    if_err_more (IsLentOf (FaultIn c.args.language c.args.limit c.args.text.now)) HasShortFault
-    (short_lent (FaultIn c.args.language c.args.limit c.args.text.now)
+    if_err_more (IsBorrowedOf (FaultIn c.args.language c.args.limit c.args.text.now)) HasShortFault
+    (short_borrowed (FaultIn c.args.language c.args.limit c.args.text.now)
     (short_in c.args.language c.args.limit c.args.text.now)) c.version_amount.result
-    (subst (λ l. IfErr c.version_amount.result (IsLentOf (FaultIn l c.args.limit c.args.text.now)))
+    (subst (λ l. IfErr c.version_amount.result (IsBorrowedOf (FaultIn l c.args.limit c.args.text.now)))
     (sym c.in-Version.is) c.version_amount.ensures.fault)
 
 pub returns-in-Strftime-clause-words : goal.returns-in-Strftime-clause-words
 returns-in-Strftime-clause-words c =
-    if_err_more (IsLentOf (FaultIn c.args.language c.args.limit c.args.text.now)) HasShortFault
-    (short_lent (FaultIn c.args.language c.args.limit c.args.text.now)
+    if_err_more (IsBorrowedOf (FaultIn c.args.language c.args.limit c.args.text.now)) HasShortFault
+    (short_borrowed (FaultIn c.args.language c.args.limit c.args.text.now)
     (short_in c.args.language c.args.limit c.args.text.now)) c.strftime_amount.result
-    (subst (λ l. IfErr c.strftime_amount.result (IsLentOf (FaultIn l c.args.limit c.args.text.now)))
+    (subst (λ l. IfErr c.strftime_amount.result (IsBorrowedOf (FaultIn l c.args.limit c.args.text.now)))
     (sym c.in-Strftime.is) c.strftime_amount.ensures.fault)
 
 pub returns-in-Version-clause-memory : goal.returns-in-Version-clause-memory
 returns-in-Version-clause-memory c = λ lax. c.version_amount.ensures.memory
     (builds_nothing _ (subst (λ l. IsFalse (takes_memory l)) c.in-Version.is lax))
 
-pub returns-in-Version-clause-place : goal.returns-in-Version-clause-place
-returns-in-Version-clause-place c =
-    if_err_more (IsLentOf (FaultIn c.args.language c.args.limit c.args.text.now))
-    (IsLentOf (IsPlaced c.args.text.now))
-    (lent_more (FaultIn c.args.language c.args.limit c.args.text.now) (IsPlaced c.args.text.now)
+pub returns-in-Version-clause-position : goal.returns-in-Version-clause-position
+returns-in-Version-clause-position c =
+    if_err_more (IsBorrowedOf (FaultIn c.args.language c.args.limit c.args.text.now))
+    (IsBorrowedOf (IsPlaced c.args.text.now))
+    (borrowed_more (FaultIn c.args.language c.args.limit c.args.text.now) (IsPlaced c.args.text.now)
     (placed_in c.args.language c.args.limit c.args.text.now c.utf8.text)) c.version_amount.result
-    (subst (λ l. IfErr c.version_amount.result (IsLentOf (FaultIn l c.args.limit c.args.text.now)))
+    (subst (λ l. IfErr c.version_amount.result (IsBorrowedOf (FaultIn l c.args.limit c.args.text.now)))
     (sym c.in-Version.is) c.version_amount.ensures.fault)
 
-pub returns-in-Strftime-clause-place : goal.returns-in-Strftime-clause-place
-returns-in-Strftime-clause-place c =
-    if_err_more (IsLentOf (FaultIn c.args.language c.args.limit c.args.text.now))
-    (IsLentOf (IsPlaced c.args.text.now))
-    (lent_more (FaultIn c.args.language c.args.limit c.args.text.now) (IsPlaced c.args.text.now)
+pub returns-in-Strftime-clause-position : goal.returns-in-Strftime-clause-position
+returns-in-Strftime-clause-position c =
+    if_err_more (IsBorrowedOf (FaultIn c.args.language c.args.limit c.args.text.now))
+    (IsBorrowedOf (IsPlaced c.args.text.now))
+    (borrowed_more (FaultIn c.args.language c.args.limit c.args.text.now) (IsPlaced c.args.text.now)
     (placed_in c.args.language c.args.limit c.args.text.now c.utf8.text)) c.strftime_amount.result
-    (subst (λ l. IfErr c.strftime_amount.result (IsLentOf (FaultIn l c.args.limit c.args.text.now)))
+    (subst (λ l. IfErr c.strftime_amount.result (IsBorrowedOf (FaultIn l c.args.limit c.args.text.now)))
     (sym c.in-Strftime.is) c.strftime_amount.ensures.fault)

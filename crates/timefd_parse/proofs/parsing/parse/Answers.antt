@@ -3,7 +3,7 @@ use Rattle.timefd_language.specs.Broken.{FaultOf}
 use Rattle.timefd_language.specs.Grammar.{nesting_limit}
 use Rattle.timefd_fault.specs.Placed.{IsPlaced}
 use Rattle.timefd_fault.proofs.OwnedLemmas.{owned_fault, owned_memory}
-use Rattle.timefd_language.proofs.PlacedLemmas.{is_placed, lent_more, owned_placed}
+use Rattle.timefd_language.proofs.PlacedLemmas.{is_placed, borrowed_more, owned_placed}
 use Rattle.timefd_parse.proofs.ParseLemmas.{owned_assigned}
 use Rattle.timefd_parse.proofs.parsing.parse.Goals as goal
 
@@ -19,9 +19,9 @@ pub returns-in-Err-clause-refused : goal.returns-in-Err-clause-refused
 returns-in-Err-clause-refused c = λ f h.
     owned_fault f _ _ (c.in-Err.ensures.refused f h) c.into_owned.ensures
 
-pub returns-in-Err-clause-place : goal.returns-in-Err-clause-place
-returns-in-Err-clause-place c =
+pub returns-in-Err-clause-position : goal.returns-in-Err-clause-position
+returns-in-Err-clause-position c =
     owned_placed c.args.s.now _ _
-    (lent_more (FaultOf One nesting_limit c.args.s.now) (IsPlaced c.args.s.now)
+    (borrowed_more (FaultOf One nesting_limit c.args.s.now) (IsPlaced c.args.s.now)
     (is_placed One nesting_limit c.args.s.now c.utf8.s) _ c.in-Err.ensures.fault)
     c.into_owned.ensures

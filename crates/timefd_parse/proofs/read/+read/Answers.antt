@@ -6,7 +6,7 @@ use Rattle.timefd_language.specs.Bytes.{left, is_version_three}
 use Rattle.timefd_parse.specs.Read.{IsFaultIn, IsNext}
 use Rattle.timefd_parse.proofs.BuildingLemmas.{built_none, built_more, built_there, built_within}
 use Rattle.timefd_parse.proofs.ReadLemmas.{continues_more, members_end, items_fault, memory_or, closing_outside, fault_outside, doubled_leads, opening_leads, utf8_after, cut_shorter}
-use Rattle.timefd_parse.proofs.NestedLemmas.{bracket_begins, behind_within, no_bracket, no_closing, accepted, refuses, never_closed, at_limit, inner_fails, inner_cut_off, inner_read, nested_shorter, nested_fault, one_more}
+use Rattle.timefd_parse.proofs.NestedLemmas.{bracket_begins, after_within, no_bracket, no_closing, accepted, refuses, never_closed, at_limit, inner_fails, inner_cut_off, inner_read, nested_shorter, nested_fault, one_more}
 use Rattle.timefd_parse.proofs.read.+read.Goals as goal
 
 pub bracket-returns-in-Some-clause-piece : goal.bracket-returns-in-Some-clause-piece
@@ -20,7 +20,7 @@ pub bracket-inner-init : goal.bracket-inner-init
 bracket-inner-init g t c =
     let e = c.in_ok-head.ensures in (
       e.1,
-      omega (arith, behind_within e.0.1),
+      omega (arith, after_within e.0.1),
       [],
       bracket_begins e.0.1,
       refl,
@@ -72,19 +72,19 @@ nested-returns-clause-nested g t c =
       c.in_ok-pack.ensures.built _ m.0 m.3 m.2,
     )
 
-pub bracket-returns-in_err-after-in-Opening-clause-piece : goal.bracket-returns-in_err-after-in-Opening-clause-piece
-bracket-returns-in_err-after-in-Opening-clause-piece g t c =
-    let p = err_from_is_err_and c.from_residual-in_err-after-in-Opening.result
-    c.from_residual-in_err-after-in-Opening.ensures.1 in
+pub bracket-returns-in_err-following-in-Opening-clause-piece : goal.bracket-returns-in_err-following-in-Opening-clause-piece
+bracket-returns-in_err-following-in-Opening-clause-piece g t c =
+    let p = err_from_is_err_and c.from_residual-in_err-following-in-Opening.result
+    c.from_residual-in_err-following-in-Opening.ensures.1 in
     rw (p.1, p.2) (nested_fault c.inner.invariant.3 _ _ c.in-Opening.ensures
-    c.in_err-after-in-Opening.ensures.nested)
+    c.in_err-following-in-Opening.ensures.nested)
 
 pub bracket-overflow_add-count : goal.bracket-overflow_add-count
 bracket-overflow_add-count g t c = omega (arith, c.inner.invariant.1, ap length c.in-Opening.ensures)
 
 pub bracket-inner-preserved : goal.bracket-inner-preserved
 bracket-inner-preserved g t c =
-    let n = c.in_ok-after-in-Opening.ensures.nested in (
+    let n = c.in_ok-following-in-Opening.ensures.nested in (
       c.cut.ensures.utf8,
       omega (
         arith,

@@ -12,16 +12,16 @@ returns-in-Some c = λ limit n.
 
 pub returns-after-is_empty : goal.returns-after-is_empty
 returns-after-is_empty c = λ limit n.
-    let place : escape_index c.args.after.now + c.if-is_empty.remaining ≡ 1 + length
-    c.args.after.now =
+    let position : escape_index c.args.following.now + c.if-is_empty.remaining ≡ 1 + length
+    c.args.following.now =
     elim c.if-is_empty.branch [
       | then-is_empty w ↦ let e = eqb-true _ 0 (sym w.if-is_empty.ensures) in
-          omega (arith, w.remaining-is, e, escape_none c.args.after.now e)
+          omega (arith, w.remaining-is, e, escape_none c.args.following.now e)
       | else-is_empty w ↦ omega (
         arith,
         w.remaining-is,
-        escape_some c.args.after.now (false-eqb _ 0 w.if-is_empty.ensures),
+        escape_some c.args.following.now (false-eqb _ 0 w.if-is_empty.ensures),
       )
     ] in
     escape_fault _ limit n _ _ _ (not_one _ c.in_default.not-One) c.requires c.in-None.ensures
-    (record { kind = refl; place = place })
+    (record { kind = refl; position = position })

@@ -1,9 +1,9 @@
 use Rattle.std.proofs.Common.{refl, sym, subst, IsUtf8, lit<}
-use Rattle.timefd_parse.proofs.ReadLemmas.{behind_first, utf8_behind_first, first_is, rest_is, not_three, closing_leads, closing_fault_of}
+use Rattle.timefd_parse.proofs.ReadLemmas.{after_first, utf8_after_first, first_is, rest_is, not_three, closing_leads, closing_fault_of}
 use Rattle.timefd_parse.proofs.read.closing.Goals as goal
 
 pub split_at-requires : goal.split_at-requires
-split_at-requires c = behind_first _ _ _ c.requires.1 (lit< tt) c.utf8.text
+split_at-requires c = after_first _ _ _ c.requires.1 (lit< tt) c.utf8.text
 
 pub returns-in-Three : goal.returns-in-Three
 returns-in-Three c = λ limit. closing_fault_of _ limit _ _ _ c.in-Three.is c.requires.1 refl refl
@@ -14,4 +14,4 @@ returns c = λ limit.
     (first_is _ _ _ _ c.requires.1 c.split_at.ensures.front)
     (rest_is _ _ _ _ c.requires.1 c.split_at.ensures.back)
     (subst IsUtf8 (sym c.split_at.ensures.back)
-    (utf8_behind_first _ _ _ c.requires.1 (lit< tt) c.utf8.text))
+    (utf8_after_first _ _ _ c.requires.1 (lit< tt) c.utf8.text))

@@ -46,12 +46,12 @@ pieces-preserved c =
       within = omega (arith, next.1.shorter, c.pieces.invariant.within);
       before =
           subst (λ items. Continues c.args.version c.args.limit 0 c.args.text.now
-          (map item_tree items) c.in-Some.after.now) (sym c.in_ok-push.ensures.items)
+          (map item_tree items) c.in-Some.following.now) (sym c.in_ok-push.ensures.items)
           (subst (λ done. Continues c.args.version c.args.limit 0 c.args.text.now done
-          c.in-Some.after.now) (sym
+          c.in-Some.following.now) (sym
           (map-append item_tree c.pieces.items.items (c.into_item.result ∷ [])))
           (subst (λ tree. Continues c.args.version c.args.limit 0 c.args.text.now
-          (map item_tree c.pieces.items.items ++ tree ∷ []) c.in-Some.after.now)
+          (map item_tree c.pieces.items.items ++ tree ∷ []) c.in-Some.following.now)
           (sym (same_leaf (is_version_three c.args.version) false (built c.pieces.builder)
           (built c.next_piece.new.builder) c.in-Some.piece next.0 (item_tree c.into_item.result)
           next.2 c.into_item.ensures.tree))

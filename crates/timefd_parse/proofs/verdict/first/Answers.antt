@@ -9,33 +9,33 @@ use Rattle.timefd_language.specs.Bytes.{is_version_three}
 use Rattle.timefd_parse.proofs.verdict.first.Goals as goal
 
 pub returns-then-not-is_strict-clause-tree : goal.returns-then-not-is_strict-clause-tree
-returns-then-not-is_strict-clause-tree g c = λ place h parts base good shows e are. (
+returns-then-not-is_strict-clause-tree g c = λ position h parts base good shows e are. (
   fault first_item 0,
-  first_lax _ place h parts good
+  first_lax _ position h parts good
       (sym c.if-not-is_strict.ensures),
-  record { kind = refl; place = omega arith },
+  record { kind = refl; position = omega arith },
 )
 
 pub returns-then-nested-eq0-clause-tree : goal.returns-then-nested-eq0-clause-tree
-returns-then-nested-eq0-clause-tree g c = λ place h parts base good shows e are. (
-  fault expected_alternative place,
-  first_empty _ place h parts good (sym c.if-not-is_strict.ensures)
+returns-then-nested-eq0-clause-tree g c = λ position h parts base good shows e are. (
+  fault expected_alternative position,
+  first_empty _ position h parts good (sym c.if-not-is_strict.ensures)
       (parts_none c.args.span.start c.args.nested parts shows c.if-nested-eq0.true),
-  record { kind = refl; place = e },
+  record { kind = refl; position = e },
 )
 
 pub first-requires : goal.first-requires
 first-requires g c = c.requires (is_on g.row.BUILDS c.if-not-this.false)
 
 pub returns-clause-tree : goal.returns-clause-tree
-returns-clause-tree g c = λ place h parts base good shows e are.
-    first_made (is_version_three c.args.version) _ c.args.span.start place c.args.nested h parts
+returns-clause-tree g c = λ position h parts base good shows e are.
+    first_made (is_version_three c.args.version) _ c.args.span.start position c.args.nested h parts
     base (built c.args.builder.now) (built c.first.new.self) good shows
     c.if-nested-eq0.false (sym c.if-not-is_strict.ensures) are (λ on. c.in_ok-first.ensures.made)
 
 pub returns-then-not-this-clause-tree : goal.returns-then-not-this-clause-tree
-returns-then-not-this-clause-tree g c = λ place h parts base good shows e are.
-    first_made (is_version_three c.args.version) _ c.args.span.start place c.args.nested h parts
+returns-then-not-this-clause-tree g c = λ position h parts base good shows e are.
+    first_made (is_version_three c.args.version) _ c.args.span.start position c.args.nested h parts
     base (built c.args.builder.now) (built c.args.builder.now) good shows
     c.if-nested-eq0.false (sym c.if-not-is_strict.ensures) are
     (λ on. absurd (true≢false (sym on ∙ is_off g.row.BUILDS c.if-not-this.true)))

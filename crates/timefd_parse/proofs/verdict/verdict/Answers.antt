@@ -9,43 +9,43 @@ use Rattle.timefd_language.specs.Bytes.{is_version_three}
 use Rattle.timefd_parse.proofs.verdict.verdict.Goals as goal
 
 pub returns-in-Some-clause-tree : goal.returns-in-Some-clause-tree
-returns-in-Some-clause-tree g c = λ place h parts base is nested e are.
-    misplaced_nested (is_version_three c.args.version) c.args.span.start place h c.args.head.now.nests parts
+returns-in-Some-clause-tree g c = λ position h parts base is nested e are.
+    misplaced_nested (is_version_three c.args.version) c.args.span.start position h c.args.head.now.nests parts
     c.args.head.now.verdict c.placing_fault.result _ is (c.placing_fault.ensures parts nested)
     c.in-Some.is
 
 pub returns-in-Component-clause-tree : goal.returns-in-Component-clause-tree
-returns-in-Component-clause-tree g c = λ place h parts base is nested e are.
+returns-in-Component-clause-tree g c = λ position h parts base is nested e are.
     let v = subst (IsVerdict (is_version_three c.args.version) c.args.span.start h c.args.head.now.nests)
     c.in-Component.is is in
     let placed = c.placing_fault.ensures parts nested in
     let none = none_nested c.args.span.start c.args.head.now.nests parts c.placing_fault.result v.0
     placed c.in_default.is in (
       component c.in-Component.component,
-      well_placed (is_version_three c.args.version) c.args.span.start place h c.args.head.now.nests parts
-          (λ parts place. Ok (component c.in-Component.component)) c.placing_fault.result v.2 placed
+      well_placed (is_version_three c.args.version) c.args.span.start position h c.args.head.now.nests parts
+          (λ parts position. Ok (component c.in-Component.component)) c.placing_fault.result v.2 placed
           c.in_default.is,
       c.component_piece.ensures _ _ _ v.1
           (λ on. are on ∙ ap (λ ps. base ++ packed ps) none ∙ append-nil base),
     )
 
 pub returns-in-Optional-clause-tree : goal.returns-in-Optional-clause-tree
-returns-in-Optional-clause-tree g c = λ place h parts base is nested e are.
+returns-in-Optional-clause-tree g c = λ position h parts base is nested e are.
     let v = subst (IsVerdict (is_version_three c.args.version) c.args.span.start h c.args.head.now.nests)
     c.in-Optional.is is in
     subst (Judged c.args.span.start (is_version_three c.args.version) (not (g.row.BUILDS == 0)) base (built c.optional.new.builder)
     c.optional.result)
-    (sym (well_placed (is_version_three c.args.version) c.args.span.start place h c.args.head.now.nests parts
+    (sym (well_placed (is_version_three c.args.version) c.args.span.start position h c.args.head.now.nests parts
     (optional_verdict (is_version_three c.args.version) h) c.placing_fault.result v.2
     (c.placing_fault.ensures parts nested) c.in_default.is))
-    (c.optional.ensures.tree place h parts base v.0 v.1 nested e are)
+    (c.optional.ensures.tree position h parts base v.0 v.1 nested e are)
 
 pub returns-in-First-clause-tree : goal.returns-in-First-clause-tree
-returns-in-First-clause-tree g c = λ place h parts base is nested e are.
+returns-in-First-clause-tree g c = λ position h parts base is nested e are.
     let v = subst (IsVerdict (is_version_three c.args.version) c.args.span.start h c.args.head.now.nests)
     c.in-First.is is in
     subst (Judged c.args.span.start (is_version_three c.args.version) (not (g.row.BUILDS == 0)) base (built c.first.new.builder) c.first.result)
-    (sym (well_placed (is_version_three c.args.version) c.args.span.start place h c.args.head.now.nests parts
+    (sym (well_placed (is_version_three c.args.version) c.args.span.start position h c.args.head.now.nests parts
     (first_verdict (is_version_three c.args.version) h) c.placing_fault.result v.1
     (c.placing_fault.ensures parts nested) c.in_default.is))
-    (c.first.ensures.tree place h parts base v.0 nested e are)
+    (c.first.ensures.tree position h parts base v.0 nested e are)

@@ -6,7 +6,7 @@ use Rattle.timefd_language.specs.Bytes.{is_run_byte, StopsBefore}
 use Rattle.timefd_print.specs.Printed.{escaped}
 use Rattle.timefd_print.proofs.literal.push_literal.Given as goal
 
--- what is written so far, and of the rest, is what is written of the literal
+-- what is written so far, and what is written for the rest, is what is written for the literal
 abbrev pub invariant-loop-special : goal.invariant-loop-special
 invariant-loop-special l =
     shadow (Utf8 l.rest)

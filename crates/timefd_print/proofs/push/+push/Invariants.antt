@@ -6,7 +6,7 @@ use Rattle.timefd_node_list.specs.Views.{member_trees, view_tree}
 use Rattle.timefd_print.specs.Printed.{printed_all, nested_all}
 use Rattle.timefd_print.proofs.push.+push.Given as goal
 
--- what is printed so far, and of the members that are left, is all
+-- what is printed so far, and what is printed for the members that are left, is all
 abbrev pub invariant-push_all-members : goal.invariant-push_all-members
 invariant-push_all-members l =
     (trees_count (trees (turn_trees l.member-iterator))

@@ -4,7 +4,7 @@ use Rattle.std.specs.List.{prefix_len}
 use Rattle.std.specs.Str.Parse.{digits_value}
 use Rattle.timefd_read_dates.proofs.digits.leading_digits.Given as goal
 
--- so many digits are read, and those that are left are the others
+-- This many digits are read, and the others are left.
 abbrev pub invariant-digits : goal.invariant-digits
 invariant-digits l = record {
   within : l.count ≤ l.most;

@@ -5,13 +5,13 @@ use Rattle.timefd_read_dates.specs.Reads as spec
 use Rattle.timefd_read_dates.specs.Reads.{at}
 use Rattle.timefd_read_dates.proofs.items.+items.Given as goal
 
--- what is left decides
+-- What is left decides.
 abbrev pub invariant-read_all-items : goal.invariant-read_all-items
 invariant-read_all-items l =
     spec.read_all (trees (map item_tree (drop l.item-index l.items))) (at l.left l.fields)
     ≡ spec.read_all (trees (map item_tree l.items)) (at l.fn.rest l.fn.fields)
 
--- each alternative begins with the fields from before
+-- Each alternative begins with the fields from before.
 abbrev pub invariant-read_first-alternatives : goal.invariant-read_first-alternatives
 invariant-read_first-alternatives l =
     (l.fields ≡ l.before)

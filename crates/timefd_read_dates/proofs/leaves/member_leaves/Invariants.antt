@@ -4,7 +4,7 @@ use Rattle.timefd_node_list.specs.Turns.{turn_trees}
 use Rattle.timefd_node_list.specs.Views.{member_trees}
 use Rattle.timefd_read_dates.proofs.leaves.member_leaves.Given as goal
 
--- those that were found, and those that are left
+-- The leaves that were found, and the members that are left.
 abbrev pub invariant-members : goal.invariant-members
 invariant-members l =
     member_trees l.fn.members ≡ map leaf_tree l.leaves.items ++ turn_trees l.member-iterator

@@ -5,10 +5,10 @@ use Rattle.timefd_read_dates.proofs.names.first_of.Given as goal
 -- the names that are left decide
 abbrev pub invariant-names : goal.invariant-names
 invariant-names l = record {
-  within : l.place ≤ length l.names;
-  left : spec.name_from l.place l.is_case_sensitive (map (λ name. name.now) (drop l.place l.names)) l.text
+  within : l.position ≤ length l.names;
+  left : spec.name_from l.position l.is_case_sensitive (map (λ name. name.now) (drop l.position l.names)) l.text
       ≡ spec.name_from 0 l.is_case_sensitive (map (λ name. name.now) l.names) l.text;
 }
 
 abbrev pub decreases-names : goal.decreases-names
-decreases-names l = length l.names - l.place
+decreases-names l = length l.names - l.position

@@ -7,7 +7,6 @@ use Rattle.timefd_rewrite.specs.Cures.{IsIncurable}
 use Rattle.timefd_rewrite.proofs.MendedLemmas.{unmended}
 use Rattle.timefd_rewrite.proofs.fixing.one_more.Goals as goal
 
--- src/fixing.rt:65:1
 pub returns-in-Ok-None-cured-clause-unmended : goal.returns-in-Ok-None-cured-clause-unmended
 returns-in-Ok-None-cured-clause-unmended c =
     let d = c.in-Ok-Some.diagnostic in

@@ -4,4 +4,4 @@ use Rattle.timefd_rewrite.proofs.nearest.like.Goals as goal
 
 pub returns-then-branch : goal.returns-then-branch
 returns-then-branch c =
-    subst (ReadsAs c.args.anew.now) c.deref.ensures (c.in_ok-reads_as.ensures c.if-branch.true)
+    subst (ReadsAs c.args.rewritten.now) c.deref.ensures (c.in_ok-reads_as.ensures c.if-branch.true)

@@ -2,7 +2,7 @@ use Rattle.std.proofs.Common.{◌≡◌}
 use Rattle.timefd_rewrite.proofs.RewriteLemmas.{AreUpTo}
 use Rattle.timefd_rewrite.proofs.rewrite.rewrite_lines.Given as goal
 
--- The lines that are gone from the reader stand in the writer, and as many turns were made.
+-- The lines that were read are written, and there was one step for each of them.
 abbrev pub invariant-lines : goal.invariant-lines
 invariant-lines g l = record {
   so_far : AreUpTo l.layout l.comment (g.R.Read.remaining l.fn.reader)

@@ -2,8 +2,8 @@ use Rattle.std.proofs.Common.{sym}
 use Rattle.timefd_rewrite.proofs.RewriteLemmas.{answer_placed}
 use Rattle.timefd_rewrite.proofs.rewrite.write_answer.Goals as goal
 
-pub returns-clause-places : goal.returns-clause-places
-returns-clause-places g c =
+pub returns-clause-positions : goal.returns-clause-positions
+returns-clause-positions g c =
     answer_placed c.args.line.now c.args.answer.now c.without_newline-text.result.now
     (g.W.Write.contents c.args.writer.now) (g.W.Write.contents c.keep-2.new.writer)
     (g.W.Write.contents c.keep-3.new.writer) c.keep-3.result c.without_newline-text.ensures

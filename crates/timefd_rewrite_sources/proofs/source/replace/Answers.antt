@@ -11,8 +11,8 @@ returns c =
     (take (c.body_end-end.result - length c.in-Some.old.now - c.args.from) (drop c.args.from c.as_bytes.result.now))
     c.args.bytes.now.items c.extend_from_slice.new.self.items c.extend_from_slice-in-Some.new.self.items
     c.inside.result c.in-Some.old c.inside.ensures.inside c.in-Some.is refl c.body_end-end.ensures
-    c.in-Some.ensures.place
-    (omega (arith, c.in-Some.ensures.within, c.requires.behind, c.body_end-end.ensures))
+    c.in-Some.ensures.position
+    (omega (arith, c.in-Some.ensures.within, c.requires.after, c.body_end-end.ensures))
     (ap (λ (t : Text). take (c.body_end-end.result - length c.in-Some.old.now - c.args.from) (drop c.args.from t))
     c.as_bytes.ensures.value)
     (first_of (search rules, cc, grind (arith, common_steps)))

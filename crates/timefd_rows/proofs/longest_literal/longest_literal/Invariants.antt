@@ -5,7 +5,7 @@ use Rattle.timefd_node_list.specs.Views.{walked}
 use Rattle.timefd_rows.specs.Longest.{longest}
 use Rattle.timefd_rows.proofs.longest_literal.longest_literal.Given as goal
 
--- the longest so far, or that of the parts that are left, is the longest of all
+-- the longest literal is the longer of the one so far and the longest in the parts that are left
 abbrev pub invariant-parts : goal.invariant-parts
 invariant-parts l = max l.bytes (longest (walk_trees l.part-iterator)) ≡ longest
     (walked (description_tree l.fn.description))

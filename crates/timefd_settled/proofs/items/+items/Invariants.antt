@@ -4,7 +4,7 @@ use Rattle.timefd_format_item.specs.Meaning.{item_tree}
 use Rattle.timefd_settled.specs.Reached.{reached_all}
 use Rattle.timefd_settled.proofs.items.+items.Given as goal
 
--- what is left decides
+-- the result depends only on what is left
 abbrev pub invariant-before_all-items : goal.invariant-before_all-items
 invariant-before_all-items l =
     (l.left ≤ length l.items)

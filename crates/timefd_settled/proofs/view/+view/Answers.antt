@@ -8,7 +8,8 @@ use Rattle.timefd_settled.proofs.view.+view.Goals as goal
 
 pub before_all-before-requires : goal.before_all-before-requires
 before_all-before-requires t c =
-    let count : trees_count (trees (member_trees c.members.left)) ≡ trees_count (trees (member_trees c.in-Some.front)) + tree_count (view_tree c.in-Some.last) =
+    let count : trees_count (trees (member_trees c.members.left))
+    ≡ trees_count (trees (member_trees c.in-Some.front)) + tree_count (view_tree c.in-Some.last) =
     count_last (member_trees c.members.left) (member_trees c.in-Some.front) (view_tree c.in-Some.last) c.in-Some.ensures in
     search rules
 
@@ -23,7 +24,8 @@ before_all-returns-in_err-reached t c =
 
 pub before_all-members-smaller : goal.before_all-members-smaller
 before_all-members-smaller t c =
-    let count : trees_count (trees (member_trees c.members.left)) ≡ trees_count (trees (member_trees c.in-Some.front)) + tree_count (view_tree c.in-Some.last) =
+    let count : trees_count (trees (member_trees c.members.left))
+    ≡ trees_count (trees (member_trees c.in-Some.front)) + tree_count (view_tree c.in-Some.last) =
     count_last (member_trees c.members.left) (member_trees c.in-Some.front) (view_tree c.in-Some.last) c.in-Some.ensures in
     let some = some_parts (view_tree c.in-Some.last) in
     omega (arith, count, some)

@@ -5,7 +5,7 @@ use Rattle.timefd_node_list.specs.Views.{member_trees, view_tree}
 use Rattle.timefd_settled.specs.Reached.{reached_all}
 use Rattle.timefd_settled.proofs.view.+view.Given as goal
 
--- what is left decides
+-- the result depends only on what is left
 abbrev pub invariant-before_all-members : goal.invariant-before_all-members
 invariant-before_all-members l =
     (trees_count (trees (member_trees l.left)) ≤ trees_count (trees (member_trees l.fn.members)))

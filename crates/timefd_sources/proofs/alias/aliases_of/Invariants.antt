@@ -2,7 +2,7 @@ use Rattle.std.proofs.Common.{◌≡◌, ◌++◌, length}
 use Rattle.timefd_sources.specs.Aliases as spec
 use Rattle.timefd_sources.proofs.alias.aliases_of.Given as goal
 
--- What is left adds all of it.
+-- The aliases so far, followed by those of the rest, are all aliases.
 abbrev pub invariant-tokens : goal.invariant-tokens
 invariant-tokens l = l.aliases.items ++ spec.aliases_in l.source l.rest ≡ spec.aliases_in l.source l.pieces
 

@@ -2,7 +2,7 @@ use Rattle.std.proofs.Common.{◌≡◌, ◌≤◌, ◌+◌, length}
 use Rattle.timefd_sources.specs.Aliases as spec
 use Rattle.timefd_sources.proofs.alias.block_end.Given as goal
 
--- What is left decides.
+-- The answer for the rest is the answer for everything.
 abbrev pub invariant-tokens : goal.invariant-tokens
 invariant-tokens l = record {
   rest : spec.block_end l.source l.depth l.rest ≡ spec.block_end l.source 0 l.pieces;

@@ -2,10 +2,10 @@ use Rattle.std.proofs.Common.{◌≡◌, length}
 use Rattle.timefd_sources.specs.Aliases as spec
 use Rattle.timefd_sources.proofs.alias.original_of.Given as goal
 
--- What is left decides.
+-- The answer for the rest is the answer for everything.
 abbrev pub invariant-aliases : goal.invariant-aliases
-invariant-aliases l = spec.original_of l.source l.name l.place l.rest
-    ≡ spec.original_of l.source l.name l.place l.aliases
+invariant-aliases l = spec.original_of l.source l.name l.position l.rest
+    ≡ spec.original_of l.source l.name l.position l.aliases
 
 abbrev pub decreases-aliases : goal.decreases-aliases
 decreases-aliases l = length l.rest

@@ -2,7 +2,7 @@ use Rattle.std.proofs.Common.{◌≡◌, length}
 use Rattle.timefd_sources.specs.Aliases as spec
 use Rattle.timefd_sources.proofs.alias.parse_in_list.Given as goal
 
--- What is left decides.
+-- The answer for the rest is the answer for everything.
 abbrev pub invariant-tokens : goal.invariant-tokens
 invariant-tokens l = spec.parse_in_list l.source l.rest ≡ spec.parse_in_list l.source l.pieces
 

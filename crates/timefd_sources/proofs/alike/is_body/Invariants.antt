@@ -2,7 +2,7 @@ use Rattle.std.proofs.Common.{◌≡◌, length}
 use Rattle.timefd_sources.specs.Grammar.{is_body}
 use Rattle.timefd_sources.proofs.alike.is_body.Given as goal
 
--- What is left decides.
+-- The answer for the rest is the answer for everything.
 abbrev pub invariant-bytes : goal.invariant-bytes
 invariant-bytes l = is_body l.rest ≡ is_body l.fn.body
 

@@ -1,5 +1,5 @@
 use Rattle.std.proofs.Common.{◌∙◌, ap, refl, rules, arith}
-use Rattle.timefd_sources.proofs.CandidateLemmas.{at_last, one_more, told_at_token}
+use Rattle.timefd_sources.proofs.CandidateLemmas.{at_last, one_more, reported_at_token}
 use Rattle.timefd_sources.specs.Frames.{passed}
 use Rattle.timefd_sources.proofs.description.described_by.Goals as goal
 
@@ -15,10 +15,10 @@ loop-index-preserved c =
     ∙ ap (λ s. passed s c.args.pieces.now c.args.aliases.now c.args.uses.now c.loop-index.index c.loop-index.frames.items) c.as_bytes.ensures.value)
     c.still_open-comments.ensures
     (c.candidate_at-candidate.ensures
-    ∙ told_at_token c.args.source.now c.as_bytes-in-loop-index.result.now c.args.pieces.now c.loop-index.index _
+    ∙ reported_at_token c.args.source.now c.as_bytes-in-loop-index.result.now c.args.pieces.now c.loop-index.index _
     c.pass.new.frames.items c.deref.result.now c.innermost-frame.result c.still_open-comments.result.now
-    c.told_at-dialect.result c.as_bytes-in-loop-index.ensures.value c.deref.ensures.value
-    c.innermost-frame.ensures c.told_at-dialect.ensures)
+    c.reported_at-dialect.result c.as_bytes-in-loop-index.ensures.value c.deref.ensures.value
+    c.innermost-frame.ensures c.reported_at-dialect.ensures)
     c.in_ok-found.ensures c.in_ok-end.ensures.pushed c.in_ok-end.ensures.end
     c.loop-index.invariant
 

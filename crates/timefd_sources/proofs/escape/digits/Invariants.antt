@@ -3,7 +3,7 @@ use Rattle.std.specs.Prelude.{MatchOption, ⊤}
 use Rattle.timefd_sources.specs.Escapes.{digits}
 use Rattle.timefd_sources.proofs.escape.digits.Given as goal
 
--- What is left decides.
+-- The answer for the rest is the answer for everything.
 abbrev pub invariant-bytes : goal.invariant-bytes
 invariant-bytes l = record {
   part : digits l.value l.rest ≡ digits l.fn.first l.fn.text;

@@ -4,10 +4,10 @@ use Rattle.timefd_sources.specs.Bytes.{class_test}
 use Rattle.timefd_sources.specs.declared.class.Class.TheVariants.{Line}
 use Rattle.timefd_sources.proofs.line.line_start.Given as goal
 
--- No line feed stands behind.
+-- There is no line feed between `start` and `to`.
 abbrev pub invariant-bytes : goal.invariant-bytes
 invariant-bytes l = record {
-  behind : suffix_len (class_test Line) (take l.fn.to l.fn.source)
+  after : suffix_len (class_test Line) (take l.fn.to l.fn.source)
       ≡ l.fn.to - l.start + suffix_len (class_test Line) (take l.start l.fn.source);
   from : l.fn.from ≤ l.start;
   within : l.start ≤ l.fn.to;

@@ -2,7 +2,7 @@ use Rattle.std.proofs.Common.{◌≡◌, length}
 use Rattle.timefd_sources.specs.Looks as spec
 use Rattle.timefd_sources.proofs.look.has_word.Given as goal
 
--- What is left decides.
+-- The answer for the rest is the answer for everything.
 abbrev pub invariant-tokens : goal.invariant-tokens
 invariant-tokens l = spec.has_word l.source l.word l.rest ≡ spec.has_word l.source l.word l.pieces
 

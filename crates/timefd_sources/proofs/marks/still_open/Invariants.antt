@@ -2,9 +2,9 @@ use Rattle.std.proofs.Common.{◌≡◌, length}
 use Rattle.timefd_sources.specs.Marks as spec
 use Rattle.timefd_sources.proofs.marks.still_open.Given as goal
 
--- What is left decides.
+-- The answer for the rest is the answer for everything.
 abbrev pub invariant-marks : goal.invariant-marks
-invariant-marks l = spec.still_open l.place l.rest ≡ spec.still_open l.place l.marks
+invariant-marks l = spec.still_open l.position l.rest ≡ spec.still_open l.position l.marks
 
 abbrev pub decreases-marks : goal.decreases-marks
 decreases-marks l = length l.rest

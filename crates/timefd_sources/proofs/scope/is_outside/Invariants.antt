@@ -2,10 +2,10 @@ use Rattle.std.proofs.Common.{◌≡◌, ◌≤◌, ◌+◌, length}
 use Rattle.timefd_sources.specs.Scopes as spec
 use Rattle.timefd_sources.proofs.scope.is_outside.Given as goal
 
--- What is left decides.
+-- The answer for the rest is the answer for everything.
 abbrev pub invariant-tokens : goal.invariant-tokens
 invariant-tokens l = record {
-  rest : spec.is_outside l.source l.from l.place l.depth l.rest ≡ spec.is_outside l.source l.from l.place 0 l.pieces;
+  rest : spec.is_outside l.source l.from l.position l.depth l.rest ≡ spec.is_outside l.source l.from l.position 0 l.pieces;
   within : l.depth + length l.rest ≤ length l.pieces;
 }
 

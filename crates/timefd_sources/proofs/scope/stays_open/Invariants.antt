@@ -2,10 +2,10 @@ use Rattle.std.proofs.Common.{◌≡◌, ◌≤◌, ◌+◌, length}
 use Rattle.timefd_sources.specs.Scopes as spec
 use Rattle.timefd_sources.proofs.scope.stays_open.Given as goal
 
--- What is left decides.
+-- The answer for the rest is the answer for everything.
 abbrev pub invariant-tokens : goal.invariant-tokens
 invariant-tokens l = record {
-  rest : spec.stays_open l.source l.place l.depth l.rest ≡ spec.stays_open l.source l.place 0 l.pieces;
+  rest : spec.stays_open l.source l.position l.depth l.rest ≡ spec.stays_open l.source l.position 0 l.pieces;
   within : l.depth + length l.rest ≤ length l.pieces;
 }
 

@@ -2,9 +2,9 @@ use Rattle.std.proofs.Common.{◌≡◌, length}
 use Rattle.timefd_sources.specs.Declarations as spec
 use Rattle.timefd_sources.proofs.shadow.has_begun.Given as goal
 
--- What is left decides.
+-- The answer for the rest is the answer for everything.
 abbrev pub invariant-tokens : goal.invariant-tokens
-invariant-tokens l = spec.has_begun l.source l.place l.rest ≡ spec.has_begun l.source l.place l.pieces
+invariant-tokens l = spec.has_begun l.source l.position l.rest ≡ spec.has_begun l.source l.position l.pieces
 
 abbrev pub decreases-tokens : goal.decreases-tokens
 decreases-tokens l = length l.rest

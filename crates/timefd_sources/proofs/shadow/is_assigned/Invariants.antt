@@ -2,7 +2,7 @@ use Rattle.std.proofs.Common.{◌≡◌, length}
 use Rattle.timefd_sources.specs.Declarations as spec
 use Rattle.timefd_sources.proofs.shadow.is_assigned.Given as goal
 
--- What is left decides.
+-- The answer for the rest is the answer for everything.
 abbrev pub invariant-tokens : goal.invariant-tokens
 invariant-tokens l = spec.is_assigned l.source l.left l.rest ≡ spec.is_assigned l.source spec.most_tokens l.pieces
 

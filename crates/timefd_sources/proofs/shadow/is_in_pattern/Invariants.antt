@@ -2,7 +2,7 @@ use Rattle.std.proofs.Common.{◌≡◌, length}
 use Rattle.timefd_sources.specs.Declarations as spec
 use Rattle.timefd_sources.proofs.shadow.is_in_pattern.Given as goal
 
--- What is left decides.
+-- The answer for the rest is the answer for everything.
 abbrev pub invariant-tokens : goal.invariant-tokens
 invariant-tokens l = spec.is_in_pattern l.source l.left l.rest ≡ spec.is_in_pattern l.source spec.most_tokens l.pieces
 

@@ -6,7 +6,7 @@ use Rattle.timefd_sources.proofs.unescape.unescape.Goals as goal
 
 pub returns-in_default-part_of : goal.returns-in_default-part_of
 returns-in_default-part_of c =
-    faulty c.args.kind c.args.end c.parts.text.items c.parts.places.items
+    faulty c.args.kind c.args.end c.parts.text.items c.parts.positions.items
     (get_or c.parts.rest.now 0 0) (take (length c.parts.rest.now - 1) (drop 1 c.parts.rest.now))
     c.parts.rest.now c.args.body.now c.part_of.result
     c.parts.invariant c.part_of.ensures.part
@@ -16,7 +16,7 @@ returns-in_default-part_of c =
 pub parts-preserved : goal.parts-preserved
 parts-preserved c =
     one_more c.args.kind c.args.end c.parts.text.items c.push_part.new.text.items
-    c.parts.places.items c.push_part.new.places.items
+    c.parts.positions.items c.push_part.new.positions.items
     (get_or c.parts.rest.now 0 0) (take (length c.parts.rest.now - 1) (drop 1 c.parts.rest.now))
     c.parts.rest.now c.args.body.now c.part_of.result c.in-Some.next
     c.parts.invariant c.part_of.ensures.part
@@ -28,6 +28,6 @@ parts-preserved c =
 
 pub returns : goal.returns
 returns c =
-    at_last c.args.kind c.args.end c.parts.text.items c.parts.places.items c.parts.rest.now
+    at_last c.args.kind c.args.end c.parts.text.items c.parts.positions.items c.parts.rest.now
     c.args.body.now c.parts.invariant
     (none c.parts.rest.now (omega (arith, c.in_default.len_below)))

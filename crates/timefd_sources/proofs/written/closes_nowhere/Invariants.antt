@@ -2,7 +2,7 @@ use Rattle.std.proofs.Common.{◌≡◌, length}
 use Rattle.timefd_sources.specs.Written.{closes_nowhere}
 use Rattle.timefd_sources.proofs.written.closes_nowhere.Given as goal
 
--- What is left decides.
+-- The answer for the rest is the answer for everything.
 abbrev pub invariant-bytes : goal.invariant-bytes
 invariant-bytes l = closes_nowhere l.hash_count l.rest ≡ closes_nowhere l.hash_count l.fn.text
 

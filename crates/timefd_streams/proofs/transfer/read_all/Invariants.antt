@@ -2,7 +2,7 @@ use Rattle.std.proofs.Common.{◌≡◌, ◌-◌, ◌^◌, length}
 use Rattle.std.specs.Io.KnownBytes.{Consumes}
 use Rattle.timefd_streams.proofs.transfer.read_all.Given as goal
 
--- What has gone from the source is in the list.
+-- The bytes that were taken from the source are in the list.
 abbrev pub invariant-pieces : goal.invariant-pieces
 invariant-pieces g l = record {
   room : length l.piece ≡ 65536;

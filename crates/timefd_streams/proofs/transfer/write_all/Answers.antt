@@ -3,7 +3,7 @@ use Rattle.std.proofs.KnownBytes.{Appends-trans}
 use Rattle.std.proofs.lemmas.List.{take-append-drop, take_rest}
 use Rattle.timefd_streams.proofs.transfer.write_all.Goals as goal
 
--- A front and the rest of a text are the text, also where the front takes some of the rest.
+-- A front and the rest of a text are the text, also after the front takes some of the rest.
 front-grown : (front rest text : List ℕ) (n : ℕ) → front ++ rest ≡ text
     → (front ++ take n rest) ++ take (length rest - n) (drop n rest) ≡ text
 front-grown front rest text n whole =

@@ -8,7 +8,7 @@ pub returns-in_default : goal.returns-in_default
 returns-in_default c =
     directive_cut_short _ _ _ _ c.cut_flag-padding.ensures.parts
     (none_left _ (omega (arith, c.in_default.len_below, c.as_bytes.ensures.len)))
-    c.cut_short.ensures.kind c.cut_short.ensures.place
+    c.cut_short.ensures.kind c.cut_short.ensures.position
 
 pub returns-in-Some : goal.returns-in-Some
 returns-in-Some c =

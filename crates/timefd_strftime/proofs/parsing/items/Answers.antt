@@ -3,7 +3,7 @@ use Rattle.std.proofs.lemmas.Result.{err_from_is_err_and}
 use Rattle.timefd_format_item.specs.declared.borrowed_format_item.BorrowedFormatItem.{BorrowedFormatItem}
 use Rattle.timefd_format_item.specs.Meaning.{item_tree}
 use Rattle.timefd_language.specs.Strings.{are_of_strings}
-use Rattle.timefd_strftime.proofs.DirectiveLemmas.{Continues, IsNext, all_read, items_more, fault_behind}
+use Rattle.timefd_strftime.proofs.DirectiveLemmas.{Continues, IsNext, all_read, items_more, fault_after}
 use Rattle.timefd_language.proofs.StringLemmas.{more_strings}
 use Rattle.timefd_strftime.proofs.parsing.items.Goals as goal
 
@@ -16,7 +16,7 @@ returns-in_err-piece-clause-fault c =
     let p = err_from_is_err_and c.from_residual-in_err-piece.result
     c.from_residual-in_err-piece.ensures.1 in
     rw (p.1, p.2)
-    (fault_behind _ c.pieces.rest.now _ _ c.pieces.invariant.2 c.in_err-piece.ensures)
+    (fault_after _ c.pieces.rest.now _ _ c.pieces.invariant.2 c.in_err-piece.ensures)
 
 pub pieces-preserved : goal.pieces-preserved
 pieces-preserved c =
@@ -24,7 +24,7 @@ pieces-preserved c =
       next.left.utf8,
       omega (arith, next.left.shorter, c.pieces.invariant.1),
       subst (λ (read : List BorrowedFormatItem). Continues c.args.text.now (map item_tree read)
-          c.in-Some.after.now) (sym c.in_ok-push.ensures.items)
+          c.in-Some.unread.now) (sym c.in_ok-push.ensures.items)
           (items_more _ _ _ c.pieces.items.items c.into_item.result _ c.into_item.ensures.tree
           c.pieces.invariant.2 next.leads),
       subst (λ (read : List BorrowedFormatItem). IsTrue (are_of_strings read))

@@ -1,4 +1,4 @@
-use Rattle.timefd_strftime.proofs.DirectiveLemmas.{is_invalid, lent_strftime, lent_strftime_refused, lent_strftime_spelled, one}
+use Rattle.timefd_strftime.proofs.DirectiveLemmas.{is_invalid, borrowed_strftime, borrowed_strftime_refused, borrowed_strftime_spelled, one}
 use Rattle.timefd_strftime.proofs.parsing.strftime_error.Goals as goal
 
 pub returns-in-Ok-clause-refused : goal.returns-in-Ok-clause-refused
@@ -15,11 +15,11 @@ returns-in-Err-clause-refused c = λ f has.
     (one c.args.text.now).one_fault _ f c.in-Err.ensures.fault has
 
 pub returns-in_default-clause-fault : goal.returns-in_default-clause-fault
-returns-in_default-clause-fault c = lent_strftime _ _ _ c.requires c.lent.ensures
+returns-in_default-clause-fault c = borrowed_strftime _ _ _ c.requires c.borrowed.ensures
 
 pub returns-in_default-clause-spelled : goal.returns-in_default-clause-spelled
-returns-in_default-clause-spelled c = λ list s. lent_strftime_spelled _ _ _ list c.requires c.lent.ensures s
+returns-in_default-clause-spelled c = λ list s. borrowed_strftime_spelled _ _ _ list c.requires c.borrowed.ensures s
 
 pub returns-in_default-clause-refused : goal.returns-in_default-clause-refused
-returns-in_default-clause-refused c = λ f h. lent_strftime_refused _ _ _ f c.requires
-    (is_invalid _ c.in_default.not-Memory) c.lent.ensures h
+returns-in_default-clause-refused c = λ f h. borrowed_strftime_refused _ _ _ f c.requires
+    (is_invalid _ c.in_default.not-Memory) c.borrowed.ensures h

@@ -5,7 +5,7 @@ use Rattle.timefd_node_list.specs.Leaves.{leaves_all}
 use Rattle.timefd_warnings.specs.Sought.{with_parts}
 use Rattle.timefd_warnings.proofs.parts.+parts.Given as goal
 
--- the items behind are looked at, and those in front are left
+-- the items from `left` on are done, and those before it are left
 abbrev pub invariant-scan_items-items : goal.invariant-scan_items-items
 invariant-scan_items-items l = (l.left ≤ length l.items)
     × (with_parts l.sought (leaves_all (trees (map item_tree (take l.left l.items)))) l.reached

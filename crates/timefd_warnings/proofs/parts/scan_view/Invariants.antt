@@ -5,7 +5,7 @@ use Rattle.timefd_node_list.specs.Views.{view_tree}
 use Rattle.timefd_warnings.specs.Sought.{start, with_parts}
 use Rattle.timefd_warnings.proofs.parts.scan_view.Given as goal
 
--- the parts behind are looked at, and those in front are left
+-- the last parts are done, and the first ones are left
 abbrev pub invariant-leaves : goal.invariant-leaves
 invariant-leaves l =
     with_parts l.sought (leaves_left l.left) l.scan ≡ with_parts l.sought (leaves (view_tree l.view)) start

@@ -3,7 +3,7 @@ use Rattle.timefd_warnings.specs.Parts.{parts}
 use Rattle.timefd_warnings.specs.Twice.{one_twice}
 use Rattle.timefd_warnings.proofs.twice.shows_one_twice.Given as goal
 
--- what is left decides
+-- the answer for the rest is the answer for everything
 abbrev pub invariant-fields : goal.invariant-fields
 invariant-fields l = one_twice l.left (parts l.description) ≡ one_twice l.fields (parts l.description)
 

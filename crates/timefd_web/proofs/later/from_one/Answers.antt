@@ -2,7 +2,7 @@ use Rattle.std.proofs.Common.{sym, subst}
 use Rattle.timefd_lift.specs.Answers.{HasItemsOf}
 use Rattle.timefd_web.proofs.later.from_one.Goals as goal
 
--- what version 1 spells is rewritten to what version 2 spells
+-- a text of version 1 is converted to one that version 2 spells
 pub from_two-requires : goal.from_two-requires
 from_two-requires c =
     let two = subst (HasItemsOf c.args.text.now) (sym c.deref.ensures) c.in-Ok.ensures.same_items

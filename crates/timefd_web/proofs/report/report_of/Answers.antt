@@ -13,9 +13,9 @@ pub returns-in-Some : goal.returns-in-Some
 returns-in-Some c =
     let d = c.in-Some.diagnostic in
     let fault : FaultIn c.args.language nesting_limit c.args.text.now (fault_of d.fault) = search rules in
-    let place : IsPlaced c.args.text.now (fault_of d.fault) = search rules in
+    let position : IsPlaced c.args.text.now (fault_of d.fault) = search rules in
     let diagnosis : IsDiagnosis c.args.language c.args.text.now d = search rules in
     let said : IfOk c.refused.result (λ object. object.items ≡ refused_object d) = search rules in
     record {
-      reports = refused_report c.args.language c.args.moment c.args.text.now c.refused.result d fault place diagnosis said;
+      reports = refused_report c.args.language c.args.moment c.args.text.now c.refused.result d fault position diagnosis said;
     }

@@ -2,7 +2,7 @@ use Rattle.std.proofs.Common.{◌≡◌, length}
 use Rattle.timefd_write.specs.Asked.{asked_of, asked_from}
 use Rattle.timefd_write.proofs.asked.asked_of.Given as goal
 
--- What is left decides.
+-- The result depends only on what is left.
 abbrev pub invariant-words : goal.invariant-words
 invariant-words l = asked_from l.state l.rest ≡ asked_of l.fn.words
 

@@ -1,8 +1,8 @@
 use Rattle.std.proofs.Common.{subst}
-use Rattle.timefd_fault.specs.Told.{MemoryAlone}
+use Rattle.timefd_fault.specs.Reported.{MemoryAlone}
 use Rattle.timefd_write.proofs.description.of_version.Goals as goal
 
--- a text that is spelled has no fault
+-- a text that spells a description has no fault
 pub unreachable-requires : goal.unreachable-requires
 unreachable-requires c =
     subst MemoryAlone c.in-Err-Invalid.field-0-is

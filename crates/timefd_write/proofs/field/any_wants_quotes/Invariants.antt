@@ -3,7 +3,7 @@ use Rattle.std.specs.List.{list_any}
 use Rattle.timefd_write.specs.Frames.{wants_quotes}
 use Rattle.timefd_write.proofs.field.any_wants_quotes.Given as goal
 
--- What is left decides.
+-- The result depends only on what is left.
 abbrev pub invariant-bytes : goal.invariant-bytes
 invariant-bytes l = list_any wants_quotes l.rest ≡ list_any wants_quotes l.fn.text
 

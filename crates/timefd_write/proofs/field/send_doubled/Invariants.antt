@@ -2,7 +2,7 @@ use Rattle.std.proofs.Common.{length}
 use Rattle.timefd_write.proofs.FrameLemmas.{Completes}
 use Rattle.timefd_write.proofs.field.send_doubled.Given as goal
 
--- The bytes that are gone are written.
+-- The bytes that were taken are written.
 abbrev pub invariant-bytes : goal.invariant-bytes
 invariant-bytes g l =
     Completes l.fn.text l.rest (g.W.Write.contents l.fn.output) (g.W.Write.contents l.output)

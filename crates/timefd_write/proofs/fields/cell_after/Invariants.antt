@@ -4,7 +4,7 @@ use Rattle.timefd_component.specs.Tree.{Text}
 use Rattle.timefd_write.proofs.FieldLemmas.{IsLeft, left_len}
 use Rattle.timefd_write.proofs.fields.cell_after.Given as goal
 
--- The field that is sought is one of those that are left.
+-- The field that is looked for is one of those that are left.
 abbrev pub invariant-fields : goal.invariant-fields
 invariant-fields l = IsLeft l.content l.fn.count l.more l.left
 

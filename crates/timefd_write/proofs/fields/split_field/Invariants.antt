@@ -2,7 +2,7 @@ use Rattle.std.proofs.Common.{length}
 use Rattle.timefd_write.proofs.FieldLemmas.{IsInField}
 use Rattle.timefd_write.proofs.fields.split_field.Given as goal
 
--- The bytes that are gone are the front of the field.
+-- The bytes that were taken are the front of the field.
 abbrev pub invariant-bytes : goal.invariant-bytes
 invariant-bytes l = IsInField l.fn.row l.rest l.quoting
 

@@ -2,7 +2,7 @@ use Rattle.std.proofs.Common.{◌≡◌, ◌++◌, length}
 use Rattle.timefd_write.specs.Fields.{text_from, text_of}
 use Rattle.timefd_write.proofs.fields.text_in.Given as goal
 
--- What is left comes after.
+-- The text of what is left comes after.
 abbrev pub invariant-bytes : goal.invariant-bytes
 invariant-bytes l = l.bytes.items ++ text_from l.quoting l.rest ≡ text_of l.fn.field
 

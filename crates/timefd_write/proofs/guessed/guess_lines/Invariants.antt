@@ -2,7 +2,7 @@ use Rattle.std.proofs.Common.{◌≡◌, ◌++◌, length, string_bytes}
 use Rattle.timefd_write.specs.Guessed.{guess_lines}
 use Rattle.timefd_write.proofs.guessed.guess_lines.Given as goal
 
--- what is left comes after
+-- the lines of what is left come after
 abbrev pub invariant-guesses : goal.invariant-guesses
 invariant-guesses l = string_bytes l.lines ++ guess_lines l.rest ≡ guess_lines l.fn.found
 

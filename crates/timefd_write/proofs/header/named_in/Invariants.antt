@@ -2,7 +2,7 @@ use Rattle.timefd_write.proofs.FieldLemmas.{left_len}
 use Rattle.timefd_write.proofs.HeaderLemmas.{Decides}
 use Rattle.timefd_write.proofs.header.named_in.Given as goal
 
--- What is left decides.
+-- The result depends only on what is left.
 abbrev pub invariant-fields : goal.invariant-fields
 invariant-fields l = Decides l.fn.name l.fn.header l.found l.at l.more
 

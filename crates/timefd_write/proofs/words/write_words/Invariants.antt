@@ -3,7 +3,7 @@ use Rattle.timefd_diagnosis.specs.Words.{texts}
 use Rattle.timefd_write.proofs.RunLemmas.{Completes}
 use Rattle.timefd_write.proofs.words.write_words.Given as goal
 
--- The words that are gone are written.
+-- The words that were taken are written.
 abbrev pub invariant-words : goal.invariant-words
 invariant-words g l =
     Completes l.otherwise l.source l.description (texts l.fn.words) (texts l.rest)

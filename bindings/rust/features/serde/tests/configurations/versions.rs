@@ -26,7 +26,7 @@ fn nothing_else_is_a_version() {
         (json!(-1), "invalid value: integer `-1`"),
         (json!(257), "invalid value: integer `257`"),
         (json!(u64::MAX), "invalid value: integer `18446744073709551615`"),
-        (json!(1.0), "invalid type: floating point `1`"),
+        (json!(1.5), "invalid type: floating point `1.5`"),
         (json!("3"), "invalid type: string \"3\""),
         (json!(null), "invalid type: null"),
     ];

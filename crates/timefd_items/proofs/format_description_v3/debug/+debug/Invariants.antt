@@ -5,7 +5,7 @@ use Rattle.timefd_component.specs.Reserved.{tree_count, trees_count}
 use Rattle.timefd_component.specs.Tree.{trees}
 use Rattle.timefd_items.proofs.format_description_v3.debug.+debug.Given as goal
 
--- a list is one step in front of its first
+-- a list is one step before its first member
 abbrev pub decreases-write_content : goal.decreases-write_content
 decreases-write_content g l = 2 * tree_count (content_tree l.content)
 

@@ -38,7 +38,7 @@ pub new-requires-2-clause-fit : goal.new-requires-2-clause-fit
 new-requires-2-clause-fit c =
     (cut c.args.self.nodes.now _ _ c.args.mark.count _ c.args.self.fit c.requires.there
     (c.requires.marked c.requires.there) c.split_at.ensures.front
-    c.split_at.ensures.back).behind_fit
+    c.split_at.ensures.back).after_fit
 
 pub new-requires-2-clause-counted : goal.new-requires-2-clause-counted
 new-requires-2-clause-counted c =
@@ -46,7 +46,7 @@ new-requires-2-clause-counted c =
     c.split_at.result.1.now =
     cut c.args.self.nodes.now _ _ c.args.mark.count _ c.args.self.fit c.requires.there
     (c.requires.marked c.requires.there) c.split_at.ensures.front c.split_at.ensures.back in
-    sym (ap length w.behind_trees ∙ length-ending c.args.mark.count (member_trees c.args.self)
+    sym (ap length w.after_trees ∙ length-ending c.args.mark.count (member_trees c.args.self)
     c.requires.there)
 
 pub returns-clause-front : goal.returns-clause-front
@@ -55,8 +55,8 @@ returns-clause-front c =
     c.requires.there (c.requires.marked c.requires.there) c.split_at.ensures.front
     c.split_at.ensures.back).front_trees
 
-pub returns-clause-behind : goal.returns-clause-behind
-returns-clause-behind c =
+pub returns-clause-after : goal.returns-clause-after
+returns-clause-after c =
     c.new-2.ensures ∙ (cut c.args.self.nodes.now _ _ c.args.mark.count _ c.args.self.fit
     c.requires.there (c.requires.marked c.requires.there) c.split_at.ensures.front
-    c.split_at.ensures.back).behind_trees
+    c.split_at.ensures.back).after_trees

@@ -3,11 +3,11 @@ use Rattle.std.specs.Bool.{IsFalse}
 use Rattle.std.specs.List.{list_any}
 use Rattle.std.specs.Option.{option_to_list}
 use Rattle.timefd_node_list.specs.Owners.{owns_text}
-use Rattle.timefd_node_list.proofs.OwnerLemmas.{lent_last}
+use Rattle.timefd_node_list.proofs.OwnerLemmas.{borrowed_last}
 use Rattle.timefd_node_list.proofs.node_list.NodeList.drop.Goals as goal
 
-pub forget_lent-requires : goal.forget_lent-requires
-forget_lent-requires c =
-    lent_last c.pop.new.self.items c.in-Some.node
+pub forget_borrowed-requires : goal.forget_borrowed-requires
+forget_borrowed-requires c =
+    borrowed_last c.pop.new.self.items c.in-Some.node
     (subst (λ ns. IsFalse (list_any owns_text ns)) (c.pop.ensures.items
-    ∙ ap (λ o. c.pop.new.self.items ++ option_to_list o) c.in-Some.is) c.lent.invariant)
+    ∙ ap (λ o. c.pop.new.self.items ++ option_to_list o) c.in-Some.is) c.borrowed.invariant)

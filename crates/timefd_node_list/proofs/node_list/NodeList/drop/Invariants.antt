@@ -5,9 +5,9 @@ use Rattle.timefd_node_list.specs.Owners.{owns_text}
 use Rattle.timefd_node_list.proofs.node_list.NodeList.drop.Given as goal
 
 -- the nodes that are left
-abbrev pub decreases-lent : goal.decreases-lent
-decreases-lent l = length l.nodes.items
+abbrev pub decreases-borrowed : goal.decreases-borrowed
+decreases-borrowed l = length l.nodes.items
 
 -- none of them owns its text
-abbrev pub invariant-lent : goal.invariant-lent
-invariant-lent l = IsFalse (list_any owns_text l.nodes.items)
+abbrev pub invariant-borrowed : goal.invariant-borrowed
+invariant-borrowed l = IsFalse (list_any owns_text l.nodes.items)

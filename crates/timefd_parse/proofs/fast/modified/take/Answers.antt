@@ -6,7 +6,7 @@ pub modifiers-init : goal.modifiers-init
 modifiers-init c = record {
   text = c.utf8.text;
   before =
-      none_taken (is_version_three c.args.version) c.args.name c.args.text.now _ _ c.requires.settings c.requires.places;
+      none_taken (is_version_three c.args.version) c.args.name c.args.text.now _ _ c.requires.settings c.requires.positions;
 }
 
 pub returns-in-Some : goal.returns-in-Some

@@ -6,7 +6,7 @@ use Rattle.timefd_parse.proofs.fast.modified.take.Given as goal
 abbrev pub invariant-modifiers : goal.invariant-modifiers
 invariant-modifiers l = record {
   text : IsUtf8 l.rest;
-  before : TakenBefore (is_version_three l.version) l.name l.initial.rest l.settings l.places l.rest;
+  before : TakenBefore (is_version_three l.version) l.name l.initial.rest l.settings l.positions l.rest;
 }
 
 abbrev pub decreases-modifiers : goal.decreases-modifiers

@@ -1,8 +1,8 @@
 use Rattle.std.proofs.Common.{sym, ap, ◌≡◌, ◌∙◌, true, false, is_some}
 use Rattle.std.proofs.lemmas.Bool.{true≢false}
 use Rattle.timefd_language.specs.Lookup.{key_for}
-use Rattle.timefd_parse.specs.Checked.{first_place}
-use Rattle.timefd_parse.proofs.CheckLemmas.{at_unknown, at_again, at_good, at_bad_value, place_known}
+use Rattle.timefd_parse.specs.Checked.{first_position}
+use Rattle.timefd_parse.proofs.CheckLemmas.{at_unknown, at_again, at_good, at_bad_value, position_known}
 use Rattle.timefd_language.specs.Bytes.{is_version_three}
 use Rattle.timefd_parse.proofs.modifiers.Modifiers.check.Goals as goal
 use Rattle.timefd_parse.proofs.modifiers.Modifiers.check.Goals.{else-is_strict-via-then-is_strict+else-is_some, else-is_strict-via-else-is_strict}
@@ -16,15 +16,15 @@ pub returns-then-is_some : goal.returns-then-is_some
 returns-then-is_some c = λ total ps p checks none is.
     at_again (is_version_three c.args.version) c.args.name total c.args.modifier ps p is _ _ _ c.known_key.ensures
     c.in-Some.is (sym c.if-is_strict.ensures)
-    (place_known _ _ _ _ (checks.places none (sym c.if-is_strict.ensures) c.in-Some.key)
+    (position_known _ _ _ _ (checks.positions none (sym c.if-is_strict.ensures) c.in-Some.key)
     (sym (c.if-is_some.ensures ∙ ap is_some c.of.ensures))) c.spelling.ensures
 
 pub returns-in-Some-setting_of : goal.returns-in-Some-setting_of
 returns-in-Some-setting_of c = λ total ps p checks none is.
-    let new : (is_version_three c.args.version) ≡ true → is_some (first_place (key_for c.in-Some.key).key ps) ≡ false =
+    let new : (is_version_three c.args.version) ≡ true → is_some (first_position (key_for c.in-Some.key).key ps) ≡ false =
     λ exact. elim c.else-is_strict.branch [
-      | else-is_strict-via-then-is_strict+else-is_some w ↦ place_known _ _ _ _
-          (checks.places none exact c.in-Some.key)
+      | else-is_strict-via-then-is_strict+else-is_some w ↦ position_known _ _ _ _
+          (checks.positions none exact c.in-Some.key)
           (sym (w.if-is_some.ensures ∙ ap is_some w.of.ensures))
       | else-is_strict-via-else-is_strict w ↦ absurd (true≢false (sym exact ∙ sym w.if-is_strict.ensures))
     ] in
@@ -33,10 +33,10 @@ returns-in-Some-setting_of c = λ total ps p checks none is.
 
 pub returns-in-None : goal.returns-in-None
 returns-in-None c = λ total ps p checks none is.
-    let new : (is_version_three c.args.version) ≡ true → is_some (first_place (key_for c.in-Some.key).key ps) ≡ false =
+    let new : (is_version_three c.args.version) ≡ true → is_some (first_position (key_for c.in-Some.key).key ps) ≡ false =
     λ exact. elim c.else-is_strict.branch [
-      | else-is_strict-via-then-is_strict+else-is_some w ↦ place_known _ _ _ _
-          (checks.places none exact c.in-Some.key)
+      | else-is_strict-via-then-is_strict+else-is_some w ↦ position_known _ _ _ _
+          (checks.positions none exact c.in-Some.key)
           (sym (w.if-is_some.ensures ∙ ap is_some w.of.ensures))
       | else-is_strict-via-else-is_strict w ↦ absurd (true≢false (sym exact ∙ sym w.if-is_strict.ensures))
     ] in

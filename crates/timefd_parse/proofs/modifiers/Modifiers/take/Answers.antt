@@ -10,7 +10,7 @@ pub returns-in-Ok : goal.returns-in-Ok
 returns-in-Ok c = λ total ps p checks is.
     let none : c.args.self.now.fault ≡ None = no_fault _ (sym c.if-is_some.ensures) in
     take_good _ _ _ c.args.self.now c.args.modifier.key_remaining ps p _ _ _ _ checks none
-    is.key_place (c.in-Ok.ensures total ps p checks none is) c.set.ensures (λ exact. c.set-in-Ok.ensures)
+    is.key_position (c.in-Ok.ensures total ps p checks none is) c.set.ensures (λ exact. c.set-in-Ok.ensures)
 
 pub returns-in-Err : goal.returns-in-Err
 returns-in-Err c = λ total ps p checks is.

@@ -2,7 +2,7 @@ use Rattle.std.proofs.Common.{◌≡◌, ◌+◌, length}
 use Rattle.timefd_warnings.specs.Levels.{count, count_among}
 use Rattle.timefd_warnings.proofs.levels.Levels.count.Given as goal
 
--- those so far, and those that are left
+-- the count so far, and the count of the warnings that are left, are the whole count
 abbrev pub invariant-warnings : goal.invariant-warnings
 invariant-warnings l = l.count + count_among l.level l.self l.left ≡ count l.level l.self
 

@@ -2,7 +2,7 @@ use Rattle.std.proofs.Common.{◌≡◌, length}
 use Rattle.timefd_write.specs.Fields.{after_all}
 use Rattle.timefd_write.proofs.quoting.Quoting.after_all.Given as goal
 
--- What is left decides.
+-- The result depends only on what is left.
 abbrev pub invariant-bytes : goal.invariant-bytes
 invariant-bytes l = after_all l.quoting l.rest ≡ after_all l.fn.self l.fn.bytes
 

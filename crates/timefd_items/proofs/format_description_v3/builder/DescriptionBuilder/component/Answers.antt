@@ -13,7 +13,7 @@ pub invariant_of-self-2 : goal.invariant_of-self-2
 invariant_of-self-2 c =
     let t : Tree = spec.component (modern c.args.component) in
     let is : list_trees c.component-bytes.new.self ≡ built c.args.self.now ++ t ∷ [] =
-    c.component-bytes.ensures.added.behind ∙ ap (λ ts. ts ++ t ∷ []) c.reserve.ensures.kept in
+    c.component-bytes.ensures.added.after ∙ ap (λ ts. ts ++ t ∷ []) c.reserve.ensures.kept in
     record {
       counted = omega (
         arith,

@@ -10,7 +10,7 @@ use Rattle.timefd_items.proofs.format_description_v3.builder.DescriptionBuilder.
 pub invariant_of-self-2 : goal.invariant_of-self-2
 invariant_of-self-2 c =
     let is : list_trees c.literal.new.self ≡ built c.args.self.now ++ literal c.args.text.now ∷ [] =
-    c.literal.ensures.behind ∙ ap (λ ts. ts ++ literal c.args.text.now ∷ [])
+    c.literal.ensures.after ∙ ap (λ ts. ts ++ literal c.args.text.now ∷ [])
     c.reserve.ensures.kept in
     record {
       counted = omega (

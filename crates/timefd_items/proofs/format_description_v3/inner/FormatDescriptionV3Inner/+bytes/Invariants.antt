@@ -12,7 +12,7 @@ invariant-sum_within-items l = record {
       (trees (map inner_tree l.items));
 }
 
--- a list is one step in front of its first
+-- a list is one step before its first member
 abbrev pub decreases-bytes_within : goal.decreases-bytes_within
 decreases-bytes_within l = 2 * tree_count (inner_tree l.self.now)
 

@@ -11,7 +11,7 @@ invariant-clone_all-items l = record {
   owned : map owned_parts l.copies.items ≡ map owned_parts (take l.at l.items);
 }
 
--- a list is one step in front of its first
+-- a list is one step before its first member
 abbrev pub decreases-clone : goal.decreases-clone
 decreases-clone l = 2 * tree_count (inner_tree l.self.now)
 

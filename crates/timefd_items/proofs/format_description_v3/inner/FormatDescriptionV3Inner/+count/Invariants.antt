@@ -12,7 +12,7 @@ invariant-all_nodes_within-items l = record {
       (trees (map inner_tree l.items));
 }
 
--- a list is one step in front of its first
+-- a list is one step before its first member
 abbrev pub decreases-nodes_within : goal.decreases-nodes_within
 decreases-nodes_within l = 2 * tree_count (inner_tree l.self.now)
 

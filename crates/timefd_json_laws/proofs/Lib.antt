@@ -1,0 +1,17 @@
+pub mod Units
+pub mod Escapes
+pub mod Encoded
+pub mod Pieces
+pub mod Means
+pub mod Strings
+pub mod Distinct
+pub mod Fields
+pub mod Fronts
+pub mod Objects
+pub mod Bytes
+pub mod Uris
+pub mod ResultFronts
+pub mod Results
+pub mod Lists
+pub mod Logs
+pub mod Sarif

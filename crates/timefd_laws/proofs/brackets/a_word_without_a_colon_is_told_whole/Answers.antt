@@ -1,5 +1,0 @@
-use Rattle.timefd_laws.proofs.BracketLemmas.{colon_wanted}
-use Rattle.timefd_laws.proofs.brackets.a_word_without_a_colon_is_told_whole.Goals as goal
-
-pub returns : goal.returns
-returns c = colon_wanted

@@ -1,5 +1,0 @@
-use Rattle.timefd_laws.proofs.ModifierLemmas.{bad_value_told}
-use Rattle.timefd_laws.proofs.modifiers.a_bad_value_is_told.Goals as goal
-
-pub returns : goal.returns
-returns c = bad_value_told

@@ -1,5 +1,0 @@
-use Rattle.timefd_laws.proofs.NestLemmas.{unknown_names_nest_nothing}
-use Rattle.timefd_laws.proofs.nests.an_unknown_name_is_told_behind_what_it_nests.Goals as goal
-
-pub returns : goal.returns
-returns c = unknown_names_nest_nothing

@@ -1,0 +1,315 @@
+-- What a run reports about texts, one after another.
+use Rattle.std.specs.Prelude.{◌≡◌, Bool, true, false, ◌||◌, ◌&&◌, IsTrue, List, [], ◌∷◌, ◌++◌, Option, Some, None, All, IfSome, IsFalse, ⊤, ℕ, ◌+◌, nat_lt, flat_map, if◌then◌else◌}
+use Rattle.std.specs.List.{list_any}
+use Rattle.std.specs.Io.KnownBytes.{Appends, Keeps, IsAtEnd}
+use Rattle.std.specs.Io.Iter.{u64_saturate}
+use denote.Ref.{Bor}
+use Rattle.timefd_component.specs.Tree.{Text}
+use Rattle.timefd_parse.specs.declared.language.Language.{Language}
+use Rattle.timefd_diagnosis.specs.declared.diagnostic.Diagnostic.{Diagnostic}
+use Rattle.timefd_diagnosis.specs.Further.{AreDiagnosed}
+use Rattle.timefd_lint.specs.declared.failure.Failure.{Failure}
+use Rattle.timefd_lint.specs.declared.line.TextEnd.{TextEnd}
+use Rattle.timefd_lint.specs.declared.line.TextEnd.TheVariants.{PassedOver, Accepted, Refused, NotText, Failed, Unread}
+use Rattle.timefd_lint.specs.declared.tally.Tally.{Tally}
+use Rattle.timefd_drawing.specs.declared.draw.Style.{Style}
+use Rattle.timefd_drawing.specs.declared.position.Origin.{Origin}
+use Rattle.timefd_drawing.specs.Drawing.{drawn_all}
+use Rattle.timefd_explain.specs.Lines.{IsExplainedIf}
+use Rattle.timefd_warnings.specs.declared.levels.Level.TheVariants.{Warned, Denied}
+use Rattle.timefd_warnings.specs.declared.levels.Levels.{Levels}
+use Rattle.timefd_warnings.specs.Levels.{count as warning_count}
+use Rattle.timefd_lint_warnings.specs.Messages.{messages as warning_messages}
+use Rattle.timefd_lint_sources.specs.declared.reported.Reporting.{Reporting}
+use Rattle.timefd_lint_sources.specs.Reported.{no_text_note}
+use Rattle.timefd_rewrite.specs.Lines.{AreLinesOf, IsNextLine, without_newline}
+use Rattle.timefd_lint.specs.Failures.{IsUnreadNote, note_of}
+use Rattle.timefd_lint.specs.Lines.{IsEndOf, IsLineEnd}
+use Rattle.timefd_lint.specs.Marks.{IsNote, has_mark}
+
+-- the tree of a text, byte for byte, if it is asked for
+abbrev pub IsTreeOf : Language → Reporting → Origin → Text → Text → Type 0
+IsTreeOf language reporting origin text tree =
+    IsExplainedIf reporting.explains language origin.file.now origin.line text tree
+
+-- An accepted text's message is its tree, if that is asked for, and then each of its warnings that is
+-- reported, at its position and in the order of the codes, and nothing else.
+abbrev pub IsTreeAndWarnings : Language → Reporting → Origin → Levels → Text → Text → Type 0
+IsTreeAndWarnings language reporting origin found text message = (tree : Text)
+    × (message ≡ tree ++ warning_messages reporting.style origin found)
+    × IsTreeOf language reporting origin text tree
+
+-- The tree of a text is written, if it is asked for, and nothing else is.
+abbrev pub WritesTree : Language → Reporting → Origin → Text → Option Text → Option Text → Type 0
+WritesTree language reporting origin text before after = (tree : Text)
+    × IsTreeOf language reporting origin text tree × Appends before after tree
+
+-- A refused text's message draws its first fault and the further ones, each at its position.
+abbrev pub IsDrawing : Language → Style → Origin → Text → Text → Type 0
+IsDrawing language style origin text message = (g : Diagnostic) × (further : List Diagnostic)
+    × AreDiagnosed language text g further × (message ≡ drawn_all style origin text g further)
+
+-- The message on a file that fails is the note on why.
+abbrev pub IsFailureNote : Style → Bor Text → Text → Type 0
+IsFailureNote style file message = (failure : Failure) × (message ≡ note_of style file failure)
+
+-- The message on a text. A text that is passed over has none.
+abbrev pub IsMessageOn : Language → Reporting → Origin → Text → TextEnd → Text → Type 0
+IsMessageOn language reporting origin text PassedOver message = message ≡ []
+IsMessageOn language reporting origin text (Accepted found) message =
+    IsTreeAndWarnings language reporting origin found text message
+IsMessageOn language reporting origin text Refused message =
+    IsDrawing language reporting.style origin text message
+IsMessageOn language reporting origin text NotText message =
+    message ≡ no_text_note reporting.style origin
+IsMessageOn language reporting origin text Failed message =
+    IsFailureNote reporting.style origin.file message
+IsMessageOn language reporting origin text Unread message = ⊥
+
+-- The message on a text is written after what was there before, and no other bytes are.
+abbrev pub Says : Language → Reporting → Origin → Text → TextEnd → Option Text → Option Text → Type 0
+Says language reporting origin text end before after = (message : Text)
+    × IsMessageOn language reporting origin text end message × Appends before after message
+
+-- The note on why a file can't be read is written, and no other bytes are.
+abbrev pub SaysUnread : Style → Bor Text → Option Text → Option Text → Type 0
+SaysUnread style file before after = (message : Text)
+    × IsUnreadNote style file message × Appends before after message
+
+-- The note on a byte-order mark, if there is one, comes before the message.
+abbrev pub IsMessageOf : Bool → Language → Reporting → Origin → Text → TextEnd → Text → Type 0
+IsMessageOf is_marked language reporting origin text end message =
+    (note : Text) × (rest : Text) × (message ≡ note ++ rest)
+    × IsNote is_marked reporting.style origin note
+    × IsMessageOn language reporting origin text end rest
+
+abbrev pub SaysOf : Bool → Language → Reporting → Origin → Text → TextEnd → Option Text → Option Text
+    → Type 0
+SaysOf is_marked language reporting origin text end before after = (message : Text)
+    × IsMessageOf is_marked language reporting origin text end message × Appends before after message
+
+-- a line of a file
+abbrev pub position : Bor Text → ℕ → Origin
+position name line = record { file = name; line = line }
+
+-- a text with its newline, its position, whether a byte-order mark is noted before it, how its check ended,
+-- and the message on it
+pub record Reported : Type 0 where
+  pub line : Text
+  pub origin : Origin
+  pub is_marked : Bool
+  pub end : TextEnd
+  pub message : Text
+
+-- Whether a text is checked and not passed over, is refused or has a denied warning, isn't UTF-8, or is in a
+-- file that can't be read.
+abbrev pub is_description : TextEnd → Bool
+is_description PassedOver = false
+is_description (Accepted found) = true
+is_description Refused = true
+is_description NotText = true
+is_description Failed = false
+is_description Unread = false
+
+-- whether one of the warnings is denied
+abbrev pub is_denied : Levels → Bool
+is_denied found = nat_lt 0 (warning_count Denied found)
+
+abbrev pub is_refused : TextEnd → Bool
+is_refused PassedOver = false
+is_refused (Accepted found) = is_denied found
+is_refused Refused = true
+is_refused NotText = false
+is_refused Failed = false
+is_refused Unread = false
+
+abbrev pub is_not_text : TextEnd → Bool
+is_not_text PassedOver = false
+is_not_text (Accepted found) = false
+is_not_text Refused = false
+is_not_text NotText = true
+is_not_text Failed = false
+is_not_text Unread = false
+
+abbrev pub is_failed : TextEnd → Bool
+is_failed PassedOver = false
+is_failed (Accepted found) = false
+is_failed Refused = false
+is_failed NotText = false
+is_failed Failed = true
+is_failed Unread = false
+
+-- a name instead of a text, and no text is found for it
+abbrev pub is_unread : TextEnd → Bool
+is_unread PassedOver = false
+is_unread (Accepted found) = false
+is_unread Refused = false
+is_unread NotText = false
+is_unread Failed = false
+is_unread Unread = true
+
+-- how many warnings are reported, without the denied ones
+abbrev pub warnings_in : TextEnd → ℕ
+warnings_in PassedOver = 0
+warnings_in (Accepted found) = warning_count Warned found
+warnings_in Refused = 0
+warnings_in NotText = 0
+warnings_in Failed = 0
+warnings_in Unread = 0
+
+-- the text in these bytes: all of a whole file, or what comes before a line's newline
+abbrev pub text_in : Bool → Text → Text
+text_in true bytes = bytes
+text_in false bytes = without_newline bytes
+
+-- How the check ends, for a whole file or for a line.
+abbrev pub IsEndIn : Bool → Language → Option (Bor Text) → Reporting → Text → TextEnd → Type 0
+IsEndIn true language comment reporting line end = IsEndOf language reporting line end
+IsEndIn false language comment reporting line end = IsLineEnd language comment reporting (without_newline line) end
+
+-- If an opened file can't be read further, the message says why.
+abbrev pub IsUnreadIfFailed : Reporting → Reported → Type 0
+IsUnreadIfFailed reporting t =
+    IsTrue (is_failed t.end) → IsUnreadNote reporting.style t.origin.file t.message
+
+-- A file that can't be read has no line.
+pub record IsReportOn (is_whole : Bool) (language : Language) (comment : Option (Bor Text))
+    (reporting : Reporting) (t : Reported) : Type 0 where
+  pub end : IsFalse (is_failed t.end) → IsEndIn is_whole language comment reporting t.line t.end
+  pub marked : IsTrue t.is_marked → IsTrue (has_mark t.line)
+  pub message : IsMessageOf t.is_marked language reporting t.origin (text_in is_whole t.line) t.end
+      t.message
+
+abbrev pub one_if : Bool → ℕ
+one_if true = 1
+one_if false = 0
+
+-- how many pass the test
+abbrev pub count : (Reported → Bool) → List Reported → ℕ
+count test [] = 0
+count test (t ∷ reported) = one_if (test t) + count test reported
+
+abbrev pub warnings_of : List Reported → ℕ
+warnings_of [] = 0
+warnings_of (t ∷ reported) = warnings_in t.end + warnings_of reported
+
+-- the tally of one text
+abbrev pub tally_of_one : TextEnd → Tally
+tally_of_one end = record {
+  descriptions = one_if (is_description end);
+  refused = one_if (is_refused end);
+  warnings = warnings_in end;
+  unread = one_if (is_unread end);
+  not_text = is_not_text end;
+  failed = is_failed end;
+  is_left = false;
+}
+
+-- the tally of all reports
+abbrev pub tally_of : List Reported → Tally
+tally_of reported = record {
+  descriptions = u64_saturate (count (λ t. is_description t.end) reported);
+  refused = u64_saturate (count (λ t. is_refused t.end) reported);
+  warnings = u64_saturate (warnings_of reported);
+  unread = u64_saturate (count (λ t. is_unread t.end) reported);
+  not_text = list_any (λ t. is_not_text t.end) reported;
+  failed = list_any (λ t. is_failed t.end) reported;
+  is_left = false;
+}
+
+-- the tally of these texts and those
+abbrev pub both : Tally → Tally → Tally
+both a b =
+    record {
+      descriptions = u64_saturate (a.descriptions + b.descriptions);
+      refused = u64_saturate (a.refused + b.refused);
+      warnings = u64_saturate (a.warnings + b.warnings);
+      unread = u64_saturate (a.unread + b.unread);
+      not_text = a.not_text || b.not_text;
+      failed = a.failed || b.failed;
+      is_left = a.is_left || b.is_left;
+    }
+
+-- all messages, in order
+abbrev pub messages : List Reported → Text
+messages reported = flat_map (λ t. t.message) reported
+
+-- the lines in the reports, none for a file that can't be read
+abbrev pub lines_in : Reported → List Text
+lines_in t = if is_failed t.end then [] else t.line ∷ []
+
+abbrev pub lines_of : List Reported → List Text
+lines_of reported = flat_map lines_in reported
+
+-- A byte-order mark is noted only before the first text of a file, if it has one.
+abbrev pub AreMarked : List Reported → Type 0
+AreMarked [] = ⊤
+AreMarked (t ∷ reported) =
+    (t.is_marked ≡ has_mark t.line) × (list_any (λ u. u.is_marked) reported ≡ false)
+
+-- It is in this line of this file.
+abbrev pub IsPosition : Text → ℕ → Origin → Type 0
+IsPosition file line origin = (origin.file.now ≡ file) × (origin.line ≡ line)
+
+-- The texts of a file are in consecutive lines, from this one on.
+abbrev pub ArePlaced : Text → ℕ → List Reported → Type 0
+ArePlaced file line [] = ⊤
+ArePlaced file line (t ∷ reported) = IsPosition file line t.origin × ArePlaced file (line + 1) reported
+
+-- If the bytes of a reader are known, none of them is left.
+abbrev pub IsReadUp : Option Text → Option Text → Type 0
+IsReadUp bytes rest = IfSome bytes (λ _. IsAtEnd rest)
+
+-- The result of a run: its tally counts all reports, and their messages are written in order, and nothing
+-- else.
+pub record IsRun (is_whole : Bool) (language : Language) (comment : Option (Bor Text))
+    (reporting : Reporting) (before after : Option Text) (tally : Tally) : Type 0 where
+  pub reported : List Reported
+  pub each : All (IsReportOn is_whole language comment reporting) reported
+  pub found : tally ≡ tally_of reported
+  pub written : Appends before after (messages reported)
+
+-- The result of a run over the lines of a reader, which are the lines of a file.
+pub record IsRunOver (language : Language) (comment : Option (Bor Text)) (reporting : Reporting)
+    (file : Text) (bytes rest before after : Option Text) (tally : Tally) : Type 0 where
+  pub run : IsRun false language comment reporting before after tally
+  pub lines : AreLinesOf bytes (lines_of run.reported) tally.failed
+  pub read : IsFalse tally.failed → IsReadUp bytes rest
+  pub marks : AreMarked run.reported
+  pub positions : ArePlaced file 1 run.reported
+  pub reasons : All (IsUnreadIfFailed reporting) run.reported
+
+-- The result of a run over all bytes of a reader as one text. If the bytes are known, the report is about
+-- that text, unless it can't be read.
+pub record IsRunOfAll (language : Language) (comment : Option (Bor Text)) (reporting : Reporting)
+    (file : Text) (bytes rest before after : Option Text) (tally : Tally) : Type 0 where
+  pub reported : Reported
+  pub is_reported : IsReportOn true language comment reporting reported
+  pub marked : reported.is_marked ≡ has_mark reported.line
+  pub position : IsPosition file 1 reported.origin
+  pub reason : IsUnreadIfFailed reporting reported
+  pub whole : IsFalse (is_failed reported.end) → IfSome bytes (λ all. reported.line ≡ all)
+  pub found : tally ≡ tally_of_one reported.end
+  pub written : Appends before after reported.message
+  pub read : IsFalse tally.failed → IsReadUp bytes rest
+
+-- The result of a run over all that a reader has: as one text, or line by line.
+abbrev pub IsRunOn : Bool → Language → Option (Bor Text) → Reporting → Text → Option Text → Option Text
+    → Option Text → Option Text → Tally → Type 0
+IsRunOn true language comment reporting file bytes rest before after tally =
+    IsRunOfAll language comment reporting file bytes rest before after tally
+IsRunOn false language comment reporting file bytes rest before after tally =
+    IsRunOver language comment reporting file bytes rest before after tally
+
+-- The result for the next line, the first or a later one, at its position. At the end of the bytes nothing is
+-- written. If the line can't be read, the note says why.
+abbrev pub IsNext : Bool → Language → Option (Bor Text) → Reporting → Origin → Option Text → Option Text
+    → Option Text → Option Text → Option TextEnd → Type 0
+IsNext is_first language comment reporting origin bytes rest before after None =
+    IsAtEnd bytes × IsReadUp bytes rest × Keeps before after
+IsNext is_first language comment reporting origin bytes rest before after (Some end) =
+    (line : Text)
+    × (IsFalse (is_failed end) → IsEndIn false language comment reporting line end
+    × IsNextLine bytes line rest)
+    × SaysOf (is_first && has_mark line) language reporting origin (text_in false line) end before after
+    × (IsTrue (is_failed end) → SaysUnread reporting.style origin.file before after)

@@ -1,0 +1,170 @@
+-- What the linter reports about one description.
+use Rattle.std.proofs.Common.{ℕ, ◌≡◌, true, false, Option, Some, List, [], ◌++◌, refl, sym, subst, ap, ◌∙◌}
+use Rattle.std.specs.Prelude.{IfOk, IfSome, IsUtf8, Result, Ok, Err}
+use Rattle.std.specs.List.{flat_map}
+use Rattle.std.specs.declared.alloc.Global.{Global}
+use Rattle.std.specs.declared.vec.Vec.{Vec}
+use Rattle.timefd_component.specs.Tree.{Text, Tree}
+use Rattle.timefd_fault.specs.Faults.{Fault, fault_of}
+use Rattle.timefd_language.specs.Grammar.{nesting_limit}
+use Rattle.timefd_parse.specs.declared.language.Language.{Language}
+use Rattle.timefd_parse.specs.Language.{SpellsIn, FaultIn}
+use Rattle.timefd_diagnosis.specs.declared.diagnostic.Diagnostic.{Diagnostic}
+use Rattle.timefd_diagnosis.specs.Diagnoses.{IsDiagnosis}
+use Rattle.timefd_diagnosis.specs.Further.{AreDiagnosed, AreFurther, most_further, without}
+use Rattle.timefd_drawing.specs.Positions.{reported_column, line_number}
+use Rattle.timefd_explain.specs.Lines.{IsExplainedIf}
+use Rattle.timefd_sources.specs.declared.description.Description.{Description}
+use Rattle.timefd_sources.specs.declared.known.Items.TheVariants.{Taken, Refused as RefusedItems}
+use Rattle.timefd_warnings.specs.declared.levels.Level.TheVariants.{Allowed}
+use Rattle.timefd_warnings.specs.declared.levels.Levels.{Levels}
+use Rattle.timefd_warnings.specs.Levels.{all_at}
+use Rattle.timefd_lint_warnings.specs.Messages.{messages_at}
+use Rattle.timefd_lint_sources.specs.declared.reported.End.{End}
+use Rattle.timefd_lint_sources.specs.declared.reported.End.TheVariants.{PassedOver, Accepted, Refused, NotText}
+use Rattle.timefd_lint_sources.specs.declared.reported.Source.{Source}
+use Rattle.timefd_lint_sources.specs.declared.reported.Reporting.{Reporting}
+use Rattle.timefd_lint_sources.specs.declared.reported.Reported.{Reported}
+use Rattle.timefd_lint_warnings.specs.Found.{found_by}
+use Rattle.timefd_lint_sources.specs.Judged.{is_passed_over, language_in, text_of, reported_further, unless_item}
+use Rattle.timefd_lint_sources.specs.Reported.{IsMessageOn, IsReported, drawing_of, note_of, origin_of}
+
+pub passed_over : (reporting : Reporting) (s : Source) (d : Description)
+    → is_passed_over d.dialect (text_of d) ≡ true → IsReported reporting s d PassedOver []
+passed_over reporting s d is = record { end = is; message = refl }
+
+pub no_text : (reporting : Reporting) (s : Source) (d : Description) (end : End) (message : Text)
+    → is_passed_over d.dialect (text_of d) ≡ false → ¬ IsUtf8 (text_of d) → end ≡ NotText
+    → message ≡ note_of reporting.style s d → IsReported reporting s d end message
+no_text reporting s d end message judges not is reported =
+    subst (λ e. IsReported reporting s d e message) (sym is)
+    (record { end = (judges, not); message = reported })
+
+-- The text is the description's.
+pub with_fault : (reporting : Reporting) (s : Source) (d : Description) (text : Text) (g : Diagnostic)
+    (further : List Diagnostic) (end : End) (message : Text) → is_passed_over d.dialect text ≡ false
+    → IsUtf8 text → text ≡ text_of d
+    → FaultIn (language_in d) nesting_limit text (fault_of g.fault)
+    → IsDiagnosis (language_in d) text g
+    → ((found : List Diagnostic) × AreFurther most_further (language_in d) (without (language_in d) text (fault_of g.fault)) found
+    × (further ≡ reported_further d.items found))
+    → end ≡ Refused → message ≡ drawing_of reporting.style s d g further
+    → IsReported reporting s d end message
+with_fault reporting s d text g further end message judges utf8 same faulty diagnosed (found, others, those) is reported =
+    subst (λ e. IsReported reporting s d e message) (sym is)
+    (record {
+      end = (
+        subst (λ t. is_passed_over d.dialect t ≡ false) same judges,
+        (
+          subst IsUtf8 same utf8,
+          (
+            fault_of g.fault,
+            subst (λ t. FaultIn (language_in d) nesting_limit t (fault_of g.fault)) same faulty,
+          ),
+        ),
+      );
+      message = (
+        g,
+        further,
+        record {
+          found = found;
+          are = subst (λ t. AreDiagnosed (language_in d) t g found) same (record {
+            first = record { fault = faulty; diagnosis = diagnosed };
+            further = others;
+          });
+          reported = those;
+        },
+        reported,
+      );
+    })
+
+-- The text is the description's, and finding its further faults may run out of memory.
+pub with_faults : {E : Type 0} (reporting : Reporting) (s : Source) (d : Description) (language : Language)
+    (text : Text) (found : Option Diagnostic) (g : Diagnostic) (further : List Diagnostic)
+    (reported : Result Reported E) → language ≡ language_in d → is_passed_over d.dialect text ≡ false
+    → IsUtf8 text → text ≡ text_of d → found ≡ Some g
+    → IfSome found (λ x. FaultIn language nesting_limit text (fault_of x.fault))
+    → IfSome found (IsDiagnosis language text)
+    → ((more : List Diagnostic) × AreFurther most_further (language_in d) (without (language_in d) text (fault_of g.fault)) more
+    × (further ≡ reported_further d.items more))
+    → IfOk reported (λ t. t.end ≡ Refused)
+    → IfOk reported (λ t. t.message.items ≡ drawing_of reporting.style s d g further)
+    → IfOk reported (λ t. IsReported reporting s d t.end t.message.items)
+with_faults reporting s d language text found g further (Ok t) named judges utf8 same is faulty diagnosed others ended drawn =
+    with_fault reporting s d text g further t.end t.message.items judges utf8 same
+    (subst (λ l. FaultIn l nesting_limit text (fault_of g.fault)) named
+    (subst (λ o. IfSome o (λ x. FaultIn language nesting_limit text (fault_of x.fault))) is faulty))
+    (subst (λ l. IsDiagnosis l text g) named
+    (subst (λ o. IfSome o (IsDiagnosis language text)) is diagnosed))
+    others ended drawn
+with_faults reporting s d language text found g further (Err e) named judges utf8 same is faulty diagnosed others ended drawn =
+    tt
+
+pub with_list : (reporting : Reporting) (s : Source) (d : Description) (text : Text) (list : List Tree)
+    (end : End) (message : Text) → is_passed_over d.dialect text ≡ false → IsUtf8 text
+    → text ≡ text_of d → SpellsIn (language_in d) nesting_limit text list
+    → end ≡ Accepted (found_by reporting.levels (language_in d) list)
+    → IsMessageOn reporting s d end message → IsReported reporting s d end message
+with_list reporting s d text list end message judges utf8 same spelled is reported =
+    subst (λ e. IsReported reporting s d e message) (sym is)
+    (record {
+      end = (
+        subst (λ t. is_passed_over d.dialect t ≡ false) same judges,
+        (
+          subst IsUtf8 same utf8,
+          (list, subst (λ t. SpellsIn (language_in d) nesting_limit t list) same spelled, refl),
+        ),
+      );
+      message = subst (λ e. IsMessageOn reporting s d e message) is reported;
+    })
+
+-- The warnings come after the tree, at the literal.
+pub tree_and_warnings : (reporting : Reporting) (s : Source) (d : Description) (found : Levels)
+    (language : Language) (text tree reported message : Text) (line col : ℕ)
+    → IsExplainedIf reporting.explains language s.file.now line text tree → language ≡ language_in d → text ≡ text_of d
+    → line ≡ line_number 1 s.text.now d.piece.start → col ≡ reported_column reporting.style.format s.text.now d.piece.start
+    → reported ≡ messages_at reporting.style (record { file = s.file; line = line }) col found
+    → message ≡ tree ++ reported → IsMessageOn reporting s d (Accepted found) message
+tree_and_warnings reporting s d found language text tree reported message line col asked named same at_line at_column are is = (
+  tree,
+  subst (λ l. IsExplainedIf reporting.explains l s.file.now (line_number 1 s.text.now d.piece.start) (text_of d) tree)
+      named
+      (subst (λ t. IsExplainedIf reporting.explains language s.file.now (line_number 1 s.text.now d.piece.start) t tree)
+      same
+      (subst (λ n. IsExplainedIf reporting.explains language s.file.now n text tree) at_line asked)),
+  is ∙ ap (λ t. tree ++ t)
+      (are
+      ∙ ap (λ l. messages_at reporting.style (record { file = s.file; line = l }) col found) at_line
+      ∙ ap (λ k. messages_at reporting.style (origin_of s d) k found) at_column),
+)
+
+-- If neither trees nor warnings are asked for, nothing is reported.
+pub nothing_reported : (reporting : Reporting) (s : Source) (d : Description) → reporting.explains ≡ false
+    → IsMessageOn reporting s d (Accepted (all_at Allowed)) []
+nothing_reported reporting s d quiet = (
+  [],
+  subst (λ b. IsExplainedIf b (language_in d) s.file.now (origin_of s d).line (text_of d) []) (sym quiet) refl,
+  refl,
+)
+
+-- The further faults that are reported.
+pub further_reported : {E : Type 0} (d : Description) (language : Language) (text : Text) (f : Fault)
+    (found : List Diagnostic) (done : Result (Vec Diagnostic Global) E) → language ≡ language_in d
+    → AreFurther most_further language (without language text f) found
+    → IfOk done (λ reported. reported.items ≡ reported_further d.items found)
+    → IfOk done (λ reported. (found : List Diagnostic)
+    × AreFurther most_further (language_in d) (without (language_in d) text f) found
+    × (reported.items ≡ reported_further d.items found))
+further_reported d language text f found (Ok reported) named are those =
+    (found, subst (λ l. AreFurther most_further l (without l text f) found) named are, those)
+further_reported d language text f found (Err e) named are those = tt
+
+pub items_reported : {E : Type 0} (d : Description) (found : List Diagnostic) (done : Result (Vec Diagnostic Global) E)
+    → d.items ≡ Taken → IfOk done (λ reported. reported.items ≡ flat_map unless_item found)
+    → IfOk done (λ reported. reported.items ≡ reported_further d.items found)
+items_reported d found (Ok reported) is those = those ∙ sym (ap (λ i. reported_further i found) is)
+items_reported d found (Err e) is those = tt
+
+pub all_reported : (d : Description) (found : List Diagnostic) → d.items ≡ RefusedItems
+    → found ≡ reported_further d.items found
+all_reported d found is = sym (ap (λ i. reported_further i found) is)

@@ -1,0 +1,153 @@
+-- What the linter reports about the descriptions of a source.
+use Rattle.std.specs.List.{All}
+use Rattle.std.specs.Prelude.{ℕ, ◌≡◌, List, [], ◌∷◌, ◌++◌, codes, map, ⊤}
+use Rattle.timefd_component.specs.Tree.{Text}
+use Rattle.timefd_diagnosis.specs.declared.diagnostic.Diagnostic.{Diagnostic}
+use Rattle.timefd_drawing.specs.declared.draw.Style.{Style}
+use Rattle.timefd_drawing.specs.declared.position.Origin.{Origin}
+use Rattle.timefd_drawing.specs.Drawing.{drawn_all, note}
+use Rattle.timefd_drawing.specs.Positions.{reported_column, line_number}
+use Rattle.timefd_explain.specs.Lines.{IsExplainedIf}
+use Rattle.timefd_sources.specs.declared.description.Description.{Description}
+use Rattle.timefd_keys.specs.Found as keys
+use Rattle.timefd_sources.specs.Found.{AreDescriptionsOf, AreInOrder, StandsIn, index_in_source}
+use Rattle.timefd_warnings.specs.declared.levels.Levels.{Levels}
+use Rattle.timefd_lint_warnings.specs.Messages.{messages_at}
+use Rattle.timefd_lint_sources.specs.declared.remark.Remark.{Remark}
+use Rattle.timefd_lint_sources.specs.declared.source.Report.{Report}
+use Rattle.timefd_lint_sources.specs.declared.reported.End.{End}
+use Rattle.timefd_lint_sources.specs.declared.reported.End.TheVariants.{PassedOver, Accepted, Refused, NotText, Unread}
+use Rattle.timefd_lint_sources.specs.declared.reported.Finder.{Finder}
+use Rattle.timefd_lint_sources.specs.declared.reported.Finder.TheVariants.{Rust, Keys}
+use Rattle.timefd_lint_sources.specs.declared.reported.Source.{Source}
+use Rattle.timefd_lint_sources.specs.declared.reported.Reporting.{Reporting}
+use Rattle.timefd_lint_sources.specs.Calls.{call_note}
+use Rattle.timefd_lint_sources.specs.Items.{AreJudgedAs, IsJudgedAs}
+use Rattle.timefd_lint_sources.specs.Judged.{AreDiagnosedOf, IsEndOf, language_in, text_of}
+use Rattle.timefd_lint_sources.specs.Remarks.{AreRemarks, ends_of, messages_of}
+
+-- Where a source begins, and the line where the literal of a description begins.
+abbrev pub whole_origin : Source → Origin
+whole_origin s = record { file = s.file; line = 1 }
+
+abbrev pub origin_of : Source → Description → Origin
+origin_of s d = record { file = s.file; line = line_number 1 s.text.now d.piece.start }
+
+-- the column of the literal, as the output format counts it
+abbrev pub column_of : Style → Source → Description → ℕ
+column_of style s d = reported_column style.format s.text.now d.piece.start
+
+-- A diagnostic of a description, with its span in the source.
+abbrev pub placed_in : Description → Diagnostic → Diagnostic
+placed_in d g = record {
+  fault = g.fault;
+  code = g.code;
+  span = record { start = index_in_source d g.span.start; end = index_in_source d g.span.end };
+  help = g.help;
+  named = g.named;
+}
+
+-- The tree of a description, byte for byte, if it is asked for; otherwise nothing.
+abbrev pub IsTreeOf : Reporting → Source → Description → Text → Type 0
+IsTreeOf reporting s d tree =
+    IsExplainedIf reporting.explains (language_in d) s.file.now (origin_of s d).line (text_of d) tree
+
+-- The report on an accepted description is its tree, if that is asked for, and then each warning that it has
+-- and that is reported, at its literal, in the order of their codes.
+abbrev pub IsTreeAndWarnings : Reporting → Source → Description → Levels → Text → Type 0
+IsTreeAndWarnings reporting s d found message = (tree : Text) × IsTreeOf reporting s d tree
+    × (message ≡ tree ++ messages_at reporting.style (origin_of s d) (column_of reporting.style s d) found)
+
+-- The report on a refused description is the drawing of its first fault, the drawings of the further ones,
+-- each at its position in the source, and a note at a call that takes it by name.
+abbrev pub drawing_of : Style → Source → Description → Diagnostic → List Diagnostic → Text
+drawing_of style s d g further =
+    drawn_all style (whole_origin s) s.text.now (placed_in d g) (map (placed_in d) further) ++ call_note style s d
+
+abbrev pub IsDrawing : Style → Source → Description → Text → Type 0
+IsDrawing style s d message = (g : Diagnostic) × (further : List Diagnostic)
+    × AreDiagnosedOf d g further × (message ≡ drawing_of style s d g further)
+
+-- The report on a description that isn't UTF-8 is a note on the line of its literal.
+abbrev pub no_text_note : Style → Origin → Text
+no_text_note style origin = note style origin (codes "not-text") (codes "the bytes aren't UTF-8")
+
+abbrev pub note_of : Style → Source → Description → Text
+note_of style s d = no_text_note style (origin_of s d)
+
+abbrev pub IsMessageOn : Reporting → Source → Description → End → Text → Type 0
+IsMessageOn reporting s d PassedOver message = message ≡ []
+IsMessageOn reporting s d (Accepted found) message = IsTreeAndWarnings reporting s d found message
+IsMessageOn reporting s d Refused message = IsDrawing reporting.style s d message
+IsMessageOn reporting s d NotText message = message ≡ note_of reporting.style s d
+IsMessageOn reporting s d Unread message = ⊥
+
+pub record IsReported (reporting : Reporting) (s : Source) (d : Description) (came : End) (said : Text)
+    : Type 0 where
+  pub end : IsEndOf reporting.levels d came
+  pub message : IsMessageOn reporting s d came said
+
+-- The outcome of one more description, and the messages on it, come after those of the others.
+abbrev pub AddsReported : Reporting → Source → Description → List End → Text → List End → Text → Type 0
+AddsReported reporting s d ends message ends' message' = (end : End) × (one : Text)
+    × IsReported reporting s d end one × (ends' ≡ ends ++ (end ∷ [])) × (message' ≡ message ++ one)
+
+-- The outcome of each of these descriptions, and the messages on each, in order, and nothing else.
+abbrev pub AreReported : Reporting → Source → List Description → List End → Text → Type 0
+AreReported reporting s [] [] message = message ≡ []
+AreReported reporting s [] (e ∷ ends) message = ⊥
+AreReported reporting s (d ∷ ds) [] message = ⊥
+AreReported reporting s (d ∷ ds) (e ∷ ends) message = (one : Text) × (rest : Text)
+    × IsReported reporting s d e one × AreReported reporting s ds ends rest × (message ≡ one ++ rest)
+
+-- A description is a literal of a Rust source, or the value of a key, in the key's language.
+abbrev pub IsFoundBy : Finder → Text → Description → Type 0
+IsFoundBy Rust source d = StandsIn source d
+IsFoundBy (Keys format names) source d = keys.IsValue format source names.now d
+
+abbrev pub IsFound : Source → Description → Type 0
+IsFound s d = IsFoundBy s.finder s.text.now d
+
+abbrev pub AllFound : Source → List Description → Type 0
+AllFound s ds = All (IsFound s) ds
+
+-- In a Rust source they are all that it has. No clause says that all values of keys are found.
+abbrev pub AreAllBy : Finder → Text → List Description → Type 0
+AreAllBy Rust source ds = AreDescriptionsOf source ds
+AreAllBy (Keys format names) source ds = ⊤
+
+abbrev pub AreAllOf : Source → List Description → Type 0
+AreAllOf s ds = AreAllBy s.finder s.text.now ds
+
+-- A description that is found in a source, as it is checked.
+abbrev pub IsJudgedFound : Source → Description → Type 0
+IsJudgedFound s d = (found : Description) × IsFound s found × IsJudgedAs found d
+
+-- These are the descriptions of a source as they are checked. They are found in it, one after another.
+pub record AreJudgedIn (s : Source) (ds : List Description) : Type 0 where
+  pub found : List Description
+  pub all : AreAllOf s found
+  pub stand : AllFound s found
+  pub in_order : AreInOrder 0 found
+  pub judged : AreJudgedAs found ds
+
+-- These are the descriptions that are found in a source, one after another, and the remarks on what else is
+-- seen.
+pub record AreSeen (s : Source) (ds : List Description) (remarks : List Remark) : Type 0 where
+  pub all : AreAllOf s ds
+  pub stand : AllFound s ds
+  pub in_order : AreInOrder 0 ds
+  pub remarked : AreRemarks s ds remarks
+
+-- The report covers each description as it is checked, and then each remark.
+pub record IsSourceReported (reporting : Reporting) (s : Source) (r : Report) : Type 0 where
+  pub found : List Description
+  pub remarks : List Remark
+  pub seen : AreSeen s found remarks
+  pub descriptions : List Description
+  pub judged : AreJudgedAs found descriptions
+  pub ends : List End
+  pub message : Text
+  pub reported : AreReported reporting s descriptions ends message
+  pub all_ends : r.ends.items ≡ ends ++ ends_of remarks
+  pub all_messages : r.message.items ≡ message ++ messages_of reporting.style s remarks

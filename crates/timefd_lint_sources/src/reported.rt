@@ -1,0 +1,222 @@
+//! What the linter reports about one description.
+
+ghost use Rattle.std.specs.Prelude.{◌≡◌, IfOk, false, map};
+ghost use Rattle.timefd_drawing.specs.Counted.{IsCounted};
+ghost use Rattle.timefd_lint_sources.specs.declared.reported.End.TheVariants as ends;
+ghost use Rattle.timefd_lint_sources.specs.Judged.{text_of};
+ghost use Rattle.timefd_lint_sources.specs.Judged as judging;
+ghost use Rattle.timefd_lint_sources.specs.Reported.{IsReported, drawing_of, note_of};
+ghost use Rattle.timefd_lint_sources.specs.Reported as spec;
+
+use crate::accepted::accepted;
+use crate::at_call::call_note;
+use crate::further::further_of;
+use crate::language::{is_passed_over, language_of};
+use crate::position::FIRST_LINE;
+use std::alloc::{AllocError, Global};
+use std::str;
+use timefd_diagnosis::{Diagnostic, Span, diagnose};
+use timefd_drawing::{Counter, Origin, Style, counted, drawn_all_from, note};
+use timefd_keys::{Format, Key};
+use timefd_sources::{Description, index_in_source};
+use timefd_warnings::Levels;
+
+/// How to report on descriptions.
+#[derive(Clone, Copy)]
+pub struct Reporting {
+    /// How messages look.
+    pub style: Style,
+    /// Whether the tree of an accepted description is shown.
+    pub explains: bool,
+    /// The level of each warning; `None` if warnings aren't looked for.
+    pub levels: Option<Levels>,
+}
+
+/// How the descriptions in a source are found.
+#[derive(Clone, Copy)]
+pub enum Finder<'a> {
+    /// As string literals in Rust.
+    Rust,
+    /// As strings of these keys, in a file of this format.
+    Keys(Format, &'a [Key<'a>]),
+}
+
+/// A source to check: a Rust source, or a file with keys.
+#[derive(Clone, Copy)]
+pub struct Source<'a> {
+    /// The name of its file.
+    pub file: &'a str,
+    /// How its descriptions are found.
+    pub finder: Finder<'a>,
+    /// The whole text.
+    pub text: &'a str,
+}
+
+/// The outcome of a description.
+#[derive(Clone, Copy)]
+pub enum End {
+    /// It has directives that only chrono or only jiff knows, and isn't checked.
+    PassedOver,
+    /// It is valid, with the levels of its reported warnings; any other warning is allowed.
+    Accepted(Levels),
+    /// It has a fault.
+    Refused,
+    /// It isn't UTF-8.
+    NotText,
+    /// A call takes a name instead of a literal, and no text is found for the name.
+    Unread,
+}
+
+/// What the linter reports about a description.
+#[derive(Drop)]
+pub struct Reported {
+    /// The outcome.
+    pub end: End,
+    /// The messages on it: empty if there is nothing to report.
+    pub message: Vec<u8>,
+}
+
+/// Checks a description of a source, and reports what is wrong with it at its position in the source. `from`
+/// says how far lines are counted. An `Err` says that memory ran out.
+#[tactic(auto, using(crate::proofs::ReportedLemmas::passed_over, crate::proofs::ReportedLemmas::no_text))]
+pub fn report(
+    alloc: Global,
+    reporting: Reporting,
+    source: Source<'_>,
+    from: Counter,
+    description: &Description,
+) -> Result<Reported, AllocError>
+    requires { IsCounted 1 source.text.now from }
+    ensures { IfOk result (λ reported. IsReported reporting source.entry description.now
+        reported.end reported.message.items) }
+{
+    let bytes = description.unescaped.text.as_slice();
+    if is_passed_over(description.dialect, bytes) {
+        return Ok(Reported {
+            end: End::PassedOver,
+            message: Vec::new(alloc),
+        });
+    }
+    match str::from_utf8(bytes) {
+        Ok(text) => judged(alloc, reporting, source, from, description, text),
+        Err(_) => not_text(alloc, reporting.style, source, from, description),
+    }
+}
+
+// A note on a description that isn't UTF-8.
+fn not_text(
+    alloc: Global,
+    style: Style,
+    source: Source<'_>,
+    from: Counter,
+    description: &Description,
+) -> Result<Reported, AllocError>
+    requires { IsCounted 1 source.text.now from }
+    ensures end { IfOk result (λ reported. reported.end ≡ ends.NotText) }
+    ensures message { IfOk result (λ reported. reported.message.items
+        ≡ note_of style source.entry description.now) }
+{
+    let counter = counted(FIRST_LINE, source.text, from, description.piece.start);
+    let origin = Origin {
+        file: source.file,
+        line: counter.line,
+    };
+    let message = note(alloc, style, origin, "not-text", "the bytes aren't UTF-8")?;
+    Ok(Reported {
+        end: End::NotText,
+        message,
+    })
+}
+
+// Checks a description with this text.
+#[tactic(auto, using(crate::proofs::ReportedLemmas::with_list, crate::proofs::ReportedLemmas::with_fault))]
+fn judged(
+    alloc: Global,
+    reporting: Reporting,
+    source: Source<'_>,
+    from: Counter,
+    description: &Description,
+    text: &str,
+) -> Result<Reported, AllocError>
+    requires counted { IsCounted 1 source.text.now from }
+    requires judges { judging.is_passed_over description.now.dialect text.now ≡ false }
+    requires text { text.now ≡ text_of description.now }
+    ensures { IfOk result (λ reported. IsReported reporting source.entry description.now
+        reported.end reported.message.items) }
+{
+    let language = language_of(description.dialect);
+    match diagnose(alloc, language, text)? {
+        None => accepted(alloc, reporting, source, from, description, language, text),
+        Some(diagnostic) => {
+            let further = further_of(alloc, description, text, &diagnostic)?;
+            refused(
+                alloc,
+                reporting.style,
+                source,
+                from,
+                description,
+                diagnostic,
+                further,
+            )
+        }
+    }
+}
+
+// The drawings of what is wrong with a description, at its position in the source, and a note at a call that
+// takes it by name.
+fn refused(
+    alloc: Global,
+    style: Style,
+    source: Source<'_>,
+    from: Counter,
+    description: &Description,
+    diagnostic: Diagnostic,
+    further: Vec<Diagnostic>,
+) -> Result<Reported, AllocError>
+    requires { IsCounted 1 source.text.now from }
+    ensures end { IfOk result (λ reported. reported.end ≡ ends.Refused) }
+    ensures message { IfOk result (λ reported. reported.message.items
+        ≡ drawing_of style source.entry description.now diagnostic further.items) }
+{
+    let origin = Origin {
+        file: source.file,
+        line: FIRST_LINE,
+    };
+    let first = placed_in(description, diagnostic);
+    let others = all_placed_in(alloc, description, further)?;
+    let mut message = drawn_all_from(alloc, style, origin, source.text, from, &first, &others)?;
+    let note = call_note(alloc, style, source, from, description)?;
+    message.extend_from_slice(&note)?;
+    Ok(Reported {
+        end: End::Refused,
+        message,
+    })
+}
+
+// These diagnostics with their spans in the source.
+fn all_placed_in(
+    alloc: Global,
+    description: &Description,
+    diagnostics: Vec<Diagnostic>,
+) -> Result<Vec<Diagnostic>, AllocError>
+    ensures { IfOk result (λ placed. placed.items
+        ≡ map (spec.placed_in description.now) diagnostics.items) }
+{
+    let mut placed = Vec::new(alloc);
+    for diagnostic in diagnostics {
+        placed.push(placed_in(description, diagnostic))?;
+    }
+    Ok(placed)
+}
+
+// A diagnostic of a description, with its span in the source.
+fn placed_in(description: &Description, diagnostic: Diagnostic) -> Diagnostic
+    ensures { result ≡ spec.placed_in description.now diagnostic }
+{
+    let mut placed = diagnostic;
+    placed.span = Span {
+        start: index_in_source(description, placed.span.start),
+        end: index_in_source(description, placed.span.end),
+    };
+    placed
+}

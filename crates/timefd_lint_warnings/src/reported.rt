@@ -1,0 +1,94 @@
+//! What the linter reports about all warnings of a text.
+
+ghost use Rattle.std.specs.Prelude.{◌≡◌, ◌++◌, IfOk, OnOk};
+ghost use Rattle.timefd_lint_warnings.specs.Messages as spec;
+
+use crate::message::message;
+use std::alloc::{AllocError, Global};
+use timefd_drawing::{Origin, Style};
+use timefd_warnings::{Level, Levels, Warning};
+
+/// A message about each warning that isn't allowed, in the order of the codes. An `Err` says that
+/// memory ran out.
+pub fn messages(
+    alloc: Global,
+    style: Style,
+    origin: Origin<'_>,
+    found: Levels,
+) -> Result<Vec<u8>, AllocError>
+    ensures { IfOk result (λ reported. reported.items ≡ spec.messages style origin.entry found) }
+{
+    messages_at(alloc, style, origin, 1, found)
+}
+
+/// A message about each warning that isn't allowed, in the order of the codes, on a text that begins
+/// at this column of its line. An `Err` says that memory ran out.
+pub fn messages_at(
+    alloc: Global,
+    style: Style,
+    origin: Origin<'_>,
+    column: usize,
+    found: Levels,
+) -> Result<Vec<u8>, AllocError>
+    ensures { IfOk result (λ reported. reported.items ≡ spec.messages_at style origin.entry column found) }
+{
+    let mut out = Vec::new(alloc);
+    push_all(
+        alloc,
+        &mut out,
+        style,
+        origin,
+        column,
+        found,
+        Warning::all(),
+    )?;
+    Ok(out)
+}
+
+fn push_all(
+    alloc: Global,
+    out: &mut Vec<u8>,
+    style: Style,
+    origin: Origin<'_>,
+    column: usize,
+    found: Levels,
+    warnings: &[Warning],
+) -> Result<(), AllocError>
+    ensures { OnOk result (out.new.items
+        ≡ out.old.items ++ spec.messages_on style origin.entry column found warnings.now) }
+{
+    for warning in warnings {
+        push_one(
+            alloc,
+            out,
+            style,
+            origin,
+            column,
+            found.level_of(*warning),
+            *warning,
+        )?;
+    }
+    Ok(())
+}
+
+// Adds the message about a warning, if it isn't allowed.
+fn push_one(
+    alloc: Global,
+    out: &mut Vec<u8>,
+    style: Style,
+    origin: Origin<'_>,
+    column: usize,
+    level: Level,
+    warning: Warning,
+) -> Result<(), AllocError>
+    ensures { OnOk result (out.new.items
+        ≡ out.old.items ++ spec.reported_at style origin.entry column level warning) }
+{
+    match level {
+        Level::Allowed => Ok(()),
+        Level::Warned | Level::Denied => {
+            let reported = message(alloc, style, origin, column, level, warning)?;
+            out.extend_from_slice(&reported)
+        }
+    }
+}

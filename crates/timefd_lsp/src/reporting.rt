@@ -1,0 +1,141 @@
+//! What notifications lead to.
+
+ghost use Rattle.std.specs.Prelude.{◌≡◌, IfOk, OnOk, None, string_bytes};
+ghost use Rattle.timefd_lsp.specs.Documents as opening;
+ghost use Rattle.timefd_lsp.specs.Servers as spec;
+
+use crate::documents::{Document, Documents, Kind, change, close, kind_of, open};
+use crate::message::Notification;
+use crate::reply::Reply;
+use crate::server::{Phase, Server, Settings, Step, source_of};
+use std::alloc::{AllocError, Global};
+use timefd_editor::{Finding, findings};
+
+/// What a notification leads to. Before `initialize` and after `shutdown` only `exit` leads to anything. An
+/// `Err` says that memory ran out.
+pub fn reported(
+    alloc: Global,
+    settings: Settings<'_>,
+    server: &mut Server,
+    notification: Notification,
+) -> Result<Step, AllocError>
+    ensures step { IfOk result (spec.IsReported settings.entry server.old.phase server.old.documents notification) }
+    ensures phase { OnOk result (server.new.phase ≡ server.old.phase) }
+    ensures documents { OnOk result (opening.AreReported server.old.phase notification server.old.documents
+        server.new.documents) }
+{
+    match server.phase {
+        Phase::New | Phase::ShutDown => Ok(unheard(&notification)),
+        Phase::Running => heard(alloc, settings, server, notification),
+    }
+}
+
+fn unheard(notification: &Notification) -> Step
+    ensures { result ≡ spec.unheard notification.now }
+{
+    match notification {
+        Notification::Exit => Step::Exit,
+        Notification::Opened { .. }
+        | Notification::Changed { .. }
+        | Notification::Closed { .. }
+        | Notification::Other => Step::Silent,
+    }
+}
+
+fn heard(
+    alloc: Global,
+    settings: Settings<'_>,
+    server: &mut Server,
+    notification: Notification,
+) -> Result<Step, AllocError>
+    ensures step { IfOk result (spec.IsHeard settings.entry server.old.documents notification) }
+    ensures phase { OnOk result (server.new.phase ≡ server.old.phase) }
+    ensures documents { OnOk result (opening.AreHeard notification server.old.documents server.new.documents) }
+{
+    match notification {
+        Notification::Opened {
+            uri,
+            language,
+            text,
+        } => opened(alloc, settings, &mut server.documents, uri, &language, text),
+        Notification::Changed { uri, text } => {
+            changed(alloc, settings, &mut server.documents, uri, text)
+        }
+        Notification::Closed { uri } => Ok(closed(alloc, &mut server.documents, uri)),
+        Notification::Exit => Ok(Step::Exit),
+        Notification::Other => Ok(Step::Silent),
+    }
+}
+
+// All that is wrong in a document.
+fn findings_in(
+    alloc: Global,
+    settings: Settings<'_>,
+    uri: &str,
+    kind: Kind,
+    text: &str,
+) -> Result<Vec<Finding>, AllocError>
+    ensures { IfOk result (λ found. spec.AreWrongIn settings.entry kind text.now found.items) }
+{
+    findings(alloc, source_of(settings, uri, kind, text), settings.levels)
+}
+
+fn said(uri: String, findings: Vec<Finding>) -> Step
+    ensures { result ≡ spec.said uri findings }
+{
+    Step::Say(Reply::Findings { uri, findings })
+}
+
+// Opens a document, if it is one that is checked, and reports what is wrong in it.
+fn opened(
+    alloc: Global,
+    settings: Settings<'_>,
+    documents: &mut Documents,
+    uri: String,
+    language: &str,
+    text: String,
+) -> Result<Step, AllocError>
+    ensures step { IfOk result (spec.IsOpened settings.entry (string_bytes uri) language.now (string_bytes text)) }
+    ensures documents { OnOk result (opening.AreOpened (string_bytes uri) language.now text documents.old
+        documents.new) }
+{
+    let Some(kind) = kind_of(language, &uri) else {
+        return Ok(Step::Silent);
+    };
+    let findings = findings_in(alloc, settings, &uri, kind, &text)?;
+    let name = String::from_str(alloc, &uri)?;
+    open(documents, name, Document { kind, text })?;
+    Ok(said(uri, findings))
+}
+
+// Replaces the text of an open document, and reports what is wrong in it.
+#[tactic(auto, using(crate::proofs::WithTextLemmas::not_open))]
+fn changed(
+    alloc: Global,
+    settings: Settings<'_>,
+    documents: &mut Documents,
+    uri: String,
+    text: String,
+) -> Result<Step, AllocError>
+    ensures step { IfOk result (spec.IsChangedOf settings.entry (string_bytes uri) (string_bytes text) documents.old) }
+    ensures documents { OnOk result (opening.AreWithText (string_bytes uri) text documents.old documents.new) }
+{
+    let Some(document) = documents.get(uri.as_str()) else {
+        return Ok(Step::Silent);
+    };
+    let findings = findings_in(alloc, settings, &uri, document.kind, &text)?;
+    change(documents, &uri, text);
+    Ok(said(uri, findings))
+}
+
+// Closes a document, and withdraws what was reported about it.
+#[tactic(auto, using(crate::proofs::ClosedLemmas::was_open, crate::proofs::ClosedLemmas::was_not_open))]
+fn closed(alloc: Global, documents: &mut Documents, uri: String) -> Step
+    ensures step { spec.IsClosed (string_bytes uri) documents.old result }
+    ensures documents { opening.AreWith (string_bytes uri) None documents.old documents.new }
+{
+    if close(documents, &uri) {
+        return said(uri, Vec::new(alloc));
+    }
+    Step::Silent
+}
