@@ -5,8 +5,9 @@
 pub struct Candidate {
     /// The description, in version 3.
     pub description: &'static str,
-    /// The same description with day and month swapped, if only the texts can show which of the two
-    /// is meant.
+    /// The description with day and month swapped, such as `[month]/[day]/[year]` for
+    /// `[day]/[month]/[year]`: only the texts can show which of the two is meant. `None` if the order is
+    /// in no doubt, as after a year.
     pub swapped: Option<&'static str>,
 }
 

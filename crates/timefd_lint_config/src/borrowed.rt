@@ -18,7 +18,8 @@ fn borrowed(key: &OwnedKey) -> Key<'_>
     }
 }
 
-/// The same keys, borrowed for a shorter time. An `Err` says that memory ran out.
+/// Copies keys into a list to which keys of the settings can be added. Their names stay borrowed. An
+/// `Err` says that memory ran out.
 #[tactic(auto, using(crate::proofs::BorrowedLemmas::one_again, crate::proofs::BorrowedLemmas::last_again))]
 pub fn same_keys<'a>(alloc: Global, keys: &'a [Key<'_>]) -> Result<Vec<Key<'a>>, AllocError>
     ensures { IfOk result (λ same. borrowed.named_all same.items ≡ borrowed.named_all keys.now) }

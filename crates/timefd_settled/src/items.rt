@@ -39,7 +39,8 @@ fn before(item: &BorrowedFormatItem<'_>, known: Bound) -> Option<Bound>
     }
 }
 
-/// The same for a sequence of items, the last one first.
+/// What is known about the text of items in turn and the text that follows them, given what is known
+/// about the latter. `None` if one of them isn't settled. The last item is looked at first.
 #[cycle(items)]
 fn before_all(items: &[BorrowedFormatItem<'_>], known: Bound) -> Option<Bound>
     ensures { result ≡ reached_all (trees (item_trees items.now)) known }

@@ -34,7 +34,8 @@ fn before(view: View<'_, '_>, known: Bound) -> Option<Bound>
     }
 }
 
-/// The same for a sequence of members, the last one first.
+/// What is known about the text of members in turn and the text that follows them, given what is known
+/// about the latter. `None` if one of them isn't settled. The last member is looked at first.
 #[cycle(view)]
 fn before_all(members: Members<'_, '_>, known: Bound) -> Option<Bound>
     ensures { result ≡ reached_all (trees (member_trees members.entry)) known }
@@ -48,8 +49,8 @@ fn before_all(members: Members<'_, '_>, known: Bound) -> Option<Bound>
     Some(reached)
 }
 
-/// The same for a member that may be left out. If it isn't written, it might be read all the same, so it
-/// isn't settled.
+/// What is known about the text of an optional member and the text that follows it, given what is known
+/// about the latter. `None` if formatting leaves the member out: a reader might find it all the same.
 #[cycle(view)]
 fn before_optional(format: bool, member: View<'_, '_>, known: Bound) -> Option<Bound>
     ensures { result ≡ reached (optional format (view_tree member.entry)) known }
@@ -57,7 +58,8 @@ fn before_optional(format: bool, member: View<'_, '_>, known: Bound) -> Option<B
     if format { before(member, known) } else { None }
 }
 
-/// The same for alternatives: the first one is written and read.
+/// What is known about the text of alternatives and the text that follows it, given what is known about
+/// the latter. The first alternative is written and read, so it decides.
 #[cycle(view)]
 fn before_first(alternatives: Members<'_, '_>, known: Bound) -> Option<Bound>
     ensures { result ≡ reached (first (trees (member_trees alternatives.entry))) known }

@@ -143,7 +143,9 @@ pub fn text_in_front(
     append_leaves(moment, leaves?, room, 0)
 }
 
-/// The same with a newline after the text. It needs at least 32 bytes of room after the text.
+/// Writes the text of the moment and a newline to the front of the room, and returns the index after the
+/// newline. `None` says only that this fast way can't be taken, and nothing about the moment: so it is
+/// where fewer than 32 bytes are left after the text.
 #[inline(never)]
 #[tactic(auto, using(crate::proofs::FrontLemmas::line_put, crate::proofs::FrontLemmas::line_within))]
 fn line_in_front(
