@@ -25,7 +25,7 @@ DescribesWithin language limit bytes list = IsUtf8 bytes × SpellsWithin languag
 abbrev pub HasFaultWithin : Option Language → ℕ → Text → Fault → Type 0
 HasFaultWithin language limit bytes f = IsUtf8 bytes × FaultWithin language limit bytes f
 
--- The same two, with the greatest limit on nesting.
+-- what the bytes describe, and which fault they have, with the greatest limit on nesting
 abbrev pub Describes : Option Language → Text → List Tree → Type 0
 Describes language bytes list = DescribesWithin language nesting_limit bytes list
 

@@ -81,8 +81,8 @@ pub record FormatsBy (language : Option Language) (bytes : Text) (m : Moment) (b
       → Shows (written_all m (trees list)) before after answer
   pub kept : answer.status ≢ ACCEPTED → after ≡ before
 
--- The same for the numbers of a moment. If one of them is out of its range, the answer says so, whatever
--- the text is.
+-- The answer says what the text writes of the moment with these numbers. If one of them is out of its
+-- range, the answer says so, whatever the text is.
 pub record Formats (language : Option Language) (bytes : Text) (fields : MomentFields)
     (before after : Text) (answer : FormatAnswer) : Type 0 where
   pub out_of_range : (e : ComponentRange) → range_fault fields ≡ Some e

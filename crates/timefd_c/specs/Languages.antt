@@ -28,7 +28,7 @@ abbrev pub FaultWithin : Option Language → ℕ → Text → Fault → Type 0
 FaultWithin (Some language) limit text f = spec.FaultIn language limit text f
 FaultWithin None limit text f = ⊥
 
--- The same two, with the greatest limit on nesting.
+-- what the text spells, and which fault it has, with the greatest limit on nesting
 abbrev pub SpellsIn : Option Language → Text → List Tree → Type 0
 SpellsIn language text list = SpellsWithin language nesting_limit text list
 

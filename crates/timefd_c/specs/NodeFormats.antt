@@ -39,8 +39,8 @@ pub record FormatsNodesBy (nodes : List Node) (literals : Text) (m : Moment) (be
   -- Writing takes no memory, so it can't run out.
   pub memory : answer.status ≢ NO_MEMORY
 
--- The same for the numbers of a moment. If one of them is out of its range, the answer says so, whatever
--- the nodes are.
+-- The answer says what the nodes write of the moment with these numbers. If one of them is out of its
+-- range, the answer says so, whatever the nodes are.
 pub record FormatsNodes (nodes : List Node) (literals : Text) (fields : MomentFields)
     (before after : Text) (answer : FormatAnswer) : Type 0 where
   pub out_of_range : (e : ComponentRange) → range_fault fields ≡ Some e

@@ -74,7 +74,7 @@ IsReported language text list before after answer =
     × AreWritten (warnings_of language text list) before after answer)
     ⊎ ((answer ≡ silent NO_MEMORY 0) × (after ≡ before))
 
--- The same for a text in a language, if there is one.
+-- That is so of a text in a language. Nothing is reported where there is no language.
 abbrev pub IsReportedIn : Option Language → Text → List Tree → List WarningFields → List WarningFields
     → WarningsAnswer → Type 0
 IsReportedIn (Some language) text list before after answer = IsReported language text list before after answer

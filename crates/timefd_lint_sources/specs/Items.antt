@@ -129,7 +129,7 @@ IsJudgedText None text judged = judged ≡ text
 IsJudgedText (Some v) text judged =
     ((¬ IsUtf8 text) × (judged ≡ text)) ⊎ (IsUtf8 text × IsAllOpened (length text) v text judged)
 
--- The same description, with the text that is checked for it.
+-- What is judged is the description, but with the text that is checked for it.
 pub record IsJudgedAs (d judged : Description) : Type 0 where
   pub piece : judged.piece ≡ d.piece
   pub kind : judged.kind ≡ d.kind

@@ -58,7 +58,7 @@ pub record IsLeft (language : Language) (fixes : Fixes) (text : Text) (f : Fault
   pub ends : IsUnmended language fixes last f
       ⊎ ((steps ≡ FIX_LIMIT) × FaultIn language nesting_limit last f)
 
--- The same for errors: the error is that fault, or says that memory ran out.
+-- An error is a fault of which this holds, or says that memory ran out.
 
 abbrev pub IsUnmendedOf : Language → Fixes → Text → ParseError → Type 0
 IsUnmendedOf language fixes text (Invalid f) = IsUnmended language fixes text (fault_of f)

@@ -39,7 +39,7 @@ pub struct Levels {
 }
 
 impl Levels {
-    /// The same level for all warnings.
+    /// One level for all warnings.
     pub fn all_at(level: Level) -> Levels
         ensures { result ≡ spec.all_at level }
     {

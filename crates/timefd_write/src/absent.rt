@@ -29,7 +29,8 @@ pub fn absent_day(fields: &Fields) -> Option<AbsentDay>
     }
 }
 
-// The same check on the numbers themselves. `None` if they are larger than those of any date.
+// The date of these numbers, if its month has no such day. `None` also if they are larger than those of any
+// date.
 fn absent_of(year: Signed, month: u16, day: u16) -> Option<AbsentDay>
     ensures { result ≡ spec.absent_of year month day }
 {
