@@ -70,7 +70,7 @@ def copy_of(source, pairs, name):
 
 
 def texts_with(source, copies):
-    """The files in which these copies stand, each behind its function."""
+    """The files with these copies, each after its function."""
     texts = {}
     for file in {it.function.file for it in copies}:
         data, text, at = source.data[file], "", 0
