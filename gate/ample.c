@@ -1,6 +1,6 @@
 /* Calls the static library over long texts with all the memory there is: no call may say that memory ran out, ask for blocks
    more often than doubling does, or have more at once than lists and texts have that double. And each call takes null with
-   the length 0. gate/library builds it, with malloc, realloc and free of the library led to the functions below. */
+   the length 0. gate/library builds it, with malloc, realloc and free of the library replaced by the functions below. */
 
 #include "../examples/timefd.h"
 

@@ -1,5 +1,5 @@
 /* Refuses each allocation of each call of the static library in turn, and compares nodes byte by byte. gate/library builds it,
-   with malloc, realloc and free of the library led to the functions below, and runs it. */
+   with malloc, realloc and free of the library replaced by the functions below, and runs it. */
 
 #include "../examples/timefd.h"
 

@@ -1,4 +1,4 @@
-"""The wrong bodies of one crate, tried: the prover has to refuse each. One check tries many.
+"""Tries the wrong bodies of one crate: the prover has to refuse each. One check tries many.
 
 A wrong body is put into a copy of its function, with the same clauses and proofs, and the same check has to prove another copy, of the
 function as it is. What can't be copied (a method of a trait, a function in a cycle of calls, what is outside of functions) is tried
