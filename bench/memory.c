@@ -104,7 +104,7 @@ static void print_figure(double figure) {
     }
 }
 
-/* Prints a line of the table, and tells whether each answer was the expected one. */
+/* Prints a line of the table, and answers whether each answer was the expected one. */
 static bool print_row(const struct family *family, uint32_t kind) {
     bool is_right = true;
     double beside[SIZE_COUNT];

@@ -1,11 +1,11 @@
 """What breaks when an enum gets one more variant: looked for in the text of all files, and by the compiler's front end in a copy of the
 crates. The new variant stands beside a neighbour, has its fields, and stands in each pattern that the neighbour has. What breaks is
 
-- each file of src/ and specs/ that names the neighbour by its type, as each table does in which it has a row;
-- each file of src/ with a match that lacks the new variant and the neighbour, by the compiler's front end, which proves nothing;
+- each file of src/ and specs/ that names the neighbour with its type, as each table with a row for it does;
+- each file of src/ with a match that lacks the new variant, according to the compiler's front end, which proves nothing;
 - each file outside of crates/ with a word that stands for the neighbour there, such as `SHOWN_TWICE` for `ShownTwice`.
 
-Not compared: definitions and code that go by a variable, a number or `_` and don't name the neighbour; proofs, tests, laws and
+Not compared: definitions and code with a variable, a number or `_` that don't name the neighbour; proofs, tests, laws and
 wrong bodies, which the gate tries; pages and stored texts. No definition is checked.
 """
 import collections

@@ -26,7 +26,7 @@ def ending(lines, begin, wanted):
 
 @dataclasses.dataclass(frozen=True)
 class Between:
-    """Behind lines that begin so, one behind another, up to one that is indented and begins so."""
+    """Behind lines that begin so, one after another, up to one that is indented and begins so."""
 
     after: tuple
     before: str
@@ -71,7 +71,7 @@ class Line:
 
 @dataclasses.dataclass(frozen=True)
 class Run:
-    """All lines one behind another that begin so."""
+    """All lines one after another that begin so."""
 
     begins: str
 

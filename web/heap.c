@@ -1,4 +1,4 @@
-/* The heap of the WebAssembly module, in the place of malloc. Blocks have sizes that are powers of two, from 32 bytes on, and each
+/* The heap of the WebAssembly module, in place of malloc. Blocks have sizes that are powers of two, from 32 bytes on, and each
    size has a list of the blocks that were given back. The memory grows from inside; what the browser doesn't give is answered as
    want of memory. */
 typedef unsigned long u64;

@@ -209,7 +209,7 @@ function show(kind, text, focuses) {
     answer();
 }
 
-// Puts a text in the place of what is selected in the field, so that the browser's "undo" takes it back.
+// Puts a text in place of what is selected in the field, so that the browser's "undo" takes it back.
 function put(text) {
     const done = text === "" ? document.execCommand("delete") : document.execCommand("insertText", false, text);
     if (!done) by("text").setRangeText(text, by("text").selectionStart, by("text").selectionEnd, "end");

@@ -26,7 +26,7 @@ import dialects
 
 PROGRAM = str(pathlib.Path(os.environ.get("TIMEFD_PROGRAMS", TOP / "out"), "timefd_format").absolute())
 MOMENTS = 8
-# None is a colon: behind an offset, digits after it would be its seconds.
+# None is a colon: after an offset, the digits that follow a colon would be its seconds.
 SEPARATORS = (" ", "/", ", ", "_", ".", " | ")
 
 
@@ -103,7 +103,7 @@ def ours(*words):
 
 
 def read_back(name, format_, texts):
-    """Whether the texts are read by the format, and written again; `None` where the format is refused to read by."""
+    """Whether the texts are read by the format, and written again; `None` if the format is refused to read by."""
     found, told = ours("--language", name, "--read", format_, "--", format_, *texts)
     return None if "of the format: " in told else found == texts
 

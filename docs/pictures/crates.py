@@ -2,7 +2,7 @@
 """Draws the crates of crates.txt, without those of tests: each above all that it stands on. The picture is crates.svg.
 
     docs/pictures/crates.py            writes the file beside this script
-    docs/pictures/crates.py --check    fails where the file would change
+    docs/pictures/crates.py --check    fails if the file would change
 
 A line leads from a crate to one that it stands on, but for those that it also reaches by another. Dark boxes are programs and the
 crates that people call; the others are parts that the prover or the gate wants apart.

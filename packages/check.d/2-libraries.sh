@@ -14,7 +14,7 @@ check_libraries() {
     defined=$("${tools}nm" -D --defined-only "$1/libtimefd.so" | sed -n 's/.* T \([^@]*\).*/\1/p' | sort | tr '\n' ' ')
     same "libtimefd.so for $processor shows what the header declares and nothing else" "$defined" "$declared"
     wanted=$("${tools}nm" -g --undefined-only "$1/libtimefd.a" | sed -n 's/.* U //p' | sort | tr '\n' ' ')
-    # The first two are of the compiler's own library: they divide numbers of 128 bits, and tell what is left.
+    # The first two are of the compiler's own library: they divide numbers of 128 bits, and give the remainder.
     same "libtimefd.a for $processor wants of the compiler and the C library" "$wanted" \
         '__udivti3 __umodti3 free malloc memcpy memmove memset realloc '
     same "libtimefd.so for $processor wants glibc" "$(newest_glibc "$1/libtimefd.so")" "GLIBC_$glibc"

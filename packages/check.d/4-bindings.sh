@@ -19,7 +19,7 @@ check_extension() {
 }
 check_extension "$("$room/venv/bin/python" -B -c 'from timefd import calls; print(calls._timefd.__file__)')"
 
-# The extension over musl: its loader finds all that it wants, given names in the place of Python's.
+# The extension over musl: its loader finds all that it wants, given names in place of Python's.
 if has musl-gcc 'the wheel for musl'; then
     python3 -m zipfile -e "$releases/timefd-$version-cp39-abi3-musllinux_1_2_x86_64.whl" "$room/musl"
     extension=$room/musl/timefd/_timefd.abi3.so

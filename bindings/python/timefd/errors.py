@@ -35,7 +35,7 @@ class FaultKind(enum.IntEnum):
     REFUSED_MODIFIER = 19
 
     def __str__(self) -> str:
-        """The name that the linter tells, as `unclosed-bracket`."""
+        """The name that the linter writes, like `unclosed-bracket`."""
         return self.name.lower().replace("_", "-")
 
 

@@ -87,7 +87,7 @@ class Literal:
 
 @dataclass(frozen=True)
 class Component:
-    """A part of a date or time, with its modifiers; each is `None` where the component doesn't have it.
+    """A part of a date or time, with its modifiers; each is `None` if the component doesn't have it.
 
     `digits` is from 1 to 9, or 10 for one or more; `ignored` is how many bytes a parser skips.
     """

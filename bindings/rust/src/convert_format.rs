@@ -78,7 +78,7 @@ pub struct Refusal {
 }
 
 impl ConvertFormatError {
-    /// What has no text of version 3. `None` where memory ran out.
+    /// What has no text of version 3. `None` if memory ran out.
     #[must_use]
     pub fn refusal(&self) -> Option<Refusal> {
         match self {

@@ -59,7 +59,7 @@ impl Date {
         365 * year + leap_days + day_of_year - DAYS_BEFORE_1970
     }
 
-    /// The day that is so many days after 1970-01-01. `None` where its year is out of its range.
+    /// The day that is so many days after 1970-01-01. `None` if its year is out of its range.
     #[cfg(any(test, feature = "std"))]
     pub(crate) fn of_unix_days(days: i64) -> Option<Self> {
         let days = days.checked_add(DAYS_BEFORE_1970)?;

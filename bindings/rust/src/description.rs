@@ -132,7 +132,7 @@ impl<'a> FormatDescription<'a> {
         self.language
     }
 
-    /// The version that it was read in. `None` where that is strftime.
+    /// The version that it was read in. `None` if that is strftime.
     ///
     /// ```
     /// use timefd::{FormatDescription, Language, Version};
@@ -249,7 +249,7 @@ fn expect_accepted(language: Language, text: &str, status: u32) -> Result<(), Pa
     }
 }
 
-/// The nodes and the bytes of literals of a text that was read before, by an answer that tells how much
+/// The nodes and the bytes of literals of a text that was read before, by an answer that says how much
 /// room they need.
 #[cold]
 #[inline(never)]

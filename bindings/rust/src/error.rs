@@ -26,7 +26,7 @@ pub enum ParseError {
 }
 
 impl ParseError {
-    /// The fault of the text. `None` where memory ran out.
+    /// The fault of the text. `None` if memory ran out.
     #[must_use]
     pub fn fault(&self) -> Option<&Fault> {
         match self {
@@ -35,7 +35,7 @@ impl ParseError {
         }
     }
 
-    /// The index of the byte at fault: how many bytes of the text stand before it. `None` where
+    /// The index of the byte at fault: how many bytes of the text are before it. `None` where
     /// memory ran out.
     pub fn index(&self) -> Option<usize> {
         self.fault().map(Fault::index)

@@ -24,7 +24,7 @@
 /// ```
 ///
 /// A bad text is an error of the compiler, which says what is wrong, where in the text, and which word
-/// that is allowed there is the nearest. A compiler that marks places inside of a literal marks the
+/// that is allowed there is the nearest. A compiler that marks places inside a literal marks the
 /// bytes at fault; others mark the literal, and the message has the text with marks below it:
 ///
 /// ```compile_fail

@@ -37,8 +37,8 @@ pub struct Moment {
     pub date: Option<Date>,
     /// The time of day.
     pub time: Option<Time>,
-    /// How many seconds the clock is ahead of UTC, behind as a negative number: less than 26
-    /// hours.
+    /// How many seconds the clock is ahead of UTC; negative if it is behind. Less than 26 hours
+    /// either way.
     pub offset_seconds: Option<i32>,
 }
 
@@ -62,7 +62,7 @@ impl Moment {
         raw
     }
 
-    /// What the library tells as known.
+    /// What the library says is known.
     pub(crate) fn of_raw(raw: &RawMoment) -> Self {
         let is_known = |bit| raw.known & bit != 0;
         let date = Date { year: raw.year, month: raw.month, day: raw.day };
