@@ -1,8 +1,8 @@
 """Gives a WebAssembly module of 64-bit addresses a memory of 32-bit ones, which every engine has.
 
 Numbers and calls keep their 64 bits: an address is narrowed where the module loads, stores, copies or fills, and nowhere else. So the
-module means the same as long as it stays inside its memory, of 4 GiB at most; outside of it, it may read elsewhere where the wide one
-stops. What this file doesn't know of WebAssembly it refuses."""
+module means the same as long as it stays inside its memory, of 4 GiB at most; outside it may read elsewhere where the wide module
+stops. What this file doesn't know about WebAssembly, it refuses."""
 
 from wasm_bytes import END, FORMS, GROW, I32_CONST, I64_CONST, MAGIC, SIZE, Reader, Section, Unknown, block, changed, each, immediate, number, signed
 
