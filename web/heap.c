@@ -41,7 +41,7 @@ static block *head_of(void *start) {
     return (block *)((unsigned char *)start - HEAD);
 }
 
-/* Whether the memory goes up to this place, once it has grown. */
+/* Whether the memory goes up to this address, once it has grown. */
 static int reaches(u64 place) {
     u64 have = __builtin_wasm_memory_size(0) * PAGE;
     if (place <= have) {

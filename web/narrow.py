@@ -85,7 +85,7 @@ def elements(reader):
 
 
 def active_segment(reader):
-    """Bytes, and the address where they stand."""
+    """Bytes, and the address where they are."""
     if reader.number() != 0 or reader.byte() != I64_CONST:
         raise Unknown("a segment of data stands at no constant address")
     address = reader.signed()
@@ -97,13 +97,13 @@ def active_segment(reader):
 
 
 class Locals:
-    """The places that a function has for what stands above an address, each declared when it is first asked for."""
+    """The locals of a function for what is above an address on the stack, each declared when it is first asked for."""
 
     def __init__(self, first):
         self.first, self.added = first, []
 
     def place(self, value, taken):
-        """A place for a value of this type, which is none of those that are taken."""
+        """A local for a value of this type that isn't in use."""
         for at, kind in enumerate(self.added):
             if kind == value and self.first + at not in taken:
                 return self.first + at

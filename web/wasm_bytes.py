@@ -33,7 +33,7 @@ class Operand(typing.NamedTuple):
 
 
 class Form(typing.NamedTuple):
-    """What follows an instruction's number, and what stands above the address that it takes; `None` if it takes none."""
+    """What follows an instruction's number, and what is above the address that it takes; `None` if it takes none."""
 
     kind: Kind
     above: tuple | None = None

@@ -47,7 +47,7 @@ from timefd.warning import Warning as Warning
 
 __version__ = "0.2.0"
 
-# `from timefd import *` gives all but `format`, `Warning` and `Optional`, which would take the place of builtins and of
+# `from timefd import *` gives everything but `format`, `Warning` and `Optional`, which would take the place of builtins and of
 # `typing.Optional`.
 __all__ = [
     "Component",

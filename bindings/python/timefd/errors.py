@@ -44,7 +44,7 @@ class Error(ValueError):
 
 
 def _characters(text: str, index: int) -> int:
-    """How many characters of a text stand before a byte of its UTF-8."""
+    """How many characters of a text are before a byte of its UTF-8."""
     return len(text.encode()[:index].decode())
 
 
@@ -68,7 +68,7 @@ class InvalidDescription(Error):
 
     @property
     def character_index(self) -> int:
-        """How many characters stand before what is at fault."""
+        """How many characters are before what is at fault."""
         return _characters(self.text, self.index)
 
     @property
@@ -94,7 +94,7 @@ class FormatRefused(Error):
 
     @property
     def character_index(self) -> int:
-        """How many characters of the format stand before the part."""
+        """How many characters of the format are before the part."""
         return _characters(self.format, self.index)
 
     def __str__(self) -> str:
@@ -180,7 +180,7 @@ class NotRead(Error):
 
     @property
     def character_index(self) -> int:
-        """How many characters of the moment stand before the part."""
+        """How many characters of the moment are before the part."""
         return _characters(self.moment, self.index)
 
     def __str__(self) -> str:
