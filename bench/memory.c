@@ -1,6 +1,6 @@
-/* Prints how much memory a reader holds at most, for each byte of texts of eleven kinds and four sizes, beside `time` and
-   `chrono` where they are linked in. `memory.sh` builds and runs it: it leads malloc, calloc, realloc and free of all that
-   is linked to the functions below. */
+/* Prints how much memory a reader takes at most, for each byte of texts of eleven kinds and four sizes, beside `time` and
+   `chrono` if they are linked in. `memory.sh` builds and runs it, with malloc, calloc, realloc and free of everything that
+   is linked replaced by the functions below. */
 
 #include "memory.h"
 

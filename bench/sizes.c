@@ -1,4 +1,4 @@
-/* Prints how fast texts of the sizes that are handed in are read, and how much memory that takes; or with `--large` reads
+/* Prints how fast texts of the given sizes are read, and how much memory that takes; or with `--large` reads
    a literal of over 4 GiB with a fault after it. `sizes.sh` builds and runs it. */
 
 #include "sizes.h"

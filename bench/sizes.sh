@@ -1,5 +1,5 @@
 #!/bin/sh
-# Reads large texts of the kinds that somebody who means harm would hand in, compares the answers with the expected ones,
+# Reads large texts of the kinds that somebody who means harm would send, compares the answers with the expected ones,
 # and prints a table of how fast that is and how much memory it takes.
 #
 #     bench/sizes.sh              texts of a million and of ten million bytes

@@ -109,7 +109,7 @@ function showRows(text, said, writes, names) {
     by("sum").textContent = `Reserves ${said.bytes} byte${said.bytes === 1 ? "" : "s"} in all.${left > 0 ? ` ${left} more parts are not shown.` : ""}`;
 }
 
-// Marks the part at a place in the field and in what is written.
+// Marks the part at a position in the field and in what is written.
 function near(place) {
     document.querySelectorAll("[data-place]").forEach((it) => it.classList.toggle("near", Number(it.dataset.place) === place));
 }
@@ -237,7 +237,7 @@ function asked() {
     try {
         if (found) return show(Number(found[1]), decodeURIComponent(found[2]), false);
     } catch {
-        // It is cut off, or made by hand.
+        // The link is cut off, or somebody made it up.
     }
     answer();
 }

@@ -7,7 +7,7 @@ const MOMENT = 20;
 const ANSWER = 16;
 const ROOM = 16384;
 
-// Gives the two calls of a module, from its bytes. It wants nothing of its host.
+// Gives the two calls of a module, from its bytes. It needs nothing from its host.
 export async function load(bytes) {
     return callsOf((await WebAssembly.instantiate(bytes, {})).instance);
 }
@@ -65,7 +65,7 @@ function callsOf(instance) {
             return told(answer, out, room);
         });
 
-    // Runs a call with some room, and again where its object wants more: the status, and the object as it was written, `json`,
+    // Runs a call with some room, and again if its object needs more: the status, and the object as it was written, `json`,
     // and read, `said`.
     const answered = (run) => {
         let it = run(ROOM);

@@ -2,9 +2,9 @@
 """Compares what `timefd_format` writes by formats of Python, C, GNU date, Ruby and Java with what these programs write themselves, of
 random formats and moments; and reads back what they wrote by those formats that begin with a whole date and time.
 
-    bench/dialects/dialects.py [COUNT] [SEED]    COUNT formats of each, 500 where none is given
+    bench/dialects/dialects.py [COUNT] [SEED]    COUNT formats of each, by default 500
 
-A format is made of rows of `tables/dialects`, whose texts write the same of all these moments: from the year 1970 to 9999, with offsets of
+A format is made of rows of `tables/dialects`, whose texts write the same for all these moments: from the year 1970 to 9999, with offsets of
 whole minutes. It takes the program in out/, which ./build makes, or that of $TIMEFD_PROGRAMS. What isn't installed is named, and left out.
 """
 import ctypes

@@ -75,7 +75,7 @@ class Then:
 
 
 class Or:
-    """One of several: the first stands on the line, and the others below it."""
+    """One of several: the first is on the line, and the others are below it."""
 
     def __init__(self, *parts):
         self.parts = parts

@@ -1,13 +1,13 @@
-# The libraries, by C and C++.
+# The libraries, from C and C++.
 
 same 'the version of the header' "$(grep -c "of this header's version, $version:" "$prefix/include/timefd.h")" 1
 declared=$(sed -n 's/^[a-z].* \(timefd_[a-z0-9_]*\)(.*/\1/p' "$prefix/include/timefd.h" | sort | tr '\n' ' ')
-# The newest version of glibc that a file wants.
+# The newest version of glibc that a file needs.
 newest_glibc() {
     "${tools}objdump" -T "$1" | grep -o 'GLIBC_[0-9.]*' | sort -u -V | tail -n 1
 }
 
-# What the libraries in a folder, of the processor that for_processor was given, show and want.
+# What the libraries in a folder, for the processor that for_processor was given, export and need.
 check_libraries() {
     defined=$("${tools}nm" -g --defined-only "$1/libtimefd.a" | sed -n 's/.* [A-Z] //p' | sort | tr '\n' ' ')
     same "libtimefd.a for $processor shows what the header declares and nothing else" "$defined" "$declared"

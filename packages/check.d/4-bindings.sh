@@ -11,7 +11,7 @@ python_tests venv "$top/bindings/python/tests"
 clean "$top/examples/tasks/compare" "$room/venv/bin/python" "$top/examples/tasks/tasks.py" > "$room/said" || fail 'the three tasks in Python'
 has mypy 'the types of the module for Python' || true
 
-# What the extension of a wheel shows and wants:   check_extension FILE
+# What the extension of a wheel exports and needs:   check_extension FILE
 check_extension() {
     same "the extension for $processor shows" "$("${tools}nm" -D --defined-only "$1" | sed -n 's/.* T //p')" PyInit__timefd
     same "the extension for $processor wants no later glibc than its tag says" \

@@ -6,7 +6,7 @@ use core::fmt;
 use crate::fault::Fault;
 use crate::sys;
 
-/// Why a text is not read. It shows itself as a sentence.
+/// Why a text is not read. It displays as a sentence.
 ///
 /// ```
 /// use timefd::{FormatDescription, Version};
@@ -18,7 +18,7 @@ use crate::sys;
 #[derive(Debug, Clone, PartialEq, Eq)]
 #[non_exhaustive]
 pub enum ParseError {
-    /// The text is no description.
+    /// The text isn't a description.
     Invalid(Fault),
     /// Memory ran out: for what a description holds, or for what is reported of a fault, which is
     /// copied. The library itself finds a fault without memory.

@@ -1,4 +1,4 @@
-//! Why a text is no description, and where.
+//! Why a text isn't a description, and where.
 
 use alloc::boxed::Box;
 use core::error::Error;
@@ -21,7 +21,7 @@ pub enum FaultKind {
     InvalidModifier,
     /// A bracket has no name.
     MissingName,
-    /// A component lacks a modifier that it has to have.
+    /// A component lacks a modifier that it needs.
     MissingModifier,
     /// What follows a backslash, or a percent sign of strftime, is nothing that it takes.
     InvalidEscape,
@@ -45,7 +45,7 @@ pub enum FaultKind {
     UnsupportedFlag,
     /// A letter of strftime that is not read.
     UnsupportedLetter,
-    /// A component has a nested description, and takes none.
+    /// A component has a nested description, but takes none.
     NestedInComponent,
     /// A bracket has a key twice, and version 3 takes it once.
     DuplicateModifier,
@@ -113,7 +113,7 @@ impl fmt::Display for FaultKind {
     }
 }
 
-/// The fault that the rules assign to a text. It shows itself as a sentence.
+/// The fault that the rules assign to a text. It displays as a sentence.
 ///
 /// ```
 /// use timefd::{FaultKind, FormatDescription, ParseError, Version};

@@ -25,7 +25,7 @@ pub(crate) fn next(nodes: &[RawNode], index: u32) -> u32 {
     }
 }
 
-/// How many members end in front of a place. The first node of all below them has the index `first`.
+/// How many members end before a place. The first node of all below them has the index `first`.
 pub(crate) fn count(nodes: &[RawNode], first: u32, end: u32) -> u32 {
     let (mut count, mut rest) = (0, end);
     while rest > first {
@@ -76,7 +76,7 @@ pub(crate) fn link(nodes: &mut [RawNode]) -> Option<u32> {
     link_members(nodes, 0, nodes.len() as u32)
 }
 
-/// Links the members that end in front of a place, and answers how many there are. The first node of
+/// Links the members that end before a place, and answers how many there are. The first node of
 /// all below the first member has the index `first`.
 fn link_members(nodes: &mut [RawNode], first: u32, end: u32) -> Option<u32> {
     if first >= end {
