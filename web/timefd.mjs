@@ -22,7 +22,7 @@ function callsOf(instance) {
     const bytesAt = (at, len) => new Uint8Array(calls.memory.buffer, Number(at), len);
     const numbersAt = (at, len) => new DataView(calls.memory.buffer, Number(at), len);
 
-    // Runs with blocks of these sizes, which are given back. Where memory ran out it answers null.
+    // Runs with blocks of these sizes, which are given back. If memory ran out it answers null.
     const withBlocks = (sizes, run) => {
         const blocks = sizes.map((size) => calls.timefd_room(BigInt(size)));
         const all = blocks.every((block) => block !== 0n);
