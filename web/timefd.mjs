@@ -42,7 +42,7 @@ function callsOf(instance) {
     };
 
     // What a call left in `out`, whose room is this.
-    const told = (answer, out, room) => {
+    const outcome = (answer, out, room) => {
         const numbers = numbersAt(answer, ANSWER);
         const [status, len] = [STATUSES[numbers.getUint32(0, true)], Number(numbers.getBigUint64(8, true))];
         const json = status === "reported" && len <= room ? new TextDecoder().decode(bytesAt(out, len)) : null;
@@ -54,7 +54,7 @@ function callsOf(instance) {
             bytesAt(text, bytes.length).set(bytes);
             writeMoment(fields, moment);
             calls.timefd_web_report(language, text, BigInt(bytes.length), fields, out, BigInt(room), answer);
-            return told(answer, out, room);
+            return outcome(answer, out, room);
         });
 
     const read = (language, description, bytes, room) =>
@@ -62,7 +62,7 @@ function callsOf(instance) {
             bytesAt(by, description.length).set(description);
             bytesAt(text, bytes.length).set(bytes);
             calls.timefd_web_read(language, by, BigInt(description.length), text, BigInt(bytes.length), out, BigInt(room), answer);
-            return told(answer, out, room);
+            return outcome(answer, out, room);
         });
 
     // Runs a call with some room, and again if its object needs more: the status, and the object as it was written, `json`,
