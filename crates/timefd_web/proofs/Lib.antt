@@ -1,7 +1,10 @@
 pub mod ReportLemmas
 pub mod AnswerLemmas
+pub mod OtherAnswerLemmas
 pub mod ReadingLemmas
+pub mod ConversionLemmas
+pub mod GuessLemmas
 pub mod WrittenLemmas
 pub mod RefusedLemmas
-pub mod NodeLemmas
+pub mod RecordLemmas
 pub mod ObjectLemmas

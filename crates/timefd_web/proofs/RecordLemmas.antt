@@ -1,4 +1,4 @@
--- Nodes that are written one after another.
+-- Objects that are written one after another.
 use Rattle.std.proofs.Common.{ℕ, ◌≡◌, ◌∙◌, ◌+◌, ◌-◌, ◌<◌, ◌≤◌, ◌++◌, List, [], ◌∷◌, Result, Ok, Err, OnOk, ap, arith, codes, drop, flat_map, get_or, length, sym, take}
 use Rattle.std.proofs.Math.Seq.{take-length}
 use Rattle.std.specs.Bool.{if◌then◌else◌}
@@ -6,8 +6,7 @@ use Rattle.std.specs.Result.{is_ok}
 use Rattle.std.proofs.lemmas.List.{append_assoc, drop_more}
 use Rattle.std.proofs.lemmas.Result.{on_ok_weaker}
 use Rattle.timefd_component.specs.Tree.{Text}
-use Rattle.timefd_explain.specs.declared.node.Node.{Node}
-use Rattle.timefd_web.specs.Objects.{next_node, node, nodes}
+use Rattle.timefd_web.specs.Records.{after_comma, listed}
 
 -- One more of a list.
 pub one_more : {X : Type 0} → (f : X → Text) (out whole new : Text) (xs : List X) (i : ℕ) (x : X)
@@ -34,19 +33,19 @@ in_turn o a b c d e o1 o2 o3 o4 e1 e2 e3 e4 =
     e4 ∙ (ap (λ t. t ++ e) (e3 ∙ ap (λ t. t ++ d) (e2 ∙ ap (λ t. t ++ (b ++ c)) e1))
     ∙ regrouped o a b c d e)
 
-list_is : (o front borrowed o1 o2 o3 o4 : Text) (ns : List Node) (x : Node) (n : ℕ) → n ≡ length ns
-    → 1 ≤ length ns → x ≡ get_or ns 0 x → borrowed ≡ front → o1 ≡ o ++ borrowed
-    → o2 ≡ o1 ++ (codes "[" ++ node x)
-    → o3 ≡ o2 ++ flat_map next_node (take (n - 1) (drop 1 ns)) → o4 ≡ o3 ++ codes "]"
-    → o4 ≡ o ++ (front ++ nodes ns)
-list_is o front borrowed o1 o2 o3 o4 [] x n same some item shown e1 e2 e3 e4 =
+list_is : {X : Type 0} → (f : X → Text) (o front borrowed o1 o2 o3 o4 : Text) (all : List X) (x : X)
+    (n : ℕ) → n ≡ length all → 1 ≤ length all → x ≡ get_or all 0 x → borrowed ≡ front
+    → o1 ≡ o ++ borrowed → o2 ≡ o1 ++ (codes "[" ++ f x)
+    → o3 ≡ o2 ++ flat_map (after_comma f) (take (n - 1) (drop 1 all)) → o4 ≡ o3 ++ codes "]"
+    → o4 ≡ o ++ (front ++ listed f all)
+list_is f o front borrowed o1 o2 o3 o4 [] x n same some item shown e1 e2 e3 e4 =
     absurd (omega (arith, some))
-list_is o front borrowed o1 o2 o3 o4 (y ∷ ys) x n same some item shown e1 e2 e3 e4 =
+list_is f o front borrowed o1 o2 o3 o4 (y ∷ ys) x n same some item shown e1 e2 e3 e4 =
     let few : n - 1 ≡ length ys = omega (arith, same) in
-    in_turn o front (codes "[") (node y) (flat_map next_node ys) (codes "]") o1 o2 o3 o4
-    (e1 ∙ ap (λ t. o ++ t) shown) (e2 ∙ ap (λ z. o1 ++ (codes "[" ++ node z)) item)
-    (e3 ∙ (ap (λ k. o2 ++ flat_map next_node (take k ys)) few
-    ∙ ap (λ l. o2 ++ flat_map next_node l) (take-length ys)))
+    in_turn o front (codes "[") (f y) (flat_map (after_comma f) ys) (codes "]") o1 o2 o3 o4
+    (e1 ∙ ap (λ t. o ++ t) shown) (e2 ∙ ap (λ z. o1 ++ (codes "[" ++ f z)) item)
+    (e3 ∙ (ap (λ k. o2 ++ flat_map (after_comma f) (take k ys)) few
+    ∙ ap (λ l. o2 ++ flat_map (after_comma f) l) (take-length ys)))
     e4
 
 -- What a call that may fail appends if it succeeds.
@@ -55,12 +54,12 @@ pub appended : {T E : Type 0} → (r : Result T E) (after before whole : Text)
 appended (Ok v) after before whole is = is
 appended (Err e) after before whole is = tt
 
--- The first node, the others, and the bracket that closes the list.
-pub listed : {T E : Type 0} → (r : Result T E) (o front borrowed o1 o2 o3 o4 : Text) (ns : List Node)
-    (x : Node) (n : ℕ) → n ≡ length ns → 1 ≤ length ns → x ≡ get_or ns 0 x → borrowed ≡ front
-    → o1 ≡ o ++ borrowed → o2 ≡ o1 ++ (codes "[" ++ node x)
-    → o3 ≡ o2 ++ flat_map next_node (take (n - 1) (drop 1 ns)) → OnOk r (o4 ≡ o3 ++ codes "]")
-    → OnOk r (o4 ≡ o ++ (front ++ nodes ns))
-listed r o front borrowed o1 o2 o3 o4 ns x n same some item shown e1 e2 e3 last =
+-- The first object, the others, and the bracket that closes the list.
+pub all_listed : {X T E : Type 0} → (f : X → Text) (r : Result T E) (o front borrowed o1 o2 o3 o4 : Text)
+    (all : List X) (x : X) (n : ℕ) → n ≡ length all → 1 ≤ length all → x ≡ get_or all 0 x
+    → borrowed ≡ front → o1 ≡ o ++ borrowed → o2 ≡ o1 ++ (codes "[" ++ f x)
+    → o3 ≡ o2 ++ flat_map (after_comma f) (take (n - 1) (drop 1 all)) → OnOk r (o4 ≡ o3 ++ codes "]")
+    → OnOk r (o4 ≡ o ++ (front ++ listed f all))
+all_listed f r o front borrowed o1 o2 o3 o4 all x n same some item shown e1 e2 e3 last =
     on_ok_weaker r
-    (list_is o front borrowed o1 o2 o3 o4 ns x n same some item shown e1 e2 e3) last
+    (list_is f o front borrowed o1 o2 o3 o4 all x n same some item shown e1 e2 e3) last
