@@ -39,5 +39,5 @@ guessed text all lent found given count r are same first reads given_is counted 
       are_guesses = subst (λ list. AreGuesses all_entries list found) lines_are first;
       reads = subst (λ list. All (ReadsBack list) found) lines_are reads;
       said = said ∙ (ap (λ g. guesses_object g count) given_is
-      ∙ ap (guesses_object found) (counted ∙ (texts_length all ∙ ap length are)));
+          ∙ ap (guesses_object found) (counted ∙ (texts_length all ∙ ap length are)));
     }) is

@@ -14,11 +14,7 @@ use timefd_drawing::json::{push_number, push_text};
 /// there is none; and the traps of the format. An `Err` says that memory ran out, and nothing about
 /// the format.
 #[tactic(auto, using(crate::proofs::ConversionLemmas::converted_said, crate::proofs::ConversionLemmas::refused_said))]
-pub fn conversion_of(
-    alloc: Global,
-    dialect: Dialect,
-    format: &str,
-) -> Result<Vec<u8>, AllocError>
+pub fn conversion_of(alloc: Global, dialect: Dialect, format: &str) -> Result<Vec<u8>, AllocError>
     ensures converts { IfOk result (λ object. spec.Converts dialect format.now object.items) }
 {
     let found = traps(alloc, dialect, format)?;
@@ -38,18 +34,18 @@ fn converted_object(
         ≡ spec.converted_object converted.now found.now) }
 {
     let mut out = Vec::new(alloc);
-    push_text(&mut out, "{\"converted\":true,\"version_3\":", &converted.text)?;
+    push_text(
+        &mut out,
+        "{\"converted\":true,\"version_3\":",
+        &converted.text,
+    )?;
     push_limits(alloc, &mut out, converted.limits)?;
     push_list(alloc, &mut out, ",\"traps\":", found)?;
     out.extend_from_slice(b"}")?;
     Ok(out)
 }
 
-fn refused_object(
-    alloc: Global,
-    refusal: Refusal,
-    found: &[Found],
-) -> Result<Vec<u8>, AllocError>
+fn refused_object(alloc: Global, refusal: Refusal, found: &[Found]) -> Result<Vec<u8>, AllocError>
     ensures { IfOk result (λ object. object.items ≡ spec.refused_object refusal found.now) }
 {
     let reason = refusal.reason;

@@ -11,11 +11,7 @@ use timefd_drawing::json::{push_number, push_text};
 /// The format by which a dialect writes what a description of version 3 writes, as a JSON object, or
 /// why there is none. An `Err` says that memory ran out, and nothing about the description.
 #[tactic(auto, using(crate::proofs::ConversionLemmas::format_said, crate::proofs::ConversionLemmas::lacking_said, crate::proofs::ConversionLemmas::merged_said))]
-pub fn format_for(
-    alloc: Global,
-    dialect: Dialect,
-    description: &str,
-) -> Result<Vec<u8>, AllocError>
+pub fn format_for(alloc: Global, dialect: Dialect, description: &str) -> Result<Vec<u8>, AllocError>
     ensures formats { IfOk result (λ object. spec.Formats dialect description.now object.items) }
 {
     match from_version_three(alloc, dialect, description) {

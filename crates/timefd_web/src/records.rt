@@ -37,11 +37,7 @@ pub fn push_list<T: Record>(
     }
 }
 
-fn push_others<T: Record>(
-    alloc: Global,
-    out: &mut Vec<u8>,
-    records: &[T],
-) -> Result<(), AllocError>
+fn push_others<T: Record>(alloc: Global, out: &mut Vec<u8>, records: &[T]) -> Result<(), AllocError>
     ensures { OnOk result (out.new.items
         ≡ out.old.items ++ flat_map (spec.after_comma T.object_text) records.now) }
 {
