@@ -68,8 +68,8 @@ export function showReaders(timefd, at, take) {
     by("readers").textContent = text === "" ? "Python, C, GNU date, chrono, jiff, Ruby, Java, Go, moment.js, strftime or Rust's time." : sumOf(parts);
     by("read").replaceChildren(
         ...grouped(parts).map((it) => described(it.names.join(", "), it.description, [it.writes, ...it.notes], take)),
-        ...listed("It has no component in", read.filter((it) => it.isText), (it) => it.name),
-        ...listed("It isn't read by", refused, (it) => `${it.name}: ${it.why}`),
+        ...folded("It has no component in", read.filter((it) => it.isText), (it) => it.name),
+        ...folded("It isn't read by", refused, (it) => `${it.name}: ${it.why}`),
     );
 }
 
@@ -85,7 +85,7 @@ function described(title, description, notes, take) {
 }
 
 // A list that is opened by a click, where it holds anything.
-function listed(title, all, words) {
+function folded(title, all, words) {
     if (all.length === 0) return [];
     const [it, list] = [made("details"), made("ul")];
     list.append(...all.map((one) => made("li", words(one))));
