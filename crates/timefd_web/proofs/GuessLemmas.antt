@@ -1,5 +1,5 @@
 -- From the lines of a text and their descriptions to what is reported about them.
-use Rattle.std.proofs.Common.{ℕ, ◌≡◌, ◌∙◌, ◌+◌, All, List, [], ◌∷◌, Result, Ok, Err, IfOk, ap, length, map, refl, subst, sym}
+use Rattle.std.proofs.Common.{ℕ, suc, ◌≡◌, ◌∙◌, All, List, [], ◌∷◌, Result, Ok, Err, IfOk, ap, length, map, refl, subst, sym}
 use denote.Ref.{Bor}
 use Rattle.std.proofs.lemmas.Result.{IfOk-weaker}
 use Rattle.std.specs.declared.alloc.AllocError.{AllocError}
@@ -18,7 +18,7 @@ texts_map (text ∷ more) = ap (λ rest. text.now ∷ rest) (texts_map more)
 
 texts_length : (all : List (Bor Text)) → length all ≡ length (texts all)
 texts_length [] = refl
-texts_length (text ∷ more) = ap (λ n. n + 1) (texts_length more)
+texts_length (text ∷ more) = ap (λ n. suc n) (texts_length more)
 
 -- Lines that are collected are those of the text.
 pub all_collected : {E : Type 0} → (r : Result (Vec (Bor Text) Global) E) (text : Text)

@@ -6,6 +6,7 @@ use Rattle.std.specs.Result.{is_ok}
 use Rattle.std.proofs.lemmas.List.{append_assoc, drop_more}
 use Rattle.std.proofs.lemmas.Result.{on_ok_weaker}
 use Rattle.timefd_component.specs.Tree.{Text}
+use Rattle.timefd_drawing.specs.Json.{text_field}
 use Rattle.timefd_web.specs.Records.{after_comma, listed}
 
 -- One more of a list.
@@ -63,3 +64,17 @@ pub all_listed : {X T E : Type 0} → (f : X → Text) (r : Result T E) (o front
 all_listed f r o front borrowed o1 o2 o3 o4 all x n same some item shown e1 e2 e3 last =
     on_ok_weaker r
     (list_is f o front borrowed o1 o2 o3 o4 all x n same some item shown e1 e2 e3) last
+
+-- Three fields, one after another.
+pub three_pushed : {T E : Type 0} → (r : Result T E) (o o1 o2 o3 f g h x y z x2 y2 z2 : Text)
+    → x ≡ x2 → y ≡ y2 → z ≡ z2 → o1 ≡ o ++ text_field f x → o2 ≡ o1 ++ text_field g y
+    → OnOk r (o3 ≡ o2 ++ text_field h z)
+    → OnOk r (o3 ≡ o ++ (text_field f x2 ++ text_field g y2 ++ text_field h z2))
+three_pushed r o o1 o2 o3 f g h x y z x2 y2 z2 on_x on_y on_z e1 e2 last =
+    let a = text_field f x2 in
+    let b = text_field g y2 in
+    let d = text_field h z2 in
+    on_ok_weaker r (λ e3. e3 ∙ (ap (λ t. o2 ++ text_field h t) on_z
+    ∙ (ap (λ t. t ++ d) (e2 ∙ (ap (λ t. o1 ++ text_field g t) on_y
+    ∙ (ap (λ t. t ++ b) (e1 ∙ ap (λ t. o ++ text_field f t) on_x) ∙ append_assoc o a b)))
+    ∙ append_assoc o (a ++ b) d))) last

@@ -15,6 +15,7 @@ use Rattle.timefd_dialect.specs.declared.error.DialectError.TheVariants as fails
 use Rattle.timefd_dialect.specs.declared.error.Refusal.{Refusal}
 use Rattle.timefd_dialect.specs.declared.limits.Limits.{Limits}
 use Rattle.timefd_dialect.specs.declared.reading.Converted.{Converted}
+use Rattle.timefd_dialect.specs.declared.reason.Reason.{Reason}
 use Rattle.timefd_dialect.specs.declared.trapping.Found.{Found}
 use Rattle.timefd_drawing.specs.Json.{text_field, number_field}
 use Rattle.timefd_web.specs.Records.{listed, truth_field}
@@ -42,12 +43,16 @@ converted_object c found =
     [] ++ text_field (codes "{\"converted\":true,\"version_3\":") (string_bytes c.text)
     ++ limit_fields c.limits ++ (codes ",\"traps\":" ++ listed trap_object found) ++ codes "}"
 
+-- the name of a reason, its sentence, and what to do about it
+abbrev pub reason_fields : Reason → Text
+reason_fields reason =
+    text_field (codes "{\"converted\":false,\"reason\":") (reasons.name reason)
+    ++ text_field (codes ",\"message\":") (reasons.sentence reason)
+    ++ text_field (codes ",\"help\":") (reasons.cure reason)
+
 abbrev pub refused_object : Refusal → List Found → Text
 refused_object r found =
-    [] ++ text_field (codes "{\"converted\":false,\"reason\":") (reasons.name r.reason)
-    ++ text_field (codes ",\"message\":") (reasons.sentence r.reason)
-    ++ text_field (codes ",\"help\":") (reasons.cure r.reason)
-    ++ number_field (codes ",\"start\":") r.index
+    [] ++ reason_fields r.reason ++ number_field (codes ",\"start\":") r.index
     ++ (codes ",\"traps\":" ++ listed trap_object found) ++ codes "}"
 
 -- The object reports the result of a conversion. No object reports that memory ran out.

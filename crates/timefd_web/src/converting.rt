@@ -6,7 +6,7 @@ ghost use Rattle.timefd_web.specs.Conversions as spec;
 use crate::records::{Record, push_list, push_truth};
 use std::alloc::{AllocError, Global};
 use timefd_dialect::{
-    Converted, Dialect, DialectError, Found, Limits, Refusal, to_version_three, traps,
+    Converted, Dialect, DialectError, Found, Limits, Reason, Refusal, to_version_three, traps,
 };
 use timefd_drawing::json::{push_number, push_text};
 
@@ -48,15 +48,21 @@ fn converted_object(
 fn refused_object(alloc: Global, refusal: Refusal, found: &[Found]) -> Result<Vec<u8>, AllocError>
     ensures { IfOk result (λ object. object.items ≡ spec.refused_object refusal found.now) }
 {
-    let reason = refusal.reason;
     let mut out = Vec::new(alloc);
-    push_text(&mut out, "{\"converted\":false,\"reason\":", reason.name())?;
-    push_text(&mut out, ",\"message\":", reason.sentence())?;
-    push_text(&mut out, ",\"help\":", reason.cure())?;
+    push_reason(&mut out, refusal.reason)?;
     push_number(alloc, &mut out, ",\"start\":", refusal.index as u64)?;
     push_list(alloc, &mut out, ",\"traps\":", found)?;
     out.extend_from_slice(b"}")?;
     Ok(out)
+}
+
+// Appends the name of a reason, its sentence, and what to do about it.
+fn push_reason(out: &mut Vec<u8>, reason: Reason) -> Result<(), AllocError>
+    ensures { OnOk result (out.new.items ≡ out.old.items ++ spec.reason_fields reason) }
+{
+    push_text(out, "{\"converted\":false,\"reason\":", reason.name())?;
+    push_text(out, ",\"message\":", reason.sentence())?;
+    push_text(out, ",\"help\":", reason.cure())
 }
 
 /// Appends for which moments a text of version 3 writes the same as a format.

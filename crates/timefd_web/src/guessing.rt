@@ -12,7 +12,6 @@ use timefd_guess::{Guess, guesses};
 
 /// The descriptions that the lines of a text may be written by, likeliest first, as a JSON object. An
 /// `Err` says that memory ran out, and nothing about the text.
-#[tactic(auto, using(crate::proofs::GuessLemmas::guessed))]
 pub fn guesses_of(alloc: Global, text: &str) -> Result<Vec<u8>, AllocError>
     ensures guesses { IfOk result (λ object. spec.Guessed text.now object.items) }
 {
