@@ -1,5 +1,5 @@
 -- From the lines of a text and their descriptions to what is reported about them.
-use Rattle.std.proofs.Common.{ℕ, suc, ◌≡◌, ◌∙◌, All, List, [], ◌∷◌, Result, Ok, Err, IfOk, ap, length, map, refl, subst, sym}
+use Rattle.std.proofs.Common.{ℕ, suc, ◌≡◌, ◌∙◌, All, List, [], ◌∷◌, Result, IfOk, ap, length, map, refl, subst}
 use denote.Ref.{Bor}
 use Rattle.std.proofs.lemmas.Result.{IfOk-weaker}
 use Rattle.std.specs.declared.alloc.AllocError.{AllocError}
