@@ -7,4 +7,7 @@ pub mod GuessLemmas
 pub mod WrittenLemmas
 pub mod RefusedLemmas
 pub mod RecordLemmas
+pub mod ArrayLemmas
+pub mod ValueFronts
+pub mod ValueLemmas
 pub mod ObjectLemmas

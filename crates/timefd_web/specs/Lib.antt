@@ -7,4 +7,5 @@ pub mod Guesses
 pub mod Moments
 pub mod Answers
 pub mod OtherAnswers
+pub mod Values
 pub mod Numbers
