@@ -10,4 +10,6 @@ pub mod RecordLemmas
 pub mod ArrayLemmas
 pub mod ValueFronts
 pub mod ValueLemmas
+pub mod ReportFronts
+pub mod ReportValueLemmas
 pub mod ObjectLemmas

@@ -8,4 +8,5 @@ pub mod Moments
 pub mod Answers
 pub mod OtherAnswers
 pub mod Values
+pub mod ReportValues
 pub mod Numbers

@@ -1,6 +1,7 @@
 //! What holds for the numbers and the objects that the page sees.
 
 ghost use Rattle.timefd_web.specs.Numbers.{Numbers};
+ghost use Rattle.timefd_web.specs.ReportValues.{ReportsAreJson};
 ghost use Rattle.timefd_web.specs.Values.{ObjectsAreJson};
 
 /// The statuses have the numbers that `web/timefd.mjs` expects.
@@ -12,4 +13,9 @@ pub fn numbers()
 /// with exactly its keys, each once, and its texts read back.
 pub fn objects_are_json()
     ensures { ObjectsAreJson }
+{}
+
+/// So is each object that reports on a text, and on a text that is read.
+pub fn reports_are_json()
+    ensures { ReportsAreJson }
 {}
