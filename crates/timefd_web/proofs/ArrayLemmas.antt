@@ -1,5 +1,5 @@
 -- A list of objects is an array.
-use Rattle.std.proofs.Common.{◌≡◌, ◌≤◌, List, [], ◌∷◌, ◌++◌, codes, drop, flat_map, map, refl, sym, ap, ◌∙◌, subst, arith, append_assoc}
+use Rattle.std.proofs.Common.{◌≡◌, ◌≤◌, List, [], ◌∷◌, ◌++◌, codes, flat_map, map, refl, ap, ◌∙◌, subst, arith, append_assoc}
 use Rattle.json.specs.Text.{content}
 use Rattle.json.specs.Token.{begin_array, end_array}
 use Rattle.json.specs.Json.{Json}

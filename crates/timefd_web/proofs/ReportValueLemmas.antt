@@ -1,5 +1,5 @@
 -- The objects that report on a text, and on a text that is read, are JSON.
-use Rattle.std.proofs.Common.{◌≡◌, ◌≤◌, ℕ, true, false, List, [], ◌∷◌, ◌++◌, Option, Some, None, codes, decimal, map, refl, ap, ◌∙◌, arith, append_assoc, string_bytes, IsUtf8}
+use Rattle.std.proofs.Common.{◌≡◌, ◌≤◌, ℕ, true, List, [], ◌∷◌, ◌++◌, Option, Some, None, codes, decimal, map, refl, ap, ◌∙◌, arith, append_assoc, string_bytes, IsUtf8}
 use Rattle.std.specs.declared.alloc.Global.{Global}
 use Rattle.std.specs.declared.string.String.{String}
 use Rattle.json.specs.Token.{Token, begin_object, end_object, begin_array, number, boolean}

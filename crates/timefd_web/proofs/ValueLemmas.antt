@@ -2,7 +2,7 @@
 use Rattle.std.proofs.Common.{◌≡◌, ℕ, true, false, List, [], ◌∷◌, ◌++◌, codes, decimal, map, refl, ap, ◌∙◌, arith, append_assoc, string_bytes, IsUtf8}
 use Rattle.json.specs.Token.{Token, begin_object, end_object, begin_array, string, number, boolean}
 use Rattle.json.specs.Json.{Json}
-use Rattle.json.specs.Lex.{Lexeme, token, punctuate, fresh, after_value}
+use Rattle.json.specs.Lex.{Lexeme, token, punctuate, fresh}
 use Rattle.json.specs.Tree.{json_tokens, items_tokens}
 use Rattle.json.specs.Value.{items_of}
 use Rattle.timefd_component.specs.Tree.{Text}

@@ -2,7 +2,7 @@
 use Rattle.std.specs.Prelude.{ℕ, true, false, List, Option, Some, None, codes, map, string_bytes, IsUtf8, ⊤}
 use Rattle.std.specs.declared.alloc.Global.{Global}
 use Rattle.std.specs.declared.string.String.{String}
-use Rattle.json.specs.Json.{Json, null, object, Members, no_members, member}
+use Rattle.json.specs.Json.{Json, null, object, no_members, member}
 use Rattle.timefd_component.specs.Tree.{Text}
 use Rattle.timefd_explain.specs.declared.explain.Explanation.{Explanation}
 use Rattle.timefd_explain.specs.declared.node.Node.{Node}
