@@ -1,4 +1,4 @@
-/* Texts of any size, which are a part again and again between an opening and a closing, and what they are. */
+/* Texts of any size, which repeat a part between an opening and a closing, and the expected answers. */
 
 #ifndef TEXTS_H
 #define TEXTS_H

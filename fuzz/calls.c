@@ -35,7 +35,7 @@ void __wrap_free(void *block) {
     __real_free(block);
 }
 
-/* The text in a block of exactly its length, so that a memory checker sees what is read behind
+/* The text in a block of exactly its length, so that a memory checker notices what is read after
    it. */
 static uint8_t *lend(uint32_t kind, const struct text *text) {
     remember(kind, text);
@@ -75,7 +75,7 @@ static void check_filled(uint32_t kind, const struct text *text, const struct bu
     const uint8_t *front = buffer->guarded + GUARD;
     bool is_kept = written <= room && is_filled(buffer->guarded, GUARD) &&
                    is_filled(front + written, room - written + GUARD);
-    expect(is_kept, kind, text, "that nothing is written but the bytes that are told");
+    expect(is_kept, kind, text, "that nothing is written but the bytes that are reported");
 }
 
 timefd_answer judge(uint32_t kind, const struct text *text) {
@@ -204,7 +204,7 @@ static timefd_read_answer read_into(uint32_t kind, bool composes, const struct t
         composes ? timefd_read_composites(bytes, text->len, nodes_front, node_room, literals_front, literal_room)
                  : timefd_read(kind, bytes, text->len, nodes_front, node_room, literals_front, literal_room);
     take_back(kind, text, bytes);
-    /* What buffers hold that are too short, or of a text that is refused, is not told. */
+    /* What buffers hold that are too short, or after a text is refused, isn't defined. */
     bool is_told = answer.written || answer.status == TIMEFD_NOT_UTF8;
     size_t nodes = is_told ? answer.nodes : node_room;
     size_t literals = is_told ? answer.literals : literal_room;
@@ -214,7 +214,7 @@ static timefd_read_answer read_into(uint32_t kind, bool composes, const struct t
                    is_filled(filled, sizeof(timefd_node)) && is_filled(filled + end, behind - end) &&
                    is_filled(buffers->literals, GUARD) &&
                    is_filled(buffers->literals + GUARD + literals, literal_room - literals + GUARD);
-    expect(is_kept, kind, text, "that nothing is written but the nodes and literals that are told");
+    expect(is_kept, kind, text, "that nothing is written but the nodes and literals that are reported");
     return answer;
 }
 

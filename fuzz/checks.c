@@ -35,7 +35,7 @@ static void check_bytes(uint32_t kind, const struct text *text, timefd_answer an
            "that an unknown kind is said to be one");
 }
 
-/* A sentence has its index once: at its end, or behind that only where a combination is refused. */
+/* A sentence has its index once: at its end, with more after it only if a combination is refused. */
 static void check_form(uint32_t kind, const struct text *text, const uint8_t *bytes,
                        timefd_answer answer) {
     struct sentence cut;

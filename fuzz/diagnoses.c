@@ -1,4 +1,4 @@
-/* What holds of a fault that is told whole. */
+/* What has to hold for a fault that is reported whole. */
 
 #include "fuzz.h"
 

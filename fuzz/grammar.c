@@ -4,7 +4,7 @@
 
 #include <string.h>
 
-/* A component, and words that its head may have behind the name. */
+/* A component, and words that its head may have after the name. */
 struct head {
     const char *name;
     const char *modifiers[8];

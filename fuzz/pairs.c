@@ -1,4 +1,4 @@
-/* What holds of a text behind an accepted one: the laws of joining and of shift. */
+/* What has to hold for a text after an accepted one: the laws of joining and of shift. */
 
 #include "fuzz.h"
 

@@ -1,5 +1,5 @@
 /* Answers by pointer are those by value: all of a structure as the header has it, its front for a program that knows fewer fields, and
-   0 behind it for one that knows more. */
+   0 after it for one that knows more. */
 
 #include <stdio.h>
 #include <string.h>
@@ -12,7 +12,7 @@
 
 static int failed;
 
-/* Fields that stand side by side: where they begin, and how many bytes they have; the last one has none. */
+/* Fields side by side: where they begin, and how many bytes they have; the last one has none. */
 struct fields {
     size_t start, len;
 };
@@ -24,7 +24,7 @@ static const struct fields FORMAT[] = {{0, 12}, {16, 16}, {0}};
 static const struct fields CONVERT[] = {{0, 29}, {0}};
 static const struct fields DATE[] = {{0, 45}, {0}};
 
-/* Whether so many bytes of the answer were written, with 0 behind what is known, and nothing behind these. */
+/* Whether so many bytes of the answer were written, with 0 after what is known, and nothing after these. */
 static bool is_handed_on(const uint8_t *got, size_t size, const void *whole, size_t known, const struct fields *fields) {
     for (const struct fields *it = fields; it->len != 0; it++) {
         size_t end = it->start + it->len < size ? it->start + it->len : size;
@@ -60,7 +60,7 @@ static void expect(const char *name, bool holds) {
         }                                                                                           \
     } while (0)
 
-/* A fault stands by itself, so that fields behind the answer don't move it. */
+/* A fault is on its own, so that new fields after the answer don't move it. */
 static void try_diagnose(const char *text) {
     uint8_t sentence[ROOM] = {0}, word[ROOM] = {0}, fault[sizeof(timefd_fault) + MORE], answer[sizeof(timefd_answer) + MORE];
     timefd_diagnosis whole = timefd_diagnose(TIMEFD_VERSION_3, TEXT(text), sentence, ROOM, word, ROOM);

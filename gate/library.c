@@ -1,5 +1,5 @@
 /* Refuses each allocation of each call of the static library in turn, and compares nodes byte by byte. gate/library builds it,
-   with malloc, realloc and free of the library led to the functions below, and runs it. */
+   with malloc, realloc and free of the library replaced by the functions below, and runs it. */
 
 #include "../examples/timefd.h"
 
@@ -45,7 +45,7 @@ struct sample {
     const char *text;
 };
 
-/* What one call answered, and the bytes of the buffers behind it. */
+/* What one call answered, and the bytes of its buffers. */
 struct outcome {
     timefd_answer answer;
     timefd_read_answer read;
@@ -245,7 +245,7 @@ static bool takes_little(const struct sample *sample) {
     return !is_refused || asked <= (has_room ? 1 : 0);
 }
 
-/* Of a fault whose nearest word found no memory all else is told as ever. */
+/* If there was no memory for the nearest word of a fault, everything else is reported as always. */
 static void take_word(struct outcome *ample, const struct outcome *one) {
     if (one->diagnosis.fault.out_of_memory) {
         ample->diagnosis.fault.out_of_memory = true;
@@ -326,7 +326,7 @@ static bool reads_alike(const struct sample *sample, size_t *count) {
     }
 }
 
-/* Formats of other languages: some are accepted, and of others a part is refused, behind one that takes memory or at once. */
+/* Formats of other languages: some are accepted, and of others a part is refused, after one that takes memory or at once. */
 static const struct foreign {
     uint32_t dialect;
     const char *format;
@@ -377,7 +377,7 @@ static bool converts_alike(const struct foreign *given, size_t *count) {
     return false;
 }
 
-/* A literal that ends inside of a character is no text, and a date has to be one. */
+/* A literal that ends inside a character is no text, and a date has to be one. */
 static bool reads_texts_alone(void) {
     static const timefd_node HALF = {.what = TIMEFD_LITERAL, .count = 1}, WHOLE = {.what = TIMEFD_LITERAL, .count = 2};
     const uint8_t *accent = (const uint8_t *)"\303\251";

@@ -1,4 +1,4 @@
-"""Steps that run side by side, as processors allow, each once those that it follows have passed."""
+"""Steps that run side by side, on as many processors as there are, each after those that it follows have passed."""
 import concurrent.futures
 import os
 import pathlib

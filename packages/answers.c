@@ -1,4 +1,4 @@
-/* Answers by pointer: each call hands on what the one without `_into` answers, as much of it as the program's header knows. */
+/* Answers by pointer: each call passes on what the call without `_into` answers, as much of it as the program's header knows. */
 
 #include <string.h>
 

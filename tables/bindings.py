@@ -7,7 +7,7 @@ from layout import arm_of_many, arm_of_rust
 from place import Between, Table, each
 from rattle import grouped
 
-# What makes the node of a component with these fields; the last three are alone in their kind.
+# What makes the node of a component with these fields; the last three are the only ones of their kind.
 NODE_OF = {
     ("padding",): "padded({number}, padding)",
     ("case_sensitive",): "named({number}, case_sensitive)",

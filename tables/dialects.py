@@ -84,13 +84,13 @@ def rows_of(name):
 
 
 def key_of(name, text):
-    """The byte that selects a row: the one after the `%`, or the first; the row of `%` alone has none."""
+    """The byte that selects a row: the one after the `%`, or the first; the row of a single `%` has none."""
     return text.encode()[1:2] if load(name)["kind"] == "percent" else text.encode()[:1]
 
 
 @functools.cache
 def groups_of(name):
-    """The rows by the byte that selects them, the longest first. The row of `%` alone counts where no other does."""
+    """The rows by the byte that selects them, the longest first. The row of a single `%` counts if no other does."""
     groups = {}
     for text, row in sorted(rows_of(name).items(), key=lambda it: -len(it[0].encode())):
         groups.setdefault(key_of(name, text), {})[text] = row
@@ -102,7 +102,7 @@ def groups_of(name):
 
 
 def parts_of(name):
-    """The groups in parts that search can prove: of up to 58 bytes. Flags, digits and other marks are a part of their own where there are more."""
+    """The groups in parts that search can prove: of up to 58 bytes. If there are more, flags, digits and other marks are a part of their own."""
     groups = groups_of(name)
     if len(groups) <= 58:
         return {"groups": groups}

@@ -27,7 +27,7 @@ function changes(kind, text, fault) {
     return found;
 }
 
-// Those of them that mend the text; or else those after which its fault lies further behind.
+// Those of them that mend the text; or else those after which its fault is further on.
 export function mends(report, kind, text, fault) {
     const tried = new Map();
     for (const [words, changed] of changes(kind, text, fault)) {

@@ -110,7 +110,7 @@ function showRows(text, said, writes, names) {
     by("sum").textContent = `Reserves ${said.bytes} byte${said.bytes === 1 ? "" : "s"} in all.${left > 0 ? ` ${left} more parts are not shown.` : ""}`;
 }
 
-// Marks the part at a place in the field and in what is written.
+// Marks the part at a position in the field and in what is written.
 function near(place) {
     document.querySelectorAll("[data-place]").forEach((it) => it.classList.toggle("near", Number(it.dataset.place) === place));
 }
@@ -214,7 +214,7 @@ function show(kind, text, focuses) {
 // Takes a description of version 3 over into the field.
 const take = (text) => show(3, text, true);
 
-// Puts a text in the place of what is selected in the field, so that the browser's "undo" takes it back.
+// Puts a text in place of what is selected in the field, so that the browser's "undo" takes it back.
 function put(text) {
     const done = text === "" ? document.execCommand("delete") : document.execCommand("insertText", false, text);
     if (!done) by("text").setRangeText(text, by("text").selectionStart, by("text").selectionEnd, "end");
@@ -242,7 +242,7 @@ function asked() {
     try {
         if (found) return show(Number(found[1]), decodeURIComponent(found[2]), false);
     } catch {
-        // It is cut off, or made by hand.
+        // The link is cut off, or somebody made it up.
     }
     answer();
 }

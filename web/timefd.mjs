@@ -7,7 +7,7 @@ const MOMENT = 20;
 const ANSWER = 16;
 const ROOM = 16384;
 
-// Gives the calls of a module, from its bytes. It wants nothing of its host.
+// Gives the calls of a module, from its bytes. It needs nothing from its host.
 export async function load(bytes) {
     return callsOf((await WebAssembly.instantiate(bytes, {})).instance);
 }
@@ -69,7 +69,7 @@ function callsOf(instance) {
             return told(answer, out, room);
         });
 
-    // Runs a call with some room, and again where its object wants more: the status, and the object as it was written, `json`,
+    // Runs a call with some room, and again if its object needs more: the status, and the object as it was written, `json`,
     // and read, `said`.
     const answered = (run) => {
         let it = run(ROOM);
@@ -96,7 +96,7 @@ function callsOf(instance) {
     };
 }
 
-// What is warned about a description that texts may be written by, where some of them don't show which number is the day; or null.
+// The warning about a description, if some of the texts don't show which number is the day and which is the month; or null.
 export function swapped(undecided, texts) {
     return undecided === 0 ? null : `day and month may be swapped: ${undecided} of ${texts} texts decide nothing`;
 }

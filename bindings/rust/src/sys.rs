@@ -1,4 +1,4 @@
-//! The static library behind safe functions. All that is unsafe stands here; the header `timefd.h`
+//! The static library, called by safe functions. All unsafe code is here; the header `timefd.h`
 //! says what the calls are and what a caller keeps to.
 //!
 //! Why the calls are sound, beside what each says:
@@ -66,7 +66,7 @@ pub(crate) fn zeroed_nodes<const COUNT: usize>() -> [RawNode; COUNT] {
     unsafe { core::mem::zeroed() }
 }
 
-/// These nodes in a block of their own. `None` where there is no memory for it. A `Vec` says so too, and
+/// These nodes in a block of their own. `None` if there is no memory for it. A `Vec` says so too, and
 /// takes some 50 instructions more, of 1,000 in which a date is parsed.
 pub(crate) fn boxed(nodes: &[RawNode]) -> Option<Box<[RawNode]>> {
     if nodes.is_empty() {
@@ -196,7 +196,7 @@ pub(crate) struct DateAnswer {
     pub(crate) moment: RawMoment,
 }
 
-/// Where each field stands, as the header has it.
+/// The position of each field, as the header has it.
 const _: () = {
     use core::mem::{offset_of, size_of};
     assert!(size_of::<Answer>() == 32 && size_of::<RawNode>() == 32);
