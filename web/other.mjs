@@ -100,9 +100,9 @@ export function showGuesses(timefd, take) {
     const found = said?.guesses ?? [];
     by("guessed").textContent = guessSum(lines, status, found);
     by("guesses").replaceChildren(
-        ...found.map(({ description, undecided }, place) => {
+        ...found.map(({ description, undecided }, index) => {
             const warning = swapped(undecided, said.texts);
-            return described(place === 0 ? "Likeliest" : "Or", description, warning === null ? [] : [`${warning[0].toUpperCase()}${warning.slice(1)}.`], take);
+            return described(index === 0 ? "Likeliest" : "Or", description, warning === null ? [] : [`${warning[0].toUpperCase()}${warning.slice(1)}.`], take);
         }),
     );
 }

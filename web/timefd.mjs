@@ -61,9 +61,9 @@ function callsOf(instance) {
     const given = (call, texts, room) =>
         withBlocks([...texts.map((bytes) => bytes.length), room, ANSWER], (...blocks) => {
             const [out, answer] = blocks.slice(-2);
-            const slices = texts.flatMap((bytes, place) => {
-                bytesAt(blocks[place], bytes.length).set(bytes);
-                return [blocks[place], BigInt(bytes.length)];
+            const slices = texts.flatMap((bytes, index) => {
+                bytesAt(blocks[index], bytes.length).set(bytes);
+                return [blocks[index], BigInt(bytes.length)];
             });
             call(...slices, out, BigInt(room), answer);
             return told(answer, out, room);

@@ -59,10 +59,10 @@ function withoutRanges(normal) {
     return parts.map(([kind, part]) => (kind === "component" ? part.replace(" range:standard", "") : part)).join("");
 }
 
-// The component that the language lacks, as it stands in the description: the one in the same place as in the text that was tried.
+// The component that the language lacks, as it is in the description: the one at the same position as in the text that was tried.
 function lacking(description, nodes, plain, start) {
     if (start === undefined) return {};
-    const place = brackets(accepted(plain).nodes).findIndex((node) => node.start === start);
-    const node = brackets(nodes)[place];
+    const index = brackets(accepted(plain).nodes).findIndex((node) => node.start === start);
+    const node = brackets(nodes)[index];
     return { component: cutter(description).cut(node.start, node.end), start: node.start };
 }

@@ -26,14 +26,14 @@ pub all_collected : {E : Type 0} → (r : Result (Vec (Bor Text) Global) E) (tex
     → IfOk r (λ all. texts all.items ≡ lines text)
 all_collected r text is = IfOk-weaker r _ _ (λ all are. texts_map all.items ∙ are) is
 
-pub guessed : (text : Text) (all lent : List (Bor Text)) (found given : List Guess) (count : ℕ)
-    (r : Result (Vec ℕ Global) AllocError) → texts all ≡ lines text → lent ≡ all
-    → AreGuesses all_entries (texts lent) found → All (ReadsBack (texts lent)) found
+pub guessed : (text : Text) (all borrowed : List (Bor Text)) (found given : List Guess) (count : ℕ)
+    (r : Result (Vec ℕ Global) AllocError) → texts all ≡ lines text → borrowed ≡ all
+    → AreGuesses all_entries (texts borrowed) found → All (ReadsBack (texts borrowed)) found
     → given ≡ found → count ≡ length all
     → IfOk r (λ object. object.items ≡ guesses_object given count)
     → IfOk r (λ object. Guessed text object.items)
-guessed text all lent found given count r are same first reads given_is counted is =
-    let lines_are : texts lent ≡ lines text = ap texts same ∙ are in
+guessed text all borrowed found given count r are same first reads given_is counted is =
+    let lines_are : texts borrowed ≡ lines text = ap texts same ∙ are in
     IfOk-weaker r _ _ (λ object said. record {
       found = found;
       are_guesses = subst (λ list. AreGuesses all_entries list found) lines_are first;

@@ -143,8 +143,6 @@ module _ (text : Text) (js : List Json) (a : IsArray text js) where
   unfolding punctuate
   refused_tokens r = ap (λ t. refused_front r ++ t) last_tokens
 
-  -- An array, and a number after it.
-
   abbrev counted : ℕ → List Lexeme
   counted count = next_key (codes "texts") ++ numbers count
 
