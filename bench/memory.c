@@ -39,7 +39,7 @@ void *__wrap_calloc(size_t count, size_t size) {
     return grown_by(__real_calloc(count, size));
 }
 
-/* A block that grows counts once, though it is copied where it can't stay. */
+/* A block that grows counts once, though it is copied if it can't stay. */
 void *__wrap_realloc(void *block, size_t size) {
     size_t before = malloc_usable_size(block);
     void *moved = __real_realloc(block, size);

@@ -40,8 +40,8 @@ struct node_buffers {
 struct sentence {
     const uint8_t *front;
     size_t front_len;
-    const uint8_t *behind;
-    size_t behind_len;
+    const uint8_t *rest;
+    size_t rest_len;
 };
 
 /* random.c: numbers that the seed decides. */

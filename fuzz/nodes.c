@@ -49,7 +49,7 @@ static size_t nesting_of(const timefd_node *node, const struct tree *members) {
 }
 
 /* Takes the members of a node off the trees so far, and puts its own there: how many there are then,
-   or 0 where it doesn't fit them. */
+   or 0 if it doesn't fit them. */
 static size_t grown(const timefd_node *node, size_t index, size_t depth) {
     bool has_count = node->what == TIMEFD_OPTIONAL ? node->count == 1 : true;
     if (!has_count || node->count > depth) {

@@ -21,10 +21,10 @@ def split(inside):
 
 def openings(value):
     """Where a value may be broken, from outside to inside: what is before, inside and after the brackets."""
-    before, behind = "", ""
+    before, after = "", ""
     while found := re.fullmatch(r"([^\s(\[]*[(\[])(.*)([)\]]+)", value, re.S):
-        before, parts, behind = before + found[1], split(found[2]), found[3] + behind
-        yield before, parts, behind
+        before, parts, after = before + found[1], split(found[2]), found[3] + after
+        yield before, parts, after
         if len(parts) > 1:
             break
         value = parts[0]
@@ -36,10 +36,10 @@ def arm(indent, pattern, value):
     line = f"{begin}{pattern} => {value},"
     if len(line) <= WIDTH and not (found and len(", ".join(found[-1][1])) > SHORT):
         return [line]
-    for before, parts, behind in reversed(found):
+    for before, parts, after in reversed(found):
         first = f"{begin}{pattern} => {before}"
         if len(first) <= WIDTH:
-            return [first, *(f"{begin}    {part}," for part in parts), f"{begin}{behind},"]
+            return [first, *(f"{begin}    {part}," for part in parts), f"{begin}{after},"]
     return [f"{begin}{pattern} =>", f"{begin}    {value},"]
 
 

@@ -104,7 +104,7 @@ void rattle_dealloc(void *start) {
     give_back(start);
 }
 
-/* Room for the page: where it writes a text, and where an answer is written for it. 0 where there is none. */
+/* Room for the page: where it writes a text, and where an answer is written for it. 0 if there is none. */
 void *timefd_room(u64 size) {
     return take(size ? size : 1);
 }

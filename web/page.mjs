@@ -71,10 +71,10 @@ function unread(text, said) {
     const words = made("p", `${said.message}${said.start === undefined ? "" : `, at byte ${said.start}`}`, "why");
     if (said.start === undefined) return [words];
     const { cut, length } = cutter(text);
-    const behind = cut(said.start, length);
-    const first = String.fromCodePoint(...[behind.codePointAt(0)].filter((it) => it !== undefined));
+    const after = cut(said.start, length);
+    const first = String.fromCodePoint(...[after.codePointAt(0)].filter((it) => it !== undefined));
     const excerpt = made("div", undefined, "text");
-    excerpt.append(cut(0, said.start).slice(-60), made("mark", first === "" ? "\u00a0" : first), behind.slice(first.length, first.length + 60));
+    excerpt.append(cut(0, said.start).slice(-60), made("mark", first === "" ? "\u00a0" : first), after.slice(first.length, first.length + 60));
     return [excerpt, words];
 }
 

@@ -22,7 +22,7 @@ function callsOf(instance) {
     const bytesAt = (at, len) => new Uint8Array(calls.memory.buffer, Number(at), len);
     const numbersAt = (at, len) => new DataView(calls.memory.buffer, Number(at), len);
 
-    // Runs with blocks of these sizes, which are given back. Where memory ran out it answers null.
+    // Runs with blocks of these sizes, which are given back. If memory ran out it answers null.
     const withBlocks = (sizes, run) => {
         const blocks = sizes.map((size) => calls.timefd_room(BigInt(size)));
         const all = blocks.every((block) => block !== 0n);
@@ -42,7 +42,7 @@ function callsOf(instance) {
     };
 
     // What a call left in `out`, whose room is this.
-    const told = (answer, out, room) => {
+    const outcome = (answer, out, room) => {
         const numbers = numbersAt(answer, ANSWER);
         const [status, len] = [STATUSES[numbers.getUint32(0, true)], Number(numbers.getBigUint64(8, true))];
         const json = status === "reported" && len <= room ? new TextDecoder().decode(bytesAt(out, len)) : null;
@@ -54,7 +54,7 @@ function callsOf(instance) {
             bytesAt(text, bytes.length).set(bytes);
             writeMoment(fields, moment);
             calls.timefd_web_report(language, text, BigInt(bytes.length), fields, out, BigInt(room), answer);
-            return told(answer, out, room);
+            return outcome(answer, out, room);
         });
 
     // Runs a call that is given these texts, in bytes.
@@ -66,7 +66,7 @@ function callsOf(instance) {
                 return [blocks[index], BigInt(bytes.length)];
             });
             call(...slices, out, BigInt(room), answer);
-            return told(answer, out, room);
+            return outcome(answer, out, room);
         });
 
     // Runs a call with some room, and again if its object needs more: the status, and the object as it was written, `json`,

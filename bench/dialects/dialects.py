@@ -104,8 +104,8 @@ def ours(*words):
 
 def read_back(name, format_, texts):
     """Whether the texts are read by the format, and written again; `None` if the format is refused to read by."""
-    found, told = ours("--language", name, "--read", format_, "--", format_, *texts)
-    return None if "of the format: " in told else found == texts
+    found, reported = ours("--language", name, "--read", format_, "--", format_, *texts)
+    return None if "of the format: " in reported else found == texts
 
 
 def compare(name, count):
@@ -115,11 +115,11 @@ def compare(name, count):
     written = differ = refused = read = 0
     for format_, moments in rows:
         texts = [next(wanted) for _ in moments]
-        found, told = ours("--language", name, "--", format_, *(it.isoformat() for it in moments))
+        found, reported = ours("--language", name, "--", format_, *(it.isoformat() for it in moments))
         written += len(texts)
         if found != texts:
             differ += 1
-            print(f"{name}: {format_!r} of {moments[0].isoformat()}: {texts[:1]} wanted, {found[:1]} {told[:200]}")
+            print(f"{name}: {format_!r} of {moments[0].isoformat()}: {texts[:1]} wanted, {found[:1]} {reported[:200]}")
         if not format_.startswith(whole):
             continue
         is_read = read_back(name, format_, texts)

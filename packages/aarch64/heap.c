@@ -15,7 +15,7 @@ tried rattle_alloc(size_t size, size_t align);
 tried rattle_realloc(void *block, size_t kept, size_t size, size_t align);
 void rattle_dealloc(void *block);
 
-/* Where there is no memory the answer still names a byte, as the caller's type has no null pointer. */
+/* If there is no memory the answer still names a byte, as the caller's type has no null pointer. */
 static _Alignas(16) unsigned char no_block[16];
 
 static tried answer(void *block) {

@@ -8,7 +8,7 @@
 
 use crate::sys::{COMPONENT, LITERAL, RawNode};
 
-/// The index of the first of all nodes below a node, or its own where there is none.
+/// The index of the first of all nodes below a node, or its own if there is none.
 pub(crate) fn begin(nodes: &[RawNode], index: u32) -> u32 {
     let node = &nodes[index as usize];
     if is_leaf(node) { index } else { node.start as u32 } // A u32 counts the nodes.

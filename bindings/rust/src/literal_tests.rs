@@ -1,4 +1,4 @@
-//! Literals found again in texts made by hand.
+//! Literals found again in texts that these tests make up.
 
 use std::format;
 use std::string::String;

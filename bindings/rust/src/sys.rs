@@ -332,7 +332,7 @@ fn expect_version() {
     assert_eq!(found, ANSWERED, "libtimefd is of another version than this crate");
 }
 
-/// What the text is in a language, with its nodes and the bytes of its literals where both buffers
+/// What the text is in a language, with its nodes and the bytes of its literals if both buffers
 /// have room.
 pub(crate) fn read(
     kind: u32,
@@ -365,7 +365,7 @@ pub(crate) fn check(kind: u32, text: &str, sentence: &mut [u8]) -> Answer {
 }
 
 /// What the text is in a language, with the front of the sentence of its fault, the nearest word
-/// where its buffer has room for it, and what else is reported of the fault.
+/// if its buffer has room for it, and what else is reported of the fault.
 pub(crate) fn diagnose(kind: u32, text: &str, sentence: &mut [u8], word: &mut [u8]) -> Diagnosis {
     expect_version();
     // SAFETY: the pointers and the lengths are those of three slices that are borrowed for the
@@ -392,7 +392,7 @@ pub(crate) fn warnings(kind: u32, text: &str, warnings: &mut [RawWarning]) -> Wa
     }
 }
 
-/// The text of the second language for a text of the first, where the buffer has room for all of it.
+/// The text of the second language for a text of the first, if the buffer has room for all of it.
 pub(crate) fn convert(from: u32, to: u32, text: &str, buffer: &mut [u8]) -> Answer {
     expect_version();
     // SAFETY: as in `check`.
@@ -401,7 +401,7 @@ pub(crate) fn convert(from: u32, to: u32, text: &str, buffer: &mut [u8]) -> Answ
     }
 }
 
-/// The text of version 3 for a format of the dialect, where the buffer has room for all of it.
+/// The text of version 3 for a format of the dialect, if the buffer has room for all of it.
 pub(crate) fn convert_format(dialect: u32, format: &str, buffer: &mut [u8]) -> ConvertAnswer {
     expect_version();
     // SAFETY: as in `check`.
@@ -416,7 +416,7 @@ pub(crate) fn convert_format(dialect: u32, format: &str, buffer: &mut [u8]) -> C
     }
 }
 
-/// What the text writes of the moment, where the buffer has room for all of it.
+/// What the text writes of the moment, if the buffer has room for all of it.
 pub(crate) fn format(kind: u32, text: &str, moment: &RawMoment, buffer: &mut [u8]) -> FormatAnswer {
     expect_version();
     // SAFETY: as in `check`; the moment is borrowed for the call too.
@@ -425,7 +425,7 @@ pub(crate) fn format(kind: u32, text: &str, moment: &RawMoment, buffer: &mut [u8
     }
 }
 
-/// What nodes write of the moment, where the buffer has room for all of it.
+/// What nodes write of the moment, if the buffer has room for all of it.
 pub(crate) fn format_nodes(
     nodes: &[RawNode],
     literals: &[u8],

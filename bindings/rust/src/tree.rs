@@ -138,7 +138,7 @@ impl Tree<'_> {
         }
     }
 
-    /// The index of the first of all nodes below a node, or its own where there is none.
+    /// The index of the first of all nodes below a node, or its own if there is none.
     pub(crate) fn begin(&self, index: u32) -> u32 {
         links::begin(&self.nodes, index)
     }

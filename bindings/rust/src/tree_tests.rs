@@ -1,4 +1,4 @@
-//! Lists of nodes made by hand, as the library would answer them.
+//! Lists of nodes that these tests make up, as the library would answer them.
 
 use std::format;
 use std::hash::{DefaultHasher, Hash, Hasher};
