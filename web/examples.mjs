@@ -2,6 +2,9 @@
 
 export const LANGUAGES = { 1: "version 1", 2: "version 2", 3: "version 3", 4: "strftime" };
 
+// The languages whose formats are converted to version 3.
+export const OTHERS = { python: "Python", c: "C", gnu: "GNU date", chrono: "chrono", jiff: "jiff", ruby: "Ruby", java: "Java", go: "Go", moment: "moment.js" };
+
 export const EXAMPLES = [
     ["ISO 8601", 3, "[year]-[month]-[day]"],
     ["RFC 3339", 3, "[year]-[month]-[day]T[hour]:[minute]:[second][offset_hour sign:mandatory]:[offset_minute]"],

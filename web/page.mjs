@@ -4,6 +4,7 @@ import { EXAMPLES, LANGUAGES, LETTERS, PARTS } from "./examples.mjs";
 import { codeLines } from "./lines.mjs";
 import { mends } from "./mend.mjs";
 import { ANY, moment, setMoment } from "./moment.mjs";
+import { showGuesses, showReaders } from "./other.mjs";
 import { cutter } from "./places.mjs";
 import { colours, segments, writer } from "./tree.mjs";
 
@@ -170,6 +171,7 @@ function answer() {
     const names = accepted ? colours(said.nodes) : [];
     ink(text, said, names);
     showReference(kind, at ?? ANY);
+    showReaders(timefd, at, take);
     ["written", "back", "parts", "later", "code"].forEach((id) => (by(id).hidden = !accepted));
     by("fault").hidden = said === null || accepted;
     by("took").textContent = `${new TextEncoder().encode(text).length} bytes read in ${took.toFixed(1)} ms, with ${Math.round(timefd.memory() / 1024)} KiB of memory.`;
@@ -208,6 +210,9 @@ function show(kind, text, focuses) {
     }
     answer();
 }
+
+// Takes a description of version 3 over into the field.
+const take = (text) => show(3, text, true);
 
 // Puts a text in place of what is selected in the field, so that the browser's "undo" takes it back.
 function put(text) {
@@ -248,12 +253,15 @@ function listen() {
     document.querySelectorAll("#kinds input").forEach((it) => it.addEventListener("input", answer));
     by("text").addEventListener("input", answerSoon);
     by("text").addEventListener("scroll", () => (by("ink").scrollTop = by("text").scrollTop));
+    by("any").addEventListener("input", () => showReaders(timefd, moment(), take));
+    by("dates").addEventListener("input", () => showGuesses(timefd, take));
     by("shown").addEventListener("input", () => showReading(language(), by("text").value));
     by("moment").addEventListener("input", answer);
     by("moment").addEventListener("submit", (event) => event.preventDefault());
     by("now").onclick = () => (setMoment(new Date()), answer());
     by("link").onclick = () => copyText(by("link"), location.href);
     addEventListener("hashchange", asked);
+    showGuesses(timefd, take);
 }
 
 try {

@@ -7,7 +7,7 @@ const MOMENT = 20;
 const ANSWER = 16;
 const ROOM = 16384;
 
-// Gives the two calls of a module, from its bytes. It needs nothing from its host.
+// Gives the calls of a module, from its bytes. It needs nothing from its host.
 export async function load(bytes) {
     return callsOf((await WebAssembly.instantiate(bytes, {})).instance);
 }
@@ -57,11 +57,15 @@ function callsOf(instance) {
             return outcome(answer, out, room);
         });
 
-    const read = (language, description, bytes, room) =>
-        withBlocks([description.length, bytes.length, room, ANSWER], (by, text, out, answer) => {
-            bytesAt(by, description.length).set(description);
-            bytesAt(text, bytes.length).set(bytes);
-            calls.timefd_web_read(language, by, BigInt(description.length), text, BigInt(bytes.length), out, BigInt(room), answer);
+    // Runs a call that is given these texts, in bytes.
+    const given = (call, texts, room) =>
+        withBlocks([...texts.map((bytes) => bytes.length), room, ANSWER], (...blocks) => {
+            const [out, answer] = blocks.slice(-2);
+            const slices = texts.flatMap((bytes, index) => {
+                bytesAt(blocks[index], bytes.length).set(bytes);
+                return [blocks[index], BigInt(bytes.length)];
+            });
+            call(...slices, out, BigInt(room), answer);
             return outcome(answer, out, room);
         });
 
@@ -75,12 +79,24 @@ function callsOf(instance) {
     };
 
     const bytesOf = (text) => (typeof text === "string" ? new TextEncoder().encode(text) : text);
+    const asked = (call, ...texts) => answered((room) => given(call, texts.map(bytesOf), room));
 
     return {
         memory: () => calls.memory.buffer.byteLength,
         // What a text is as one of the language with this number, and what it writes of the moment.
         report: (language, moment, text) => answered((room) => reported(language, moment, bytesOf(text), room)),
         // What a text shows by a description of the language with this number.
-        read: (language, description, text) => answered((room) => read(language, bytesOf(description), bytesOf(text), room)),
+        read: (language, description, text) => asked((...words) => calls.timefd_web_read(language, ...words), description, text),
+        // What a format of the other language with this name is in version 3.
+        convert: (name, format) => asked(calls.timefd_web_convert, name, format),
+        // What a description of version 3 is as a format of the other language with this name.
+        formatFor: (name, description) => asked(calls.timefd_web_format_for, name, description),
+        // The descriptions that the lines of a text may be written by.
+        guess: (lines) => asked(calls.timefd_web_guess, lines),
     };
+}
+
+// The warning about a description, if some of the texts don't show which number is the day and which is the month; or null.
+export function swapped(undecided, texts) {
+    return undecided === 0 ? null : `day and month may be swapped: ${undecided} of ${texts} texts decide nothing`;
 }

@@ -1,11 +1,14 @@
 /**
- * Formats of dates: those of Rust's `time`, in versions 1, 2 and 3, and of strftime.
+ * Formats of dates: those of Rust's `time`, in versions 1, 2 and 3, of strftime, and of other languages.
  *
  *     new Format("[day].[month].[year]").format(new Date(2026, 10, 23)); // "23.11.2026"
  */
 
 /** A version of the formats of Rust's `time`, or strftime. */
 export type Language = 1 | 2 | 3 | "strftime";
+
+/** Another language or library whose formats are converted: Python, C, GNU date, chrono, jiff, Ruby, Java, Go or moment.js. */
+export type OtherLanguage = "python" | "c" | "gnu" | "chrono" | "jiff" | "ruby" | "java" | "go" | "moment";
 
 /** Why a format's text is refused. */
 export type FaultCode =
@@ -165,4 +168,90 @@ export class ReadError extends Error {
 
     /** The same, in bytes of UTF-8. */
     readonly byte: number | null;
+}
+
+/** What in a format often means something other than its writer believes. */
+export interface Trap {
+    /** Its name, as `week-year-beside-month`, which stays the same whatever the sentence says. */
+    readonly trap: string;
+
+    /** What is reported about it. */
+    readonly message: string;
+
+    /** What to do about it. */
+    readonly help: string;
+
+    /** The directive, in code units of the string. */
+    readonly span: Span;
+
+    /** The same, in bytes of UTF-8. */
+    readonly bytes: Span;
+}
+
+/** A text that writes the same as another one: of the years from `firstYear` to 9999, and of which offsets. */
+export interface Converted {
+    readonly text: string;
+    readonly firstYear: number;
+
+    /** Whether it writes the same only of offsets of whole minutes. */
+    readonly wholeMinutes: boolean;
+}
+
+/** A format of another language in version 3. */
+export interface ConvertedFormat extends Converted {
+    /** The traps of the format, from the left. */
+    readonly traps: readonly Trap[];
+}
+
+/** The format of another language in version 3. Throws a `ConversionError` where a part of it has no text there. */
+export function convertFormat(language: OtherLanguage, text: string): ConvertedFormat;
+
+/**
+ * A description of version 3 as a format of another language. Throws a `FormatError` where it is no description, and a
+ * `ConversionError` where the language lacks a component, or would read parts side by side as something else.
+ */
+export function formatFor(language: OtherLanguage, description: string): Converted;
+
+/** A description that texts may be written by. */
+export interface Guess {
+    /** The description, in version 3. */
+    readonly description: string;
+
+    /** How many texts don't show which number is the day and which is the month. */
+    readonly undecided: number;
+
+    /** The same as a sentence; or `null` where each text shows it. */
+    readonly warning: string | null;
+}
+
+/** The descriptions that read each text and write it back, likeliest first, and at most twelve. */
+export function guess(texts: readonly string[]): Guess[];
+
+/** A format has no text in version 3, or a description no format in another language: `message` says why. */
+export class ConversionError extends Error {
+    readonly name: "ConversionError";
+
+    /** The whole text. */
+    readonly text: string;
+
+    /** The other language. */
+    readonly language: OtherLanguage;
+
+    /** The name of the reason why a part of a format has no text in version 3, as `zone-name`; or `null`. */
+    readonly reason: string | null;
+
+    /** What helps against that reason, or `null`. */
+    readonly help: string | null;
+
+    /** The component of the description that the language lacks, or `null`. */
+    readonly component: string | null;
+
+    /** The code unit at which the part begins, or `null`. */
+    readonly index: number | null;
+
+    /** The same, in bytes of UTF-8. */
+    readonly byte: number | null;
+
+    /** The traps of a format that is refused. */
+    readonly traps: readonly Trap[];
 }

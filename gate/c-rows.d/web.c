@@ -24,6 +24,11 @@ void timefd_web_report(uint32_t number, const uint8_t *text, size_t len, const s
                        struct answer *answer);
 void timefd_web_read(uint32_t number, const uint8_t *description, size_t description_len, const uint8_t *text, size_t len,
                      uint8_t *buffer, size_t room, struct answer *answer);
+void timefd_web_convert(const uint8_t *name, size_t name_len, const uint8_t *format, size_t len, uint8_t *buffer, size_t room,
+                        struct answer *answer);
+void timefd_web_format_for(const uint8_t *name, size_t name_len, const uint8_t *description, size_t len, uint8_t *buffer, size_t room,
+                           struct answer *answer);
+void timefd_web_guess(const uint8_t *texts, size_t len, uint8_t *buffer, size_t room, struct answer *answer);
 
 /* What stands in an answer before a call, which each call changes. */
 static const struct answer NOTHING = {9, 9};
@@ -65,6 +70,26 @@ static struct written reading_in(const struct field *fields, uint8_t *buffer, si
     return written(answer, room);
 }
 
+static struct written conversion_in(const struct field *fields, uint8_t *buffer, size_t room) {
+    const struct field *name = &fields[0], *format = &fields[1];
+    struct answer answer = NOTHING;
+    timefd_web_convert(name->bytes, name->len, format->bytes, format->len, buffer, room, &answer);
+    return written(answer, room);
+}
+
+static struct written format_in(const struct field *fields, uint8_t *buffer, size_t room) {
+    const struct field *name = &fields[0], *description = &fields[1];
+    struct answer answer = NOTHING;
+    timefd_web_format_for(name->bytes, name->len, description->bytes, description->len, buffer, room, &answer);
+    return written(answer, room);
+}
+
+static struct written guesses_in(const struct field *fields, uint8_t *buffer, size_t room) {
+    struct answer answer = NOTHING;
+    timefd_web_guess(fields[0].bytes, fields[0].len, buffer, room, &answer);
+    return written(answer, room);
+}
+
 /* report LANGUAGE TEXT MOMENT */
 static const char *report(const struct field *fields) {
     return write_whole(report_in, fields, print_object);
@@ -83,11 +108,29 @@ static const char *reading(const struct field *fields) {
     return write_whole(reading_in, fields, print_object);
 }
 
+/* convert DIALECT FORMAT */
+static const char *conversion(const struct field *fields) {
+    return write_whole(conversion_in, fields, print_object);
+}
+
+/* format_for DIALECT DESCRIPTION */
+static const char *format_for(const struct field *fields) {
+    return write_whole(format_in, fields, print_object);
+}
+
+/* guess LINES */
+static const char *guesses(const struct field *fields) {
+    return write_whole(guesses_in, fields, print_object);
+}
+
 int main(void) {
     static const struct call calls[] = {
         {"report", "ntnnnnnnnn", report},
         {"length", "ntnnnnnnnn", length},
         {"read", "ntt", reading},
+        {"convert", "tt", conversion},
+        {"format_for", "tt", format_for},
+        {"guess", "t", guesses},
         {0},
     };
     return answer_rows(calls);

@@ -1,5 +1,6 @@
 // What the package exports.
 
-export { FormatError, ReadError, WriteError } from "./errors.mjs";
+export { ConversionError, FormatError, ReadError, WriteError } from "./errors.mjs";
 export { Format } from "./format.mjs";
 export { Moment } from "./moment.mjs";
+export { convertFormat, formatFor, guess } from "./other.mjs";

@@ -1,9 +1,12 @@
-// Why a text isn't a format, why a format writes nothing, and why it can't read a text.
+// Why a text isn't a format, why a format writes nothing, why it can't read a text, and why it can't be converted.
 
 import { cutter } from "./places.mjs";
 
 // The index of the code unit in which a byte of the text is.
 const unitAt = (text, byte) => cutter(text).cut(0, byte).length;
+
+// The code units of some bytes of the text.
+export const spanOf = (text, { start, end }) => ({ start: unitAt(text, start), end: unitAt(text, end) });
 
 export class FormatError extends Error {
     constructor(text, { message, code, help, nearest, start, end }) {
@@ -12,7 +15,7 @@ export class FormatError extends Error {
         this.code = code;
         this.help = help;
         this.nearest = nearest === "" ? null : nearest;
-        this.span = { start: unitAt(text, start), end: unitAt(text, end) };
+        this.span = spanOf(text, { start, end });
         this.bytes = { start, end };
     }
 }
@@ -35,4 +38,18 @@ export class ReadError extends Error {
     }
 }
 
-[FormatError, WriteError, ReadError].forEach((it) => Object.defineProperty(it.prototype, "name", { value: it.name, configurable: true, writable: true }));
+export class ConversionError extends Error {
+    constructor(text, language, { message, reason = null, help = null, component = null, start = null, traps = [] }) {
+        super(component === null ? message : `${message}: ${component}`);
+        this.text = text;
+        this.language = language;
+        this.reason = reason;
+        this.help = help;
+        this.component = component;
+        this.index = start === null ? null : unitAt(text, start);
+        this.byte = start;
+        this.traps = traps;
+    }
+}
+
+[FormatError, WriteError, ReadError, ConversionError].forEach((it) => Object.defineProperty(it.prototype, "name", { value: it.name, configurable: true, writable: true }));

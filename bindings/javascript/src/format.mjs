@@ -3,10 +3,10 @@
 import { FormatError, ReadError, WriteError } from "./errors.mjs";
 import { read, report } from "./library.mjs";
 import { EPOCH, Moment, numbersOf } from "./moment.mjs";
+import { wellFormed } from "./texts.mjs";
 
 // The languages, by the numbers that the module has for them.
 const LANGUAGES = new Map([[1, 1], [2, 2], [3, 3], ["strftime", 4]]);
-const LONE_SURROGATE = /\p{Surrogate}/u;
 
 export class Format {
     #text;
@@ -55,13 +55,3 @@ export class Format {
         return this.#text;
     }
 }
-
-// The text, where UTF-8 has it.
-function wellFormed(text, what) {
-    if (typeof text !== "string") throw new TypeError(`${what} is ${kindOf(text)}: give a string`);
-    const at = text.search(LONE_SURROGATE);
-    if (at >= 0) throw new TypeError(`${what} has half a character at index ${at}: a lone surrogate can't be UTF-8`);
-    return text;
-}
-
-const kindOf = (value) => (value === null ? "null" : `of type ${typeof value}`);

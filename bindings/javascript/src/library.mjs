@@ -13,6 +13,15 @@ export const report = (language, numbers, text) => object(calls.report(language,
 // What the text shows by a description of a language.
 export const read = (language, description, text) => object(calls.read(language, description, text));
 
+// What a format of another language is in version 3.
+export const convert = (name, format) => object(calls.convert(name, format));
+
+// What a description of version 3 is as a format of another language.
+export const formatOf = (name, description) => object(calls.formatFor(name, description));
+
+// The descriptions that lines may be written by.
+export const guessed = (lines) => object(calls.guess(lines));
+
 function object({ status, said }) {
     if (said !== null) return said;
     if (status === "out of memory") throw new RangeError("timefd: out of memory");

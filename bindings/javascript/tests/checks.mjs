@@ -1,6 +1,8 @@
 // Compares what the package and its module answer with rows. Each check is a name, and what differs, or null.
 
+import { caught } from "./caught.mjs";
 import { CLOCKS, INSTANTS, READ, REFUSED, THROWN, UNREAD, WRITTEN } from "./rows.mjs";
+import { otherChecks } from "./other.mjs";
 import { moduleRows } from "./module.mjs";
 
 export function allChecks(timefd, load, questions, answers) {
@@ -14,6 +16,7 @@ export function allChecks(timefd, load, questions, answers) {
         ...INSTANTS.map((row) => check(`as a Date: ${row[0]}`, () => instant(timefd, ...row))),
         check("what a format says of itself", () => itself(timefd)),
         check("Temporal", () => temporal(timefd)),
+        ...otherChecks(timefd).map(({ name, run }) => check(name, run)),
         ...moduleRows(load, questions, answers).map(({ name, got, wanted }) => check(name, () => [got(), wanted])),
     ];
 }
@@ -33,16 +36,6 @@ const written = ({ Format }, language, text, moment, wanted) => [new Format(text
 function byClock({ Format, Moment }, text, milliseconds, here, inUtc) {
     const [format, date] = [new Format(text), new Date(milliseconds)];
     return [[format.format(date), format.format(Moment.of(date, 0))], [here, inUtc]];
-}
-
-// What a call throws.
-function caught(run) {
-    try {
-        run();
-    } catch (error) {
-        return error;
-    }
-    throw new Error("nothing was thrown");
 }
 
 function refused({ Format, FormatError }, language, text, code, [start, end], [first, last], nearest) {

@@ -14,7 +14,8 @@ export function moduleRows(calls, questions, answers) {
     });
 }
 
-function answered(calls, name, [language, text, ...others]) {
+function answered(calls, name, fields) {
+    const [language, text, ...others] = fields;
     switch (name) {
         case "report":
             return objectOrStatus(calls.report(language, momentOf(others), text));
@@ -22,6 +23,12 @@ function answered(calls, name, [language, text, ...others]) {
             return lengthOf(calls.report(language, momentOf(others), text));
         case "read":
             return objectOrStatus(calls.read(language, text, others[0]));
+        case "convert":
+            return objectOrStatus(calls.convert(...fields));
+        case "format_for":
+            return objectOrStatus(calls.formatFor(...fields));
+        case "guess":
+            return objectOrStatus(calls.guess(...fields));
         default:
             throw new Error(`no call ${name}`);
     }

@@ -73,6 +73,11 @@ export const THROWN = [
     ["31 February", ({ Format }) => new Format(DAY).format({ ...MONDAY, date: { year: 2026, month: 2, day: 31 } }), "RangeError", "the month has no such day"],
     ["a year that [year range:standard] can't show", ({ Format }) => new Format("[year range:standard]").format(inYear(12026)), "WriteError", "can't show this moment"],
     ["a Date of a time alone", ({ Moment }) => Moment.parse("09:05:00").toDate(), "TypeError", "has no date"],
+    ["a language of no formats", ({ convertFormat }) => convertFormat("perl", "%d"), "TypeError", "language is perl: take one of python, c, gnu"],
+    ["a format that is none", ({ convertFormat }) => convertFormat("python", 3), "TypeError", "the format is of type number: give a string"],
+    ["a description that is none", ({ formatFor }) => formatFor("java", "[mnth]"), "FormatError", "mnth"],
+    ["no texts", ({ guess }) => guess([]), "TypeError", "no array of at least one text"],
+    ["a text of two lines", ({ guess }) => guess(["a\nb"]), "TypeError", "give each line by itself"],
     ["a moment in another form", ({ Moment }) => Moment.parse("23.11.2026"), "RangeError", "is no moment"],
 ];
 
@@ -83,4 +88,61 @@ export const INSTANTS = [
     ["2026-11-23T05:36:07-01:00", Date.UTC(2026, 10, 23, 6, 36, 7)],
     ["0099-03-01T00:00:00+00:00", Date.parse("0099-03-01T00:00:00Z")],
     ["-0001-03-01T00:00:00+00:00", Date.parse("-000001-03-01T00:00:00Z")],
+];
+
+// A format of another language, as measured with the real program: its text in version 3, the first year, and whether it writes the same
+// of offsets of whole minutes alone.
+export const CONVERTED = [
+    ["python", "%d.%m. %H:%M", "[day].[month]. [hour]:[minute]", 0, false],
+    ["python", "%Y-%m-%d", "[year]-[month]-[day]", 1000, false],
+    ["python", "%z", "[offset_hour sign:mandatory][offset_minute]", 0, true],
+    ["c", "%-d %b %R", "[day padding:none] [month repr:short] [hour]:[minute]", 0, false],
+    ["gnu", "%S.%3N", "[second].[subsecond digits:3]", 0, false],
+    ["chrono", "%e%.3f", "[day padding:space].[subsecond digits:3]", 0, false],
+    ["jiff", "%j, %I %p", "[ordinal], [hour repr:12] [period]", 0, false],
+    ["ruby", "%S.%L", "[second].[subsecond digits:3]", 0, false],
+    ["java", "d. 'um' HH", "[day padding:none]. um [hour]", 0, false],
+    ["go", "2 Jan", "[day padding:none] [month repr:short]", 0, false],
+    ["moment", "YYYY-MM-DD[T]HH", "[year]-[month]-[day]T[hour]", 0, false],
+];
+
+// A format of another language that is refused: the reason, the code unit and the byte; and its traps, each with its bytes.
+export const UNCONVERTED = [
+    ["python", "é %Z", "zone-name", 2, 3, []],
+    ["java", "'é' QQ", "quarter", 4, 5, []],
+    ["java", "YYYY-MM-dd", "local-week", 0, 0, [["week-year-beside-month", 0, 4]]],
+];
+
+// Formats with traps, and the code units of these.
+export const TRAPS = [
+    ["java", "'é' dd.MM.yy", [["year-without-century", 10, 12]]],
+    ["ruby", "%I%n%w", [["hour-without-period", 0, 2], ["weekday-from-zero", 4, 6]]],
+    ["go", "15:04:05", []],
+];
+
+// A description of version 3, the format of another language, and the first year. The last ones aren't in the normal form.
+export const FORMATS = [
+    ["python", "[day] [month repr:long] [year]", "%d %B %Y", 1000],
+    ["java", "[day]. [month repr:long] [year]", "dd. MMMM uuuu", 0],
+    ["go", "[day padding:none] [month repr:short] [year]", "2 Jan 2006", 0],
+    ["moment", "[year]-[month]-[day]T[hour]", "YYYY-MM-DD[T]HH", 0],
+    ["java", "[ year range:standard ]-[month padding:zero]", "uuuu-MM", 0],
+    ["moment", "\\[[year range:standard]", "[[]YYYY", 0],
+];
+
+// A description that the language has no format for: the component that it lacks, its code unit and its byte.
+export const LACKING = [
+    ["java", "é [week_number]", "[week_number]", 2, 3],
+    ["python", "[day padding:zero] [subsecond digits:3]", "[subsecond digits:3]", 19, 19],
+    ["python", "[optional [[day]]]", "[optional [[day]]]", 0, 0],
+    ["go", "[day]2", null, null, null],
+];
+
+// Texts, the descriptions that they may be written by, and how many of them leave day and month open.
+export const GUESSED = [
+    [["2026-11-23", "2024-02-29"], [["[year]-[month]-[day]", 0]]],
+    [["05/03/2026", "23/11/2026", "31/12/2026"], [["[day]/[month]/[year]", 1]]],
+    [["05/03/2026", "06/03/2026"], [["[day]/[month]/[year]", 2], ["[month]/[day]/[year]", 2]]],
+    [["2026-11-23", "23.11.2026"], []],
+    [[""], []],
 ];

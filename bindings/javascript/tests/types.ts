@@ -1,7 +1,7 @@
 // What the types allow, and what they refuse.   tsc --noEmit --strict
 
-import { Format, FormatError, Moment, ReadError, WriteError } from "timefd";
-import type { FaultCode, Language, MomentParts, Span } from "timefd";
+import { ConversionError, Format, FormatError, Moment, ReadError, WriteError, convertFormat, formatFor, guess } from "timefd";
+import type { Converted, FaultCode, Guess, Language, MomentParts, OtherLanguage, Span, Trap } from "timefd";
 
 const language: Language = "strftime";
 const format: Format = new Format("%Y", { language });
@@ -13,12 +13,19 @@ const year: number | undefined = moment.date?.year;
 const nanosecond: number | undefined = moment.time?.nanosecond;
 const date: Date = moment.toDate();
 
+const java: OtherLanguage = "java";
+const converted = convertFormat(java, "dd.MM.yy");
+const traps: readonly Trap[] = converted.traps;
+const back: Converted = formatFor("go", converted.text);
+const guesses: Guess[] = guess(["2026-11-23"]);
+
 export function spanOf(error: unknown): Span | number | string | null {
     if (error instanceof FormatError) {
         const code: FaultCode = error.code;
         return code === "unknown-name" ? error.span : error.nearest;
     }
     if (error instanceof ReadError) return error.index;
+    if (error instanceof ConversionError) return error.component ?? error.reason;
     return error instanceof WriteError ? error.format : null;
 }
 
@@ -30,4 +37,8 @@ format.format("2026-11-23");
 moment.date = null;
 // @ts-expect-error Not each moment has a date.
 moment.date.year;
-console.log(bytes, year, nanosecond, date);
+// @ts-expect-error There is no such language.
+convertFormat("perl", "");
+// @ts-expect-error One text is no list of texts.
+guess("2026-11-23");
+console.log(traps, back.firstYear, guesses[0].warning, bytes, year, nanosecond, date);

@@ -1,7 +1,15 @@
 pub mod ReportLemmas
 pub mod AnswerLemmas
+pub mod OtherAnswerLemmas
 pub mod ReadingLemmas
+pub mod ConversionLemmas
+pub mod GuessLemmas
 pub mod WrittenLemmas
 pub mod RefusedLemmas
-pub mod NodeLemmas
+pub mod RecordLemmas
+pub mod ArrayLemmas
+pub mod ValueFronts
+pub mod ValueLemmas
+pub mod ReportFronts
+pub mod ReportValueLemmas
 pub mod ObjectLemmas

@@ -7,7 +7,8 @@ use Rattle.timefd_drawing.specs.Json.{number_field, text_field}
 use Rattle.timefd_explain.specs.declared.explain.Explanation.{Explanation}
 use Rattle.timefd_explain.specs.declared.node.Node.{Node}
 use Rattle.timefd_web.specs.declared.later.Later.{Later}
-use Rattle.timefd_web.specs.Objects.{accepted_object, nodes, optional}
+use Rattle.timefd_web.specs.Objects.{accepted_object, node, optional}
+use Rattle.timefd_web.specs.Records.{listed}
 
 fields : (a b c d e f o0 o1 o2 o3 o4 o5 o6 : Text) → o0 ≡ [] → o1 ≡ o0 ++ a → o2 ≡ o1 ++ b
     → o3 ≡ o2 ++ c → o4 ≡ o3 ++ d → o5 ≡ o4 ++ e → o6 ≡ o5 ++ f
@@ -19,16 +20,16 @@ fields a b c d e f o0 o1 o2 o3 o4 o5 o6 e0 e1 e2 e3 e4 e5 e6 =
 pub object_by : (x : Explanation) (w : Option (String Global)) (l : Later)
     (o0 o1 o2 o3 o4 o5 o6 : Text) (ns : List Node) (three : Text) → o0 ≡ []
     → o1 ≡ o0 ++ number_field (codes "{\"accepted\":true,\"bytes\":") x.bytes
-    → o2 ≡ o1 ++ (codes ",\"nodes\":" ++ nodes ns) → ns ≡ x.nodes.items
+    → o2 ≡ o1 ++ (codes ",\"nodes\":" ++ listed node ns) → ns ≡ x.nodes.items
     → o3 ≡ o2 ++ (codes ",\"written\":" ++ optional w)
     → o4 ≡ o3 ++ (codes ",\"version_2\":" ++ optional l.version_2)
     → o5 ≡ o4 ++ text_field (codes ",\"version_3\":") three → three ≡ string_bytes l.version_3
     → o6 ≡ o5 ++ codes "}" → o6 ≡ accepted_object x w l
 object_by x w l o0 o1 o2 o3 o4 o5 o6 ns three e0 e1 e2 on_nodes e3 e4 e5 on_three e6 =
     fields (number_field (codes "{\"accepted\":true,\"bytes\":") x.bytes)
-    (codes ",\"nodes\":" ++ nodes x.nodes.items) (codes ",\"written\":" ++ optional w)
+    (codes ",\"nodes\":" ++ listed node x.nodes.items) (codes ",\"written\":" ++ optional w)
     (codes ",\"version_2\":" ++ optional l.version_2)
     (text_field (codes ",\"version_3\":") (string_bytes l.version_3)) (codes "}")
     o0 o1 o2 o3 o4 o5 o6 e0 e1
-    (e2 ∙ ap (λ list. o1 ++ (codes ",\"nodes\":" ++ nodes list)) on_nodes) e3 e4
+    (e2 ∙ ap (λ list. o1 ++ (codes ",\"nodes\":" ++ listed node list)) on_nodes) e3 e4
     (e5 ∙ ap (λ text. o4 ++ text_field (codes ",\"version_3\":") text) on_three) e6

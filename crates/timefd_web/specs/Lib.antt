@@ -1,6 +1,12 @@
+pub mod Records
 pub mod Objects
 pub mod Reports
 pub mod Readings
+pub mod Conversions
+pub mod Guesses
 pub mod Moments
 pub mod Answers
+pub mod OtherAnswers
+pub mod Values
+pub mod ReportValues
 pub mod Numbers

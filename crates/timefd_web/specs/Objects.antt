@@ -1,5 +1,5 @@
 -- The JSON objects of a report on a text.
-use Rattle.std.specs.Prelude.{ℕ, ◌++◌, List, [], ◌∷◌, Option, Some, None, codes, flat_map, string_bytes}
+use Rattle.std.specs.Prelude.{ℕ, ◌++◌, [], Option, Some, None, codes, string_bytes}
 use Rattle.std.specs.declared.alloc.Global.{Global}
 use Rattle.std.specs.declared.string.String.{String}
 use Rattle.timefd_component.specs.Tree.{Text}
@@ -16,6 +16,7 @@ use Rattle.timefd_explain.specs.declared.node.NodeKind.TheVariants as kinds
 use Rattle.timefd_fault.specs.Sentences.{error_sentence}
 use Rattle.timefd_web.specs.declared.later.Later.{Later}
 use Rattle.timefd_web.specs.declared.refused.Refusal.{Refusal}
+use Rattle.timefd_web.specs.Records.{listed}
 
 -- the nearest allowed word, or nothing
 abbrev pub nearest : Help → Text
@@ -48,7 +49,7 @@ kind_name kinds.First = codes "first"
 kind_name kinds.Several = codes "several"
 kind_name kinds.Description = codes "description"
 
--- a node as a record
+-- a node as an object
 abbrev pub node : Node → Text
 node n =
     [] ++ number_field (codes "{\"depth\":") n.depth ++ number_field (codes ",\"start\":") n.start
@@ -56,14 +57,6 @@ node n =
     ++ text_field (codes ",\"kind\":") (kind_name n.kind)
     ++ text_field (codes ",\"words\":") (string_bytes n.words)
     ++ text_field (codes ",\"example\":") (string_bytes n.example) ++ codes "}"
-
-abbrev pub next_node : Node → Text
-next_node n = codes "," ++ node n
-
--- nodes in a list
-abbrev pub nodes : List Node → Text
-nodes [] = codes "[]"
-nodes (n ∷ ns) = codes "[" ++ (node n ++ (flat_map next_node ns ++ codes "]"))
 
 -- a text, or null
 abbrev pub optional : Option (String Global) → Text
@@ -74,7 +67,7 @@ optional (Some text) = quoted (string_bytes text)
 abbrev pub accepted_object : Explanation → Option (String Global) → Later → Text
 accepted_object e written later =
     [] ++ number_field (codes "{\"accepted\":true,\"bytes\":") e.bytes
-    ++ (codes ",\"nodes\":" ++ nodes e.nodes.items)
+    ++ (codes ",\"nodes\":" ++ listed node e.nodes.items)
     ++ (codes ",\"written\":" ++ optional written)
     ++ (codes ",\"version_2\":" ++ optional later.version_2)
     ++ text_field (codes ",\"version_3\":") (string_bytes later.version_3) ++ codes "}"

@@ -8,7 +8,7 @@ ghost use Rattle.timefd_web.specs.Objects as spec;
 ghost use Rattle.timefd_web.specs.Reports.{IsAccepted};
 
 use crate::later::{Later, later_of};
-use crate::nodes::push_nodes;
+use crate::records::push_list;
 use crate::written::written_of;
 use std::alloc::{AllocError, Global};
 use timefd_drawing::json::{push_number, push_text};
@@ -51,7 +51,7 @@ fn object_of(
         "{\"accepted\":true,\"bytes\":",
         explanation.bytes as u64,
     )?;
-    push_nodes(alloc, &mut out, ",\"nodes\":", &explanation.nodes)?;
+    push_list(alloc, &mut out, ",\"nodes\":", &explanation.nodes)?;
     push_optional(&mut out, ",\"written\":", written)?;
     push_optional(&mut out, ",\"version_2\":", &later.version_2)?;
     push_text(&mut out, ",\"version_3\":", &later.version_3)?;

@@ -46,8 +46,8 @@ pub extern "C" fn timefd_web_read(
     *answer = given(&said, buffer);
 }
 
-// Writes the report to the buffer and returns its length, or the reason why there is none.
-fn given(said: &Result<Vec<u8>, Silence>, buffer: &mut [u8]) -> ReportAnswer
+/// Writes the object to the buffer and returns its length, or the reason why there is none.
+pub fn given(said: &Result<Vec<u8>, Silence>, buffer: &mut [u8]) -> ReportAnswer
     ensures { IsAnswer said.now buffer.old buffer.new result }
 {
     match said {

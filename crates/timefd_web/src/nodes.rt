@@ -1,48 +1,19 @@
-//! The nodes of a description as records.
+//! The nodes of a description as objects.
 
-ghost use Rattle.std.specs.Prelude.{◌≡◌, ◌++◌, flat_map, IfOk, OnOk};
+ghost use Rattle.std.specs.Prelude.{◌≡◌, IfOk};
 ghost use Rattle.timefd_web.specs.Objects as spec;
 
+use crate::records::Record;
 use std::alloc::{AllocError, Global};
 use timefd_drawing::json::{push_number, push_text};
 use timefd_explain::{Node, NodeKind};
 
-/// Appends the front of a field, which is everything before the value, and the value: a list of
-/// nodes.
-pub fn push_nodes(
-    alloc: Global,
-    out: &mut Vec<u8>,
-    front: &str,
-    nodes: &[Node],
-) -> Result<(), AllocError>
-    ensures { OnOk result (out.new.items ≡ out.old.items ++ (front.now ++ spec.nodes nodes.now)) }
-{
-    out.extend_from_slice(front.as_bytes())?;
-    match nodes {
-        [] => out.extend_from_slice(b"[]"),
-        [first, others @ ..] => {
-            push_node(alloc, out, "[", first)?;
-            push_others(alloc, out, others)?;
-            out.extend_from_slice(b"]")
-        }
-    }
-}
+impl Record for Node {
+    ghost object_text = { spec.node };
 
-fn push_others(alloc: Global, out: &mut Vec<u8>, nodes: &[Node]) -> Result<(), AllocError>
-    ensures { OnOk result (out.new.items ≡ out.old.items ++ flat_map spec.next_node nodes.now) }
-{
-    for node in nodes {
-        push_node(alloc, out, ",", node)?;
+    fn object(&self, alloc: Global) -> Result<Vec<u8>, AllocError> {
+        node_object(alloc, self)
     }
-    Ok(())
-}
-
-fn push_node(alloc: Global, out: &mut Vec<u8>, front: &str, node: &Node) -> Result<(), AllocError>
-    ensures { OnOk result (out.new.items ≡ out.old.items ++ (front.now ++ spec.node node.now)) }
-{
-    let object = node_object(alloc, node)?;
-    out.extend_from_slice(front.as_bytes())?;
-    out.extend_from_slice(&object)
 }
 
 fn node_object(alloc: Global, node: &Node) -> Result<Vec<u8>, AllocError>
