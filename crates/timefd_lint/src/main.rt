@@ -3,6 +3,7 @@
 //! the options and the names of the faults.
 #![tactic(auto)]
 
+mod arguments;
 mod by_hand;
 mod color;
 mod config;
@@ -18,6 +19,7 @@ mod lines;
 mod log;
 mod mark;
 mod options;
+mod output;
 mod page;
 mod progress;
 mod rewriting;
@@ -39,6 +41,7 @@ use config::{ConfigFailure, counted_keys, read_config};
 use line::RunError;
 use log::write_log;
 use options::{Options, run_options};
+use output::{standard_error, standard_output};
 use page::{Subject, explained_in, page_on};
 use running::run_in_form;
 use rust::are_sources;
@@ -63,7 +66,7 @@ use timefd_streams::{WordsError, all_words, borrowed};
 
 // Writes a text to the standard output, and returns the status.
 fn written(rt: &HostRuntime, text: &str) -> u8 {
-    match rt.stdout().write_all(text.as_bytes()) {
+    match standard_output(rt, false, rt.stdout()).write_all(text.as_bytes()) {
         Ok(()) => 0,
         Err(_) => write_failed(rt),
     }
@@ -152,7 +155,8 @@ fn nothing_status(rt: &HostRuntime, settings: Settings<'_>) -> u8 {
     if !is_log(settings.format) {
         return end_of(rt, settings, 0, Tally::new());
     }
-    match write_log(rt.alloc(), &[], &mut rt.stdout()) {
+    let mut output = standard_output(rt, false, rt.stdout());
+    match write_log(rt.alloc(), &[], &mut output) {
         Ok(()) => end_of(rt, settings, 0, Tally::new()),
         Err(RunError::Memory) => no_memory(rt),
         Err(RunError::Write) => write_failed(rt),
@@ -172,11 +176,12 @@ fn files_status(rt: &HostRuntime, settings: Settings<'_>, keys: &[Key<'_>], file
 }
 
 fn run_status(rt: &HostRuntime, settings: Settings<'_>, options: Options<'_>) -> u8 {
-    let Ok(mut writer) = BufWriter::new(rt.alloc(), rt.stdout()) else {
+    let Ok(writer) = BufWriter::new(rt.alloc(), rt.stdout()) else {
         return no_memory(rt);
     };
-    let end = run_in_form(rt, settings, options, &mut writer);
-    match (end, writer.flush()) {
+    let mut output = standard_output(rt, options.reporting.style.is_colored, writer);
+    let end = run_in_form(rt, settings, options, &mut output);
+    match (end, output.flush()) {
         (Ok(tally), Ok(())) => end_of(rt, settings, options.file_count(), tally),
         (Err(RunError::Memory), _) => no_memory(rt),
         (Err(RunError::Write), _) | (Ok(_), Err(_)) => write_failed(rt),
@@ -200,7 +205,7 @@ fn end_of(rt: &HostRuntime, settings: Settings<'_>, file_count: usize, tally: Ta
     }
     match summary(rt.alloc(), settings.warns, tally, file_count) {
         Ok(line) => {
-            let _ = eprintln!(rt; "{line}");
+            let _ = standard_error(rt).writeln(format_args!("{line}"));
             status
         }
         Err(AllocError) => no_memory(rt),

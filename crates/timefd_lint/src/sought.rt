@@ -1,5 +1,9 @@
 //! Which files below folders are checked.
 
+ghost use Rattle.std.specs.Prelude.{◌≡◌};
+ghost use Rattle.timefd_diagnosis.specs.Words.{texts};
+ghost use Rattle.timefd_lint.specs.Counted as spec;
+
 use timefd_keys::Key;
 use timefd_lint_files::Sought;
 use timefd_lint_options::Settings;
@@ -12,13 +16,21 @@ const RUST_AND_KEYS: &[&str] = &[".rs", ".toml", ".json", ".yaml", ".yml"];
 
 /// Which files below folders are checked: sources of Rust and, if there are keys, files with keys. Excluded
 /// files are not.
-pub fn sought<'a>(settings: Settings<'_>, keys: &[Key<'_>], excluded: &'a str) -> Sought<'a> {
+pub fn sought<'a>(settings: Settings<'_>, keys: &[Key<'_>], excluded: &'a str) -> Sought<'a>
+    ensures endings { texts result.endings.now ≡ spec.endings settings.entry keys.now }
+    ensures excluded { result.excluded ≡ excluded.entry }
+{
     Sought {
-        endings: if keys.is_empty() || settings.is_source {
-            RUST
-        } else {
-            RUST_AND_KEYS
-        },
+        endings: endings(settings, keys),
         excluded,
     }
+}
+
+fn endings(settings: Settings<'_>, keys: &[Key<'_>]) -> &'static [&'static str]
+    ensures { texts result.now ≡ spec.endings settings.entry keys.now }
+{
+    if keys.is_empty() || settings.is_source {
+        return RUST;
+    }
+    RUST_AND_KEYS
 }

@@ -1,0 +1,23 @@
+-- What of the settings counts in a run.
+use Rattle.std.specs.Prelude.{ℕ, Bool, ◌||◌, ◌==◌, List, [], ◌∷◌, Option, Some, None, codes, length, if◌then◌else◌}
+use Rattle.timefd_component.specs.Tree.{Text}
+use Rattle.timefd_keys.specs.declared.key.Key.{Key}
+use Rattle.timefd_lint_config.specs.declared.keys.OwnedKey.{OwnedKey}
+use Rattle.timefd_lint_options.specs.declared.settings.Settings.{Settings}
+use Rattle.timefd_lint.specs.declared.rewriting.Rewriting.{Rewriting}
+
+-- The keys of the file of settings count, unless files are mended or rewritten.
+abbrev pub counted_keys : Option Rewriting → List OwnedKey → List OwnedKey
+counted_keys None keys = keys
+counted_keys (Some rewriting) keys = []
+
+abbrev pub rust_endings : List Text
+rust_endings = codes ".rs" ∷ []
+
+abbrev pub key_endings : List Text
+key_endings = codes ".rs" ∷ codes ".toml" ∷ codes ".json" ∷ codes ".yaml" ∷ codes ".yml" ∷ []
+
+-- How the names of the files below a folder end: those with keys are checked where there are keys, unless all
+-- files are sources.
+abbrev pub endings : Settings → List Key → List Text
+endings s keys = if (length keys == 0) || s.is_source then rust_endings else key_endings
