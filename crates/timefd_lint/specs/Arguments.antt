@@ -9,7 +9,7 @@ use Rattle.timefd_keys.specs.declared.key.KeyFault.TheVariants.{NoEqualsSign, Em
 use Rattle.timefd_lint_options.specs.declared.error.Conflict.{Conflict as Conflicts}
 use Rattle.timefd_lint_options.specs.declared.error.Conflict.TheVariants as conflicts
 use Rattle.timefd_lint_options.specs.declared.error.OptionError.{OptionError}
-use Rattle.timefd_lint_options.specs.declared.error.OptionError.TheVariants.{Unknown, MissingValue, NotAValue, NotAKey, AfterFile, Conflict}
+use Rattle.timefd_lint_options.specs.declared.error.OptionError.TheVariants.{Unknown, MissingValue, NotAValue, NotAKey, Conflict}
 use Rattle.timefd_lint_options.specs.declared.word.Valued.{Valued}
 use Rattle.timefd_lint_options.specs.declared.word.Valued.TheVariants.{Language, Format, Color, Comment, Key, To, Deny, Allow}
 use Rattle.timefd_lint_options.specs.Suggestions.{long_names}
@@ -112,11 +112,6 @@ abbrev pub not_a_key : Text → KeyFault → Text
 not_a_key word fault =
     codes "`" ++ (safe word ++ (codes "` is no value of `--key`: " ++ key_sentence fault))
 
-abbrev pub after_file : Text → Text
-after_file word =
-    codes "`" ++ (safe word
-    ++ codes "` comes after a file: options go before the names of files; `--` ends them")
-
 -- a word that looks like an option but isn't one, and the option that is nearest to it, if one is near
 abbrev pub unknown : Text → Option Text → Text
 unknown word (Some option) =
@@ -133,5 +128,4 @@ IsSentence (Unknown word) text = IsUnknown word.now text
 IsSentence (MissingValue option) text = text ≡ missing (name option) (values option)
 IsSentence (NotAValue option word) text = text ≡ not_a_value word.now (name option) (values option)
 IsSentence (NotAKey fault word) text = text ≡ not_a_key word.now fault
-IsSentence (AfterFile word) text = text ≡ after_file word.now
 IsSentence (Conflict conflict) text = text ≡ conflict_sentence conflict

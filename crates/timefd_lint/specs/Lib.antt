@@ -18,3 +18,4 @@ pub mod Folders
 pub mod Identities
 pub mod ByHand
 pub mod Arguments
+pub mod NoCodes

@@ -1,5 +1,6 @@
 -- Which error or warning is explained, and its page.
-use Rattle.std.specs.Prelude.{List, [], ◌∷◌, ◌++◌, Option, Some, None, codes, bytes_eq, if◌then◌else◌}
+use Rattle.std.specs.Prelude.{List, [], ◌∷◌, ◌++◌, Option, Some, None, ◌&&◌, not, codes, bytes_eq, nat_eq, if◌then◌else◌}
+use Rattle.std.specs.List.{starts_with}
 use denote.Ref.{Bor}
 use Rattle.timefd_component.specs.Tree.{Text}
 use Rattle.timefd_warnings.specs.declared.warning.Warning as warnings
@@ -30,6 +31,22 @@ explained_in (option ∷ []) = None
 explained_in (option ∷ name ∷ []) =
     if bytes_eq option.now (codes "--explain") then subject_named name.now else None
 explained_in (option ∷ name ∷ next ∷ words) = None
+
+abbrev pub unknown_by : Option Subject → Text → Option Text
+unknown_by None name = Some name
+unknown_by (Some subject) name = None
+
+-- a name that neither an error nor a warning has
+abbrev pub unknown : Text → Option Text
+unknown name = unknown_by (subject_named name) name
+
+-- the word that explains nothing: the option, and a name that isn't one; another option is none
+abbrev pub unexplained_in : List (Bor Text) → Option Text
+unexplained_in [] = None
+unexplained_in (option ∷ []) = None
+unexplained_in (option ∷ name ∷ []) =
+    if bytes_eq option.now (codes "--explain") && not (starts_with nat_eq name.now (codes "-")) then unknown name.now else None
+unexplained_in (option ∷ name ∷ next ∷ words) = None
 
 abbrev pub page_of : Text → Text → Text → Text
 page_of name sentence means =

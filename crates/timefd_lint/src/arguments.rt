@@ -20,7 +20,6 @@ pub fn sentence(alloc: Global, error: OptionError<'_>) -> Result<String, AllocEr
         OptionError::MissingValue(option) => missing_sentence(alloc, option),
         OptionError::NotAValue(option, word) => value_sentence(alloc, option, word),
         OptionError::NotAKey(fault, word) => no_key_sentence(alloc, fault, word),
-        OptionError::AfterFile(word) => after_file_sentence(alloc, word),
         OptionError::Conflict(conflict) => String::from_str(alloc, conflict_sentence(conflict)),
     }
 }
@@ -49,15 +48,6 @@ fn no_key_sentence(alloc: Global, fault: KeyFault, word: &str) -> Result<String,
     let word = safe(alloc, word)?;
     let fault = key_sentence(fault);
     format!(in alloc; "`{word}` is no value of `--key`: {fault}")
-}
-
-fn after_file_sentence(alloc: Global, word: &str) -> Result<String, AllocError>
-    ensures { IfOk result (λ text. string_bytes text ≡ spec.after_file word.now) }
-{
-    let word = safe(alloc, word)?;
-    format!(in alloc;
-        "`{word}` comes after a file: options go before the names of files; `--` ends them"
-    )
 }
 
 // A word that looks like an option but isn't one, with the option that may have been meant.

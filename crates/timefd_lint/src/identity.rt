@@ -34,6 +34,11 @@ pub fn identity_of<R: Files>(rt: &R, name: &str) -> Option<Identity> {
     })
 }
 
+/// Whether there is a file or a folder of this name.
+pub fn is_there<R: Files>(rt: &R, name: &str) -> bool {
+    fs::symlink_metadata(rt, name).is_ok()
+}
+
 /// Whether a file was met already.
 pub fn is_among(met: &[Identity], identity: Identity) -> bool
     ensures { result ≡ list_any (spec.is_same identity) met.now }

@@ -18,6 +18,7 @@ mod line;
 mod lines;
 mod log;
 mod mark;
+mod no_code;
 mod options;
 mod output;
 mod page;
@@ -38,21 +39,22 @@ mod usage;
 
 use color::is_colored;
 use config::{ConfigFailure, counted_keys, read_config};
+use identity::is_there;
 use line::RunError;
 use log::write_log;
 use options::{Options, run_options};
 use output::{standard_error, standard_output};
-use page::{Subject, explained_in, page_on};
+use page::{Subject, explained_in, page_on, unexplained_in};
 use running::run_in_form;
 use rust::are_sources;
 use session::session_status;
-use sought::sought;
+use sought::{named_or_here, sought};
 use status::{
-    FAILED, NOT_TEXT, WRONG_ARGUMENTS, no_memory, reported, walk_failed, write_failed,
+    FAILED, NOT_TEXT, WRONG_ARGUMENTS, no_code, no_memory, reported, walk_failed, write_failed,
     wrong_arguments,
 };
 use std::alloc::{AllocError, Global};
-use std::io::{BufWriter, Write};
+use std::io::{BufWriter, IsTerminal, Write};
 use std::process::ExitCode;
 use summary::summary;
 use tally::Tally;
@@ -60,7 +62,7 @@ use timefd_keys::Key;
 use timefd_lint_config::{OwnedKey, same_keys, with_keys};
 use timefd_lint_files::{WalkError, expanded};
 use timefd_lint_options::{
-    Asked, OptionError, Settings, is_log, keys_of, lines_conflict, options_of,
+    Asked, OptionError, Settings, is_log, keys_of, lines_conflict, options_of, ordered,
 };
 use timefd_streams::{WordsError, all_words, borrowed};
 
@@ -84,7 +86,17 @@ fn page_status(rt: &HostRuntime, subject: Subject) -> u8 {
 fn words_status(rt: &HostRuntime, words: &[&str]) -> u8 {
     match explained_in(words) {
         Some(subject) => page_status(rt, subject),
-        None => options_status(rt, words),
+        None => match unexplained_in(words) {
+            Some(name) if !is_there(rt, name) => no_code(rt, name),
+            Some(_) | None => ordered_status(rt, words),
+        },
+    }
+}
+
+fn ordered_status(rt: &HostRuntime, words: &[&str]) -> u8 {
+    match ordered(rt.alloc(), words) {
+        Ok(words) => options_status(rt, &words),
+        Err(AllocError) => no_memory(rt),
     }
 }
 
@@ -95,6 +107,7 @@ fn options_status(rt: &HostRuntime, words: &[&str]) -> u8 {
         Ok(Asked::Run(asked)) => {
             let from = words.len().saturating_sub(asked.file_count);
             let names = words.get(from..).unwrap_or(words);
+            let names = named_or_here(asked.settings, rt.stdin().is_terminal(), names);
             keys_status(rt, asked.settings, words, names)
         }
         Err(error) => wrong_arguments(rt, error),

@@ -1,6 +1,6 @@
 //! The page on an error or a warning.
 
-ghost use Rattle.std.specs.Prelude.{◌≡◌, IfOk, string_bytes};
+ghost use Rattle.std.specs.Prelude.{◌≡◌, IfOk, option_map, string_bytes};
 ghost use Rattle.timefd_lint.specs.Pages as spec;
 
 use crate::error_code::ErrorCode;
@@ -38,6 +38,29 @@ pub fn explained_in(words: &[&str]) -> Option<Subject>
     match *option {
         "--explain" => subject_named(name),
         _ => None,
+    }
+}
+
+/// The word that names neither an error nor a warning, if the words are `--explain` and such a word. It may be the
+/// name of a file.
+pub fn unexplained_in<'a>(words: &'a [&'a str]) -> Option<&'a str>
+    ensures { option_map (λ w. w.now) result ≡ spec.unexplained_in words.now }
+{
+    let [option, name] = words else {
+        return None;
+    };
+    match *option {
+        "--explain" if !name.as_bytes().starts_with(b"-") => unknown(name),
+        _ => None,
+    }
+}
+
+fn unknown(name: &str) -> Option<&str>
+    ensures { option_map (λ w. w.now) result ≡ spec.unknown name.now }
+{
+    match subject_named(name) {
+        Some(_) => None,
+        None => Some(name),
     }
 }
 

@@ -6,13 +6,31 @@ ghost use Rattle.timefd_lint.specs.Counted as spec;
 
 use timefd_keys::Key;
 use timefd_lint_files::Sought;
-use timefd_lint_options::Settings;
+use timefd_lint_options::{Settings, reads_lines};
+
+/// The working directory.
+const HERE: &[&str] = &["."];
 
 /// How the names of sources of Rust end.
 const RUST: &[&str] = &[".rs"];
 
 /// How the names of sources of Rust and of files with keys end.
 const RUST_AND_KEYS: &[&str] = &[".rs", ".toml", ".json", ".yaml", ".yml"];
+
+/// The named files and folders. Without any it is the working directory, if lines would be read from a terminal and
+/// no option is about these.
+pub fn named_or_here<'a>(
+    settings: Settings<'_>,
+    is_terminal: bool,
+    names: &'a [&'a str],
+) -> &'a [&'a str]
+    ensures { texts result.now ≡ spec.named_or_here settings.entry is_terminal (texts names.now) }
+{
+    if names.is_empty() && is_terminal && !reads_lines(settings) {
+        return HERE;
+    }
+    names
+}
 
 /// Which files below folders are checked: sources of Rust and, if there are keys, files with keys. Excluded
 /// files are not.

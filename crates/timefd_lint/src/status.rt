@@ -2,6 +2,7 @@
 
 ghost use Rattle.std.specs.Prelude.{◌≡◌, ◌⊎◌};
 
+use crate::no_code::no_code_sentence;
 use crate::output::standard_error;
 use crate::{arguments, folders};
 use std::alloc::AllocError;
@@ -48,6 +49,16 @@ pub fn wrong_arguments(rt: &HostRuntime, error: OptionError<'_>) -> u8
     ensures { (result ≡ 2) ⊎ (result ≡ 3) }
 {
     match arguments::sentence(rt.alloc(), error) {
+        Ok(sentence) => reported(rt, WRONG_ARGUMENTS, &sentence),
+        Err(AllocError) => no_memory(rt),
+    }
+}
+
+/// Reports that there is no error and no warning with this code, and returns the status.
+pub fn no_code(rt: &HostRuntime, name: &str) -> u8
+    ensures { (result ≡ 2) ⊎ (result ≡ 3) }
+{
+    match no_code_sentence(rt.alloc(), name) {
         Ok(sentence) => reported(rt, WRONG_ARGUMENTS, &sentence),
         Err(AllocError) => no_memory(rt),
     }
