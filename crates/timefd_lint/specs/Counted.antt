@@ -1,5 +1,5 @@
 -- What of the settings counts in a run.
-use Rattle.std.specs.Prelude.{ℕ, Bool, ◌||◌, ◌==◌, List, [], ◌∷◌, Option, Some, None, codes, length, if◌then◌else◌}
+use Rattle.std.specs.Prelude.{Bool, ◌||◌, ◌==◌, List, [], ◌∷◌, Option, Some, None, codes, length, if◌then◌else◌}
 use Rattle.timefd_component.specs.Tree.{Text}
 use Rattle.timefd_keys.specs.declared.key.Key.{Key}
 use Rattle.timefd_lint_config.specs.declared.keys.OwnedKey.{OwnedKey}
