@@ -11,7 +11,9 @@ are none, where, why, and what to write in their place. The file - is the standa
 whose name ends in .rs, a source of Rust, they are the string literals in calls of time and chrono.
 With --key they are, in files whose names end in .toml, .json, .yaml or .yml, strings of these keys.
 A folder stands for the sources below it, and with --key for those files too, but not for hidden ones
-and those that .gitignore files name, or the list exclude in a file .timefd.toml.
+and those that .gitignore files name, or the list exclude in a file .timefd.toml. Without a file, at
+a terminal, it is the working directory, unless an option says how lines are read: --language,
+--comment, --whole or --source. An option may stand after a file, and = may join it to its value.
 
   --language 1|2|3|strftime    the language of all lines; version 3 if it isn't given
   --format human|json|short|github|sarif
