@@ -152,10 +152,7 @@ fn joined<'a>(
 
 // The options, and after them the names of files.
 #[tactic(auto, using(crate::proofs::OrderLemmas::joined))]
-fn with_names<'a>(
-    options: Vec<&'a str>,
-    names: &[&'a str],
-) -> Result<Vec<&'a str>, AllocError>
+fn with_names<'a>(options: Vec<&'a str>, names: &[&'a str]) -> Result<Vec<&'a str>, AllocError>
     ensures { IfOk result (λ all. texts all.items
         ≡ texts options.items ++ codes "--" ∷ texts names.now) }
 {
