@@ -59,8 +59,9 @@ fn all_codes() -> &'static [&'static str]
 pub fn no_code_sentence(alloc: Global, name: &str) -> Result<String, AllocError>
     ensures { IfOk result (λ text. spec.IsNoCode name.now (string_bytes text)) }
 {
-    let nearest = nearest(alloc, all_codes(), name)?;
-    let codes = all_codes().join(alloc, ", ")?;
+    let all = all_codes();
+    let nearest = nearest(alloc, all, name)?;
+    let codes = all.join(alloc, ", ")?;
     sentence(alloc, name, nearest, &codes)
 }
 
