@@ -1,6 +1,6 @@
 //! The standard streams, and who reads them: the only way of the program's texts to people.
 
-ghost use Rattle.std.specs.Prelude.{◌≡◌, OnOk};
+ghost use Rattle.std.specs.Prelude.{◌≡◌, None, OnOk};
 ghost use Rattle.std.specs.Io.{WritesAtMost};
 ghost use Rattle.std.specs.Io.KnownBytes.{WriteAppends};
 ghost use Rattle.timefd_lint.specs.Outputs.{IsShown, IsShownInColor, IsWithoutColor, known};
@@ -58,6 +58,7 @@ pub struct Output<W> {
 // Writes a text to people. Returns how long it is.
 fn shown<W: Write>(alloc: Global, is_colored: bool, text: &[u8], writer: &mut W) -> Result<usize>
     ensures bound { WritesAtMost result text.now }
+    ensures bytes { WriteAppends None None result text.now }
     ensures shown { OnOk result (IsShownInColor is_colored (W.contents writer.old)
         (W.contents writer.new) text.now) }
 {
