@@ -6,3 +6,4 @@ pub mod TextLemmas
 pub mod MarkLemmas
 pub mod RewrittenLemmas
 pub mod RuleLemmas
+pub mod ArgumentLemmas
