@@ -7,3 +7,4 @@ pub mod MarkLemmas
 pub mod RewrittenLemmas
 pub mod RuleLemmas
 pub mod NoCodeLemmas
+pub mod ArgumentLemmas

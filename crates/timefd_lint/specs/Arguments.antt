@@ -104,13 +104,12 @@ conflict_sentence conflicts.RewritesInput =
 abbrev pub missing : Text → Text → Text
 missing option takes = codes "`" ++ (option ++ (codes "` wants a value: " ++ takes))
 
-abbrev pub not_a_value : Text → Text → Text → Text
-not_a_value word option takes =
-    codes "`" ++ (safe word ++ (codes "` is no value of `" ++ (option ++ (codes "`: " ++ takes))))
+abbrev pub no_value : Text → Text → Text
+no_value word option = codes "`" ++ (safe word ++ (codes "` is no value of `" ++ (option ++ codes "`")))
 
-abbrev pub not_a_key : Text → KeyFault → Text
-not_a_key word fault =
-    codes "`" ++ (safe word ++ (codes "` is no value of `--key`: " ++ key_sentence fault))
+-- a word that an option doesn't take as its value, and what it takes
+abbrev pub not_a_value : Text → Text → Text → Text
+not_a_value word option takes = no_value word option ++ (codes ": " ++ takes)
 
 -- a word that looks like an option but isn't one, and the option that is nearest to it, if one is near
 abbrev pub unknown : Text → Option Text → Text
@@ -127,5 +126,5 @@ abbrev pub IsSentence : OptionError → Text → Type 0
 IsSentence (Unknown word) text = IsUnknown word.now text
 IsSentence (MissingValue option) text = text ≡ missing (name option) (values option)
 IsSentence (NotAValue option word) text = text ≡ not_a_value word.now (name option) (values option)
-IsSentence (NotAKey fault word) text = text ≡ not_a_key word.now fault
+IsSentence (NotAKey fault word) text = text ≡ not_a_value word.now (codes "--key") (key_sentence fault)
 IsSentence (Conflict conflict) text = text ≡ conflict_sentence conflict

@@ -1,5 +1,5 @@
 -- What reaches who reads a stream.
-use Rattle.std.specs.Prelude.{◌≡◌, Bool, true, false, Option, None, chars, ⊤, ⊥}
+use Rattle.std.specs.Prelude.{◌≡◌, Bool, true, false, Option, None, chars, ⊤}
 use Rattle.std.specs.Io.KnownBytes.{Appends}
 use Rattle.timefd_component.specs.Tree.{Text}
 use Rattle.timefd_drawing.specs.People.{AllSeen, for_people}

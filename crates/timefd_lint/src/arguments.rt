@@ -19,7 +19,9 @@ pub fn sentence(alloc: Global, error: OptionError<'_>) -> Result<String, AllocEr
         OptionError::Unknown(word) => unknown_sentence(alloc, word),
         OptionError::MissingValue(option) => missing_sentence(alloc, option),
         OptionError::NotAValue(option, word) => value_sentence(alloc, option, word),
-        OptionError::NotAKey(fault, word) => no_key_sentence(alloc, fault, word),
+        OptionError::NotAKey(fault, word) => {
+            not_a_value(alloc, word, "--key", key_sentence(fault))
+        }
         OptionError::Conflict(conflict) => String::from_str(alloc, conflict_sentence(conflict)),
     }
 }
@@ -36,18 +38,24 @@ fn value_sentence(alloc: Global, option: Valued, word: &str) -> Result<String, A
     ensures { IfOk result (λ text. string_bytes text
         ≡ spec.not_a_value word.now (spec.name option) (spec.values option)) }
 {
-    let name = name(option);
     let values = values(alloc, option)?;
-    let word = safe(alloc, word)?;
-    format!(in alloc; "`{word}` is no value of `{name}`: {values}")
+    not_a_value(alloc, word, name(option), &values)
 }
 
-fn no_key_sentence(alloc: Global, fault: KeyFault, word: &str) -> Result<String, AllocError>
-    ensures { IfOk result (λ text. string_bytes text ≡ spec.not_a_key word.now fault) }
+// A word that an option doesn't take as its value, and what it takes.
+fn not_a_value(alloc: Global, word: &str, option: &str, takes: &str) -> Result<String, AllocError>
+    ensures { IfOk result (λ text. string_bytes text
+        ≡ spec.not_a_value word.now option.now takes.now) }
+{
+    let front = no_value(alloc, word, option)?;
+    format!(in alloc; "{front}: {takes}")
+}
+
+fn no_value(alloc: Global, word: &str, option: &str) -> Result<String, AllocError>
+    ensures { IfOk result (λ text. string_bytes text ≡ spec.no_value word.now option.now) }
 {
     let word = safe(alloc, word)?;
-    let fault = key_sentence(fault);
-    format!(in alloc; "`{word}` is no value of `--key`: {fault}")
+    format!(in alloc; "`{word}` is no value of `{option}`")
 }
 
 // A word that looks like an option but isn't one, with the option that may have been meant.
