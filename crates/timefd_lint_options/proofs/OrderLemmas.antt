@@ -8,7 +8,7 @@ use Rattle.timefd_lint_options.specs.declared.order.Next.{Next}
 use Rattle.timefd_lint_options.specs.declared.order.Next.TheVariants.{Any}
 use Rattle.timefd_lint_options.specs.Order.{after, end_by, last, names_at, names_from, options_at, options_from, ordered}
 
-now_of : Bor Text → Text
+abbrev now_of : Bor Text → Text
 now_of w = w.now
 
 pub nothing : (old : List Text) → old ≡ old ++ []
@@ -60,11 +60,11 @@ at_last next rest options names answer all none so_far is =
     (ap (λ ws. last next (texts ws)) (sym none) ∙ so_far.last_left)))
 
 -- The names after the options, and none.
-pub joined : (options pushed all names : List (Bor Text)) (dashes : Bor Text) → dashes.now ≡ codes "--"
-    → pushed ≡ options ++ dashes ∷ [] → all ≡ pushed ++ names
+pub joined : (options ended all names : List (Bor Text)) (dashes : Bor Text) → dashes.now ≡ codes "--"
+    → ended ≡ options ++ dashes ∷ [] → all ≡ ended ++ names
     → texts all ≡ texts options ++ codes "--" ∷ texts names
-joined options pushed all names dashes is end added =
-    ap texts added ∙ (map-append now_of pushed names
+joined options ended all names dashes is end added =
+    ap texts added ∙ (map-append now_of ended names
     ∙ (ap (λ ws. texts ws ++ texts names) end
     ∙ (ap (λ ws. ws ++ texts names) (map-append now_of options (dashes ∷ []))
     ∙ (append_assoc (texts options) (dashes.now ∷ []) (texts names)

@@ -3,6 +3,7 @@
 ghost use Rattle.std.specs.Prelude.{◌≡◌, ◌∷◌, ◌++◌, [], codes, IfOk, OnOk};
 ghost use Rattle.timefd_diagnosis.specs.Words.{texts};
 ghost use Rattle.timefd_lint_options.specs.Order as spec;
+ghost use Rattle.timefd_lint_options.specs.Words.{word_of};
 
 use crate::word::{Word, word_of};
 use std::alloc::{AllocError, Global};
@@ -142,7 +143,7 @@ fn joined<'a>(
     names: &[&'a str],
 ) -> Result<Vec<&'a str>, AllocError>
     ensures { IfOk result (λ all. texts all.items
-        ≡ texts options.items ++ spec.end_by next (texts names.now)) }
+        ≡ texts options.entry.items ++ spec.end_by next (texts names.now)) }
 {
     match next {
         Next::Any | Next::Name => with_names(options, names),
@@ -154,7 +155,7 @@ fn joined<'a>(
 #[tactic(auto, using(crate::proofs::OrderLemmas::joined))]
 fn with_names<'a>(options: Vec<&'a str>, names: &[&'a str]) -> Result<Vec<&'a str>, AllocError>
     ensures { IfOk result (λ all. texts all.items
-        ≡ texts options.items ++ codes "--" ∷ texts names.now) }
+        ≡ texts options.entry.items ++ codes "--" ∷ texts names.now) }
 {
     let mut all = options;
     all.push("--")?;
