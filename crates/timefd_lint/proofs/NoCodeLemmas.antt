@@ -8,7 +8,7 @@ use denote.Ref.{Bor}
 use Rattle.timefd_component.specs.Tree.{Text}
 use Rattle.timefd_diagnosis.specs.Nearest.{IsNearest}
 use Rattle.timefd_diagnosis.specs.Words.{texts}
-use Rattle.timefd_lint.specs.NoCodes.{IsNoCode, all_codes, listed, sentence}
+use Rattle.timefd_lint.specs.NoCodes.{IsNoCode, all_codes, sentence}
 
 after_each : (sep : Text) (words : List (Bor Text))
     → flat_map (λ (w : Bor Text). sep ++ w.now) words ≡ flat_map (λ (t : Text). sep ++ t) (texts words)

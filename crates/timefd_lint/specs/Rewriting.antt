@@ -1,5 +1,5 @@
 -- How files are rewritten, and what is reported about it.
-use Rattle.std.specs.Prelude.{ℕ, Bool, true, false, ◌++◌, codes, nat_eq, List, [], Option, Some, None, if◌then◌else◌}
+use Rattle.std.specs.Prelude.{ℕ, Bool, true, false, ◌++◌, codes, Option, Some, None, if◌then◌else◌}
 use Rattle.std.specs.Fmt.{decimal}
 use Rattle.timefd_component.specs.Tree.{Text}
 use Rattle.timefd_convert.specs.declared.conversion.Conversion.{Conversion}
