@@ -23,6 +23,7 @@ mod options;
 mod output;
 mod page;
 mod progress;
+mod rewrite_report;
 mod rewriting;
 mod rules;
 mod run;

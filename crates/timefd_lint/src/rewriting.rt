@@ -1,26 +1,27 @@
 //! Rewrites the named files: to a later version of the language, to the normal form of version 3, or mended.
 //! The result is shown as changes or written back.
 
-ghost use Rattle.std.specs.Prelude.{◌≡◌, IfOk, string_bytes};
+ghost use Rattle.std.specs.Prelude.{◌≡◌};
 ghost use Rattle.timefd_lint.specs.Rewriting as spec;
 
 use crate::fix::{FixError, Original};
-use crate::found::{Found, Unit, looked_at, source_looked_at};
+use crate::found::{Found, looked_at, source_looked_at};
 use crate::identity::{identity_of, is_among, meet};
 use crate::line::RunError;
 use crate::lines::failed;
 use crate::options::Options;
 use crate::output::Output;
+use crate::rewrite_report::{left_out, rewrote};
 use crate::rust::is_source;
 use crate::tally::Tally;
-use std::alloc::{AllocError, Global};
+use std::alloc::Global;
 use std::io::Write;
 use std::rt::Files;
 use timefd_convert::conversion_between;
 use timefd_drawing::shown::safe;
 use timefd_lint_options::{Settings, target};
 use timefd_parse::{DescriptionVersion, Language};
-use timefd_rewrite::{Counts, Fixes, Layout, RewriteError, write_diff};
+use timefd_rewrite::{Fixes, Layout, RewriteError, write_diff};
 use timefd_rewrite_sources::Change;
 
 /// How files are rewritten.
@@ -245,63 +246,4 @@ fn show_diff<W: Write>(
         Err(RewriteError::Memory) => Err(FixError::Memory),
         Err(RewriteError::Read | RewriteError::Write) => Err(FixError::Output),
     }
-}
-
-fn noun(unit: Unit, count: u64) -> &'static str
-    ensures { result.now ≡ spec.noun unit count }
-{
-    match (unit, count) {
-        (Unit::Line, 1) => "line",
-        (Unit::Line, _) => "lines",
-        (Unit::Description, 1) => "description",
-        (Unit::Description, _) => "descriptions",
-    }
-}
-
-// How many of the lines or descriptions of a file, as `2 of 3 lines`.
-fn part(alloc: Global, count: u64, unit: Unit, lines: u64) -> Result<String, AllocError>
-    ensures { IfOk result (λ text. string_bytes text ≡ spec.part count unit lines) }
-{
-    let noun = noun(unit, lines);
-    format!(in alloc; "{count} of {lines} {noun}")
-}
-
-fn be(count: u64) -> &'static str
-    ensures { result.now ≡ spec.be count }
-{
-    match count {
-        1 => "is",
-        _ => "are",
-    }
-}
-
-// What is reported about a file that is left out because some of its lines or descriptions are refused.
-fn left_out(
-    alloc: Global,
-    writes: bool,
-    file: &str,
-    unit: Unit,
-    counts: Counts,
-) -> Result<String, AllocError>
-    ensures { IfOk result (λ text. string_bytes text ≡ spec.left_out writes file.now unit counts) }
-{
-    let part = part(alloc, counts.refused, unit, counts.lines)?;
-    let be = be(counts.refused);
-    if writes {
-        format!(in alloc;
-            "not rewritten {file}: {part} {be} refused; --partial rewrites the others\n"
-        )
-    } else {
-        format!(in alloc;
-            "no diff of {file}: {part} {be} refused; --write --partial rewrites the others\n"
-        )
-    }
-}
-
-// What is reported about a file that was written back.
-fn rewrote(alloc: Global, file: &str, unit: Unit, counts: Counts) -> Result<String, AllocError>
-    ensures { IfOk result (λ text. string_bytes text ≡ spec.rewrote file.now unit counts) }
-{
-    let part = part(alloc, counts.rewritten, unit, counts.lines)?;
-    format!(in alloc; "rewrote {file}: {part}\n")
 }
