@@ -6,3 +6,5 @@ pub mod TextLemmas
 pub mod MarkLemmas
 pub mod RewrittenLemmas
 pub mod RuleLemmas
+pub mod NoCodeLemmas
+pub mod ArgumentLemmas

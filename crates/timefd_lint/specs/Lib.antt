@@ -9,4 +9,13 @@ pub mod Rewritten
 pub mod Logs
 pub mod ErrorCodes
 pub mod Rules
+pub mod ErrorPages
 pub mod Pages
+pub mod Outputs
+pub mod Rewriting
+pub mod Counted
+pub mod Folders
+pub mod Identities
+pub mod ByHand
+pub mod Arguments
+pub mod NoCodes

@@ -1,5 +1,6 @@
--- Which error or warning is explained.
-use Rattle.std.specs.Prelude.{List, [], ◌∷◌, Option, Some, None, codes, bytes_eq, if◌then◌else◌}
+-- Which error or warning is explained, and its page.
+use Rattle.std.specs.Prelude.{List, [], ◌∷◌, ◌++◌, Option, Some, None, ◌&&◌, not, codes, bytes_eq, nat_eq, if◌then◌else◌}
+use Rattle.std.specs.List.{starts_with}
 use denote.Ref.{Bor}
 use Rattle.timefd_component.specs.Tree.{Text}
 use Rattle.timefd_warnings.specs.declared.warning.Warning as warnings
@@ -7,7 +8,9 @@ use Rattle.timefd_warnings.specs.Codes as of_warnings
 use Rattle.timefd_lint.specs.declared.error_code.ErrorCode.{ErrorCode}
 use Rattle.timefd_lint.specs.declared.page.Subject.{Subject}
 use Rattle.timefd_lint.specs.declared.page.Subject.TheVariants.{Error, Warning}
-use Rattle.timefd_lint.specs.ErrorCodes.{named}
+use Rattle.timefd_warnings.specs.Explanations.{explanation_of}
+use Rattle.timefd_lint.specs.ErrorCodes.{name_of, named}
+use Rattle.timefd_lint.specs.ErrorPages.{explanation, summary}
 
 abbrev pub of_warning : Option warnings.Warning → Option Subject
 of_warning None = None
@@ -28,3 +31,29 @@ explained_in (option ∷ []) = None
 explained_in (option ∷ name ∷ []) =
     if bytes_eq option.now (codes "--explain") then subject_named name.now else None
 explained_in (option ∷ name ∷ next ∷ words) = None
+
+abbrev pub unknown_by : Option Subject → Text → Option Text
+unknown_by None name = Some name
+unknown_by (Some subject) name = None
+
+-- a name that neither an error nor a warning has
+abbrev pub unknown : Text → Option Text
+unknown name = unknown_by (subject_named name) name
+
+-- the word that explains nothing: the option, and a name that isn't one; another option is none
+abbrev pub unexplained_in : List (Bor Text) → Option Text
+unexplained_in [] = None
+unexplained_in (option ∷ []) = None
+unexplained_in (option ∷ name ∷ []) =
+    if bytes_eq option.now (codes "--explain") && not (starts_with nat_eq name.now (codes "-")) then unknown name.now else None
+unexplained_in (option ∷ name ∷ next ∷ words) = None
+
+abbrev pub page_of : Text → Text → Text → Text
+page_of name sentence means =
+    name ++ (codes ": " ++ (sentence ++ (codes "\n\n" ++ (means ++ codes "\n"))))
+
+-- The page has the name and a sentence, and below them what it means.
+abbrev pub page_on : Subject → Text
+page_on (Error code) = page_of (name_of code) (summary code) (explanation code)
+page_on (Warning warning) =
+    page_of (of_warnings.name_of warning) (of_warnings.sentence_of warning) (explanation_of warning)

@@ -1,5 +1,8 @@
 //! Notes on descriptions that would be converted but have to be changed manually.
 
+ghost use Rattle.std.specs.Prelude.{◌≡◌, IfOk, [], is_some, string_bytes, true};
+ghost use Rattle.timefd_lint.specs.ByHand as spec;
+
 use std::alloc::{AllocError, Global};
 use std::str;
 use timefd_drawing::shown::safe;
@@ -12,7 +15,7 @@ use timefd_sources::{Description, VersionPosition, body_alike, body_end, descrip
 
 /// One line for each description of a source that has to be changed manually: no number says its version, its
 /// literal can't hold the converted text, or no conversion takes it. The line says where the description is,
-/// why it stays, and what it would become.
+/// why it stays, and what it would become. There is none where files are mended.
 ///
 /// An `Err` says that memory ran out.
 pub fn notes(
@@ -21,7 +24,9 @@ pub fn notes(
     name: &str,
     source: &str,
     outcomes: &[Outcome],
-) -> Result<String, AllocError> {
+) -> Result<String, AllocError>
+    ensures { spec.is_silent change outcomes.now ≡ true → IfOk result (λ notes. string_bytes notes ≡ []) }
+{
     let mut reported = String::new(alloc);
     let Some(version) = version_of(change) else {
         return Ok(reported);
@@ -42,7 +47,9 @@ pub fn notes(
 }
 
 // The version that descriptions are converted to. `None` if the change converts nothing.
-fn version_of(change: Change) -> Option<&'static str> {
+fn version_of(change: Change) -> Option<&'static str>
+    ensures { is_some result ≡ spec.converts change }
+{
     match change {
         Change::Mended(_) => None,
         Change::Least(DescriptionVersion::One) => Some("1"),
@@ -51,7 +58,9 @@ fn version_of(change: Change) -> Option<&'static str> {
     }
 }
 
-fn wants_hand(outcome: Outcome) -> bool {
+fn wants_hand(outcome: Outcome) -> bool
+    ensures { result ≡ spec.wants_hand outcome }
+{
     match outcome {
         Outcome::ByHand | Outcome::NotALiteral | Outcome::WithItems => true,
         Outcome::PassedOver

@@ -1,5 +1,9 @@
 //! The file of settings in the working directory.
 
+ghost use Rattle.std.specs.Prelude.{◌≡◌};
+ghost use Rattle.timefd_lint.specs.Rewriting.{rewriting_of};
+ghost use Rattle.timefd_lint.specs.Counted as spec;
+
 use crate::rewriting::rewriting_of;
 use std::alloc::{AllocError, Global};
 use std::io::ErrorKind;
@@ -47,11 +51,12 @@ pub fn read_config(rt: &HostRuntime, alloc: Global) -> Result<Config, ConfigFail
 }
 
 /// The keys of the file of settings that count in a run: none if files are mended or rewritten.
-pub fn counted_keys<'a>(settings: Settings<'_>, config: &'a Config) -> &'a [OwnedKey] {
-    if rewriting_of(settings).is_some() {
-        &[]
-    } else {
-        &config.keys
+pub fn counted_keys<'a>(settings: Settings<'_>, config: &'a Config) -> &'a [OwnedKey]
+    ensures { result.now ≡ spec.counted_keys (rewriting_of settings.entry) config.now.keys.items }
+{
+    match rewriting_of(settings) {
+        Some(_) => &[],
+        None => &config.keys,
     }
 }
 

@@ -1,10 +1,15 @@
 //! What each error means, and what to write instead.
 
+ghost use Rattle.std.specs.Prelude.{◌≡◌};
+ghost use Rattle.timefd_lint.specs.ErrorPages as spec;
+
 use crate::error_code::ErrorCode;
 use timefd_diagnosis::Code;
 
 /// What an error is, in a few words.
-pub fn summary(code: ErrorCode) -> &'static str {
+pub fn summary(code: ErrorCode) -> &'static str
+    ensures { result.now ≡ spec.summary code }
+{
     match code {
         ErrorCode::Fault(code) => fault_summary(code),
         ErrorCode::NotText => "bytes that aren't UTF-8",
@@ -15,7 +20,9 @@ pub fn summary(code: ErrorCode) -> &'static str {
     }
 }
 
-fn fault_summary(code: Code) -> &'static str {
+fn fault_summary(code: Code) -> &'static str
+    ensures { result.now ≡ spec.fault_summary code }
+{
     match code {
         Code::UnclosedBracket => "a bracket that isn't closed",
         Code::UnknownName => "a name that no component has",
@@ -40,7 +47,9 @@ fn fault_summary(code: Code) -> &'static str {
 }
 
 /// What the error means, with an example, and what to write instead.
-pub fn explanation(code: ErrorCode) -> &'static str {
+pub fn explanation(code: ErrorCode) -> &'static str
+    ensures { result.now ≡ spec.explanation code }
+{
     match code {
         ErrorCode::Fault(code) => fault_explanation(code),
         ErrorCode::NotText => "Save the file as UTF-8. The other lines are looked at.",
@@ -59,7 +68,9 @@ pub fn explanation(code: ErrorCode) -> &'static str {
     }
 }
 
-fn fault_explanation(code: Code) -> &'static str {
+fn fault_explanation(code: Code) -> &'static str
+    ensures { result.now ≡ spec.fault_explanation code }
+{
     match code {
         Code::UnclosedBracket => {
             "`due [day` ends inside of a bracket. Write `due [day]`. For a bracket as text write `[[` in version 1, `\\[` in versions 2 and 3."

@@ -1,7 +1,9 @@
 //! Files whose lines are rewritten: the whole file is read, and a new one replaces it.
 
-ghost use Rattle.std.specs.Prelude.{IfOk};
+ghost use Rattle.std.specs.Prelude.{◌≡◌, ◌↔◌, IfOk, OnOk, None, Some, bit_and, true, vec_len};
+ghost use Rattle.std.specs.Fs.{IsDir, IsFile, asks_create_new, asks_write, file_type, metadata_len, metadata_mode};
 ghost use Rattle.std.specs.Io.KnownBytes.{Appends};
+ghost use Rattle.timefd_lint.specs.declared.failure.Failure.TheVariants as failures;
 
 use crate::failure::{Failure, unread};
 use crate::stamp::{Stamp, may_be_replaced};
@@ -65,7 +67,9 @@ impl<F: Read + OpenFile + Drop> Original<F> {
         rt: &R,
         alloc: Global,
         name: &str,
-    ) -> Result<Original<F>, FixError> {
+    ) -> Result<Original<F>, FixError>
+        ensures { IfOk result (λ old. vec_len old.bytes ≡ metadata_len old.found) }
+    {
         let mut file = opened(rt, name)?;
         let found = file.metadata().map_err(unreadable)?;
         let bytes = read_all(alloc, &mut file, &found)?;
@@ -81,7 +85,10 @@ impl<F: Read + OpenFile + Drop> Original<F> {
         alloc: Global,
         name: &str,
         bytes: &[u8],
-    ) -> Result<(), FixError> {
+    ) -> Result<(), FixError>
+        ensures { OnOk result (IsFile (file_type self.now.found)
+            × (bit_and (metadata_mode self.now.found) 0o7000 ≡ 0)) }
+    {
         if !may_be_replaced(&self.found) {
             return Err(FixError::Failed(Failure::Special));
         }
@@ -99,24 +106,37 @@ impl<F: Read + OpenFile + Drop> Original<F> {
 // would block.
 fn opened<R: Files>(rt: &R, name: &str) -> Result<R::File, FixError> {
     let found = fs::metadata(rt, name).map_err(unreadable)?;
-    if found.is_dir() {
-        return Err(FixError::Failed(Failure::Folder));
+    match not_opened(&found) {
+        Some(failure) => Err(FixError::Failed(failure)),
+        None => File::open(rt, name).map_err(unreadable),
     }
-    if !found.is_file() {
-        return Err(FixError::Failed(Failure::NotRegular));
+}
+
+// Why a file with this metadata isn't opened. `None` for a regular file.
+fn not_opened(found: &Metadata) -> Option<Failure>
+    ensures regular { result ≡ None ↔ IsFile (file_type found.now) }
+    ensures folder { result ≡ Some failures.Folder → IsDir (file_type found.now) }
+{
+    if found.is_file() {
+        None
+    } else if found.is_dir() {
+        Some(Failure::Folder)
+    } else {
+        Some(Failure::NotRegular)
     }
-    File::open(rt, name).map_err(unreadable)
 }
 
 // All bytes of a file. It must have as many as when it was found.
-fn read_all<F: Read>(alloc: Global, file: &mut F, found: &Metadata) -> Result<Vec<u8>, FixError> {
+fn read_all<F: Read>(alloc: Global, file: &mut F, found: &Metadata) -> Result<Vec<u8>, FixError>
+    ensures { IfOk result (λ bytes. vec_len bytes ≡ metadata_len found.now) }
+{
     let mut bytes = Vec::new(alloc);
-    let most = found.size().saturating_add(1);
+    let most = found.len().saturating_add(1);
     file.by_ref()
         .take(most)
         .read_to_end(&mut bytes)
         .map_err(unreadable)?;
-    if bytes.len() as u64 == found.size() {
+    if bytes.len() as u64 == found.len() {
         Ok(bytes)
     } else {
         Err(changed())
@@ -145,13 +165,22 @@ fn replace_at<R: Files>(
     replaced
 }
 
-// Creates a new file that nobody else can read while it is written.
-fn created<R: Files>(rt: &R, name: &str) -> Result<R::File, FixError> {
+// How a new file is opened: never in place of an existing one, and so that nobody else can read it while it is
+// written.
+fn new_options() -> OpenOptions
+    ensures new { asks_create_new result ≡ true }
+    ensures written { asks_write result ≡ true }
+{
     let mut options = OpenOptions::new();
+    options.mode(0o600);
     options.write(true);
     options.create_new(true);
-    options.mode(0o600);
-    match options.open(rt, name) {
+    options
+}
+
+// Creates a new file that nobody else can read while it is written.
+fn created<R: Files>(rt: &R, name: &str) -> Result<R::File, FixError> {
+    match new_options().open(rt, name) {
         Ok(file) => Ok(file),
         Err(error) if error.kind() == ErrorKind::AlreadyExists => {
             Err(FixError::Failed(Failure::Occupied))

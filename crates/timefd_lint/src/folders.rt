@@ -1,5 +1,8 @@
 //! Folders that can't be walked, in words.
 
+ghost use Rattle.std.specs.Prelude.{◌≡◌, IfOk, string_bytes};
+ghost use Rattle.timefd_lint.specs.Folders as spec;
+
 use std::alloc::{AllocError, Global};
 use std::io::ErrorKind;
 use timefd_drawing::shown::safe;
@@ -7,7 +10,9 @@ use timefd_lint_files::Reason;
 
 /// Why the sources below a folder aren't known, in a sentence that names this folder, or this file in it. An
 /// `Err` says that memory ran out.
-pub fn sentence(alloc: Global, path: &str, reason: Reason) -> Result<String, AllocError> {
+pub fn sentence(alloc: Global, path: &str, reason: Reason) -> Result<String, AllocError>
+    ensures { IfOk result (λ text. string_bytes text ≡ spec.sentence path.now reason) }
+{
     let path = safe(alloc, path)?;
     match reason {
         Reason::Unread(kind) => {
@@ -18,7 +23,9 @@ pub fn sentence(alloc: Global, path: &str, reason: Reason) -> Result<String, All
     }
 }
 
-fn cause(kind: ErrorKind) -> &'static str {
+fn cause(kind: ErrorKind) -> &'static str
+    ensures { result.now ≡ spec.cause kind }
+{
     match kind {
         ErrorKind::NotFound => ": no such file",
         ErrorKind::PermissionDenied => ": permission denied",

@@ -1,5 +1,9 @@
 //! Which file a name leads to.
 
+ghost use Rattle.std.specs.Prelude.{◌≡◌, ◌∷◌, ◌++◌, [], OnOk};
+ghost use Rattle.std.specs.List.{list_any};
+ghost use Rattle.timefd_lint.specs.Identities as spec;
+
 use crate::line::RunError;
 use std::fs;
 use std::os::unix::fs::MetadataExt;
@@ -12,6 +16,15 @@ pub struct Identity {
     inode: u64,
 }
 
+impl Identity {
+    // Whether it is the same file.
+    fn is(self, other: Identity) -> bool
+        ensures { result ≡ spec.is_same self other }
+    {
+        self.device == other.device && self.inode == other.inode
+    }
+}
+
 /// The file that a name leads to. `None` if there is none.
 pub fn identity_of<R: Files>(rt: &R, name: &str) -> Option<Identity> {
     let metadata = fs::metadata(rt, name).ok()?;
@@ -21,18 +34,22 @@ pub fn identity_of<R: Files>(rt: &R, name: &str) -> Option<Identity> {
     })
 }
 
+/// Whether there is a file or a folder of this name.
+pub fn is_there<R: Files>(rt: &R, name: &str) -> bool {
+    fs::symlink_metadata(rt, name).is_ok()
+}
+
 /// Whether a file was met already.
-pub fn is_among(met: &[Identity], identity: Identity) -> bool {
-    for other in met {
-        if other.device == identity.device && other.inode == identity.inode {
-            return true;
-        }
-    }
-    false
+pub fn is_among(met: &[Identity], identity: Identity) -> bool
+    ensures { result ≡ list_any (spec.is_same identity) met.now }
+{
+    met.iter().any(|other| identity.is(*other))
 }
 
 /// Adds a file to those that were met.
-pub fn meet(met: &mut Vec<Identity>, identity: Identity) -> Result<(), RunError> {
+pub fn meet(met: &mut Vec<Identity>, identity: Identity) -> Result<(), RunError>
+    ensures { OnOk result (met.new.items ≡ met.old.items ++ identity ∷ []) }
+{
     match met.push(identity) {
         Ok(()) => Ok(()),
         Err(_) => Err(RunError::Memory),

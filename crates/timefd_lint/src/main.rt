@@ -3,6 +3,7 @@
 //! the options and the names of the faults.
 #![tactic(auto)]
 
+mod arguments;
 mod by_hand;
 mod color;
 mod config;
@@ -17,9 +18,12 @@ mod line;
 mod lines;
 mod log;
 mod mark;
+mod no_code;
 mod options;
+mod output;
 mod page;
 mod progress;
+mod rewrite_report;
 mod rewriting;
 mod rules;
 mod run;
@@ -36,20 +40,22 @@ mod usage;
 
 use color::is_colored;
 use config::{ConfigFailure, counted_keys, read_config};
+use identity::is_there;
 use line::RunError;
 use log::write_log;
 use options::{Options, run_options};
-use page::{Subject, explained_in, page_on};
+use output::{standard_error, standard_output};
+use page::{Subject, explained_in, page_on, unexplained_in};
 use running::run_in_form;
 use rust::are_sources;
 use session::session_status;
-use sought::sought;
+use sought::{named_or_here, sought};
 use status::{
-    FAILED, NOT_TEXT, WRONG_ARGUMENTS, no_memory, reported, walk_failed, write_failed,
+    FAILED, NOT_TEXT, WRONG_ARGUMENTS, no_code, no_memory, reported, walk_failed, write_failed,
     wrong_arguments,
 };
 use std::alloc::{AllocError, Global};
-use std::io::{BufWriter, Write};
+use std::io::{BufWriter, IsTerminal, Write};
 use std::process::ExitCode;
 use summary::summary;
 use tally::Tally;
@@ -57,13 +63,13 @@ use timefd_keys::Key;
 use timefd_lint_config::{OwnedKey, same_keys, with_keys};
 use timefd_lint_files::{WalkError, expanded};
 use timefd_lint_options::{
-    Asked, OptionError, Settings, is_log, keys_of, lines_conflict, options_of,
+    Asked, OptionError, Settings, is_log, keys_of, lines_conflict, options_of, ordered,
 };
 use timefd_streams::{WordsError, all_words, borrowed};
 
 // Writes a text to the standard output, and returns the status.
 fn written(rt: &HostRuntime, text: &str) -> u8 {
-    match rt.stdout().write_all(text.as_bytes()) {
+    match standard_output(rt, false, rt.stdout()).write_all(text.as_bytes()) {
         Ok(()) => 0,
         Err(_) => write_failed(rt),
     }
@@ -81,7 +87,17 @@ fn page_status(rt: &HostRuntime, subject: Subject) -> u8 {
 fn words_status(rt: &HostRuntime, words: &[&str]) -> u8 {
     match explained_in(words) {
         Some(subject) => page_status(rt, subject),
-        None => options_status(rt, words),
+        None => match unexplained_in(words) {
+            Some(name) if !is_there(rt, name) => no_code(rt, name),
+            Some(_) | None => ordered_status(rt, words),
+        },
+    }
+}
+
+fn ordered_status(rt: &HostRuntime, words: &[&str]) -> u8 {
+    match ordered(rt.alloc(), words) {
+        Ok(words) => options_status(rt, &words),
+        Err(AllocError) => no_memory(rt),
     }
 }
 
@@ -92,6 +108,7 @@ fn options_status(rt: &HostRuntime, words: &[&str]) -> u8 {
         Ok(Asked::Run(asked)) => {
             let from = words.len().saturating_sub(asked.file_count);
             let names = words.get(from..).unwrap_or(words);
+            let names = named_or_here(asked.settings, rt.stdin().is_terminal(), names);
             keys_status(rt, asked.settings, words, names)
         }
         Err(error) => wrong_arguments(rt, error),
@@ -152,7 +169,8 @@ fn nothing_status(rt: &HostRuntime, settings: Settings<'_>) -> u8 {
     if !is_log(settings.format) {
         return end_of(rt, settings, 0, Tally::new());
     }
-    match write_log(rt.alloc(), &[], &mut rt.stdout()) {
+    let mut output = standard_output(rt, false, rt.stdout());
+    match write_log(rt.alloc(), &[], &mut output) {
         Ok(()) => end_of(rt, settings, 0, Tally::new()),
         Err(RunError::Memory) => no_memory(rt),
         Err(RunError::Write) => write_failed(rt),
@@ -172,11 +190,12 @@ fn files_status(rt: &HostRuntime, settings: Settings<'_>, keys: &[Key<'_>], file
 }
 
 fn run_status(rt: &HostRuntime, settings: Settings<'_>, options: Options<'_>) -> u8 {
-    let Ok(mut writer) = BufWriter::new(rt.alloc(), rt.stdout()) else {
+    let Ok(writer) = BufWriter::new(rt.alloc(), rt.stdout()) else {
         return no_memory(rt);
     };
-    let end = run_in_form(rt, settings, options, &mut writer);
-    match (end, writer.flush()) {
+    let mut output = standard_output(rt, options.reporting.style.is_colored, writer);
+    let end = run_in_form(rt, settings, options, &mut output);
+    match (end, output.flush()) {
         (Ok(tally), Ok(())) => end_of(rt, settings, options.file_count(), tally),
         (Err(RunError::Memory), _) => no_memory(rt),
         (Err(RunError::Write), _) | (Ok(_), Err(_)) => write_failed(rt),
@@ -200,7 +219,7 @@ fn end_of(rt: &HostRuntime, settings: Settings<'_>, file_count: usize, tally: Ta
     }
     match summary(rt.alloc(), settings.warns, tally, file_count) {
         Ok(line) => {
-            let _ = eprintln!(rt; "{line}");
+            let _ = standard_error(rt).writeln(format_args!("{line}"));
             status
         }
         Err(AllocError) => no_memory(rt),

@@ -1,6 +1,6 @@
 //! The page on an error or a warning.
 
-ghost use Rattle.std.specs.Prelude.{◌≡◌};
+ghost use Rattle.std.specs.Prelude.{◌≡◌, IfOk, option_map, string_bytes};
 ghost use Rattle.timefd_lint.specs.Pages as spec;
 
 use crate::error_code::ErrorCode;
@@ -41,12 +41,53 @@ pub fn explained_in(words: &[&str]) -> Option<Subject>
     }
 }
 
+/// The word that names neither an error nor a warning, if the words are `--explain` and such a word. It may be the
+/// name of a file.
+pub fn unexplained_in<'a>(words: &'a [&'a str]) -> Option<&'a str>
+    ensures { option_map (λ w. w.now) result ≡ spec.unexplained_in words.now }
+{
+    let [option, name] = words else {
+        return None;
+    };
+    match *option {
+        "--explain" if !name.as_bytes().starts_with(b"-") => unknown(name),
+        _ => None,
+    }
+}
+
+fn unknown(name: &str) -> Option<&str>
+    ensures { option_map (λ w. w.now) result ≡ spec.unknown name.now }
+{
+    match subject_named(name) {
+        Some(_) => None,
+        None => Some(name),
+    }
+}
+
 /// The page: the name and a sentence, what it means, and what to write instead. An `Err` says that memory ran
 /// out.
-pub fn page_on(alloc: Global, subject: Subject) -> Result<String, AllocError> {
-    let (name, sentence, explanation) = match subject {
-        Subject::Error(code) => (code.name(), summary(code), explanation(code)),
-        Subject::Warning(warning) => (warning.name(), warning.sentence(), warning.explanation()),
-    };
+pub fn page_on(alloc: Global, subject: Subject) -> Result<String, AllocError>
+    ensures { IfOk result (λ page. string_bytes page ≡ spec.page_on subject) }
+{
+    match subject {
+        Subject::Error(code) => page_of(alloc, code.name(), summary(code), explanation(code)),
+        Subject::Warning(warning) => page_of(
+            alloc,
+            warning.name(),
+            warning.sentence(),
+            warning.explanation(),
+        ),
+    }
+}
+
+fn page_of(
+    alloc: Global,
+    name: &str,
+    sentence: &str,
+    explanation: &str,
+) -> Result<String, AllocError>
+    ensures { IfOk result (λ page. string_bytes page
+        ≡ spec.page_of name.now sentence.now explanation.now) }
+{
     format!(in alloc; "{name}: {sentence}\n\n{explanation}\n")
 }

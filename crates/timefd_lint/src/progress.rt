@@ -3,10 +3,11 @@
 ghost use Rattle.std.specs.Prelude.{⊤};
 
 use crate::failure::OpenError;
+use crate::output::standard_error;
 use crate::source::Source;
 use std::alloc::Global;
 use std::cell::Cell;
-use std::io::{BufReader, IsTerminal};
+use std::io::{BufReader, IsTerminal, Write};
 use std::rt::Files;
 use std::time::{Duration, Instant};
 
@@ -48,7 +49,7 @@ impl<'a> Watched<'a> {
     /// Removes the line of progress, if one is shown.
     pub fn end(&self) {
         if self.has_reported.get() {
-            let _ = eprint!(self.rt; "{CLEAR}");
+            clear(self.rt);
         }
     }
 
@@ -58,7 +59,10 @@ impl<'a> Watched<'a> {
         self.opened.set(opened);
         if self.shows && self.is_time() {
             let file_count = self.file_count;
-            let _ = eprint!(self.rt; "{CLEAR}{opened} of {file_count} files");
+            clear(self.rt);
+            let _ = standard_error(self.rt).write_fmt(format_args!(
+                "{opened} of {file_count} files"
+            ));
             self.has_reported.set(true);
             self.next.set(after_now(self.rt, BETWEEN));
         }
@@ -71,6 +75,11 @@ impl<'a> Watched<'a> {
             _ => false,
         }
     }
+}
+
+// Removes a line of progress. It is the only text that a terminal obeys.
+fn clear(rt: &HostRuntime) {
+    let _ = rt.stderr().write_all(CLEAR.as_bytes());
 }
 
 // The time in this many milliseconds. `None` without a clock.

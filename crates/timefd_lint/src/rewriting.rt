@@ -1,22 +1,27 @@
 //! Rewrites the named files: to a later version of the language, to the normal form of version 3, or mended.
 //! The result is shown as changes or written back.
 
+ghost use Rattle.std.specs.Prelude.{◌≡◌};
+ghost use Rattle.timefd_lint.specs.Rewriting as spec;
+
 use crate::fix::{FixError, Original};
-use crate::found::{Found, Unit, looked_at, source_looked_at};
+use crate::found::{Found, looked_at, source_looked_at};
 use crate::identity::{identity_of, is_among, meet};
 use crate::line::RunError;
 use crate::lines::failed;
 use crate::options::Options;
+use crate::output::Output;
+use crate::rewrite_report::{left_out, rewrote};
 use crate::rust::is_source;
 use crate::tally::Tally;
 use std::alloc::Global;
-use std::io::{Eprint, Write};
+use std::io::Write;
 use std::rt::Files;
 use timefd_convert::conversion_between;
 use timefd_drawing::shown::safe;
 use timefd_lint_options::{Settings, target};
 use timefd_parse::{DescriptionVersion, Language};
-use timefd_rewrite::{Counts, Fixes, Layout, RewriteError, write_diff};
+use timefd_rewrite::{Fixes, Layout, RewriteError, write_diff};
 use timefd_rewrite_sources::Change;
 
 /// How files are rewritten.
@@ -33,7 +38,9 @@ pub struct Rewriting {
 }
 
 // Which fixes may be made.
-fn fixes_of(settings: Settings<'_>) -> Fixes {
+fn fixes_of(settings: Settings<'_>) -> Fixes
+    ensures { result ≡ spec.fixes_of settings.entry }
+{
     if settings.is_unsafe {
         Fixes::All
     } else {
@@ -42,51 +49,75 @@ fn fixes_of(settings: Settings<'_>) -> Fixes {
 }
 
 // How lines are laid out in a version. `None` if no conversion leads to it.
-fn layout_in(settings: Settings<'_>, version: DescriptionVersion) -> Option<Layout> {
-    let conversion = conversion_between(settings.language, Language::Version(version))?;
-    if settings.is_normal {
-        Some(Layout::Normal(conversion))
-    } else {
-        Some(Layout::Least(conversion))
+fn layout_in(settings: Settings<'_>, version: DescriptionVersion) -> Option<Layout>
+    ensures { result ≡ spec.layout_in settings.entry version }
+{
+    match conversion_between(settings.language, Language::Version(version)) {
+        Some(conversion) if settings.is_normal => Some(Layout::Normal(conversion)),
+        Some(conversion) => Some(Layout::Least(conversion)),
+        None => None,
     }
 }
 
-// How lines are laid out, and what happens to sources. `None` if files aren't rewritten.
-fn changes_of(settings: Settings<'_>) -> Option<(Option<Layout>, Change)> {
-    if settings.fixes {
-        let fixes = fixes_of(settings);
-        let layout = Layout::Fixed(settings.language, fixes);
-        return Some((Some(layout), Change::Mended(fixes)));
-    }
-    let version = target(settings)?;
-    let change = if settings.is_normal {
+// What happens to the descriptions of sources that are converted.
+fn change_to(settings: Settings<'_>, version: DescriptionVersion) -> Change
+    ensures { result ≡ spec.change_to settings.entry version }
+{
+    if settings.is_normal {
         Change::Normal
     } else {
         Change::Least(version)
-    };
-    Some((layout_in(settings, version), change))
+    }
+}
+
+// How files are mended.
+fn mending(settings: Settings<'_>) -> Rewriting
+    ensures { result ≡ spec.mending settings.entry }
+{
+    let fixes = fixes_of(settings);
+    Rewriting {
+        lines: Some(Layout::Fixed(settings.language, fixes)),
+        sources: Change::Mended(fixes),
+        writes: settings.writes,
+        is_partial: settings.is_partial,
+    }
+}
+
+// How files are converted.
+fn converting(settings: Settings<'_>, version: DescriptionVersion) -> Rewriting
+    ensures { result ≡ spec.converting settings.entry version }
+{
+    Rewriting {
+        lines: layout_in(settings, version),
+        sources: change_to(settings, version),
+        writes: settings.writes,
+        is_partial: settings.is_partial,
+    }
 }
 
 /// How files are rewritten. `None` if they aren't.
-pub fn rewriting_of(settings: Settings<'_>) -> Option<Rewriting> {
-    let (lines, sources) = changes_of(settings)?;
-    Some(Rewriting {
-        lines,
-        sources,
-        writes: settings.writes,
-        is_partial: settings.is_partial,
-    })
+pub fn rewriting_of(settings: Settings<'_>) -> Option<Rewriting>
+    ensures { result ≡ spec.rewriting_of settings.entry }
+{
+    if settings.fixes {
+        return Some(mending(settings));
+    }
+    match target(settings) {
+        Some(version) => Some(converting(settings, version)),
+        None => None,
+    }
 }
 
 /// Checks each file in order, its lines or the descriptions of a source, and shows what changes in it or
 /// writes it back. A file with several names is taken once. A file that can't be read or written back is
-/// noted, and the others are still checked.
-pub fn rewrite_files<R: Files + Eprint, W: Write>(
+/// noted, and the others are still checked. What people have to know besides goes to `errors`.
+pub fn rewrite_files<R: Files, E: Write, W: Write>(
     rt: &R,
     alloc: Global,
     options: Options<'_>,
     rewriting: Rewriting,
-    writer: &mut W,
+    errors: &mut Output<E>,
+    output: &mut Output<W>,
 ) -> Result<Tally, RunError> {
     let mut met = Vec::new(alloc);
     let mut tally = Tally::new();
@@ -97,7 +128,7 @@ pub fn rewrite_files<R: Files + Eprint, W: Write>(
             }
             meet(&mut met, identity)?;
         }
-        tally = tally.and(rewrite_file(rt, alloc, options, rewriting, name, writer)?);
+        tally = tally.and(rewrite_file(rt, alloc, options, rewriting, name, errors, output)?);
         // Writing back creates another file with the same name.
         if let Some(identity) = identity_of(rt, name) {
             meet(&mut met, identity)?;
@@ -107,37 +138,46 @@ pub fn rewrite_files<R: Files + Eprint, W: Write>(
 }
 
 // Checks a file, and shows what changes in it or writes it back.
-fn rewrite_file<R: Files + Eprint, W: Write>(
+fn rewrite_file<R: Files, E: Write, W: Write>(
     rt: &R,
     alloc: Global,
     options: Options<'_>,
     rewriting: Rewriting,
     name: &str,
-    writer: &mut W,
+    errors: &mut Output<E>,
+    output: &mut Output<W>,
 ) -> Result<Tally, RunError> {
     let old = match Original::read(rt, alloc, name) {
         Ok(old) => old,
-        Err(error) => return noted(alloc, options, name, error, writer),
+        Err(error) => return noted(alloc, options, name, error, output),
     };
     let found = if is_source(options, name) {
-        source_looked_at(alloc, options, rewriting.sources, name, &old.bytes, writer)?
+        source_looked_at(alloc, options, rewriting.sources, name, &old.bytes, output)?
     } else {
         // Files of lines were refused earlier if no conversion exists from their language.
         let Some(layout) = rewriting.lines else {
             return Ok(Tally::new());
         };
-        looked_at(alloc, options, layout, name, &old.bytes, writer)?
+        looked_at(alloc, options, layout, name, &old.bytes, output)?
     };
-    let tally = found.tally.and(by_hand(rt, &found));
-    match shown_or_written(rt, alloc, rewriting, name, &old, &found, writer) {
-        Ok(()) => Ok(tally),
-        Err(error) => Ok(tally.and(noted(alloc, options, name, error, writer)?)),
+    report(errors, &found.by_hand);
+    let tally = found.tally.and(left_in(&found));
+    match shown_or_written(rt, alloc, rewriting, name, &old, &found, output) {
+        Ok(message) => {
+            report(errors, &message);
+            Ok(tally)
+        }
+        Err(error) => Ok(tally.and(noted(alloc, options, name, error, output)?)),
     }
 }
 
-// Reports which descriptions have to be changed manually.
-fn by_hand<R: Eprint>(rt: &R, found: &Found) -> Tally {
-    let _ = rt.eprint(format_args!("{}", found.by_hand));
+// Reports to people. A report that can't be written is left out.
+fn report<E: Write>(errors: &mut Output<E>, message: &str) {
+    let _ = errors.write_all(message.as_bytes());
+}
+
+// Whether descriptions are left that have to be changed manually.
+fn left_in(found: &Found) -> Tally {
     Tally {
         is_left: !found.by_hand.is_empty(),
         ..Tally::new()
@@ -150,79 +190,60 @@ fn noted<W: Write>(
     options: Options<'_>,
     name: &str,
     error: FixError,
-    writer: &mut W,
+    output: &mut W,
 ) -> Result<Tally, RunError> {
     match error {
         FixError::Memory => Err(RunError::Memory),
         FixError::Output => Err(RunError::Write),
         FixError::Failed(failure) => {
-            let end = failed(alloc, options, name, failure, writer)?;
+            let end = failed(alloc, options, name, failure, output)?;
             Ok(Tally::of(end))
         }
     }
 }
 
-// Shows what changes in a file, or writes it back. Does nothing if nothing changes.
-fn shown_or_written<R: Files + Eprint, W: Write>(
+// Shows what changes in a file, or writes it back. Does nothing if nothing changes. Returns what is reported
+// about that, or nothing.
+fn shown_or_written<R: Files, W: Write>(
     rt: &R,
     alloc: Global,
     rewriting: Rewriting,
     name: &str,
     old: &Original<R::File>,
     found: &Found,
-    writer: &mut W,
-) -> Result<(), FixError> {
+    output: &mut Output<W>,
+) -> Result<String, FixError> {
     if found.counts.rewritten == 0 {
-        return Ok(());
+        return Ok(String::new(alloc));
     }
     let file = safe(alloc, name)?;
     if found.counts.refused > 0 && !rewriting.is_partial {
-        report_refused(rt, rewriting.writes, &file, found);
-        return Ok(());
+        return Ok(left_out(alloc, rewriting.writes, &file, found.unit, found.counts)?);
     }
     if rewriting.writes {
         old.replace(rt, alloc, name, &found.bytes)?;
-        report_rewritten(rt, &file, found);
-        return Ok(());
+        return Ok(rewrote(alloc, &file, found.unit, found.counts)?);
     }
-    match write_diff(alloc, &file, &old.bytes, &found.bytes, writer) {
+    show_diff(alloc, &file, &old.bytes, &found.bytes, output)?;
+    Ok(String::new(alloc))
+}
+
+// Shows what changes in a file. A diff has no colours: an escape in it is one of the file.
+fn show_diff<W: Write>(
+    alloc: Global,
+    file: &str,
+    old: &[u8],
+    new: &[u8],
+    output: &mut Output<W>,
+) -> Result<(), FixError> {
+    let mut plain = Output {
+        alloc,
+        audience: output.audience.without_color(),
+        writer: &mut output.writer,
+    };
+    match write_diff(alloc, file, old, new, &mut plain) {
         Ok(()) => Ok(()),
         Err(RewriteError::Memory) => Err(FixError::Memory),
         Err(RewriteError::Read | RewriteError::Write) => Err(FixError::Output),
     }
-}
-
-fn noun(unit: Unit, count: u64) -> &'static str {
-    match (unit, count) {
-        (Unit::Line, 1) => "line",
-        (Unit::Line, _) => "lines",
-        (Unit::Description, 1) => "description",
-        (Unit::Description, _) => "descriptions",
-    }
-}
-
-// Reports that a file is left out because some of its lines or descriptions are refused.
-fn report_refused<R: Eprint>(rt: &R, writes: bool, file: &str, found: &Found) {
-    let Counts { lines, refused, .. } = found.counts;
-    let noun = noun(found.unit, lines);
-    let are = if refused == 1 { "is" } else { "are" };
-    let (left, cure) = if writes {
-        ("not rewritten", "--partial")
-    } else {
-        ("no diff of", "--write --partial")
-    };
-    let _ = rt.eprintln(format_args!(
-        "{left} {file}: {refused} of {lines} {noun} {are} refused; {cure} rewrites the others"
-    ));
-}
-
-// Reports that a file was written back.
-fn report_rewritten<R: Eprint>(rt: &R, file: &str, found: &Found) {
-    let Counts {
-        lines,
-        rewritten,
-        ..
-    } = found.counts;
-    let noun = noun(found.unit, lines);
-    let _ = rt.eprintln(format_args!("rewrote {file}: {rewritten} of {lines} {noun}"));
 }

@@ -1,8 +1,15 @@
 //! A run over the files of the system and the standard input.
 
+ghost use Rattle.std.specs.Prelude.{◌≡◌, IfOk, None, false};
+ghost use Rattle.timefd_lint_options.specs.Conflicts.{is_log};
+ghost use Rattle.timefd_lint.specs.Outputs.{known};
+ghost use Rattle.timefd_lint.specs.Rewriting.{rewriting_of};
+ghost use Rattle.timefd_lint.specs.Sources.{IsRunWith, any_source};
+
 use crate::line::RunError;
 use crate::log::write_log;
 use crate::options::Options;
+use crate::output::{Audience, Output, standard_error};
 use crate::progress::Watched;
 use crate::rewriting::{rewrite_files, rewriting_of};
 use crate::run::run;
@@ -16,12 +23,19 @@ pub fn run_in_form<W: Write>(
     rt: &HostRuntime,
     settings: Settings<'_>,
     options: Options<'_>,
-    writer: &mut W,
-) -> Result<Tally, RunError> {
+    output: &mut Output<W>,
+) -> Result<Tally, RunError>
+    // What is only checked, and not reported in a log, is reported text by text.
+    ensures reported { is_log settings.entry.format ≡ false → rewriting_of settings.entry ≡ None
+        → IfOk result (IsRunWith (any_source options.entry options.entry.files.now)
+        options.entry.is_whole options.entry.language options.entry.comment options.entry.reporting
+        (known output.old.audience (W.contents output.old.writer))
+        (known output.new.audience (W.contents output.new.writer))) }
+{
     if is_log(settings.format) {
-        run_logged(rt, settings, options, writer)
+        run_logged(rt, settings, options, output)
     } else {
-        run_and_rewrite(rt, settings, options, writer)
+        run_and_rewrite(rt, settings, options, output)
     }
 }
 
@@ -30,12 +44,16 @@ fn run_logged<W: Write>(
     rt: &HostRuntime,
     settings: Settings<'_>,
     options: Options<'_>,
-    writer: &mut W,
+    output: &mut Output<W>,
 ) -> Result<Tally, RunError> {
-    let mut results = Vec::new(rt.alloc());
+    let mut results = Output {
+        alloc: rt.alloc(),
+        audience: Audience::Program,
+        writer: Vec::new(rt.alloc()),
+    };
     match run_and_rewrite(rt, settings, options, &mut results) {
         Ok(tally) => {
-            write_log(rt.alloc(), &results, writer)?;
+            write_log(rt.alloc(), &results.writer, output)?;
             Ok(tally)
         }
         // The writer is in memory, so only memory can run out.
@@ -47,16 +65,23 @@ fn run_and_rewrite<W: Write>(
     rt: &HostRuntime,
     settings: Settings<'_>,
     options: Options<'_>,
-    writer: &mut W,
-) -> Result<Tally, RunError> {
+    output: &mut Output<W>,
+) -> Result<Tally, RunError>
+    ensures reported { rewriting_of settings.entry ≡ None
+        → IfOk result (IsRunWith (any_source options.entry options.entry.files.now)
+        options.entry.is_whole options.entry.language options.entry.comment options.entry.reporting
+        (known output.old.audience (W.contents output.old.writer))
+        (known output.new.audience (W.contents output.new.writer))) }
+{
     if let Some(rewriting) = rewriting_of(settings) {
-        return rewrite_files(rt, rt.alloc(), options, rewriting, writer);
+        let mut errors = standard_error(rt);
+        return rewrite_files(rt, rt.alloc(), options, rewriting, &mut errors, output);
     }
     let Ok(mut input) = BufReader::with_capacity(rt.alloc(), BUFFER, rt.stdin()) else {
         return Err(RunError::Memory);
     };
     let watched = Watched::new(rt, options.file_count());
-    let end = run(&watched, rt.alloc(), options, &mut input, writer);
+    let end = run(&watched, rt.alloc(), options, &mut input, output);
     watched.end();
     end
 }

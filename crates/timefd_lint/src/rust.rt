@@ -1,6 +1,7 @@
 //! Sources of Rust, and files with keys.
 
 ghost use Rattle.std.specs.Prelude.{◌≡◌, IfOk};
+ghost use Rattle.std.specs.List.{list_all};
 ghost use Rattle.timefd_lint.specs.Sources.{IsNotText, IsReported, IsRunOfSource, IsSaid};
 ghost use Rattle.timefd_lint.specs.Sources as spec;
 
@@ -37,7 +38,9 @@ pub fn is_source(options: Options<'_>, name: &str) -> bool
 }
 
 /// Whether all files of a run are read as sources.
-pub fn are_sources(options: Options<'_>) -> bool {
+pub fn are_sources(options: Options<'_>) -> bool
+    ensures { result ≡ list_all (λ name. spec.is_source options.entry name.now) options.entry.files.now }
+{
     options.files.iter().all(|name| is_source(options, name))
 }
 

@@ -1,8 +1,15 @@
 //! Which files below folders are checked.
 
+ghost use Rattle.std.specs.Prelude.{◌≡◌};
+ghost use Rattle.timefd_diagnosis.specs.Words.{texts};
+ghost use Rattle.timefd_lint.specs.Counted as spec;
+
 use timefd_keys::Key;
 use timefd_lint_files::Sought;
-use timefd_lint_options::Settings;
+use timefd_lint_options::{Settings, reads_lines};
+
+/// The working directory.
+const HERE: &[&str] = &["."];
 
 /// How the names of sources of Rust end.
 const RUST: &[&str] = &[".rs"];
@@ -10,15 +17,38 @@ const RUST: &[&str] = &[".rs"];
 /// How the names of sources of Rust and of files with keys end.
 const RUST_AND_KEYS: &[&str] = &[".rs", ".toml", ".json", ".yaml", ".yml"];
 
+/// The named files and folders. Without any it is the working directory, if lines would be read from a terminal and
+/// no option is about these.
+pub fn named_or_here<'a>(
+    settings: Settings<'_>,
+    is_terminal: bool,
+    names: &'a [&'a str],
+) -> &'a [&'a str]
+    ensures { texts result.now ≡ spec.named_or_here settings.entry is_terminal (texts names.now) }
+{
+    if names.is_empty() && is_terminal && !reads_lines(settings) {
+        return HERE;
+    }
+    names
+}
+
 /// Which files below folders are checked: sources of Rust and, if there are keys, files with keys. Excluded
 /// files are not.
-pub fn sought<'a>(settings: Settings<'_>, keys: &[Key<'_>], excluded: &'a str) -> Sought<'a> {
+pub fn sought<'a>(settings: Settings<'_>, keys: &[Key<'_>], excluded: &'a str) -> Sought<'a>
+    ensures endings { texts result.endings.now ≡ spec.endings settings.entry keys.now }
+    ensures excluded { result.excluded ≡ excluded.entry }
+{
     Sought {
-        endings: if keys.is_empty() || settings.is_source {
-            RUST
-        } else {
-            RUST_AND_KEYS
-        },
+        endings: endings(settings, keys),
         excluded,
     }
+}
+
+fn endings(settings: Settings<'_>, keys: &[Key<'_>]) -> &'static [&'static str]
+    ensures { texts result.now ≡ spec.endings settings.entry keys.now }
+{
+    if keys.is_empty() || settings.is_source {
+        return RUST;
+    }
+    RUST_AND_KEYS
 }

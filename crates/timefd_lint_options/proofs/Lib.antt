@@ -1,3 +1,4 @@
 pub mod AskedLemmas
 pub mod SuggestionLemmas
 pub mod KeyWordLemmas
+pub mod OrderLemmas

@@ -1,5 +1,5 @@
 -- What the arguments ask for, read from the first to the last.
-use Rattle.std.specs.Prelude.{List, [], ◌∷◌, Option, Some, None, Result, Ok, Err, if◌then◌else◌}
+use Rattle.std.specs.Prelude.{List, [], ◌∷◌, Option, Some, None, Result, Ok, Err}
 use denote.Ref.{Bor}
 use Rattle.timefd_component.specs.Tree.{Text}
 use Rattle.timefd_lint_options.specs.declared.asked.Asked.{Asked}
@@ -18,7 +18,7 @@ use Rattle.timefd_lint_options.specs.declared.word.Word.TheVariants.{Flag, Value
 use Rattle.timefd_lint_options.specs.Conflicts.{conflict}
 use Rattle.timefd_lint_options.specs.Names.{names_from, names_of}
 use Rattle.timefd_lint_options.specs.Settings.{initial, with_flag, with_value}
-use Rattle.timefd_lint_options.specs.Words.{word_of, is_option}
+use Rattle.timefd_lint_options.specs.Words.{word_of}
 
 abbrev pub Answer : Type 0
 Answer = Result Asked OptionError
@@ -30,19 +30,6 @@ unless None s names = Ok (asks.Run (record { settings = s; file_count = names.co
 abbrev pub run : Settings → Names → Answer
 run s names = unless (conflict s names) s names
 
--- the first of the words that looks like an option
-abbrev pub first_option : List (Bor Text) → Option (Bor Text)
-first_option [] = None
-first_option (word ∷ after) = if is_option word.now then Some word else first_option after
-
-abbrev pub named_by : Option (Bor Text) → Settings → Names → Answer
-named_by (Some option) s names = Err (errors.AfterFile option)
-named_by None s names = run s names
-
--- After the name of a file no word may look like an option.
-abbrev pub named : Settings → Text → List (Bor Text) → Answer
-named s name after = named_by (first_option after) s (names_from name after)
-
 abbrev pub first_by : Word → Settings → Bor Text → List (Bor Text) → Step
 first_by (Flag flag) s word after = Next (record { settings = with_flag s flag; pending = None })
 first_by (HasValue option) s word after = Next (record { settings = s; pending = Some option })
@@ -50,7 +37,7 @@ first_by Help s word after = Done (Ok asks.Help)
 first_by Version s word after = Done (Ok asks.Version)
 first_by End s word after = Done (run s (names_of after))
 first_by Unknown s word after = Done (Err (errors.Unknown word))
-first_by File s word after = Done (named s word.now after)
+first_by File s word after = Done (run s (names_from word.now after))
 
 abbrev pub first : Settings → Bor Text → List (Bor Text) → Step
 first s word after = first_by (word_of word.now) s word after

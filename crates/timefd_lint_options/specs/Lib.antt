@@ -6,3 +6,4 @@ pub mod Conflicts
 pub mod Asked
 pub mod Suggestions
 pub mod KeyWords
+pub mod Order

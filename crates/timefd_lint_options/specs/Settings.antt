@@ -1,11 +1,12 @@
 -- What each option sets.
-use Rattle.std.specs.Prelude.{Bool, true, false, Option, Some, None, option_map, Result, Ok, Err, if◌then◌else◌}
+use Rattle.std.specs.Prelude.{Bool, true, false, ◌||◌, Option, Some, None, is_some, option_map, Result, Ok, Err, if◌then◌else◌}
 use denote.Ref.{Bor}
 use Rattle.timefd_component.specs.Tree.{Text}
 use Rattle.timefd_drawing.specs.declared.draw.Format.TheVariants as formats
 use Rattle.timefd_language.specs.declared.description_version.DescriptionVersion.{DescriptionVersion}
-use Rattle.timefd_language.specs.declared.description_version.DescriptionVersion.TheVariants.{Three}
+use Rattle.timefd_language.specs.declared.description_version.DescriptionVersion.TheVariants.{One, Two, Three}
 use Rattle.timefd_language.specs.Grammar.{is_empty}
+use Rattle.timefd_parse.specs.declared.language.Language as languages_of
 use Rattle.timefd_parse.specs.declared.language.Language.TheVariants as languages
 use Rattle.timefd_lint_options.specs.declared.error.OptionError.{OptionError}
 use Rattle.timefd_lint_options.specs.declared.error.OptionError.TheVariants.{NotAKey, NotAValue}
@@ -44,6 +45,17 @@ initial = record {
   serves = false;
   is_quiet = false;
 }
+
+-- whether a language is another than without an option
+abbrev pub is_chosen : languages_of.Language → Bool
+is_chosen (languages.Version One) = true
+is_chosen (languages.Version Two) = true
+is_chosen (languages.Version Three) = false
+is_chosen languages.Strftime = true
+
+-- whether the settings are about lines or a whole text, which may be read from the standard input
+abbrev pub reads_lines : Settings → Bool
+reads_lines s = is_some s.comment || (s.is_whole || (s.is_source || (s.serves || is_chosen s.language)))
 
 abbrev pub target_by : Option DescriptionVersion → Bool → Option DescriptionVersion
 target_by (Some version) is_normal = Some version

@@ -9,7 +9,7 @@ use crate::flags::with_flag;
 use crate::names::{Names, names_from, names_of};
 use crate::settings::Settings;
 use crate::valued::with_value;
-use crate::word::{Valued, Word, is_option, word_of};
+use crate::word::{Valued, Word, word_of};
 
 /// The options of a run, and the names of its files.
 #[derive(Clone, Copy)]
@@ -44,7 +44,8 @@ enum Step<'a> {
     Done(Result<Asked<'a>, OptionError<'a>>),
 }
 
-/// What the arguments after the program's name ask for. An `Err` says what is wrong with them.
+/// What the arguments after the program's name ask for, in the order of `ordered`: from the first name of a
+/// file on, all are names. An `Err` says what is wrong with them.
 #[tactic(auto, using(crate::proofs::AskedLemmas::goes_on, crate::proofs::AskedLemmas::is_done))]
 pub fn options_of<'a>(words: &'a [&'a str]) -> Result<Asked<'a>, OptionError<'a>>
     ensures { result ≡ spec.options_of words.now }
@@ -114,36 +115,8 @@ fn first<'a>(settings: Settings<'a>, word: &'a str, after: &'a [&'a str]) -> Ste
         Word::Version => Step::Done(Ok(Asked::Version)),
         Word::Unknown => Step::Done(Err(OptionError::Unknown(word))),
         Word::End => Step::Done(run(settings, names_of(after))),
-        Word::File => Step::Done(named(settings, word, after)),
+        Word::File => Step::Done(run(settings, names_from(word, after))),
     }
-}
-
-// A run over this file, and over those that the following arguments name.
-fn named<'a>(
-    settings: Settings<'a>,
-    name: &str,
-    after: &'a [&'a str],
-) -> Result<Asked<'a>, OptionError<'a>>
-    ensures { result ≡ spec.named settings.entry name.now after.now }
-{
-    match first_option(after) {
-        Some(option) => Err(OptionError::AfterFile(option)),
-        None => run(settings, names_from(name, after)),
-    }
-}
-
-// The first of the arguments that looks like an option.
-fn first_option<'a>(words: &'a [&'a str]) -> Option<&'a str>
-    ensures { result ≡ spec.first_option words.now }
-{
-    let mut rest = words;
-    'options: while let [word, after @ ..] = rest {
-        if is_option(word) {
-            return Some(word);
-        }
-        rest = after;
-    }
-    None
 }
 
 // A run with these settings, unless they conflict.

@@ -14,8 +14,6 @@ pub enum OptionError<'a> {
     NotAValue(Valued, &'a str),
     /// The word isn't a `KEY=LANGUAGE`, for this reason.
     NotAKey(KeyFault, &'a str),
-    /// The option comes after the name of a file.
-    AfterFile(&'a str),
     /// Some options conflict.
     Conflict(Conflict),
 }

@@ -85,6 +85,29 @@ impl Settings<'_> {
     }
 }
 
+/// Whether the settings are about lines or a whole text, which may be read from the standard input: their
+/// language, a comment mark, or that all of it is one text.
+pub fn reads_lines(settings: Settings<'_>) -> bool
+    ensures { result ≡ spec.reads_lines settings.entry }
+{
+    settings.comment.is_some()
+        || settings.is_whole
+        || settings.is_source
+        || settings.serves
+        || is_chosen(settings.language)
+}
+
+// Whether a language is another than without an option.
+fn is_chosen(language: Language) -> bool
+    ensures { result ≡ spec.is_chosen language }
+{
+    match language {
+        Language::Version(DescriptionVersion::Three) => false,
+        Language::Version(DescriptionVersion::One | DescriptionVersion::Two) | Language::Strftime =>
+            true,
+    }
+}
+
 /// The version that descriptions are rewritten in. It is version 3 if only the normal form is asked for, and
 /// `None` if nothing is rewritten.
 pub fn target(settings: Settings<'_>) -> Option<DescriptionVersion>

@@ -98,14 +98,3 @@ pub fn is_input(name: &str) -> bool
 {
     name == "-"
 }
-
-/// Whether a word looks like an option.
-pub fn is_option(word: &str) -> bool
-    ensures { result ≡ spec.is_option word.now }
-{
-    match word_of(word) {
-        Word::File => false,
-        Word::Flag(_) | Word::Valued(_) | Word::Help | Word::Version | Word::End | Word::Unknown =>
-            true,
-    }
-}

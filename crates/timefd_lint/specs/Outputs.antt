@@ -1,0 +1,47 @@
+-- What reaches who reads a stream.
+use Rattle.std.specs.Prelude.{◌≡◌, Bool, true, false, Option, None, chars, ⊤}
+use Rattle.std.specs.Io.KnownBytes.{Appends}
+use Rattle.timefd_component.specs.Tree.{Text}
+use Rattle.timefd_drawing.specs.People.{AllSeen, for_people}
+use Rattle.timefd_lint_options.specs.declared.settings.Color.{Color}
+use Rattle.timefd_lint_options.specs.declared.settings.Color.TheVariants.{Always, Never, Auto}
+use Rattle.timefd_lint.specs.declared.output.Audience.{Audience}
+use Rattle.timefd_lint.specs.declared.output.Audience.TheVariants.{InColor, WithoutColor, Program}
+
+-- Who reads a stream that is a terminal or isn't, where colours are wanted or aren't.
+abbrev pub audience_of : Bool → Bool → Audience
+audience_of false colored = Program
+audience_of true true = InColor
+audience_of true false = WithoutColor
+
+abbrev pub without_color : Audience → Audience
+without_color InColor = WithoutColor
+without_color WithoutColor = WithoutColor
+without_color Program = Program
+
+abbrev pub IsWithoutColor : Audience → Type 0
+IsWithoutColor InColor = ⊥
+IsWithoutColor WithoutColor = ⊤
+IsWithoutColor Program = ⊤
+
+-- Programs are given the bytes that are written. Those that people see aren't counted here.
+abbrev pub known : Audience → Option Text → Option Text
+known InColor bytes = None
+known WithoutColor bytes = None
+known Program bytes = bytes
+
+-- People are shown what they see of the text, and each character of that is visible.
+abbrev pub IsShownInColor : Bool → Option Text → Option Text → Text → Type 0
+IsShownInColor colored before after text =
+    Appends before after (for_people colored text) × AllSeen colored (chars (for_people colored text))
+
+abbrev pub IsShown : Audience → Option Text → Option Text → Text → Type 0
+IsShown InColor before after text = IsShownInColor true before after text
+IsShown WithoutColor before after text = IsShownInColor false before after text
+IsShown Program before after text = ⊤
+
+-- Whether drawings are coloured. What `auto` means depends on the system.
+abbrev pub IsColored : Color → Bool → Type 0
+IsColored Always is_colored = is_colored ≡ true
+IsColored Never is_colored = is_colored ≡ false
+IsColored Auto is_colored = ⊤

@@ -1,0 +1,87 @@
+-- How files are rewritten, and what is reported about it.
+use Rattle.std.specs.Prelude.{ℕ, Bool, true, false, ◌++◌, codes, Option, Some, None, if◌then◌else◌}
+use Rattle.std.specs.Fmt.{decimal}
+use Rattle.timefd_component.specs.Tree.{Text}
+use Rattle.timefd_convert.specs.declared.conversion.Conversion.{Conversion}
+use Rattle.timefd_convert.specs.Conversions.{conversion_between}
+use Rattle.timefd_language.specs.declared.description_version.DescriptionVersion.{DescriptionVersion}
+use Rattle.timefd_parse.specs.declared.language.Language.TheVariants.{Version}
+use Rattle.timefd_rewrite.specs.declared.counts.Counts.{Counts}
+use Rattle.timefd_rewrite.specs.declared.layout.Layout.{Layout}
+use Rattle.timefd_rewrite.specs.declared.layout.Layout.TheVariants as layouts
+use Rattle.timefd_rewrite.specs.declared.fixes.Fixes.{Fixes}
+use Rattle.timefd_rewrite.specs.declared.fixes.Fixes.TheVariants.{All, Sure}
+use Rattle.timefd_rewrite_sources.specs.declared.change.Change.{Change}
+use Rattle.timefd_rewrite_sources.specs.declared.change.Change.TheVariants as changes
+use Rattle.timefd_lint_options.specs.declared.settings.Settings.{Settings}
+use Rattle.timefd_lint_options.specs.Settings.{target}
+use Rattle.timefd_lint.specs.declared.found.Unit.{Unit}
+use Rattle.timefd_lint.specs.declared.found.Unit.TheVariants.{Line, Description}
+use Rattle.timefd_lint.specs.declared.rewriting.Rewriting.{Rewriting}
+use Rattle.timefd_lint.specs.Summaries.{descriptions}
+use Rattle.timefd_lint.specs.Summaries as summaries
+
+-- Which fixes may be made.
+abbrev pub fixes_of : Settings → Fixes
+fixes_of s = if s.is_unsafe then All else Sure
+
+abbrev pub layout_by : Bool → Option Conversion → Option Layout
+layout_by is_normal None = None
+layout_by true (Some conversion) = Some (layouts.Normal conversion)
+layout_by false (Some conversion) = Some (layouts.Least conversion)
+
+-- How lines are laid out in a version; not at all if no conversion leads there.
+abbrev pub layout_in : Settings → DescriptionVersion → Option Layout
+layout_in s version = layout_by s.is_normal (conversion_between s.language (Version version))
+
+abbrev pub change_to : Settings → DescriptionVersion → Change
+change_to s version = if s.is_normal then changes.Normal else changes.Least version
+
+abbrev pub mending : Settings → Rewriting
+mending s = record {
+  lines = Some (layouts.Fixed s.language (fixes_of s));
+  sources = changes.Mended (fixes_of s);
+  writes = s.writes;
+  is_partial = s.is_partial;
+}
+
+abbrev pub converting : Settings → DescriptionVersion → Rewriting
+converting s version = record {
+  lines = layout_in s version;
+  sources = change_to s version;
+  writes = s.writes;
+  is_partial = s.is_partial;
+}
+
+abbrev pub converting_to : Settings → Option DescriptionVersion → Option Rewriting
+converting_to s None = None
+converting_to s (Some version) = Some (converting s version)
+
+-- How files are rewritten, if they are.
+abbrev pub rewriting_of : Settings → Option Rewriting
+rewriting_of s = if s.fixes then Some (mending s) else converting_to s (target s)
+
+abbrev pub noun : Unit → ℕ → Text
+noun Line n = summaries.noun n (codes "line") (codes "lines")
+noun Description n = descriptions n
+
+abbrev pub be : ℕ → Text
+be n = summaries.noun n (codes "is") (codes "are")
+
+-- as `2 of 3 lines`
+abbrev pub part : ℕ → Unit → ℕ → Text
+part n unit lines = decimal n ++ (codes " of " ++ (decimal lines ++ (codes " " ++ noun unit lines)))
+
+-- a file that is left out, as some of it is refused
+abbrev pub left_out : Bool → Text → Unit → Counts → Text
+left_out true file unit counts =
+    codes "not rewritten " ++ (file ++ (codes ": " ++ (part counts.refused unit counts.lines
+    ++ (codes " " ++ (be counts.refused ++ codes " refused; --partial rewrites the others\n")))))
+left_out false file unit counts =
+    codes "no diff of " ++ (file ++ (codes ": " ++ (part counts.refused unit counts.lines
+    ++ (codes " " ++ (be counts.refused ++ codes " refused; --write --partial rewrites the others\n")))))
+
+-- a file that was written back
+abbrev pub rewrote : Text → Unit → Counts → Text
+rewrote file unit counts =
+    codes "rewrote " ++ (file ++ (codes ": " ++ (part counts.rewritten unit counts.lines ++ codes "\n")))

@@ -1,0 +1,112 @@
+//! The standard streams, and who reads them: the only way of the program's texts to people.
+
+ghost use Rattle.std.specs.Prelude.{◌≡◌, None, OnOk};
+ghost use Rattle.std.specs.Io.{WritesAtMost};
+ghost use Rattle.std.specs.Io.KnownBytes.{WriteAppends};
+ghost use Rattle.timefd_lint.specs.Outputs.{IsShown, IsShownInColor, IsWithoutColor, known};
+ghost use Rattle.timefd_lint.specs.Outputs as spec;
+
+use std::alloc::Global;
+use std::io::{IsTerminal, Result, Stderr, Write};
+use timefd_drawing::people::show;
+
+/// Who reads a stream.
+#[derive(Clone, Copy)]
+pub enum Audience {
+    /// People at a terminal that shows the colours of messages.
+    InColor,
+    /// People at a terminal that shows no colours.
+    WithoutColor,
+    /// A program or whoever opens the file: they get each byte.
+    Program,
+}
+
+impl Audience {
+    /// Who reads a stream that is a terminal or isn't, where colours are wanted or aren't.
+    pub fn of(is_terminal: bool, is_colored: bool) -> Audience
+        ensures { result ≡ spec.audience_of is_terminal is_colored }
+    {
+        if !is_terminal {
+            Audience::Program
+        } else if is_colored {
+            Audience::InColor
+        } else {
+            Audience::WithoutColor
+        }
+    }
+
+    /// The same readers of a text that has no colours of its own: an escape in it is part of what it quotes.
+    pub fn without_color(self) -> Audience
+        ensures { result ≡ spec.without_color self }
+    {
+        match self {
+            Audience::InColor | Audience::WithoutColor => Audience::WithoutColor,
+            Audience::Program => Audience::Program,
+        }
+    }
+}
+
+/// A stream of texts, and who reads it. People see each character of a text: a terminal obeys and hides none,
+/// except for newlines and the colours of messages.
+#[derive(Drop)]
+pub struct Output<W> {
+    pub alloc: Global,
+    pub audience: Audience,
+    pub writer: W,
+}
+
+// Writes a text to people. Returns how long it is.
+fn shown<W: Write>(alloc: Global, is_colored: bool, text: &[u8], writer: &mut W) -> Result<usize>
+    ensures bound { WritesAtMost result text.now }
+    ensures bytes { WriteAppends None None result text.now }
+    ensures shown { OnOk result (IsShownInColor is_colored (W.contents writer.old)
+        (W.contents writer.new) text.now) }
+{
+    show(alloc, is_colored, text, writer)?;
+    Ok(text.len())
+}
+
+impl<W: Write> Write for Output<W> {
+    // What programs are given. What people see is another text.
+    ghost contents = { λ output. known output.audience (W.contents output.writer) };
+
+    fn write(&mut self, buf: &[u8]) -> Result<usize>
+        ensures bound { WritesAtMost result buf.now }
+        ensures bytes { WriteAppends (known self.old.audience (W.contents self.old.writer))
+            (known self.new.audience (W.contents self.new.writer)) result buf.now }
+        ensures shown { OnOk result (IsShown self.old.audience (W.contents self.old.writer)
+            (W.contents self.new.writer) buf.now) }
+    {
+        match self.audience {
+            Audience::InColor => shown(self.alloc, true, buf, &mut self.writer),
+            Audience::WithoutColor => shown(self.alloc, false, buf, &mut self.writer),
+            Audience::Program => self.writer.write(buf),
+        }
+    }
+
+    fn flush(&mut self) -> Result<()> {
+        self.writer.flush()
+    }
+}
+
+/// The standard output, which this writer writes to.
+pub fn standard_output<W>(rt: &HostRuntime, is_colored: bool, writer: W) -> Output<W>
+    ensures { result.writer ≡ writer }
+{
+    Output {
+        alloc: rt.alloc(),
+        audience: Audience::of(rt.stdout().is_terminal(), is_colored),
+        writer,
+    }
+}
+
+/// The standard error. Its messages have no colours.
+pub fn standard_error(rt: &HostRuntime) -> Output<Stderr>
+    ensures { IsWithoutColor result.audience }
+{
+    Output {
+        alloc: rt.alloc(),
+        audience: Audience::of(rt.stderr().is_terminal(), false),
+        writer: rt.stderr(),
+    }
+}
