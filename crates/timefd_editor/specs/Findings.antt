@@ -12,7 +12,7 @@ use Rattle.timefd_editor.specs.Each.{AreOf}
 use Rattle.timefd_editor.specs.Finding.{AreWarnings, IsNote, IsOne}
 use Rattle.timefd_fault.specs.Faults.{fault_of}
 use Rattle.timefd_lint_sources.specs.declared.reported.End.{End}
-use Rattle.timefd_lint_sources.specs.declared.reported.End.TheVariants.{PassedOver, Accepted, Refused, NotText, Unread}
+use Rattle.timefd_lint_sources.specs.declared.reported.End.TheVariants.{PassedOver, Accepted, Refused, NotText, UnreadCall, UnreadValue}
 use Rattle.timefd_lint_sources.specs.declared.reported.Source.{Source}
 use Rattle.timefd_lint_sources.specs.Judged.{AreDiagnosedOf, IsEndOf}
 use Rattle.timefd_lint_sources.specs.Reported.{AreJudgedIn}
@@ -42,7 +42,8 @@ AreBy text d (Accepted warned) found = AreWarnings text d warned found
 AreBy text d Refused found = (g : Diagnostic) × (further : List Diagnostic)
     × AreDiagnosedOf d g further × AreFaults text d g further found
 AreBy text d NotText found = IsNote text d found
-AreBy text d Unread found = ⊥
+AreBy text d UnreadCall found = ⊥
+AreBy text d UnreadValue found = ⊥
 
 pub record AreOn (levels : Option Levels) (text : Text) (d : Description) (found : List Finding) : Type 0 where
   pub end : End

@@ -10,7 +10,7 @@ use Rattle.timefd_explain.specs.Parts.{AreParts, all_parts}
 use Rattle.timefd_explain.specs.Stands.{NodesStand}
 use Rattle.timefd_language.specs.Grammar.{nesting_limit}
 use Rattle.timefd_lint_sources.specs.declared.reported.End.{End}
-use Rattle.timefd_lint_sources.specs.declared.reported.End.TheVariants.{PassedOver, Accepted, Refused, NotText, Unread}
+use Rattle.timefd_lint_sources.specs.declared.reported.End.TheVariants.{PassedOver, Accepted, Refused, NotText, UnreadCall, UnreadValue}
 use Rattle.timefd_lint_sources.specs.declared.reported.Source.{Source}
 use Rattle.timefd_lint_sources.specs.Judged.{IsEndOf, IsJudged, language_in, text_of}
 use Rattle.timefd_lint_sources.specs.Reported.{AllFound, AreAllOf, IsFound}
@@ -102,7 +102,8 @@ IsShownBy document d text at PassedOver found = found ≡ None
 IsShownBy document d text at (Accepted warned) found = IsShownIn document d (language_in d) text at found
 IsShownBy document d text at Refused found = found ≡ None
 IsShownBy document d text at NotText found = found ≡ None
-IsShownBy document d text at Unread found = ⊥
+IsShownBy document d text at UnreadCall found = ⊥
+IsShownBy document d text at UnreadValue found = ⊥
 
 abbrev pub IsShownWhere : Text → Description → Text → ℕ → Option Hover → Type 0
 IsShownWhere document d text at found = (end : End) × IsJudged None (language_in d) text end

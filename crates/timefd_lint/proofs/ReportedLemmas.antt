@@ -16,7 +16,7 @@ use Rattle.timefd_drawing.specs.declared.draw.Style.{Style}
 use Rattle.timefd_drawing.specs.declared.position.Origin.{Origin}
 use Rattle.timefd_parse.specs.declared.language.Language.{Language}
 use Rattle.timefd_lint.specs.declared.line.TextEnd.{TextEnd}
-use Rattle.timefd_lint.specs.declared.line.TextEnd.TheVariants.{PassedOver, Accepted, Refused, NotText, Failed, Unread}
+use Rattle.timefd_lint.specs.declared.line.TextEnd.TheVariants.{PassedOver, Accepted, Refused, NotText, Failed, UnreadCall, UnreadValue}
 use Rattle.timefd_lint_sources.specs.declared.reported.Reporting.{Reporting}
 use Rattle.timefd_lint.specs.declared.tally.Tally.{Tally}
 use Rattle.timefd_warnings.specs.declared.levels.Level.TheVariants.{Warned}
@@ -29,7 +29,7 @@ use Rattle.timefd_lint.specs.Lines.{IsEndOf, IsLineEnd}
 use Rattle.timefd_lint.specs.Failures.{note_of, unread}
 use Rattle.timefd_lint.specs.declared.failure.Failure.{Failure}
 use Rattle.timefd_lint.specs.Marks.{Notes, has_mark}
-use Rattle.timefd_lint.specs.Reported.{Says, SaysUnread, SaysOf, IsUnreadIfFailed, AreMarked, Reported, is_description, is_refused, is_not_text, is_failed, is_unread, warnings_in, warnings_of, IsEndIn, IsReportOn, IsPosition, ArePlaced, position, one_if, count, tally_of_one, tally_of, text_in, both, messages, lines_in, lines_of, IsReadUp, IsRun, IsRunOver, IsRunOfAll, IsRunOn, IsNext}
+use Rattle.timefd_lint.specs.Reported.{Says, SaysUnread, SaysOf, IsUnreadIfFailed, AreMarked, Reported, is_description, is_refused, is_not_text, is_failed, is_unread_call, is_unread_value, warnings_in, warnings_of, IsEndIn, IsReportOn, IsPosition, ArePlaced, position, one_if, count, tally_of_one, tally_of, text_in, both, messages, lines_in, lines_of, IsReadUp, IsRun, IsRunOver, IsRunOfAll, IsRunOn, IsNext}
 
 -- A note, and the message after it.
 pub notes_and_says : (is_marked : Bool) (language : Language) (reporting : Reporting) (origin : Origin)
@@ -98,7 +98,8 @@ never_failed language reporting text (Accepted found) ended fails = false≢true
 never_failed language reporting text Refused ended fails = false≢true fails
 never_failed language reporting text NotText ended fails = false≢true fails
 never_failed language reporting text Failed ended fails = ended
-never_failed language reporting text Unread ended fails = ended
+never_failed language reporting text UnreadCall ended fails = ended
+never_failed language reporting text UnreadValue ended fails = ended
 
 line_never_failed : (language : Language) (comment : Option (Bor Text)) (reporting : Reporting) (line : Text) (end : TextEnd)
     → IsLineEnd language comment reporting line end → IsTrue (is_failed end) → ⊥
@@ -107,7 +108,8 @@ line_never_failed language comment reporting line (Accepted found) ended fails =
 line_never_failed language comment reporting line Refused ended fails = false≢true fails
 line_never_failed language comment reporting line NotText ended fails = false≢true fails
 line_never_failed language comment reporting line Failed ended fails = ended
-line_never_failed language comment reporting line Unread ended fails = ended
+line_never_failed language comment reporting line UnreadCall ended fails = ended
+line_never_failed language comment reporting line UnreadValue ended fails = ended
 
 -- One text is a run.
 or_false : (b : Bool) → (b || false) ≡ b
@@ -126,7 +128,8 @@ few_warnings (Accepted found) =
 few_warnings Refused = refl
 few_warnings NotText = refl
 few_warnings Failed = refl
-few_warnings Unread = refl
+few_warnings UnreadCall = refl
+few_warnings UnreadValue = refl
 
 pub tally_one : (t : Reported) → tally_of (t ∷ []) ≡ tally_of_one t.end
 tally_one t =
@@ -134,7 +137,8 @@ tally_one t =
       one_alone (is_description t.end),
       one_alone (is_refused t.end),
       few_warnings t.end,
-      one_alone (is_unread t.end),
+      one_alone (is_unread_call t.end),
+      one_alone (is_unread_value t.end),
       or_false (is_not_text t.end),
       or_false (is_failed t.end),
     ) refl
@@ -186,12 +190,15 @@ tally_both xs ys =
       sum_both (count (λ (t : Reported). is_refused t.end) xs)
           (count (λ (t : Reported). is_refused t.end) ys),
       sum_both (warnings_of xs) (warnings_of ys),
-      sum_both (count (λ (t : Reported). is_unread t.end) xs)
-          (count (λ (t : Reported). is_unread t.end) ys),
+      sum_both (count (λ (t : Reported). is_unread_call t.end) xs)
+          (count (λ (t : Reported). is_unread_call t.end) ys),
+      sum_both (count (λ (t : Reported). is_unread_value t.end) xs)
+          (count (λ (t : Reported). is_unread_value t.end) ys),
       count_both (λ (t : Reported). is_description t.end) xs ys,
       count_both (λ (t : Reported). is_refused t.end) xs ys,
       warnings_both xs ys,
-      count_both (λ (t : Reported). is_unread t.end) xs ys,
+      count_both (λ (t : Reported). is_unread_call t.end) xs ys,
+      count_both (λ (t : Reported). is_unread_value t.end) xs ys,
       list_any-append (λ (t : Reported). is_not_text t.end) xs ys,
       list_any-append (λ (t : Reported). is_failed t.end) xs ys,
     ) refl
@@ -471,7 +478,8 @@ is_failed_alone PassedOver e = absurd (false≢true e)
 is_failed_alone (Accepted found) e = absurd (false≢true e)
 is_failed_alone Refused e = absurd (false≢true e)
 is_failed_alone NotText e = absurd (false≢true e)
-is_failed_alone Unread e = absurd (false≢true e)
+is_failed_alone UnreadCall e = absurd (false≢true e)
+is_failed_alone UnreadValue e = absurd (false≢true e)
 is_failed_alone Failed e = refl
 
 pub line_fails : (is_first : Bool) (language : Language) (comment : Option (Bor Text)) (reporting : Reporting)

@@ -10,7 +10,7 @@ use Rattle.timefd_diagnosis.specs.declared.diagnostic.Diagnostic.{Diagnostic}
 use Rattle.timefd_diagnosis.specs.Further.{AreDiagnosed}
 use Rattle.timefd_lint.specs.declared.failure.Failure.{Failure}
 use Rattle.timefd_lint.specs.declared.line.TextEnd.{TextEnd}
-use Rattle.timefd_lint.specs.declared.line.TextEnd.TheVariants.{PassedOver, Accepted, Refused, NotText, Failed, Unread}
+use Rattle.timefd_lint.specs.declared.line.TextEnd.TheVariants.{PassedOver, Accepted, Refused, NotText, Failed, UnreadCall, UnreadValue}
 use Rattle.timefd_lint.specs.declared.tally.Tally.{Tally}
 use Rattle.timefd_drawing.specs.declared.draw.Style.{Style}
 use Rattle.timefd_drawing.specs.declared.position.Origin.{Origin}
@@ -64,7 +64,8 @@ IsMessageOn language reporting origin text NotText message =
     message ≡ no_text_note reporting.style origin
 IsMessageOn language reporting origin text Failed message =
     IsFailureNote reporting.style origin.file message
-IsMessageOn language reporting origin text Unread message = ⊥
+IsMessageOn language reporting origin text UnreadCall message = ⊥
+IsMessageOn language reporting origin text UnreadValue message = ⊥
 
 -- The message on a text is written after what was there before, and no other bytes are.
 abbrev pub Says : Language → Reporting → Origin → Text → TextEnd → Option Text → Option Text → Type 0
@@ -109,7 +110,8 @@ is_description (Accepted found) = true
 is_description Refused = true
 is_description NotText = true
 is_description Failed = false
-is_description Unread = false
+is_description UnreadCall = false
+is_description UnreadValue = false
 
 -- whether one of the warnings is denied
 abbrev pub is_denied : Levels → Bool
@@ -121,7 +123,8 @@ is_refused (Accepted found) = is_denied found
 is_refused Refused = true
 is_refused NotText = false
 is_refused Failed = false
-is_refused Unread = false
+is_refused UnreadCall = false
+is_refused UnreadValue = false
 
 abbrev pub is_not_text : TextEnd → Bool
 is_not_text PassedOver = false
@@ -129,7 +132,8 @@ is_not_text (Accepted found) = false
 is_not_text Refused = false
 is_not_text NotText = true
 is_not_text Failed = false
-is_not_text Unread = false
+is_not_text UnreadCall = false
+is_not_text UnreadValue = false
 
 abbrev pub is_failed : TextEnd → Bool
 is_failed PassedOver = false
@@ -137,16 +141,28 @@ is_failed (Accepted found) = false
 is_failed Refused = false
 is_failed NotText = false
 is_failed Failed = true
-is_failed Unread = false
+is_failed UnreadCall = false
+is_failed UnreadValue = false
 
 -- a name instead of a text, and no text is found for it
-abbrev pub is_unread : TextEnd → Bool
-is_unread PassedOver = false
-is_unread (Accepted found) = false
-is_unread Refused = false
-is_unread NotText = false
-is_unread Failed = false
-is_unread Unread = true
+abbrev pub is_unread_call : TextEnd → Bool
+is_unread_call PassedOver = false
+is_unread_call (Accepted found) = false
+is_unread_call Refused = false
+is_unread_call NotText = false
+is_unread_call Failed = false
+is_unread_call UnreadCall = true
+is_unread_call UnreadValue = false
+
+-- a value of a key that isn't looked at
+abbrev pub is_unread_value : TextEnd → Bool
+is_unread_value PassedOver = false
+is_unread_value (Accepted found) = false
+is_unread_value Refused = false
+is_unread_value NotText = false
+is_unread_value Failed = false
+is_unread_value UnreadCall = false
+is_unread_value UnreadValue = true
 
 -- how many warnings are reported, without the denied ones
 abbrev pub warnings_in : TextEnd → ℕ
@@ -155,7 +171,8 @@ warnings_in (Accepted found) = warning_count Warned found
 warnings_in Refused = 0
 warnings_in NotText = 0
 warnings_in Failed = 0
-warnings_in Unread = 0
+warnings_in UnreadCall = 0
+warnings_in UnreadValue = 0
 
 -- the text in these bytes: all of a whole file, or what comes before a line's newline
 abbrev pub text_in : Bool → Text → Text
@@ -199,7 +216,8 @@ tally_of_one end = record {
   descriptions = one_if (is_description end);
   refused = one_if (is_refused end);
   warnings = warnings_in end;
-  unread = one_if (is_unread end);
+  unread_calls = one_if (is_unread_call end);
+  unread_values = one_if (is_unread_value end);
   not_text = is_not_text end;
   failed = is_failed end;
   is_left = false;
@@ -211,7 +229,8 @@ tally_of reported = record {
   descriptions = u64_saturate (count (λ t. is_description t.end) reported);
   refused = u64_saturate (count (λ t. is_refused t.end) reported);
   warnings = u64_saturate (warnings_of reported);
-  unread = u64_saturate (count (λ t. is_unread t.end) reported);
+  unread_calls = u64_saturate (count (λ t. is_unread_call t.end) reported);
+  unread_values = u64_saturate (count (λ t. is_unread_value t.end) reported);
   not_text = list_any (λ t. is_not_text t.end) reported;
   failed = list_any (λ t. is_failed t.end) reported;
   is_left = false;
@@ -224,7 +243,8 @@ both a b =
       descriptions = u64_saturate (a.descriptions + b.descriptions);
       refused = u64_saturate (a.refused + b.refused);
       warnings = u64_saturate (a.warnings + b.warnings);
-      unread = u64_saturate (a.unread + b.unread);
+      unread_calls = u64_saturate (a.unread_calls + b.unread_calls);
+      unread_values = u64_saturate (a.unread_values + b.unread_values);
       not_text = a.not_text || b.not_text;
       failed = a.failed || b.failed;
       is_left = a.is_left || b.is_left;

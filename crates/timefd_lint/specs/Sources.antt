@@ -21,7 +21,7 @@ use Rattle.timefd_lint_sources.specs.Judged.{text_of}
 use Rattle.timefd_lint_sources.specs.Reported.{AreSeen, IsJudgedFound, IsSourceReported, no_text_note, origin_of}
 use Rattle.timefd_lint_sources.specs.Reported as literal
 use Rattle.timefd_lint.specs.declared.line.TextEnd.{TextEnd}
-use Rattle.timefd_lint.specs.declared.line.TextEnd.TheVariants.{PassedOver, Accepted, Refused, NotText, Failed, Unread}
+use Rattle.timefd_lint.specs.declared.line.TextEnd.TheVariants.{PassedOver, Accepted, Refused, NotText, Failed, UnreadCall, UnreadValue}
 use Rattle.timefd_lint.specs.declared.options.Options.{Options}
 use Rattle.timefd_lint.specs.declared.tally.Tally.{Tally}
 use Rattle.timefd_lint.specs.Reported.{IsReadUp, IsRun, IsReportOn, SaysUnread, Reported, both, messages, position, tally_of, tally_of_one}
@@ -57,7 +57,8 @@ text_end sources.PassedOver = PassedOver
 text_end (sources.Accepted found) = Accepted found
 text_end sources.Refused = Refused
 text_end sources.NotText = NotText
-text_end sources.Unread = Unread
+text_end sources.UnreadCall = UnreadCall
+text_end sources.UnreadValue = UnreadValue
 
 -- the tally of these ends, added to an earlier tally
 abbrev pub tally_from : Tally → List End → Tally
@@ -116,7 +117,7 @@ pub record IsOfNoText (reporting : Reporting) (t : Reported) : Type 0 where
   pub end : t.end ≡ NotText
   pub message : t.message ≡ no_text_note reporting.style t.origin
 
--- The report is about something in a source besides its descriptions: a call, or a comment.
+-- The report is about something in a source besides its descriptions: a call, a value, or a comment.
 pub record IsOfRemark (reporting : Reporting) (t : Reported) : Type 0 where
   pub source : Source
   pub found : List Description

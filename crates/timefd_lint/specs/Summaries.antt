@@ -20,6 +20,9 @@ warnings n = noun n (codes "warning") (codes "warnings")
 abbrev pub calls : ℕ → Text
 calls n = noun n (codes "call") (codes "calls")
 
+abbrev pub values : ℕ → Text
+values n = noun n (codes "value of a key") (codes "values of keys")
+
 -- as `8 descriptions, 6 refused`
 abbrev pub refusals : Tally → Text
 refusals tally =
@@ -46,15 +49,26 @@ abbrev pub counted : Bool → Tally → ℕ → Text
 counted true tally file_count = with_warnings tally file_count
 counted false tally file_count = without_warnings tally file_count
 
--- as `.., 2 files; 3 calls with a name in position of a text`
+-- as `.., 2 files; 3 calls with a name in place of a text`
 abbrev pub with_calls : Text → ℕ → Text
 with_calls line unread =
     line ++ (codes "; " ++ (decimal unread ++ (codes " " ++ (calls unread
     ++ codes " with a name in place of a text"))))
 
 -- with the calls, if there are any
-abbrev pub with_unread : Text → ℕ → Text
-with_unread line unread = if nat_eq unread 0 then line else with_calls line unread
+abbrev pub with_unread_calls : Text → ℕ → Text
+with_unread_calls line unread = if nat_eq unread 0 then line else with_calls line unread
+
+-- as `.., 2 files; 2 values of keys not looked at`
+abbrev pub with_values : Text → ℕ → Text
+with_values line unread =
+    line ++ (codes "; " ++ (decimal unread ++ (codes " " ++ (values unread ++ codes " not looked at"))))
+
+-- with the values, if there are any
+abbrev pub with_unread_values : Text → ℕ → Text
+with_unread_values line unread = if nat_eq unread 0 then line else with_values line unread
 
 abbrev pub summary : Bool → Tally → ℕ → Text
-summary warns tally file_count = with_unread (counted warns tally file_count) tally.unread
+summary warns tally file_count =
+    with_unread_values (with_unread_calls (counted warns tally file_count) tally.unread_calls)
+    tally.unread_values

@@ -51,7 +51,9 @@ pub enum TextEnd {
     /// No text: a file can't be read or can't be written back. A note was written.
     Failed,
     /// No text: a call has a name instead of a literal, and no text is found for the name.
-    Unread,
+    UnreadCall,
+    /// No text: a value of a key isn't looked at.
+    UnreadValue,
 }
 
 /// Checks a line, without its newline, and writes what is wrong with it. An `Err` says why the run ends here.

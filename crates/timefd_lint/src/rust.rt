@@ -167,6 +167,7 @@ fn text_end(end: End) -> TextEnd
         End::Accepted(found) => TextEnd::Accepted(found),
         End::Refused => TextEnd::Refused,
         End::NotText => TextEnd::NotText,
-        End::Unread => TextEnd::Unread,
+        End::UnreadCall => TextEnd::UnreadCall,
+        End::UnreadValue => TextEnd::UnreadValue,
     }
 }

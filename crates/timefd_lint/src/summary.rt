@@ -6,9 +6,10 @@ ghost use Rattle.timefd_lint.specs.Summaries as spec;
 use crate::tally::Tally;
 use std::alloc::{AllocError, Global};
 
-/// The summary, as `8 descriptions, 6 refused, 1 warning, 2 files; 3 calls with a name in position of a text`.
-/// It counts the checked descriptions, those that were refused, the reported warnings (if warnings are on),
-/// the files, and the calls that weren't checked. An `Err` says that memory ran out.
+/// The summary, as `8 descriptions, 6 refused, 1 warning, 2 files; 3 calls with a name in place of a text; 2
+/// values of keys not looked at`. It counts the checked descriptions, those that were refused, the reported
+/// warnings (if warnings are on), the files, the calls that weren't checked, and the values of keys that
+/// weren't looked at. An `Err` says that memory ran out.
 pub fn summary(
     alloc: Global,
     warns: bool,
@@ -22,23 +23,49 @@ pub fn summary(
     } else {
         without_warnings(alloc, tally, file_count)?
     };
-    with_unread(alloc, counted, tally.unread)
+    let line = with_unread_calls(alloc, counted, tally.unread_calls)?;
+    with_unread_values(alloc, line, tally.unread_values)
 }
 
-fn with_unread(alloc: Global, counted: String, unread: u64) -> Result<String, AllocError>
-    ensures { IfOk result (λ line. string_bytes line ≡ spec.with_unread (string_bytes counted) unread) }
+fn with_unread_calls(alloc: Global, counted: String, calls: u64) -> Result<String, AllocError>
+    ensures { IfOk result (λ line. string_bytes line ≡ spec.with_unread_calls (string_bytes counted) calls) }
 {
-    if unread == 0 {
+    if calls == 0 {
         return Ok(counted);
     }
-    with_calls(alloc, &counted, unread)
+    with_calls(alloc, &counted, calls)
 }
 
-fn with_calls(alloc: Global, counted: &str, unread: u64) -> Result<String, AllocError>
-    ensures { IfOk result (λ line. string_bytes line ≡ spec.with_calls counted.now unread) }
+fn with_calls(alloc: Global, counted: &str, calls: u64) -> Result<String, AllocError>
+    ensures { IfOk result (λ line. string_bytes line ≡ spec.with_calls counted.now calls) }
 {
-    let noun = call_noun(unread);
-    format!(in alloc; "{counted}; {unread} {noun} with a name in place of a text")
+    let noun = call_noun(calls);
+    format!(in alloc; "{counted}; {calls} {noun} with a name in place of a text")
+}
+
+fn with_unread_values(alloc: Global, counted: String, values: u64) -> Result<String, AllocError>
+    ensures { IfOk result (λ line. string_bytes line ≡ spec.with_unread_values (string_bytes counted) values) }
+{
+    if values == 0 {
+        return Ok(counted);
+    }
+    with_values(alloc, &counted, values)
+}
+
+fn with_values(alloc: Global, counted: &str, values: u64) -> Result<String, AllocError>
+    ensures { IfOk result (λ line. string_bytes line ≡ spec.with_values counted.now values) }
+{
+    let noun = value_noun(values);
+    format!(in alloc; "{counted}; {values} {noun} not looked at")
+}
+
+fn value_noun(count: u64) -> &'static str
+    ensures { result.now ≡ spec.values count }
+{
+    match count {
+        1 => "value of a key",
+        _ => "values of keys",
+    }
 }
 
 fn call_noun(count: u64) -> &'static str

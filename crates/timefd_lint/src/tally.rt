@@ -16,7 +16,9 @@ pub struct Tally {
     /// How many other warnings were reported.
     pub warnings: u64,
     /// How many calls have a name instead of a text, and no text is found for it.
-    pub unread: u64,
+    pub unread_calls: u64,
+    /// How many values of keys aren't looked at.
+    pub unread_values: u64,
     /// A line wasn't UTF-8.
     pub not_text: bool,
     /// A file was not read to its end, or not written back.
@@ -34,7 +36,8 @@ impl Tally {
             descriptions: 0,
             refused: 0,
             warnings: 0,
-            unread: 0,
+            unread_calls: 0,
+            unread_values: 0,
             not_text: false,
             failed: false,
             is_left: false,
@@ -49,7 +52,8 @@ impl Tally {
             descriptions: u64::from(is_description(end)),
             refused: u64::from(is_refused(end)),
             warnings: warnings_in(end),
-            unread: u64::from(is_unread(end)),
+            unread_calls: u64::from(is_unread_call(end)),
+            unread_values: u64::from(is_unread_value(end)),
             not_text: matches!(end, TextEnd::NotText),
             failed: matches!(end, TextEnd::Failed),
             is_left: false,
@@ -64,7 +68,8 @@ impl Tally {
             descriptions: self.descriptions.saturating_add(other.descriptions),
             refused: self.refused.saturating_add(other.refused),
             warnings: self.warnings.saturating_add(other.warnings),
-            unread: self.unread.saturating_add(other.unread),
+            unread_calls: self.unread_calls.saturating_add(other.unread_calls),
+            unread_values: self.unread_values.saturating_add(other.unread_values),
             not_text: self.not_text || other.not_text,
             failed: self.failed || other.failed,
             is_left: self.is_left || other.is_left,
@@ -95,21 +100,37 @@ fn is_description(end: TextEnd) -> bool
 {
     match end {
         TextEnd::Accepted(_) | TextEnd::Refused | TextEnd::NotText => true,
-        TextEnd::PassedOver | TextEnd::Failed | TextEnd::Unread => false,
+        TextEnd::PassedOver | TextEnd::Failed | TextEnd::UnreadCall | TextEnd::UnreadValue => false,
     }
 }
 
 // Whether it is a name instead of a text, and no text is found for it.
-fn is_unread(end: TextEnd) -> bool
-    ensures { result ≡ spec.is_unread end }
+fn is_unread_call(end: TextEnd) -> bool
+    ensures { result ≡ spec.is_unread_call end }
 {
     match end {
-        TextEnd::Unread => true,
+        TextEnd::UnreadCall => true,
         TextEnd::PassedOver
         | TextEnd::Accepted(_)
         | TextEnd::Refused
         | TextEnd::NotText
-        | TextEnd::Failed => false,
+        | TextEnd::Failed
+        | TextEnd::UnreadValue => false,
+    }
+}
+
+// Whether it is a value of a key that isn't looked at.
+fn is_unread_value(end: TextEnd) -> bool
+    ensures { result ≡ spec.is_unread_value end }
+{
+    match end {
+        TextEnd::UnreadValue => true,
+        TextEnd::PassedOver
+        | TextEnd::Accepted(_)
+        | TextEnd::Refused
+        | TextEnd::NotText
+        | TextEnd::Failed
+        | TextEnd::UnreadCall => false,
     }
 }
 
@@ -120,7 +141,11 @@ fn is_refused(end: TextEnd) -> bool
     match end {
         TextEnd::Accepted(found) => found.count(Level::Denied) > 0,
         TextEnd::Refused => true,
-        TextEnd::PassedOver | TextEnd::NotText | TextEnd::Failed | TextEnd::Unread => false,
+        TextEnd::PassedOver
+        | TextEnd::NotText
+        | TextEnd::Failed
+        | TextEnd::UnreadCall
+        | TextEnd::UnreadValue => false,
     }
 }
 
@@ -134,6 +159,7 @@ fn warnings_in(end: TextEnd) -> u64
         | TextEnd::Refused
         | TextEnd::NotText
         | TextEnd::Failed
-        | TextEnd::Unread => 0,
+        | TextEnd::UnreadCall
+        | TextEnd::UnreadValue => 0,
     }
 }

@@ -24,5 +24,5 @@ pub all_by_rust : (s : Source) (ds : List Description) → s.finder ≡ Rust →
 all_by_rust s ds is all = subst (λ f. AreAllBy f s.text.now ds) (sym is) all
 
 pub all_by_keys : (s : Source) (format : Format) (keys : Bor (List Key)) (ds : List Description)
-    → s.finder ≡ Keys format keys → AreAllOf s ds
-all_by_keys s format keys ds is = subst (λ f. AreAllBy f s.text.now ds) (sym is) tt
+    → s.finder ≡ Keys format keys → keyed.AreAllValues format s.text.now keys.now ds → AreAllOf s ds
+all_by_keys s format keys ds is all = subst (λ f. AreAllBy f s.text.now ds) (sym is) all

@@ -17,7 +17,7 @@ use Rattle.timefd_lint_sources.specs.declared.reported.Finder.TheVariants.{Rust,
 use Rattle.timefd_lint_sources.specs.declared.reported.Source.{Source}
 use Rattle.timefd_lint_sources.specs.declared.reported.Reporting.{Reporting}
 use Rattle.timefd_lint_sources.specs.Items.{AreJudgedAs}
-use Rattle.timefd_lint_sources.specs.Remarks.{AreRemarksBy, AreSeenIn, ends_of, messages_of, remarks_on}
+use Rattle.timefd_lint_sources.specs.Remarks.{AreRemarksBy, AreSeenIn, AreValuesSeen, ends_of, messages_of, on_values, remarks_on}
 use Rattle.timefd_lint_sources.specs.Reported.{AreAllBy, AreSeen, AreReported, IsFoundBy, IsSourceReported}
 use Rattle.timefd_lint_sources.proofs.FinderLemmas.{all_by_keys, all_by_rust, by_keys, by_rust}
 
@@ -31,6 +31,12 @@ of_look source look calls comments remarks is calls_are comments_are remarked = 
   remarked = remarked ∙ (ap (λ l. remarks_on l comments) calls_are ∙ ap (remarks_on look.calls.items) comments_are);
 }
 
+pub of_values : (format : Format) (source : Text) (names : List Key) (ds : List Description)
+    (unread positions : List ℕ) (remarks : List Remark) → keyed.AreValues format source names ds unread
+    → positions ≡ unread → remarks ≡ on_values positions → AreValuesSeen format source names ds remarks
+of_values format source names ds unread positions remarks values same remarked =
+    record { unread = unread; values = values; remarked = remarked ∙ ap on_values same }
+
 pub of_rust : (s : Source) (source : Text) (ds : List Description) (remarks : List Remark) → s.finder ≡ Rust
     → source ≡ s.text.now → AreSeenIn source ds remarks → AreSeen s ds remarks
 of_rust s source ds remarks is same seen =
@@ -43,13 +49,13 @@ of_rust s source ds remarks is same seen =
     }
 
 pub of_keys : (s : Source) (format : Format) (keys : Bor (List Key)) (ds : List Description) (remarks : List Remark)
-    → s.finder ≡ Keys format keys → keyed.AllValues format s.text.now keys.now ds → AreInOrder 0 ds
-    → remarks ≡ [] → AreSeen s ds remarks
-of_keys s format keys ds remarks is values in_order none = record {
-  all = all_by_keys s format keys ds is;
+    → s.finder ≡ Keys format keys → AreValuesSeen format s.text.now keys.now ds remarks
+    → keyed.AllValues format s.text.now keys.now ds → AreInOrder 0 ds → AreSeen s ds remarks
+of_keys s format keys ds remarks is seen values in_order = record {
+  all = all_by_keys s format keys ds is (seen.unread, seen.values);
   stand = by_keys s format keys ds is values;
   in_order = in_order;
-  remarked = subst (λ f. AreRemarksBy f s.text.now ds remarks) (sym is) none;
+  remarked = subst (λ f. AreRemarksBy f s.text.now ds remarks) (sym is) seen;
 }
 
 pub source_reported : (reporting : Reporting) (s : Source) (found judged : List Description) (remarks : List Remark)

@@ -20,7 +20,7 @@ use Rattle.timefd_warnings.specs.declared.levels.Levels.{Levels}
 use Rattle.timefd_lint_warnings.specs.Found.{found_by}
 use Rattle.timefd_lint_sources.specs.declared.reported.End.{End}
 use Rattle.timefd_lint_sources.specs.Items.{is_of_item}
-use Rattle.timefd_lint_sources.specs.declared.reported.End.TheVariants.{PassedOver, Accepted, Refused, NotText, Unread}
+use Rattle.timefd_lint_sources.specs.declared.reported.End.TheVariants.{PassedOver, Accepted, Refused, NotText, UnreadCall, UnreadValue}
 
 abbrev pub language_of : Dialect → Language
 language_of One = languages.Version versions.One
@@ -70,7 +70,8 @@ IsJudged levels language text (Accepted found) = IsUtf8 text
 IsJudged levels language text Refused = IsUtf8 text
     × ((f : Fault) × FaultIn language nesting_limit text f)
 IsJudged levels language text NotText = ¬ IsUtf8 text
-IsJudged levels language text Unread = ⊥
+IsJudged levels language text UnreadCall = ⊥
+IsJudged levels language text UnreadValue = ⊥
 
 -- The outcome of a description: it is passed over, or else judged by its text.
 abbrev pub IsEndOf : Option Levels → Description → End → Type 0
@@ -81,4 +82,5 @@ IsEndOf levels d Refused = IsFalse (is_passed_over d.dialect (text_of d))
     × IsJudged levels (language_in d) (text_of d) Refused
 IsEndOf levels d NotText = IsFalse (is_passed_over d.dialect (text_of d))
     × IsJudged levels (language_in d) (text_of d) NotText
-IsEndOf levels d Unread = ⊥
+IsEndOf levels d UnreadCall = ⊥
+IsEndOf levels d UnreadValue = ⊥

@@ -1,6 +1,6 @@
 -- What the linter reports about the descriptions of a source.
 use Rattle.std.specs.List.{All}
-use Rattle.std.specs.Prelude.{ℕ, ◌≡◌, List, [], ◌∷◌, ◌++◌, codes, map, ⊤}
+use Rattle.std.specs.Prelude.{ℕ, ◌≡◌, List, [], ◌∷◌, ◌++◌, codes, map}
 use Rattle.timefd_component.specs.Tree.{Text}
 use Rattle.timefd_diagnosis.specs.declared.diagnostic.Diagnostic.{Diagnostic}
 use Rattle.timefd_drawing.specs.declared.draw.Style.{Style}
@@ -16,7 +16,7 @@ use Rattle.timefd_lint_warnings.specs.Messages.{messages_at}
 use Rattle.timefd_lint_sources.specs.declared.remark.Remark.{Remark}
 use Rattle.timefd_lint_sources.specs.declared.source.Report.{Report}
 use Rattle.timefd_lint_sources.specs.declared.reported.End.{End}
-use Rattle.timefd_lint_sources.specs.declared.reported.End.TheVariants.{PassedOver, Accepted, Refused, NotText, Unread}
+use Rattle.timefd_lint_sources.specs.declared.reported.End.TheVariants.{PassedOver, Accepted, Refused, NotText, UnreadCall, UnreadValue}
 use Rattle.timefd_lint_sources.specs.declared.reported.Finder.{Finder}
 use Rattle.timefd_lint_sources.specs.declared.reported.Finder.TheVariants.{Rust, Keys}
 use Rattle.timefd_lint_sources.specs.declared.reported.Source.{Source}
@@ -80,7 +80,8 @@ IsMessageOn reporting s d PassedOver message = message ≡ []
 IsMessageOn reporting s d (Accepted found) message = IsTreeAndWarnings reporting s d found message
 IsMessageOn reporting s d Refused message = IsDrawing reporting.style s d message
 IsMessageOn reporting s d NotText message = message ≡ note_of reporting.style s d
-IsMessageOn reporting s d Unread message = ⊥
+IsMessageOn reporting s d UnreadCall message = ⊥
+IsMessageOn reporting s d UnreadValue message = ⊥
 
 pub record IsReported (reporting : Reporting) (s : Source) (d : Description) (came : End) (said : Text)
     : Type 0 where
@@ -111,10 +112,10 @@ IsFound s d = IsFoundBy s.finder s.text.now d
 abbrev pub AllFound : Source → List Description → Type 0
 AllFound s ds = All (IsFound s) ds
 
--- In a Rust source they are all that it has. No clause says that all values of keys are found.
+-- They are all that a Rust source has, or all values of its keys that are looked at.
 abbrev pub AreAllBy : Finder → Text → List Description → Type 0
 AreAllBy Rust source ds = AreDescriptionsOf source ds
-AreAllBy (Keys format names) source ds = ⊤
+AreAllBy (Keys format names) source ds = keys.AreAllValues format source names.now ds
 
 abbrev pub AreAllOf : Source → List Description → Type 0
 AreAllOf s ds = AreAllBy s.finder s.text.now ds

@@ -13,6 +13,8 @@ use timefd_drawing::{Origin, Position, Style, note, position_of};
 pub enum Remark {
     /// A call takes the name at this byte index, and no text is found for it.
     Call(usize),
+    /// The value of a key at this byte index isn't looked at.
+    Value(usize),
     /// The comment at this byte index should name a language, but doesn't.
     Language(usize),
 }
@@ -28,7 +30,8 @@ pub fn end_of(remark: Remark) -> End
     ensures { result ≡ spec.end_of remark }
 {
     match remark {
-        Remark::Call(_) => End::Unread,
+        Remark::Call(_) => End::UnreadCall,
+        Remark::Value(_) => End::UnreadValue,
         Remark::Language(_) => End::Refused,
     }
 }
@@ -42,7 +45,7 @@ fn message_of(
     ensures { IfOk result (λ message. message.items ≡ spec.message_of style source.entry remark) }
 {
     match remark {
-        Remark::Call(_) => Ok(Vec::new(alloc)),
+        Remark::Call(_) | Remark::Value(_) => Ok(Vec::new(alloc)),
         Remark::Language(at) => language_note(alloc, style, source, at),
     }
 }
@@ -117,6 +120,26 @@ pub fn remarks_on(
     push_calls(&mut remarks, calls)?;
     push_comments(&mut remarks, comments)?;
     Ok(remarks)
+}
+
+/// The remarks on these values of keys, which aren't looked at. An `Err` says that memory ran out.
+pub fn remarks_on_values(alloc: Global, values: &[usize]) -> Result<Vec<Remark>, AllocError>
+    ensures { IfOk result (λ remarks. remarks.items ≡ spec.on_values values.now) }
+{
+    let mut remarks = Vec::new(alloc);
+    push_values(&mut remarks, values)?;
+    Ok(remarks)
+}
+
+fn push_values(remarks: &mut Vec<Remark>, values: &[usize]) -> Result<(), AllocError>
+    ensures { OnOk result (remarks.new.items ≡ remarks.old.items ++ spec.on_values values.now) }
+{
+    let mut rest = values;
+    'values: while let [value, after @ ..] = rest {
+        remarks.push(Remark::Value(*value))?;
+        rest = after;
+    }
+    Ok(())
 }
 
 fn push_calls(remarks: &mut Vec<Remark>, calls: &[usize]) -> Result<(), AllocError>

@@ -64,7 +64,9 @@ pub enum End {
     /// It isn't UTF-8.
     NotText,
     /// A call takes a name instead of a literal, and no text is found for the name.
-    Unread,
+    UnreadCall,
+    /// A value of a key isn't looked at.
+    UnreadValue,
 }
 
 /// What the linter reports about a description.

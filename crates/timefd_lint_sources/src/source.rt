@@ -2,17 +2,18 @@
 
 ghost use Rattle.std.specs.Prelude.{IfOk, OnOk};
 ghost use Rattle.timefd_drawing.specs.Counted.{IsCounted};
-ghost use Rattle.timefd_lint_sources.specs.Remarks.{AreSeenIn};
+ghost use Rattle.timefd_keys.specs.Found.{AllValues};
+ghost use Rattle.timefd_lint_sources.specs.Remarks.{AreSeenIn, AreValuesSeen};
 ghost use Rattle.timefd_lint_sources.specs.Reported.{AddsReported, AreSeen, AllFound, AreAllOf, AreJudgedIn, AreReported, IsSourceReported};
 ghost use Rattle.timefd_sources.specs.Found.{AreInOrder};
 
 use crate::judged::judged_all;
 use crate::position::FIRST_LINE;
-use crate::remark::{Remark, push_remarks, remarks_on};
+use crate::remark::{Remark, push_remarks, remarks_on, remarks_on_values};
 use crate::reported::{End, Finder, Reported, Reporting, Source, report};
 use std::alloc::{AllocError, Global};
 use timefd_drawing::{Counter, counted, none_counted};
-use timefd_keys::descriptions_by;
+use timefd_keys::{Format, Key, Values, descriptions_by, values_by};
 use timefd_sources::{Description, Look, descriptions_of, looked_at};
 
 /// What the linter reports about the descriptions of a source.
@@ -68,10 +69,7 @@ fn seen_in(alloc: Global, source: Source<'_>) -> Result<Seen, AllocError>
 {
     match source.finder {
         Finder::Rust => Ok(seen_in_rust(alloc, source.text)?),
-        Finder::Keys(format, keys) => Ok(Seen {
-            descriptions: descriptions_by(alloc, format, source.text, keys)?,
-            remarks: Vec::new(alloc),
-        }),
+        Finder::Keys(format, keys) => Ok(seen_by_keys(alloc, format, source.text, keys)?),
     }
 }
 
@@ -84,6 +82,28 @@ fn seen_in_rust(alloc: Global, source: &str) -> Result<Seen, AllocError>
         comments,
     } = looked_at(alloc, source)?;
     let remarks = remarks_on(alloc, &calls, &comments)?;
+    Ok(Seen {
+        descriptions,
+        remarks,
+    })
+}
+
+fn seen_by_keys(
+    alloc: Global,
+    format: Format,
+    source: &str,
+    keys: &[Key<'_>],
+) -> Result<Seen, AllocError>
+    ensures seen { IfOk result (λ seen. AreValuesSeen format source.now keys.now seen.descriptions.items
+        seen.remarks.items) }
+    ensures stand { IfOk result (λ seen. AllValues format source.now keys.now seen.descriptions.items) }
+    ensures in_order { IfOk result (λ seen. AreInOrder 0 seen.descriptions.items) }
+{
+    let Values {
+        descriptions,
+        unread,
+    } = values_by(alloc, format, source, keys)?;
+    let remarks = remarks_on_values(alloc, &unread)?;
     Ok(Seen {
         descriptions,
         remarks,
