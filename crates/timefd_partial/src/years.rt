@@ -13,7 +13,12 @@ pub(crate) fn first_year(fields: &Fields) -> u32
     ensures value { result ≡ spec.first_year fields.now }
     ensures within { result ≤ 2000000 }
 {
-    match (fields.year, fields.century, fields.iso_year, fields.iso_century) {
+    match (
+        fields.year,
+        fields.century,
+        fields.iso_year,
+        fields.iso_century,
+    ) {
         (Some(year), _, _, _) => before_those_of(year, 1),
         (None, Some(century), _, _) => before_those_of(century, 100),
         (None, None, Some(year), _) => before_those_of(year, 1),
