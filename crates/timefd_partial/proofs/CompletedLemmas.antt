@@ -2,7 +2,7 @@
 use Rattle.std.proofs.Common.{◌≡◌, Some, Ok, Err, refl, subst}
 use Rattle.timefd_moment.specs.declared.date.Date.{Date}
 use Rattle.timefd_moment.specs.declared.moment.Moment.{Moment}
-use Rattle.timefd_partial.specs.declared.completed.PartialError.TheVariants as fails
+use Rattle.timefd_partial.specs.declared.moments.PartialError.TheVariants as fails
 use Rattle.timefd_partial.specs.Completed.{IsCompleted}
 use Rattle.timefd_partial.specs.Filled.{clock_fields}
 use Rattle.timefd_read_dates.specs.declared.fields.Fields.{Fields}

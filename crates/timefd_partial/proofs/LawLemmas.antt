@@ -1,5 +1,5 @@
 -- A description whose parts are given shows the same of all dates that agree with what was read.
-use Rattle.std.proofs.Common.{ℕ, ◌≡◌, ◌∙◌, ◌+◌, ◌-◌, ◌%◌, ◌≤◌, ◌==◌, ◌&&◌, ◌||◌, Bool, true, false, nat_le, nat_lt, List, [], ◌∷◌, Option, Some, None, Ok, if◌then◌else◌, refl, sym, ap, arith}
+use Rattle.std.proofs.Common.{ℕ, ◌≡◌, ◌∙◌, ◌+◌, ◌-◌, ◌%◌, ◌≤◌, ◌==◌, ◌||◌, Bool, true, false, nat_le, nat_lt, List, [], ◌∷◌, Option, Some, None, Ok, if◌then◌else◌, refl, sym, ap, arith}
 use Rattle.std.specs.Prelude.{is_some}
 use Rattle.std.proofs.lemmas.Bool.{eqb-true}
 use Rattle.timefd_component.specs.declared.component.Component.{Component}
@@ -7,7 +7,7 @@ use Rattle.timefd_component.specs.declared.component.Component.TheVariants as sh
 use Rattle.timefd_component.specs.Modern.{modern}
 use Rattle.timefd_component.specs.Tree.{Tree, component, literal, compound, optional, first, trees}
 use Rattle.timefd_format.specs.declared.field.Field.TheVariants as fields
-use Rattle.timefd_format.specs.Fields.{field, from_one, last_two, plain, year}
+use Rattle.timefd_format.specs.Fields.{field, from_one, plain, year}
 use Rattle.timefd_format.specs.Written.{followed, text_of, written, written_all}
 use Rattle.timefd_format.proofs.LeafLemmas.{by_leaves}
 use Rattle.timefd_modifier.specs.declared.enums.Padding.{Padding}
@@ -25,7 +25,7 @@ use Rattle.timefd_read_dates.specs.declared.fields.Signed.{Signed}
 use Rattle.timefd_read_dates.specs.Readings.{same}
 use Rattle.timefd_read_moment.specs.declared.part.DatePart.{DatePart}
 use Rattle.timefd_read_moment.specs.Shown.{DateAgrees, is_century, is_count, is_last_two, is_year}
-use Rattle.timefd_read_moment.proofs.YearLemmas.{Known, both, years_known}
+use Rattle.timefd_read_moment.proofs.YearLemmas.{both, years_known}
 
 same_count : (o : Option ℕ) (m n : ℕ) → is_some o ≡ true → is_count o m ≡ true → is_count o n ≡ true → m ≡ n
 same_count None m n g a b = absurd cc

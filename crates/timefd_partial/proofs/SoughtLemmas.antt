@@ -16,7 +16,6 @@ use Rattle.timefd_read_moment.specs.declared.error.ValueError.TheVariants as err
 use Rattle.timefd_read_moment.specs.declared.part.DatePart.{DatePart}
 use Rattle.timefd_read_moment.specs.declared.part.Part.{Part}
 use Rattle.timefd_read_moment.specs.declared.part.Part.TheVariants as part
-use Rattle.timefd_read_moment.specs.declared.way.DateWay.{DateWay}
 use Rattle.timefd_read_moment.specs.Dates.{IsDateByParts, IsMissing}
 use Rattle.timefd_read_moment.specs.Shown.{DateAgrees, is_count, is_year}
 use Rattle.timefd_read_moment.specs.Times.{number}
@@ -96,7 +95,7 @@ more f y m n d h i j a DatePart.IsoYear = a DatePart.IsoYear
 
 -- with a year, a month and a day nothing is missing
 whole : (year : Option Signed) (s : Signed) (century : Option Signed) (two month day : Option ℕ) (m n : ℕ)
-    (q : DatePart) (rest : Option DateWay) (p : DatePart)
+    (q : DatePart) (rest : _) (p : DatePart)
     → unless q (or_else (calendar (years_read (read_or year s) century two) (read_or month m) (read_or day n)) rest)
     ≡ Err p → ⊥
 whole None s century two None None m n q rest p e = absurd cc
@@ -152,10 +151,10 @@ on_day_read f y m n (Some d) e s = s
 on_day_read f y m n None e s = λ d is a. s d (is.0, is.1, read_is f.day n d.day e (a DatePart.Day)) a
 
 pub misfit : (f : Fields) (y : ℕ) → fits f y ≡ false → NoneAgrees (λ d. d.years ≡ y) f
-misfit f y no d is a =
+misfit f y other d is a =
     let fit : fits f d.years ≡ true =
     all_of _ _ (a DatePart.Year) (all_of _ _ (a DatePart.Century) (a DatePart.YearLastTwo)) in
-    clash (fits f y) no (subst (λ (n : ℕ). fits f n ≡ true) is fit)
+    clash (fits f y) other (subst (λ (n : ℕ). fits f n ≡ true) is fit)
 
 -- One more number: no date below it agrees, and none that has it.
 next : (number : Date → ℕ) (Is At : Date → Type 0) (f : Fields) (n k : ℕ) → k ≡ n + 1

@@ -2,8 +2,8 @@
 use Rattle.std.specs.Prelude.{◌≡◌, Some, Result, Ok, Err}
 use Rattle.timefd_moment.specs.declared.date.Date.{Date}
 use Rattle.timefd_moment.specs.declared.moment.Moment.{Moment}
-use Rattle.timefd_partial.specs.declared.completed.PartialError.{PartialError}
-use Rattle.timefd_partial.specs.declared.completed.PartialError.TheVariants as fails
+use Rattle.timefd_partial.specs.declared.moments.PartialError.{PartialError}
+use Rattle.timefd_partial.specs.declared.moments.PartialError.TheVariants as fails
 use Rattle.timefd_partial.specs.Filled.{clock_fields}
 use Rattle.timefd_partial.specs.Sought.{NoneAgrees}
 use Rattle.timefd_partial.specs.Years.{IsOfYears, first_year}

@@ -1,5 +1,5 @@
 -- A date that agrees with what was read.
-use Rattle.std.specs.Prelude.{ℕ, ◌<◌, Option, Some, None, ⊥}
+use Rattle.std.specs.Prelude.{ℕ, ◌<◌, Option, Some, None}
 use Rattle.timefd_moment.specs.declared.date.Date.{Date}
 use Rattle.timefd_read_dates.specs.declared.fields.Fields.{Fields}
 use Rattle.timefd_read_moment.specs.Shown.{DateAgrees}

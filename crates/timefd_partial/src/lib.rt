@@ -2,14 +2,14 @@
 //! agrees with all of them.
 #![tactic(auto)]
 
-mod completed;
 mod component;
 mod fields;
 mod given;
 pub mod laws;
+mod moments;
 mod sought;
 mod years;
 
-pub use completed::{PartialError, completed};
 pub use given::are_given;
+pub use moments::{PartialError, completed};
 pub use sought::agreeing_date;

@@ -36,7 +36,6 @@ fn date_from(fields: &Fields, first: u32) -> Option<Date>
     None
 }
 
-#[tactic(auto, using(crate::proofs::SoughtLemmas::misfit, crate::proofs::SoughtLemmas::in_month_read))]
 fn date_in_year(fields: &Fields, years: u32) -> Option<Date>
     ensures { IsSought (λ d. d.years ≡ years) fields.now result }
 {
@@ -63,7 +62,6 @@ fn date_in_any_month(fields: &Fields, years: u32) -> Option<Date>
     None
 }
 
-#[tactic(auto, using(crate::proofs::SoughtLemmas::on_day_read))]
 fn date_in_month(fields: &Fields, years: u32, month: u16) -> Option<Date>
     ensures { IsSought (λ d. (d.years ≡ years) × (d.month ≡ month)) fields.now result }
 {
@@ -88,7 +86,7 @@ fn date_on_any_day(fields: &Fields, years: u32, month: u16) -> Option<Date>
 }
 
 /// The date of the year, the month and the day: of those that were read, and otherwise of these.
-#[tactic(auto, using(crate::proofs::SoughtLemmas::on_day, crate::proofs::SoughtLemmas::no_day))]
+#[tactic(auto, using(crate::proofs::SoughtLemmas::on_day))]
 fn date_on_day(fields: &Fields, years: u32, month: u16, day: u16) -> Option<Date>
     ensures { IsSought (λ d. (d.years ≡ years) × (d.month ≡ month) × (d.day ≡ day)) fields.now
         result }

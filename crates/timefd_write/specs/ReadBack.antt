@@ -10,8 +10,8 @@ use Rattle.timefd_node_list.specs.declared.leaves.Leaf.{Leaf}
 use Rattle.timefd_node_list.specs.LeafMeaning.{leaf_tree}
 use Rattle.timefd_parse.specs.declared.parsing.BorrowedOutput.{BorrowedOutput}
 use Rattle.timefd_parse.specs.declared.parsing.BorrowedOutput.TheVariants.{Items, Description}
-use Rattle.timefd_partial.specs.declared.completed.PartialError.{PartialError}
-use Rattle.timefd_partial.specs.declared.completed.PartialError.TheVariants as partial
+use Rattle.timefd_partial.specs.declared.moments.PartialError.{PartialError}
+use Rattle.timefd_partial.specs.declared.moments.PartialError.TheVariants as partial
 use Rattle.timefd_partial.specs.Completed.{IsCompleted}
 use Rattle.timefd_partial.specs.Given.{are_given}
 use Rattle.timefd_read_dates.specs.declared.fault.ReadError.{ReadError}

@@ -58,7 +58,6 @@ pub fn moment_read(
 // The moment of a text with two-digit numbers and a four-digit year only, which is the fast case. `None` says
 // nothing about the text.
 #[inline(never)]
-#[tactic(auto, using(crate::proofs::ReadBackLemmas::by_numbers))]
 fn moment_shown(
     description: &BorrowedOutput<'_>,
     leaves: Option<&[Leaf<'_>]>,

@@ -32,7 +32,7 @@ pub fn completed(fields: &Fields) -> Result<Moment, PartialError>
     }
 }
 
-#[tactic(auto, using(crate::proofs::CompletedLemmas::with_date, crate::proofs::CompletedLemmas::no_rest))]
+#[tactic(auto, using(crate::proofs::CompletedLemmas::no_rest))]
 fn completed_with(fields: &Fields, date: Date) -> Result<Moment, PartialError>
     requires { DateAgrees fields.now date }
     ensures { IsCompleted fields.now result }
