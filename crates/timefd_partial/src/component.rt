@@ -6,8 +6,8 @@ ghost use Rattle.timefd_partial.specs.Given as spec;
 use timefd_component::Component;
 use timefd_read_dates::Fields;
 
-/// Whether a modern component shows the same of each date that has what was read. A timestamp doesn't: it
-/// shows all of a date. What shows no part of a date does.
+/// Whether a modern component shows the same of each date that has what was read. A timestamp never does, since
+/// it shows all of a date; a component that shows no part of a date always does.
 pub(crate) fn is_given(fields: &Fields, component: Component) -> bool
     ensures { result ≡ spec.is_given fields.now component }
 {

@@ -18,9 +18,10 @@ pub enum PartialError {
     Value(ValueError),
 }
 
-/// A moment whose date agrees with all that was read of one, though that doesn't determine a date. Of which of
-/// several dates is not said: [`are_given`](crate::are_given) says of which descriptions all show the same.
-/// The time of day and the offset are those that were read, and `None` if none was.
+/// A moment whose date agrees with all that was read of a date, even if that doesn't determine one. Where several
+/// dates agree, it may be any of them: use it only for descriptions whose components [`are_given`](crate::are_given),
+/// since these show the same of each. The time of day and the offset are those that were read, and `None` if none
+/// was.
 ///
 /// An `Err` says that no date agrees, or why there is no such time of day or offset.
 pub fn completed(fields: &Fields) -> Result<Moment, PartialError>
