@@ -1,4 +1,4 @@
-//! Texts that give part of a date, where the description to write by shows no more.
+//! Texts that give part of a date, for descriptions that show no other part.
 
 ghost use Rattle.std.specs.Prelude.{◌≡◌};
 ghost use Rattle.timefd_write.specs.ReadBack as spec;
@@ -12,8 +12,8 @@ use timefd_partial::{PartialError, are_given, completed};
 use timefd_read_dates::Fields;
 use timefd_read_moment::{Part, ValueError};
 
-/// A moment that agrees with what was read, if the description to write by shows no other part of a date. This
-/// part was missing of the whole.
+/// A moment that agrees with what was read, if the description to write by shows no other part of a date.
+/// Otherwise an `Err` says that this part was not read; it is the first that a whole date lacks.
 pub fn partial_moment(
     fields: &Fields,
     part: Part,
