@@ -4,6 +4,7 @@ use Rattle.jiff_core.specs.declared.error.Error.{Error}
 use Rattle.jiff_core.specs.declared.error.Error.TheVariants.{OutOfMemory, TimeZoneNotFound}
 use Rattle.jiff_fmt.specs.Temporal.{PiecesParts}
 use Rattle.jiff_tz.specs.declared.db.TimeZoneDatabase.{TimeZoneDatabase}
+use Rattle.jiff_tz.specs.declared.timezone.TimeZone.{TimeZone}
 use Rattle.jiff_tz.specs.Database.{IsNoZone, stored}
 use Rattle.timefd_component.specs.Tree.{Text}
 use Rattle.timefd_jiff.specs.declared.annotated.Annotated.{Annotated}
@@ -13,7 +14,7 @@ use Rattle.timefd_write.specs.declared.moment.MomentError.{MomentError}
 use Rattle.timefd_write.specs.declared.moment.MomentError.TheVariants as fails
 use Rattle.timefd_write.specs.declared.source.Source.{Source}
 use Rattle.timefd_write.specs.Moments.{IsChecked, IsOfText}
-use Rattle.timefd_write.specs.Sources.{IsFoundIn, IsMomentIn}
+use Rattle.timefd_write.specs.Sources.{IsFoundIn, IsOnClockIn}
 use Rattle.timefd_write.specs.Zones.{IsShownBy}
 
 pub written_ok : (x : Result PiecesParts Error) (zones : TimeZoneDatabase) (word : Text) (a : Annotated)
@@ -31,6 +32,6 @@ pub not_stored : (zones : TimeZoneDatabase) (name : Text) (e : Error) → IsNoZo
 not_stored zones name e (inl memory) is = absurd cc
 not_stored zones name e (inr none) is = none.1
 
-pub shown_in : (source : Source) (word : Text) (found r : Result Moment MomentError) → IsFoundIn source word found
-    → IsShownBy source.zone found r → IsMomentIn source word r
-shown_in source word found r is shown = (found, is, shown)
+pub shown_on_clock : (source : Source) (zone : TimeZone) (word : Text) (found r : Result Moment MomentError)
+    → IsFoundIn source None word found → IsShownBy (Some zone) found r → IsOnClockIn source zone word r
+shown_on_clock source zone word found r is shown = (found, is, shown)

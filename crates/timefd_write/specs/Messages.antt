@@ -85,6 +85,8 @@ IsUnreadMessage source line word (fails.Text e) message = ⊤
 IsUnreadMessage source line word (fails.Unread u) message =
     (why : Text) × IsStopSentence source word u why × (message ≡ not_read line word why)
 IsUnreadMessage source line word (fails.Value v) message = message ≡ not_read line word (sentence v)
+IsUnreadMessage source line word fails.NoDate message =
+    message ≡ not_read line word (codes "no date agrees with all that was read")
 
 -- the message for a record without the column
 abbrev pub no_field_message : ℕ → Text

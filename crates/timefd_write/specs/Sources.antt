@@ -1,12 +1,14 @@
 -- What the words of a run are, and the moments that they name or show.
 use Rattle.std.specs.Prelude.{◌≡◌, List, Option, Some, None, Result, ⊤}
 use denote.Ref.{Bor}
+use Rattle.jiff_tz.specs.declared.timezone.TimeZone.{TimeZone}
 use Rattle.timefd_component.specs.Tree.{Text}
 use Rattle.timefd_fault.specs.Faults.{Fault}
 use Rattle.timefd_language.specs.Grammar.{nesting_limit}
 use Rattle.timefd_moment.specs.declared.moment.Moment.{Moment}
 use Rattle.timefd_node_list.specs.declared.leaves.Leaf.{Leaf}
 use Rattle.timefd_parse.specs.declared.language.Language.{Language}
+use Rattle.timefd_parse.specs.declared.parsing.BorrowedOutput.{BorrowedOutput}
 use Rattle.timefd_parse.specs.Language.{FaultIn}
 use Rattle.timefd_write.specs.declared.moment.MomentError.{MomentError}
 use Rattle.timefd_write.specs.declared.names.Names.{Names}
@@ -36,18 +38,26 @@ IsSourceOf clocks language (Some text) None = IsFaulty language text.now
 IsSourceOf clocks language text (Some source) =
     IsKindOf clocks.names language text source.kind × (source.zone ≡ clocks.zone)
 
-abbrev pub IsFoundBy : SourceKind → Text → Result Moment MomentError → Type 0
-IsFoundBy (kinds.Names n) word r = IsNamed n word r
-IsFoundBy (kinds.Texts o) word r = IsReadBack o word r
+abbrev pub IsFoundBy : SourceKind → Option BorrowedOutput → Text → Result Moment MomentError → Type 0
+IsFoundBy (kinds.Names n) written word r = IsNamed n word r
+IsFoundBy (kinds.Texts o) written word r = IsReadBack o written word r
 
--- what a word names, or shows by the description
-abbrev pub IsFoundIn : Source → Text → Result Moment MomentError → Type 0
-IsFoundIn source word r = IsFoundBy source.kind word r
+-- What a word names, or shows by the description. It may be written by the other description, if there is one.
+abbrev pub IsFoundIn : Source → Option BorrowedOutput → Text → Result Moment MomentError → Type 0
+IsFoundIn source written word r = IsFoundBy source.kind written word r
 
--- The moment of a word, shown on the clock of the zone if there is one.
-abbrev pub IsMomentIn : Source → Text → Result Moment MomentError → Type 0
-IsMomentIn source word r =
-    (found : Result Moment MomentError) × IsFoundIn source word found × IsShownBy source.zone found r
+-- The moment of a word, as the clock of a zone shows it. Part of a date isn't enough for that.
+abbrev pub IsOnClockIn : Source → TimeZone → Text → Result Moment MomentError → Type 0
+IsOnClockIn source zone word r =
+    (found : Result Moment MomentError) × IsFoundIn source None word found × IsShownBy (Some zone) found r
+
+abbrev pub IsMomentBy : Option TimeZone → Source → BorrowedOutput → Text → Result Moment MomentError → Type 0
+IsMomentBy None source written word r = IsFoundIn source (Some written) word r
+IsMomentBy (Some zone) source written word r = IsOnClockIn source zone word r
+
+-- The moment of a word that is written by the description, on the clock of the zone if there is one.
+abbrev pub IsMomentIn : Source → BorrowedOutput → Text → Result Moment MomentError → Type 0
+IsMomentIn source written word r = IsMomentBy source.zone source written word r
 
 abbrev pub IsTextOfKind : SourceKind → List Leaf → Type 0
 IsTextOfKind (kinds.Names n) leaves = ⊥

@@ -86,11 +86,11 @@ IsOneOfMoment otherwise frame word m o before after came.NotText = ⊥
 abbrev pub IsOne : Otherwise → Source → BorrowedOutput → Frame → Text → Option Text → Option Text
     → Outcome → Type 0
 IsOne otherwise source o frame word before after (came.Written m) =
-    IsMomentIn source word (Ok m) × AppendsIn frame (written_of m o) before after
+    IsMomentIn source o word (Ok m) × AppendsIn frame (written_of m o) before after
 IsOne otherwise source o frame word before after (came.Unshown m u) =
-    IsMomentIn source word (Ok m) × (written_of m o ≡ Err u) × Replaces otherwise frame word before after
+    IsMomentIn source o word (Ok m) × (written_of m o ≡ Err u) × Replaces otherwise frame word before after
 IsOne otherwise source o frame word before after (came.Unread e) =
-    IsMomentIn source word (Err e) × Replaces otherwise frame word before after
+    IsMomentIn source o word (Err e) × Replaces otherwise frame word before after
 IsOne otherwise source o frame word before after came.NotText =
     (¬ IsUtf8 word) × Replaces otherwise frame word before after
 

@@ -1,7 +1,9 @@
 //! The description that moments are written by.
 
-ghost use Rattle.std.specs.Prelude.{IfOk};
+ghost use Rattle.std.specs.Prelude.{◌≡◌, IfOk};
+ghost use Rattle.timefd_lint_warnings.specs.Found.{output_parts};
 ghost use Rattle.timefd_parse.specs.declared.language.Language.TheVariants as languages;
+ghost use Rattle.timefd_warnings.specs.Parts.{parts};
 ghost use Rattle.timefd_write.specs.Descriptions.{IsDescribed, IsReading, IsSpelled};
 
 use std::alloc::{AllocError, Global};
@@ -10,6 +12,7 @@ use timefd_parse::{
     BorrowedOutput, DescriptionVersion, Language, ParseError, StrftimeTables, parse_borrowed,
     parse_strftime_borrowed,
 };
+use timefd_warnings::Description;
 
 /// What reading a text as a description comes to.
 #[derive(Drop)]
@@ -78,5 +81,15 @@ fn of_strftime<'a>(
         Ok(items) => Ok(BorrowedOutput::Items(items)),
         Err(ParseError::Invalid(_)) => unreachable!(),
         Err(ParseError::Memory(error)) => Err(error),
+    }
+}
+
+/// A description that was read, borrowed for looking at its parts.
+pub fn borrowed<'o, 'a>(output: &'o BorrowedOutput<'a>) -> Description<'o, 'a>
+    ensures { parts result ≡ output_parts output.now }
+{
+    match output {
+        BorrowedOutput::Items(items) => Description::Items(items),
+        BorrowedOutput::Description(description) => Description::Version3(description.view()),
     }
 }

@@ -86,7 +86,7 @@ fn write_one<W: Write, E: Write>(
         replace(otherwise, entry, output)?;
         return Ok(Outcome::NotText);
     };
-    match moment_in(source, source_leaves, text) {
+    match moment_in(source, source_leaves, description, text) {
         Ok(moment) => write_moment(
             alloc,
             moment,

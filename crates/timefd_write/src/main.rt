@@ -29,6 +29,7 @@ mod moment;
 mod names;
 mod otherwise;
 mod outcome;
+mod partial;
 mod progress;
 mod quoting;
 mod read_back;

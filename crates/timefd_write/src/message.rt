@@ -53,6 +53,8 @@ const YEARS: &str = "offsets of time zones are known in the years -9999 to 9999"
 const NO_INSTANT: &str =
     "`--zone` shows what has a date, a time and an offset, as 2026-11-23T05:36:07+01:00";
 
+const NO_DATE: &str = "no date agrees with all that was read";
+
 /// Writes a message to `errors`. A failure to write it is ignored, since it couldn't be reported
 /// either.
 pub fn report<E: Write>(errors: &mut E, message: &[u8]) {
@@ -122,6 +124,7 @@ pub fn unread_message(
             let sentence = format!(in alloc; "{error}")?;
             not_read(alloc, line, word, &sentence)
         }
+        MomentError::NoDate => not_read(alloc, line, word, NO_DATE),
     }
 }
 

@@ -46,6 +46,8 @@ pub enum MomentError {
     Absent(AbsentDay),
     /// It matches the description, but what was read isn't a moment.
     Value(ValueError),
+    /// It matches the description, and gives part of a date, but no date agrees with that.
+    NoDate,
 }
 
 /// The moment that a word names: `now`; `@` and a number of seconds since 1970 began in UTC; or a date,

@@ -1,13 +1,14 @@
 //! The moment that a text shows, read by a description.
 
-ghost use Rattle.std.specs.Prelude.{Err, IfOk, IfSome, Ok};
+ghost use Rattle.std.specs.Prelude.{◌≡◌, IfOk, IfSome};
 ghost use Rattle.timefd_read_dates.specs.Reads.{Fills, fields_of};
-ghost use Rattle.timefd_read_moment.specs.Values.{IsMomentOf};
+ghost use Rattle.timefd_write.specs.Absent.{absent_day};
 ghost use Rattle.timefd_write.specs.ReadBack as spec;
-ghost use Rattle.timefd_write.specs.ReadBack.{AreLeavesOf, IsMadeOf, IsNoMoment, IsReadBack};
+ghost use Rattle.timefd_write.specs.ReadBack.{AreLeavesOf, IsMadeOf, IsOfRead, IsReadBack, IsWhole, now};
 
 use crate::absent::absent_day;
 use crate::moment::MomentError;
+use crate::partial::partial_moment;
 use std::alloc::{AllocError, Global};
 use timefd_moment::Moment;
 use timefd_node_list::Leaf;
@@ -16,7 +17,7 @@ use timefd_read_dates::{
     Fields, NO_FIELDS, ReadError, fill_fields, fill_item_fields, fill_leaf_fields, leaves_in_turn,
     numbers_shown,
 };
-use timefd_read_moment::{ValueError, moment, moment_of_numbers};
+use timefd_read_moment::{Part, ValueError, moment, moment_of_numbers};
 
 /// The components and literals of a description, if it is only a sequence of those. They are found once, so
 /// that many texts can be read by them. An `Err` says that memory ran out.
@@ -32,34 +33,38 @@ pub fn leaves_of<'d>(
     }
 }
 
-/// The moment that a whole text shows, read by the description, or by its leaves if those were found. An
-/// `Err` says which part doesn't match and the byte index where it begins, or why what was read isn't a
+/// The moment that a whole text shows, read by the description, or by its leaves if those were found. If it
+/// gives part of a date, and the description to write by shows no more, the moment is one of those that agree
+/// with it. Without a description to write by, it has to give a whole date.
+///
+/// An `Err` says which part doesn't match and the byte index where it begins, or why what was read isn't a
 /// moment.
+#[tactic(auto, using(crate::proofs::ReadBackLemmas::whole))]
 pub fn moment_read(
     description: &BorrowedOutput<'_>,
     leaves: Option<&[Leaf<'_>]>,
+    written: Option<&BorrowedOutput<'_>>,
     text: &str,
 ) -> Result<Moment, MomentError>
     requires { AreLeavesOf description.now leaves }
-    ensures { IsReadBack description.now text.now result }
+    ensures { IsReadBack description.now (now written.entry) text.now result }
 {
     if let Some(moment) = moment_shown(description, leaves, text) {
         return Ok(moment);
     }
-    moment_by_fields(description, leaves, text)
+    moment_by_fields(description, leaves, written, text)
 }
 
 // The moment of a text with two-digit numbers and a four-digit year only, which is the fast case. `None` says
 // nothing about the text.
 #[inline(never)]
-#[tactic(auto, using(crate::proofs::ReadBackLemmas::by_numbers))]
 fn moment_shown(
     description: &BorrowedOutput<'_>,
     leaves: Option<&[Leaf<'_>]>,
     text: &str,
 ) -> Option<Moment>
     requires { AreLeavesOf description.now leaves }
-    ensures { IfSome result (λ moment. IsReadBack description.now text.now (Ok moment)) }
+    ensures { IfSome result (IsWhole description.now text.now) }
 {
     let numbers = numbers_shown(leaves?, text.as_bytes())?;
     moment_of_numbers(numbers)
@@ -70,32 +75,40 @@ fn moment_shown(
 fn moment_by_fields(
     description: &BorrowedOutput<'_>,
     leaves: Option<&[Leaf<'_>]>,
+    written: Option<&BorrowedOutput<'_>>,
     text: &str,
 ) -> Result<Moment, MomentError>
     requires { AreLeavesOf description.now leaves }
-    ensures { IsReadBack description.now text.now result }
+    ensures { IsReadBack description.now (now written.entry) text.now result }
 {
     let mut fields = NO_FIELDS;
     match fill(description, leaves, text, &mut fields) {
-        Ok(()) => match moment(&fields) {
-            Ok(moment) => Ok(moment),
-            Err(error) => Err(no_moment(&fields, error)),
-        },
+        Ok(()) => moment_of_fields(&fields, written),
         Err(error) => Err(MomentError::Unread(error)),
     }
 }
 
-// Why the fields aren't those of a moment.
-fn no_moment(fields: &Fields, error: ValueError) -> MomentError
-    requires { IsMomentOf fields.now (Err error) }
-    ensures { IsNoMoment fields.now result }
+// The moment of what was read.
+fn moment_of_fields(
+    fields: &Fields,
+    written: Option<&BorrowedOutput<'_>>,
+) -> Result<Moment, MomentError>
+    ensures { IsOfRead (now written.entry) fields.now result }
 {
-    match error {
-        ValueError::Missing(_) => MomentError::Value(error),
-        ValueError::Contradiction(_) => match absent_day(fields) {
-            Some(day) => MomentError::Absent(day),
-            None => MomentError::Value(error),
-        },
+    match moment(fields) {
+        Ok(moment) => Ok(moment),
+        Err(ValueError::Missing(part)) => partial_moment(fields, part, written),
+        Err(ValueError::Contradiction(part)) => Err(contradiction(fields, part)),
+    }
+}
+
+// The parts that were read disagree. If there is no such day, the error says so.
+fn contradiction(fields: &Fields, part: Part) -> MomentError
+    ensures { result ≡ spec.contradiction (absent_day fields.now) part }
+{
+    match absent_day(fields) {
+        Some(day) => MomentError::Absent(day),
+        None => MomentError::Value(ValueError::Contradiction(part)),
     }
 }
 

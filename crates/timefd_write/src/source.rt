@@ -1,7 +1,8 @@
 //! What the words of a run are: names of moments, or texts of a description.
 
 ghost use Rattle.std.specs.Prelude.{◌≡◌, IfErr, IfOk, IfSome};
-ghost use Rattle.timefd_write.specs.Sources.{AreLeavesIn, IsFoundIn, IsMomentIn, IsSourceOf, IsTextOf};
+ghost use Rattle.timefd_write.specs.ReadBack.{now};
+ghost use Rattle.timefd_write.specs.Sources.{AreLeavesIn, IsFoundIn, IsMomentIn, IsOnClockIn, IsSourceOf, IsTextOf};
 
 use crate::description::{Reading, read};
 use crate::message::report_fault;
@@ -93,22 +94,36 @@ pub fn source_leaves<'s>(
     }
 }
 
-/// The moment that a word names, or shows by the description or its leaves. If the source has a time zone,
-/// its clock shows the moment.
-#[tactic(auto, using(crate::proofs::MomentLemmas::shown_in))]
+/// The moment that a word names, or shows by the description or its leaves, to be written by the other
+/// description. If the source has a time zone, its clock shows the moment; part of a date isn't enough then.
 pub fn moment_in(
     source: &Source<'_>,
     leaves: Option<&[Leaf<'_>]>,
+    written: &BorrowedOutput<'_>,
     word: &str,
 ) -> Result<Moment, MomentError>
     requires { AreLeavesIn source.now leaves }
-    ensures { IsMomentIn source.now word.now result }
+    ensures { IsMomentIn source.now written.now word.now result }
 {
-    match moment_found(source, leaves, word) {
-        Ok(moment) => match &source.zone {
-            Some(zone) => in_zone(zone, moment),
-            None => Ok(moment),
-        },
+    match &source.zone {
+        Some(zone) => moment_on_clock(source, leaves, zone, word),
+        None => moment_found(source, leaves, Some(written), word),
+    }
+}
+
+// The moment, as the clock of the time zone shows it.
+#[tactic(auto, using(crate::proofs::MomentLemmas::shown_on_clock))]
+fn moment_on_clock(
+    source: &Source<'_>,
+    leaves: Option<&[Leaf<'_>]>,
+    zone: &TimeZone<'_>,
+    word: &str,
+) -> Result<Moment, MomentError>
+    requires { AreLeavesIn source.now leaves }
+    ensures { IsOnClockIn source.now zone.now word.now result }
+{
+    match moment_found(source, leaves, None, word) {
+        Ok(moment) => in_zone(zone, moment),
         Err(error) => Err(error),
     }
 }
@@ -117,13 +132,14 @@ pub fn moment_in(
 fn moment_found(
     source: &Source<'_>,
     leaves: Option<&[Leaf<'_>]>,
+    written: Option<&BorrowedOutput<'_>>,
     word: &str,
 ) -> Result<Moment, MomentError>
     requires { AreLeavesIn source.now leaves }
-    ensures { IsFoundIn source.now word.now result }
+    ensures { IsFoundIn source.now (now written.entry) word.now result }
 {
     match &source.kind {
         SourceKind::Names(names) => moment_named(*names, word),
-        SourceKind::Texts(description) => moment_read(description, leaves, word),
+        SourceKind::Texts(description) => moment_read(description, leaves, written, word),
     }
 }

@@ -5,6 +5,7 @@ ghost use Rattle.timefd_lint_warnings.specs.Found.{output_parts};
 ghost use Rattle.timefd_warnings.specs.Parts.{parts};
 ghost use Rattle.timefd_write.specs.Warned as spec;
 
+use crate::description::borrowed;
 use crate::language::Languages;
 use crate::message::{Manner, report};
 use crate::source::{Source, SourceKind};
@@ -117,17 +118,7 @@ fn warned_of_source(language: Language, source: &Source<'_>) -> Levels
 fn warned_of(language: Language, description: &BorrowedOutput<'_>) -> Levels
     ensures { result ≡ spec.warned_of language description.now }
 {
-    match description {
-        BorrowedOutput::Items(items) => {
-            warned_in(spelling_of(language), Description::Items(items))
-        }
-        BorrowedOutput::Description(description) => {
-            warned_in(
-                spelling_of(language),
-                Description::Version3(description.view()),
-            )
-        }
-    }
+    warned_in(spelling_of(language), borrowed(description))
 }
 
 // Checks for two warnings. All others are left to the linter.

@@ -1,0 +1,4 @@
+pub mod GivenLemmas
+pub mod SoughtLemmas
+pub mod CompletedLemmas
+pub mod LawLemmas
