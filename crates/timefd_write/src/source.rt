@@ -4,11 +4,11 @@ ghost use Rattle.std.specs.Prelude.{◌≡◌, IfErr, IfOk, IfSome};
 ghost use Rattle.timefd_write.specs.Sources.{AreLeavesIn, IsFoundIn, IsMomentIn, IsSourceOf, IsTextOf};
 
 use crate::description::{Reading, read};
-use crate::message::report_fault;
 use crate::moment::{MomentError, moment_named};
 use crate::names::Names;
 use crate::outcome::RunError;
 use crate::read_back::{leaves_of, moment_read};
+use crate::report::report_fault;
 use crate::warned::READ;
 use crate::zone::in_zone;
 use jiff_tz::TimeZone;
