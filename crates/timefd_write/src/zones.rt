@@ -98,6 +98,7 @@ impl Zones {
 }
 
 // Whether a name gives a zone.
+#[tactic(auto, using(crate::proofs::ZoneLemmas::gives))]
 fn is_known(zones: &TimeZoneDatabase, name: &str) -> Result<bool, AllocError>
     ensures { IfOk result (spec.Gives zones.now name.now) }
 {
@@ -145,6 +146,7 @@ fn now_at(rt: &HostRuntime, zone: &TimeZone<'_>) -> Now {
 }
 
 // Reads the zone's file into the database, from the first folder that has it, and returns whether one has.
+#[tactic(auto, using(crate::proofs::ZoneLemmas::after_none))]
 fn insert_zone(
     rt: &HostRuntime,
     zones: &mut TimeZoneDatabase,
@@ -164,6 +166,7 @@ fn insert_zone(
 }
 
 // The same, from the folders where systems keep their time zones.
+#[tactic(auto, using(crate::proofs::ZoneLemmas::after_none))]
 fn insert_from_folders(
     rt: &HostRuntime,
     zones: &mut TimeZoneDatabase,
@@ -188,6 +191,7 @@ fn is_file_name(name: &str) -> bool {
 }
 
 // Reads the zone's file in the folder into the database, and returns whether there is one.
+#[tactic(auto, using(crate::proofs::ZoneLemmas::added))]
 fn insert_from(
     rt: &HostRuntime,
     zones: &mut TimeZoneDatabase,
