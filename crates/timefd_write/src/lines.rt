@@ -4,7 +4,8 @@ ghost use Rattle.std.specs.Prelude.{◌≡◌, IfErr, IfOk, length};
 ghost use Rattle.timefd_write.specs.Frames.{EndsOnlyAsAsked};
 ghost use Rattle.timefd_write.specs.ReadBack.{AreLeavesOf};
 ghost use Rattle.timefd_write.specs.Sources.{AreLeavesIn};
-ghost use Rattle.timefd_write.specs.Written.{IsRead, IsReadMore, RunsOver, line_room};
+ghost use Rattle.timefd_write.specs.Written as spec;
+ghost use Rattle.timefd_write.specs.Written.{IsRead, IsReadMore, RunsOver};
 
 use crate::entry::tally_one;
 use crate::frame::{Entry, Frame};
@@ -77,15 +78,21 @@ pub fn read_line<R: BufRead>(reader: &mut R, bytes: &mut Vec<u8>) -> Result<Line
 /// Room for the longest text of the description, or for most texts if that length is unknown or large. An
 /// `Err` says that memory ran out.
 pub fn line_room(alloc: Global, description: &BorrowedOutput<'_>) -> Result<Vec<u8>, AllocError>
-    ensures { IfOk result (λ room. length room.items ≡ line_room description.now) }
+    ensures { IfOk result (λ room. length room.items ≡ spec.line_room description.now) }
 {
-    let count = match description {
+    vec![in alloc; 0u8; room_of(description)]
+}
+
+// How many bytes are reserved for a line.
+fn room_of(description: &BorrowedOutput<'_>) -> usize
+    ensures { result ≡ spec.line_room description.now }
+{
+    match description {
         BorrowedOutput::Items(_) => ITEM_ROOM,
         BorrowedOutput::Description(description) => {
             description.max_bytes_needed().min(MOST_ROOM) + SPARE_ROOM
         }
-    };
-    vec![in alloc; 0u8; count]
+    }
 }
 
 /// Writes a line for each line of the reader: the moment that it names or shows. Lines without a moment are

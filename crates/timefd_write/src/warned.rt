@@ -32,6 +32,7 @@ pub struct Warned {
 }
 
 /// Shows people the warnings about both descriptions. An `Err` says that memory ran out.
+#[tactic(auto, using(crate::proofs::WarnedLemmas::reports))]
 pub fn report_warnings<E: Write>(
     alloc: Global,
     is_colored: bool,
@@ -47,8 +48,7 @@ pub fn report_warnings<E: Write>(
 
 // The origin of a description that is called this.
 fn named(file: &str) -> Origin<'_>
-    ensures file { result.file ≡ file.entry }
-    ensures line { result.line ≡ 1 }
+    ensures { spec.IsNamed file.now result }
 {
     Origin { file, line: 1 }
 }
