@@ -38,7 +38,7 @@ IsUnreadEnd bytes ends.Found = ⊥
 IsUnreadEnd bytes ends.NotFound = ⊥
 IsUnreadEnd bytes ends.NoText = ⊥
 IsUnreadEnd bytes ends.NotText = (lines : List Text) × (line : Text) × AreLinesOf bytes (lines ++ line ∷ []) true
-    × ¬ IsUtf8 (without_newline line)
+    × (¬ IsUtf8 (without_newline line))
 IsUnreadEnd bytes ends.Memory = ⊤
 IsUnreadEnd bytes ends.Read = ⊤
 IsUnreadEnd bytes ends.Write = ⊥

@@ -8,7 +8,7 @@ use Rattle.timefd_component.specs.Tree.{Text}
 use Rattle.timefd_diagnosis.specs.declared.nearest.Best.{Best}
 use Rattle.timefd_diagnosis.specs.Nearest.{IsNearest, IsNext}
 use Rattle.timefd_drawing.specs.Shown.{safe}
-use Rattle.timefd_write.specs.declared.nearest.Best as names
+use Rattle.timefd_write.specs.declared.nearest.Best as own
 use Rattle.timefd_write.specs.declared.zones.Zones.{Zones}
 
 -- Whether a name gives a zone.
@@ -30,10 +30,10 @@ IsWith before name after =
     × ((Adds name before.database after.database true × (after.is_whole ≡ false)) ⊎ (after.is_whole ≡ true)))
 
 -- one more name replaces the nearest one so far if it is nearer
-abbrev pub as_best : names.Best → Best
+abbrev pub as_best : own.Best → Best
 as_best best = record { edits = best.edits; found = best.found }
 
-abbrev pub IsNextName : Text → names.Best → Bor Text → names.Best → Type 0
+abbrev pub IsNextName : Text → own.Best → Bor Text → own.Best → Type 0
 IsNextName name best candidate next = IsNext name (as_best best) candidate (as_best next)
 
 -- the sentence for a name that no zone has, and what to write instead
