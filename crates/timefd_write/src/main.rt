@@ -259,7 +259,7 @@ fn clocked_status(
 }
 
 fn guess_status(rt: &HostRuntime, request: GuessRequest, texts: &[&str]) -> u8 {
-    match guess_run(rt, request, texts) {
+    match end_of_guess(rt, request, texts) {
         GuessEnd::Found => 0,
         GuessEnd::NotFound => reported(rt, REFUSED, "no description that is known reads all texts"),
         GuessEnd::NoText => reported(rt, REFUSED, "there is no text to find a description of"),
@@ -271,7 +271,7 @@ fn guess_status(rt: &HostRuntime, request: GuessRequest, texts: &[&str]) -> u8 {
 }
 
 // Looks for a description of the texts, or of the lines of the standard input if there are none.
-fn guess_run(rt: &HostRuntime, request: GuessRequest, texts: &[&str]) -> GuessEnd {
+fn end_of_guess(rt: &HostRuntime, request: GuessRequest, texts: &[&str]) -> GuessEnd {
     let Ok(mut output) = BufWriter::new(rt.alloc(), rt.stdout()) else {
         return GuessEnd::Memory;
     };
