@@ -1,5 +1,5 @@
 -- How a run ends that looks for a description.
-use Rattle.std.specs.Prelude.{◌≡◌, ◌≢◌, ◌++◌, Bool, true, false, List, [], ◌∷◌, map, Option, None, Some, IsUtf8, ⊤}
+use Rattle.std.specs.Prelude.{◌≡◌, ◌≢◌, ◌⊎◌, ◌++◌, Bool, true, false, List, [], ◌∷◌, map, Option, None, Some, IsUtf8, ⊤}
 use Rattle.std.specs.Io.KnownBytes.{Keeps}
 use Rattle.timefd_component.specs.Tree.{Text}
 use Rattle.timefd_rewrite.specs.Lines.{AreLinesOf, without_newline}

@@ -1,8 +1,9 @@
 //! The nearest name of a time zone to a name that no zone has.
 
-ghost use Rattle.std.specs.Prelude.{◌≡◌, ◌<◌, ◌^◌, IfOk, chars, option_map, string_bytes};
+ghost use Rattle.std.specs.Prelude.{◌≡◌, IfOk, chars, length, option_map, string_bytes};
 ghost use Rattle.timefd_diagnosis.specs.Edits.{IsDistance};
-ghost use Rattle.timefd_diagnosis.specs.Nearest.{IsNearest, IsSoFar, reach};
+ghost use Rattle.timefd_diagnosis.specs.Nearest as near;
+ghost use Rattle.timefd_diagnosis.specs.Nearest.{IsNearest, IsSoFar};
 ghost use Rattle.timefd_diagnosis.specs.Words.{texts};
 ghost use Rattle.timefd_write.specs.KnownZones as spec;
 
@@ -37,8 +38,9 @@ pub fn nearest_name<'a>(
 fn best_of_all<'a>(alloc: Global, names: &[&'a str], name: &str) -> Result<Best<'a>, AllocError>
     ensures { IfOk result (λ best. IsSoFar (texts names.now) name.now best.edits best.found) }
 {
+    let count = char_count(name);
     let mut best = Best {
-        edits: reach_of(name) + 1,
+        edits: reach_of(count) + 1,
         found: None,
     };
     for candidate in names {
@@ -67,13 +69,17 @@ fn next_best<'a>(
     }
 }
 
-// How many edits away a name still counts as near.
-fn reach_of(name: &str) -> usize
-    ensures value { result ≡ reach name.now }
-    ensures small { result < 2 ^ 63 }
+// How many edits away a name still counts as near, by its number of characters.
+fn reach_of(count: usize) -> usize
+    ensures { result ≡ near.reach_of count }
 {
-    let count = name.chars().count();
     if count < 2 { 0 } else { (count / 3).max(1) }
+}
+
+fn char_count(name: &str) -> usize
+    ensures { result ≡ length (chars name.now) }
+{
+    name.chars().count()
 }
 
 // The least number of edits that turn the first name into the second.
@@ -90,7 +96,7 @@ pub fn unknown_zone_sentence(
     nearest: Option<&str>,
 ) -> Result<String, AllocError>
     ensures { IfOk result (λ text. string_bytes text
-        ≡ spec.unknown_sentence name.now (option_map (λ n. n.now) nearest)) }
+        ≡ spec.unknown_sentence name.now (option_map (λ n. n.now) nearest.entry)) }
 {
     let name = safe(alloc, name)?;
     match nearest {

@@ -1,7 +1,7 @@
 //! The only way for messages to reach people, who read them at a terminal: the terminal obeys and hides
 //! nothing of what they quote.
 
-ghost use Rattle.std.specs.Prelude.{IfOk};
+ghost use Rattle.std.specs.Prelude.{false, IfOk};
 ghost use Rattle.timefd_write.specs.Reports as spec;
 
 use std::alloc::{AllocError, Global};
