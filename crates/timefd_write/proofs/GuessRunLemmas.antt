@@ -7,9 +7,13 @@ use Rattle.timefd_component.specs.Tree.{Text}
 use Rattle.timefd_diagnosis.specs.Words.{texts}
 use Rattle.timefd_guess.specs.Found as guess
 use Rattle.timefd_rewrite.specs.Lines.{AreLinesOf, IsNextLine, without_newline}
+use Rattle.timefd_streams.specs.Words.{borrowed_bytes}
 use Rattle.timefd_write.specs.declared.guess_run.GuessEnd.{GuessEnd}
 use Rattle.timefd_write.specs.declared.guess_run.GuessEnd.TheVariants as ends
+use Rattle.timefd_write.specs.declared.lines.LineRead.{LineRead}
+use Rattle.timefd_write.specs.declared.lines.LineRead.TheVariants.{Line, End}
 use Rattle.timefd_write.specs.Guessed.{WritesGuesses, guess_lines}
+use Rattle.timefd_write.specs.Written.{IsRead}
 use Rattle.timefd_write.specs.GuessRuns.{AreTextsOf, GuessesOver, IsFlushedEnd, IsGuessRun, IsInputGuess, IsLineEnd, IsUnreadEnd}
 use Rattle.timefd_write.proofs.RunLemmas.{more_lines, no_line_left, no_line_read}
 
@@ -55,6 +59,13 @@ flushed words before mid after found ends.Memory some writes is = absurd is
 flushed words before mid after found ends.Read some writes is = absurd is
 flushed words before mid after found ends.Write some writes is = tt
 
+-- The words are the lines, each borrowed.
+pub of_lines : (items slice : List (Bor Text)) (lines : List Text) (before after : Option Text)
+    (end : GuessEnd) → borrowed_bytes items ≡ lines → slice ≡ items
+    → GuessesOver (texts slice) before after end → GuessesOver lines before after end
+of_lines items slice lines before after end are same over =
+    subst (λ ts. GuessesOver ts before after end) (ap texts same ∙ are) over
+
 pub of_words : (words : List (Bor Text)) (input before after : Option Text) (end : GuessEnd)
     → (length words == 0) ≡ false → GuessesOver (texts words) before after end
     → IsGuessRun (texts words) input before after end
@@ -78,39 +89,48 @@ pub nothing_read : (bytes : Option Text) → ReadsOn bytes bytes []
 nothing_read bytes = ([], refl, λ more failed are. are)
 
 -- One more line is read.
-pub one_more : (bytes left rest : Option Text) (read new : List Text) (line : Text)
-    → ReadsOn bytes left read → IsNextLine left line rest → new ≡ read ++ without_newline line ∷ []
-    → ReadsOn bytes rest new
-one_more bytes left rest read new line so_far next is = (
+pub one_more : (bytes left rest : Option Text) (read new : List Text) (line text : Text) (r : LineRead)
+    → ReadsOn bytes left read → IsRead left rest line r → r ≡ Line → text ≡ line
+    → new ≡ read ++ without_newline text ∷ [] → ReadsOn bytes rest new
+one_more bytes left rest read new line text r so_far next is_line same is = (
   so_far.0 ++ line ∷ [],
-  is ∙ ap (λ ts. ts ++ without_newline line ∷ []) so_far.1
+  is ∙ ap (λ l. read ++ without_newline l ∷ []) same
+      ∙ ap (λ ts. ts ++ without_newline line ∷ []) so_far.1
       ∙ sym (map-append without_newline so_far.0 (line ∷ [])),
   λ more failed are. subst (λ ls. AreLinesOf bytes ls failed)
       (sym (append_assoc so_far.0 (line ∷ []) more))
-      (so_far.2 (line ∷ more) failed (more_lines left rest line more failed next are)),
+      (so_far.2 (line ∷ more) failed
+      (more_lines left rest line more failed (subst (λ x. IsRead left rest line x) is_line next) are)),
 )
 
-pub all_read : (bytes left : Option Text) (read : List Text) → ReadsOn bytes left read → IsAtEnd left
-    → AreTextsOf bytes read
-all_read bytes left read so_far end = (
+pub all_read : (bytes left rest : Option Text) (read : List Text) (line : Text) (r : LineRead)
+    → ReadsOn bytes left read → IsRead left rest line r → r ≡ End → AreTextsOf bytes read
+all_read bytes left rest read line r so_far end is_end = (
   so_far.0,
   subst (λ ls. AreLinesOf bytes ls false) (append-nil so_far.0)
-      (so_far.2 [] false (no_line_left left end)),
+      (so_far.2 [] false (no_line_left left (subst (λ x. IsRead left rest line x) is_end end))),
   so_far.1,
 )
 
--- A line of them can't be a text.
-pub line_refused : (bytes left rest : Option Text) (read : List Text) (line : Text) (end : GuessEnd)
+unread : (bytes left rest : Option Text) (read : List Text) (line : Text) (end : GuessEnd)
     → ReadsOn bytes left read → IsNextLine left line rest → IsLineEnd line end → IsUnreadEnd bytes end
-line_refused bytes left rest read line ends.Found so_far next is = absurd is
-line_refused bytes left rest read line ends.NotFound so_far next is = absurd is
-line_refused bytes left rest read line ends.NoText so_far next is = absurd is
-line_refused bytes left rest read line ends.NotText so_far next is = (
+unread bytes left rest read line ends.Found so_far next is = absurd is
+unread bytes left rest read line ends.NotFound so_far next is = absurd is
+unread bytes left rest read line ends.NoText so_far next is = absurd is
+unread bytes left rest read line ends.NotText so_far next is = (
   so_far.0,
   line,
   so_far.2 (line ∷ []) true (more_lines left rest line [] true next (no_line_read rest)),
   is,
 )
-line_refused bytes left rest read line ends.Memory so_far next is = tt
-line_refused bytes left rest read line ends.Read so_far next is = absurd is
-line_refused bytes left rest read line ends.Write so_far next is = absurd is
+unread bytes left rest read line ends.Memory so_far next is = tt
+unread bytes left rest read line ends.Read so_far next is = absurd is
+unread bytes left rest read line ends.Write so_far next is = absurd is
+
+-- A line of them can't be a text.
+pub line_refused : (bytes left rest : Option Text) (read : List Text) (line text : Text) (end : GuessEnd)
+    (r : LineRead) → ReadsOn bytes left read → IsRead left rest line r → r ≡ Line → text ≡ line
+    → IsLineEnd text end → IsUnreadEnd bytes end
+line_refused bytes left rest read line text end r so_far next is_line same is =
+    unread bytes left rest read line end so_far (subst (λ x. IsRead left rest line x) is_line next)
+    (subst (λ l. IsLineEnd l end) same is)

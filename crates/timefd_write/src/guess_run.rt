@@ -5,6 +5,7 @@ ghost use Rattle.timefd_diagnosis.specs.Words.{texts};
 ghost use Rattle.timefd_rewrite.specs.Lines.{without_newline};
 ghost use Rattle.timefd_streams.specs.Words.{bytes_of};
 ghost use Rattle.timefd_write.specs.GuessRuns as spec;
+ghost use Rattle.timefd_write.specs.Written.{IsRead};
 
 use crate::asked::GuessRequest;
 use crate::guessed::write_guesses;
@@ -87,35 +88,45 @@ fn lines_end<W: Write, E: Write>(
 }
 
 // The lines of the input, each without its newline.
-#[tactic(auto, using(crate::proofs::GuessRunLemmas::nothing_read, crate::proofs::GuessRunLemmas::one_more, crate::proofs::GuessRunLemmas::all_read, crate::proofs::GuessRunLemmas::line_refused))]
 fn input_lines<I: BufRead>(alloc: Global, input: &mut I) -> Result<Vec<String>, GuessEnd>
-    ensures lines { IfOk result (λ lines. spec.AreTextsOf (I.remaining input.old) (bytes_of lines.items)) }
+    ensures lines { IfOk result (λ texts. spec.AreTextsOf (I.remaining input.old) (bytes_of texts.items)) }
     ensures end { IfErr result (spec.IsUnreadEnd (I.remaining input.old)) }
 {
-    let mut lines = Vec::new(alloc);
+    let mut texts = Vec::new(alloc);
     let mut bytes = Vec::new(alloc);
     'lines: for _ in 0..u64::MAX {
-        match read_line(input, &mut bytes) {
-            Ok(LineRead::Line) => push_line(alloc, &bytes, &mut lines)?,
-            Ok(LineRead::End) => return Ok(lines),
-            Ok(LineRead::Failed) => return Err(GuessEnd::Read),
-            Err(_) => return Err(GuessEnd::Memory),
+        match next_line(input, &mut bytes)? {
+            LineRead::Line => push_line(alloc, &bytes, &mut texts)?,
+            LineRead::End => return Ok(texts),
+            LineRead::Failed => return Err(GuessEnd::Read),
         }
     }
     Err(GuessEnd::Read)
 }
 
+// Reads one more line instead of these bytes.
+fn next_line<I: BufRead>(input: &mut I, bytes: &mut Vec<u8>) -> Result<LineRead, GuessEnd>
+    ensures read { IfOk result (IsRead (I.remaining input.old) (I.remaining input.new)
+        bytes.new.items) }
+    ensures memory { IfErr result (λ end. end ≡ GuessEnd.Memory) }
+{
+    match read_line(input, bytes) {
+        Ok(read) => Ok(read),
+        Err(_) => Err(GuessEnd::Memory),
+    }
+}
+
 // Appends the text of a line, which is without its newline.
-fn push_line(alloc: Global, line: &[u8], lines: &mut Vec<String>) -> Result<(), GuessEnd>
-    ensures pushed { OnOk result (bytes_of lines.new.items
-        ≡ bytes_of lines.old.items ++ without_newline line.now ∷ []) }
+fn push_line(alloc: Global, line: &[u8], texts: &mut Vec<String>) -> Result<(), GuessEnd>
+    ensures pushed { OnOk result (bytes_of texts.new.items
+        ≡ bytes_of texts.old.items ++ without_newline line.now ∷ []) }
     ensures end { IfErr result (spec.IsLineEnd line.now) }
 {
     let Ok(text) = str::from_utf8(without_newline(line)) else {
         return Err(GuessEnd::NotText);
     };
     let text = String::from_str(alloc, text)?;
-    match lines.push(text) {
+    match texts.push(text) {
         Ok(()) => Ok(()),
         Err(_) => Err(GuessEnd::Memory),
     }

@@ -32,7 +32,6 @@ pub struct Warned {
 }
 
 /// Shows people the warnings about both descriptions. An `Err` says that memory ran out.
-#[tactic(auto, using(crate::proofs::WarnedLemmas::reports))]
 pub fn report_warnings<E: Write>(
     alloc: Global,
     is_colored: bool,
@@ -42,8 +41,11 @@ pub fn report_warnings<E: Write>(
     ensures { IfOk result (spec.ReportsWarnings is_colored warned (E.contents errors.old)
         (E.contents errors.new)) }
 {
-    let reported = warned_text(alloc, is_colored, named(READ), named(WRITTEN), warned)?;
-    report_drawn(alloc, is_colored, errors, &reported)
+    let read = named(READ);
+    let written = named(WRITTEN);
+    let message = warned_text(alloc, is_colored, read, written, warned)?;
+    let reported = report_drawn(alloc, is_colored, errors, &message)?;
+    Ok(reported)
 }
 
 // The origin of a description that is called this.

@@ -61,6 +61,7 @@ impl Zones {
 
     /// Adds the zone of this name, in upper or lower case, if the system has one. Reads the one file of
     /// that name if there is one, and all zones otherwise. An `Err` says that memory ran out.
+    #[tactic(auto, using(crate::proofs::ZoneLemmas::whole, crate::proofs::ZoneLemmas::known, crate::proofs::ZoneLemmas::grown, crate::proofs::ZoneLemmas::filled))]
     pub fn with(self, rt: &HostRuntime, name: &str) -> Result<Zones, AllocError>
         ensures { IfOk result (spec.IsWith self name.now) }
     {
