@@ -1,5 +1,5 @@
-/* Makes a call over a text so often as it is told to: CALL KIND TIMES TEXT. `instructions.sh` builds it, and counts its
-   instructions. It fails where the call isn't there, or doesn't read the text. */
+/* Makes a call over a text as often as asked: CALL KIND TIMES TEXT. `instructions.sh` builds it, and counts its
+   instructions. It fails if the call isn't there, or doesn't read the text. */
 
 #include "../examples/timefd.h"
 

@@ -1,7 +1,7 @@
 #!/bin/sh
 # Prints how many instructions a call takes, as callgrind counts those of its function and of what that calls: the difference of
 # 520 calls and 20 by 500. It counts `timefd_read`, `parse_borrowed` of Rattle, `parse` of the crate for Rust and `timefd_judge`, and
-# `parse` of Debian's `time` 0.3.9, of the texts of version 1 that it takes. The crate and `time` are counted where Debian's packages of
+# `parse` of Debian's `time` 0.3.9, of the texts of version 1 that it takes. The crate and `time` are counted if Debian's packages of
 # `time` and `chrono` are installed. It needs valgrind.
 set -eu
 cd "$(dirname "$0")"

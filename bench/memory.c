@@ -1,6 +1,6 @@
-/* Prints how much memory a reader holds at most, for each byte of texts of eleven kinds and four sizes, beside `time` and
-   `chrono` where they are linked in. `memory.sh` builds and runs it: it leads malloc, calloc, realloc and free of all that
-   is linked to the functions below. */
+/* Prints how much memory a reader takes at most, for each byte of texts of eleven kinds and four sizes, beside `time` and
+   `chrono` if they are linked in. `memory.sh` builds and runs it, with malloc, calloc, realloc and free of everything that
+   is linked replaced by the functions below. */
 
 #include "memory.h"
 
@@ -39,7 +39,7 @@ void *__wrap_calloc(size_t count, size_t size) {
     return grown_by(__real_calloc(count, size));
 }
 
-/* A block that grows counts once, though it is copied where it can't stay. */
+/* A block that grows counts once, though it is copied if it can't stay. */
 void *__wrap_realloc(void *block, size_t size) {
     size_t before = malloc_usable_size(block);
     void *moved = __real_realloc(block, size);
@@ -104,7 +104,7 @@ static void print_figure(double figure) {
     }
 }
 
-/* Prints a line of the table, and tells whether each answer was the expected one. */
+/* Prints a line of the table, and answers whether each answer was the expected one. */
 static bool print_row(const struct family *family, uint32_t kind) {
     bool is_right = true;
     double beside[SIZE_COUNT];

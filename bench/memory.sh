@@ -1,6 +1,6 @@
 #!/bin/sh
-# Prints how much memory the readers of the static library hold at most for each byte of a text, for texts of eleven kinds from
-# 1 kB to 1 MB, beside the crates `time` and `chrono` where Debian's packages of them are installed; and how much stack
+# Prints how much memory the readers of the static library take at most for each byte of a text, for texts of eleven kinds from
+# 1 kB to 1 MB, beside the crates `time` and `chrono` if Debian's packages of them are installed; and how much stack
 # nested texts take.
 set -eu
 cd "$(dirname "$0")"

@@ -2,7 +2,7 @@
 """Draws the first two tables of RESULTS.md as bars: speeds.svg, beside this script.
 
     bench/picture.py            writes the file
-    bench/picture.py --check    fails where the file would change
+    bench/picture.py --check    fails if the file would change
 
 A bar is the time of a call over a text, over that of its peer over the same text: 1 is as fast as the peer, and less is faster.
 """

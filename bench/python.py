@@ -1,7 +1,7 @@
 #!/usr/bin/env python3
 """Times calls of the module for Python beside those of `datetime`, in nanoseconds of processor time.
 
-    bench/python.py [CALLS]    a million of each, where no number is given
+    bench/python.py [CALLS]    by default a million of each
 """
 import datetime
 import pathlib

@@ -1,5 +1,5 @@
 #!/bin/sh
-# Times the four calls that read a text, beside the crates `time` and `chrono` where Debian's packages of them are installed: it builds
+# Times the four calls that read a text, beside the crates `time` and `chrono` if Debian's packages of them are installed: it builds
 # the static library, `parse_borrowed` as a library, and the crate for Rust. It takes samples for 30 seconds; with `--quick` for 3,
 # which are less exact.
 set -eu

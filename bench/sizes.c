@@ -1,5 +1,5 @@
-/* Prints how fast texts of the sizes that are handed in are read, and how much memory that takes; or with `--large` reads
-   a literal of over 4 GiB with a fault behind it. `sizes.sh` builds and runs it. */
+/* Prints how fast texts of the given sizes are read, and how much memory that takes; or with `--large` reads
+   a literal of over 4 GiB with a fault after it. `sizes.sh` builds and runs it. */
 
 #include "sizes.h"
 
@@ -71,7 +71,7 @@ static struct taken take_apart(const struct family *family, uint32_t kind, size_
     return taken;
 }
 
-/* Prints a line of the table, and tells whether each answer was the expected one. */
+/* Prints a line of the table, and answers whether each answer was the expected one. */
 static bool print_row(const struct family *family, uint32_t kind, char **sizes) {
     bool is_right = true;
     printf("| %s | %s |", family->name, LANGUAGES[kind]);
@@ -111,10 +111,10 @@ static bool print_table(char **sizes) {
     return is_right;
 }
 
-/* Reads a literal of 2^32 + 1 bytes with a fault behind it, in each version. */
+/* Reads a literal of 2^32 + 1 bytes with a fault after it, in each version. */
 static bool print_large(void) {
     static const struct family LARGE = {
-        "a literal of over 4 GiB, and a fault behind it", VERSIONS, "", "a", "[foo]", TIMEFD_REFUSED, 1, 1};
+        "a literal of over 4 GiB, and a fault after it", VERSIONS, "", "a", "[foo]", TIMEFD_REFUSED, 1, 1};
     bool is_right = true;
     struct text text = make_text(&LARGE, ((size_t)1 << 32) + 1);
     for (uint32_t kind = TIMEFD_VERSION_1; kind <= TIMEFD_VERSION_3; kind++) {

@@ -1,4 +1,4 @@
-/* The texts that somebody who means harm would hand in. */
+/* The texts that somebody who means harm would send. */
 
 #ifndef SIZES_H
 #define SIZES_H

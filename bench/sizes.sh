@@ -1,10 +1,10 @@
 #!/bin/sh
-# Reads large texts of the kinds that somebody who means harm would hand in, compares the answers with the expected ones,
+# Reads large texts of the kinds that somebody who means harm would send, compares the answers with the expected ones,
 # and prints a table of how fast that is and how much memory it takes.
 #
 #     bench/sizes.sh              texts of a million and of ten million bytes
 #     bench/sizes.sh SIZE..       texts of these sizes, in bytes
-#     bench/sizes.sh --large      a literal of over 4 GiB with a fault behind it instead, by the static library and then by
+#     bench/sizes.sh --large      a literal of over 4 GiB with a fault after it instead, by the static library and then by
 #                                 the program: each takes as much memory
 set -eu
 cd "$(dirname "$0")"

@@ -10,10 +10,10 @@ room=$(mktemp -d)
 trap 'rm -rf "$room"' EXIT
 cd "$room"
 
-# The last line that the linter says of the sources of a folder, as three numbers.
+# The last line that the linter writes about the sources of a folder, as three numbers.
 count() {
-    find "$1" -name '*.rs' -print0 | sort -z | xargs -0 "$linter" --format short 2> told >> errors || true
-    sed -n 's/^\([0-9]*\) descriptions*, \([0-9]*\) refused, \([0-9]*\) files*$/\3 \1 \2/p' told
+    find "$1" -name '*.rs' -print0 | sort -z | xargs -0 "$linter" --format short 2> summary >> errors || true
+    sed -n 's/^\([0-9]*\) descriptions*, \([0-9]*\) refused, \([0-9]*\) files*$/\3 \1 \2/p' summary
 }
 
 : > errors

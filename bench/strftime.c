@@ -1,7 +1,7 @@
 /* Compares what timefd_format writes by strftime's letters with what the C library's strftime writes in the locale "C", on
    random dates in UTC. strftime.sh builds and runs it.
 
-   strftime [COUNT]: so many dates for each letter, 20000 where none is given. */
+   strftime [COUNT]: so many dates for each letter, by default 20000. */
 
 #define _GNU_SOURCE
 

@@ -1,4 +1,4 @@
-/* Texts of any size, which are a part again and again between an opening and a closing, and what they are. */
+/* Texts of any size, which repeat a part between an opening and a closing, and the expected answers. */
 
 #ifndef TEXTS_H
 #define TEXTS_H
@@ -41,7 +41,7 @@ struct text {
 /* The names of the languages, by their numbers. */
 extern const char *const LANGUAGES[];
 
-/* The text of a family, of at least so many bytes. Where memory runs out the process ends. */
+/* The text of a family, of at least so many bytes. If memory runs out the process ends. */
 struct text make_text(const struct family *family, size_t size);
 
 /* Whether the answer is the one that the text of the family is to have. */

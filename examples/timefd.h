@@ -13,16 +13,16 @@
    - A pointer may be null where its length is 0, and nowhere else. A length is at most PTRDIFF_MAX, and of nodes at most
      PTRDIFF_MAX / sizeof(timefd_node).
    - A text needs no 0 at its end. Nobody writes to it while the call runs.
-   - The bytes or nodes of a buffer have been set to something before. While the call runs nobody else reads or writes them. A buffer
+   - The bytes or nodes of a buffer have been set to some value before. While the call runs, nobody else reads or writes them. A buffer
      overlaps no other buffer, and nothing that the call reads.
    - The call doesn't come from a signal handler, nor from the forked child of a process with threads.
-   - It has 112 KiB of stack: a text that is nested 127 deep takes some 53 of them. timefd_convert, timefd_read_date and
-     timefd_read_nodes want more.
+   - It has 112 KiB of stack: a text that is nested 127 deep takes about 53 of them. timefd_convert, timefd_read_date and
+     timefd_read_nodes need more.
 
-   What every call keeps to:
+   What every call promises:
 
-   - It frees all memory that it takes by malloc and realloc. It keeps no pointer. Calls on several threads share the allocator alone.
-   - Of a buffer it changes only the front that it writes to. No 0 follows a text. */
+   - It frees all memory that it takes by malloc and realloc. It keeps no pointer. Calls on several threads share only the allocator.
+   - It changes only the front of a buffer, as far as it writes. It puts no 0 after a text. */
 
 #ifndef TIMEFD_H
 #define TIMEFD_H
@@ -38,7 +38,7 @@ extern "C" {
 /* The number of this header's version, 0.2.0: a million for each major one, a thousand for each minor one. */
 #define TIMEFD_VERSION 2000u
 
-/* The number of the library's version. Where it isn't TIMEFD_VERSION, this is the header of another library. */
+/* The number of the library's version. If it isn't TIMEFD_VERSION, this is the header of another library. */
 uint32_t timefd_version(void);
 
 /* The languages: the three versions of format descriptions, and the conversion specifications of strftime. */
@@ -47,61 +47,63 @@ uint32_t timefd_version(void);
 #define TIMEFD_VERSION_3 3u
 #define TIMEFD_STRFTIME 4u
 
-/* The text is a description. The value is the number of its items; in version 3 the number of bytes that it reserves, which the
-   longest text has that is written by it. From timefd_v1_to_v2, timefd_v2_to_v3, timefd_convert and
-   timefd_convert_format it is the length of the result, in bytes. */
+/* The text is a description. The value is the number of its items; in version 3 it is the number of bytes that the description
+   reserves: the longest text that is written by it has so many. From timefd_v1_to_v2, timefd_v2_to_v3, timefd_convert and
+   timefd_convert_format the value is the length of the result, in bytes. */
 #define TIMEFD_ACCEPTED 0u
 
-/* The text is no description. The value is the index of the fault: how many bytes of the text are before it. It is at most the
+/* The text isn't a description. The value is the index of the fault: how many bytes of the text are before it. It is at most the
    text's length, and between two characters. From timefd_convert_format: a part of the format has no text of version 3. */
 #define TIMEFD_REFUSED 1u
 
-/* The bytes are no UTF-8. The value is 0. */
+/* The bytes aren't UTF-8. The value is 0. From timefd_read_nodes: a literal isn't UTF-8 by itself. */
 #define TIMEFD_NOT_UTF8 2u
 
-/* malloc or realloc gave no memory. The value is 0. A text with a fault is refused for it all the same: its fault and its
-   sentence take no memory. timefd_judge and timefd_check answer this of texts of version 3 alone. */
+/* malloc or realloc gave no memory. The value is 0. A text with a fault is still refused for it: its fault and its sentence take no
+   memory. timefd_judge and timefd_check answer this only for texts of version 3. */
 #define TIMEFD_NO_MEMORY 3u
 
-/* The language is none of the four above, whatever the bytes are. The value is 0. */
+/* No language has the number, whatever the bytes are. The value is 0. From timefd_convert_format: no dialect has it. */
 #define TIMEFD_UNKNOWN_KIND 4u
 
-/* From timefd_format and timefd_format_nodes alone: a component of the description shows nothing of the moment. The value is 0. */
+/* Only from timefd_format and timefd_format_nodes: a component of the description shows nothing of the moment. The value is 0. */
 #define TIMEFD_UNSHOWN 5u
 
-/* From these two alone: a number of the moment is out of its range, whatever the text or the nodes are. The value is 0. */
+/* Only from these two: a number of the moment is out of its range, whatever the text or the nodes are. The value is 0. */
 #define TIMEFD_OUT_OF_RANGE 6u
 
-/* From timefd_convert alone: there is no conversion from this language to this one, whatever the bytes are. The value is 0. */
+/* Only from timefd_convert: there is no conversion between these two languages, whatever the bytes are. The value is 0. */
 #define TIMEFD_NO_CONVERSION 7u
 
-/* From timefd_format_nodes and timefd_read_nodes alone: the nodes are no description. The value is the index of the first node that is no part of
-   one: a number of it means nothing, its bytes aren't all among the literals, or it takes more members than stand before it. */
+/* Only from timefd_format_nodes and timefd_read_nodes: the nodes aren't a description. The value is the index of the first node that
+   isn't part of one: one of its numbers means nothing, its bytes aren't all among the literals, or it takes more members than there
+   are before it. */
 #define TIMEFD_NO_DESCRIPTION 8u
 
-/* From timefd_read_date alone: a part of the date doesn't read by the description. The value is the index of the first such part:
-   how many bytes of the date stand before it. */
+/* Only from timefd_read_date and timefd_read_nodes: a part of the date doesn't match the description. The value is the index of the
+   first such part: how many bytes of the date are before it. */
 #define TIMEFD_UNREAD 9u
 
-/* From timefd_read_date alone: the whole date was read, and no moment has all that was read. The value is 0. */
+/* Only from these two: the whole date was read, and no moment has everything that was read. The value is 0. */
 #define TIMEFD_CONTRADICTION 10u
 
-/* From timefd_read_date alone: the whole date was read, and more has to be known for a moment. The value is 0. */
+/* Only from these two: the whole date was read, and it is too little for a moment. The value is 0. */
 #define TIMEFD_MISSING 11u
 
-/* From timefd_read_date alone: the bytes of the date are no UTF-8, whatever the description is that is UTF-8 itself. The value
-   is 0. */
+/* Only from these two: the bytes of the date aren't UTF-8. The value is 0. A fault of the description isn't reported then; but bytes
+   of the description that aren't UTF-8 are, and so are nodes that aren't a description. */
 #define TIMEFD_DATE_NOT_UTF8 12u
 
-/* The answer on a text. Its status is one of the first five, from timefd_convert also TIMEFD_NO_CONVERSION. */
+/* The answer on a text. Its status is one of the first five, or from timefd_convert also TIMEFD_NO_CONVERSION. */
 typedef struct timefd_answer {
     uint32_t status;
     size_t value;
 
-    /* From timefd_check, where the status is TIMEFD_REFUSED, how many bytes the whole sentence of the fault has; else 0. */
+    /* From timefd_check and timefd_diagnose, if the status is TIMEFD_REFUSED: how many bytes the whole sentence of the fault has.
+       Otherwise 0. */
     size_t sentence_len;
 
-    /* How many bytes were written to the buffer. They are fewer than the sentence or the result has where the room is too little. */
+    /* How many bytes were written to the buffer. If the room is too little, these are fewer than the sentence or the result has. */
     size_t written;
 } timefd_answer;
 
@@ -111,40 +113,40 @@ typedef struct timefd_answer {
        "[mnth]" in version 3                  TIMEFD_REFUSED, value 1 */
 timefd_answer timefd_judge(uint32_t kind, const uint8_t *text, size_t len);
 
-/* Checks a text as timefd_judge does, and writes the sentence of a refused one's fault, in UTF-8, to the `room` bytes at
-   `sentence`: all of it, or as many characters as there is room for. Of any other text it writes nothing.
+/* Checks a text as timefd_judge does. If the text is refused, writes the sentence of its fault, in UTF-8, to the `room` bytes at
+   `sentence`: all of it, or as many characters as there is room for. Otherwise it writes nothing.
 
        "[mnth]" in version 3    invalid component name `mnth` at byte index 1 */
 timefd_answer timefd_check(uint32_t kind, const uint8_t *text, size_t len, uint8_t *sentence, size_t room);
 
-/* Which fault a text has. timefd_names.h has the names that the linter gives them. */
+/* Which fault a text has. timefd_names.h has the names that the linter gives to faults. */
 #define TIMEFD_FAULT_UNCLOSED_BRACKET 1u     /* a bracket has no end */
 #define TIMEFD_FAULT_UNKNOWN_NAME 2u         /* a bracket has the name of no component, or strftime has no such letter */
 #define TIMEFD_FAULT_INVALID_MODIFIER 3u     /* a word is no modifier of its component, or no key and value */
 #define TIMEFD_FAULT_MISSING_NAME 4u         /* a bracket has no name */
-#define TIMEFD_FAULT_MISSING_MODIFIER 5u     /* a component lacks a modifier that it has to have */
-#define TIMEFD_FAULT_INVALID_ESCAPE 6u       /* a backslash or a percent sign stands before nothing that it takes */
-#define TIMEFD_FAULT_UNESCAPED_BRACKET 7u    /* a `]` stands alone, where version 3 wants a backslash before it */
-#define TIMEFD_FAULT_MISSING_SPACE 8u        /* a nested description touches the word in front of it */
+#define TIMEFD_FAULT_MISSING_MODIFIER 5u     /* a component lacks a modifier that it needs */
+#define TIMEFD_FAULT_INVALID_ESCAPE 6u       /* what follows a backslash or a percent sign is nothing that it takes */
+#define TIMEFD_FAULT_UNESCAPED_BRACKET 7u    /* a `]` stands alone, and version 3 needs a backslash before it */
+#define TIMEFD_FAULT_MISSING_SPACE 8u        /* a nested description touches the word before it */
 #define TIMEFD_FAULT_MISSING_DESCRIPTION 9u  /* `optional` has no nested description */
 #define TIMEFD_FAULT_MISSING_ALTERNATIVE 10u /* `first` has none */
-#define TIMEFD_FAULT_NESTED_TOO_DEEP 11u     /* a nested description stands inside of too many */
+#define TIMEFD_FAULT_NESTED_TOO_DEEP 11u     /* a nested description stands inside too many */
 #define TIMEFD_FAULT_SEVERAL_DESCRIPTIONS 12u /* `optional` has more than one nested description */
-#define TIMEFD_FAULT_OPTIONAL_ITEM 13u       /* `optional` stands in a version without it */
-#define TIMEFD_FAULT_FIRST_ITEM 14u          /* `first` stands in a version without it */
+#define TIMEFD_FAULT_OPTIONAL_ITEM 13u       /* `optional` stands in a version that lacks it */
+#define TIMEFD_FAULT_FIRST_ITEM 14u          /* `first` stands in a version that lacks it */
 #define TIMEFD_FAULT_UNSUPPORTED_FLAG 15u    /* a flag of strftime that is not read */
 #define TIMEFD_FAULT_UNSUPPORTED_LETTER 16u  /* a letter of strftime that is not read */
-#define TIMEFD_FAULT_NESTED_IN_COMPONENT 17u /* a component has a nested description, and takes none */
-#define TIMEFD_FAULT_DUPLICATE_MODIFIER 18u  /* a bracket has a key twice, where version 3 takes it once */
-#define TIMEFD_FAULT_REFUSED_MODIFIER 19u    /* a key stands with a value of another that refuses it */
+#define TIMEFD_FAULT_NESTED_IN_COMPONENT 17u /* a component has a nested description, but takes none */
+#define TIMEFD_FAULT_DUPLICATE_MODIFIER 18u  /* a bracket has a key twice, and version 3 takes it once */
+#define TIMEFD_FAULT_REFUSED_MODIFIER 19u    /* a key stands beside a value of another key that excludes it */
 
-/* A fault, beside its sentence. Of a text that is not refused all of it is 0. */
+/* A fault, beside its sentence. If the text isn't refused, all of it is 0. */
 typedef struct timefd_fault {
     uint32_t code;          /* one of the faults above */
-    bool out_of_memory;     /* whether memory ran out for the nearest word: then there is none, and all else is as ever */
+    bool out_of_memory;     /* whether memory ran out for the nearest word: then there is none, and all else is as always */
     size_t start;           /* the bytes at fault, from the index of the fault on, */
     size_t end;             /* up to the end of the name, the key or the value there, or else of the one character there */
-    size_t nearest_len;     /* how many bytes the nearest word has that is allowed there; 0 where none is near */
+    size_t nearest_len;     /* how many bytes the nearest word has that is allowed there; 0 if none is near */
     size_t nearest_written; /* how many of them were written: all of them, or none */
 } timefd_fault;
 
@@ -154,18 +156,18 @@ typedef struct timefd_diagnosis {
     timefd_fault fault;
 } timefd_diagnosis;
 
-/* Checks a text and writes its sentence as timefd_check does, and answers which fault a refused text has, which bytes are at
-   fault, and how long the nearest of the names, keys or values is that are allowed there, whatever the case of the word at fault;
-   of strftime there is none. It writes that word to the `word_room` bytes at `word` if they have room for all of it: 16 bytes
-   have.
+/* Checks a text and writes its sentence as timefd_check does. Also answers which fault a refused text has, which bytes are at fault,
+   and how long the nearest word is: of the names, keys or values that are allowed there, whatever the case of the word at fault.
+   For strftime there is none. It writes that word to the `word_room` bytes at `word` if they have room for all of it: 16 bytes are
+   always enough.
 
        "[mnth]" in version 3    TIMEFD_FAULT_UNKNOWN_NAME, the bytes from 1 to 5, and the word `month` */
 timefd_diagnosis timefd_diagnose(uint32_t kind, const uint8_t *text, size_t len, uint8_t *sentence, size_t room, uint8_t *word,
                                  size_t word_room);
 
 /* What is suspect in a description that is accepted. The names are those that the linter has, in small letters and with `-`. */
-#define TIMEFD_WARNING_NO_COMPONENT 1u             /* it has no component, so that each moment is written alike */
-#define TIMEFD_WARNING_OTHER_LANGUAGE 2u           /* another language reads a component where it has text */
+#define TIMEFD_WARNING_NO_COMPONENT 1u             /* it has no component, so it writes every moment alike */
+#define TIMEFD_WARNING_OTHER_LANGUAGE 2u           /* some of its text is a component in another language */
 #define TIMEFD_WARNING_MONTH_FOR_MINUTE 3u         /* a month stands after an hour, and there is no minute */
 #define TIMEFD_WARNING_MINUTE_FOR_MONTH 4u         /* a minute stands after a year, and there is no month */
 #define TIMEFD_WARNING_HOUR_WITHOUT_PERIOD 5u      /* it has an hour of twelve, and neither a period nor an hour of 24 */
@@ -174,53 +176,54 @@ timefd_diagnosis timefd_diagnose(uint32_t kind, const uint8_t *text, size_t len,
 #define TIMEFD_WARNING_WEEK_WITH_CALENDAR_YEAR 8u  /* it has an ISO week and a calendar year, and no ISO year */
 #define TIMEFD_WARNING_DATE_WITH_ISO_YEAR 9u       /* it has a month or a day and an ISO year, and no calendar year */
 #define TIMEFD_WARNING_SHOWN_TWICE 10u             /* it shows something twice */
-#define TIMEFD_WARNING_UNDETERMINED_DATE 11u       /* it has parts of a date that determine none */
+#define TIMEFD_WARNING_UNDETERMINED_DATE 11u       /* it has parts of a date that don't determine one */
 #define TIMEFD_WARNING_UNSETTLED_WIDTH 12u         /* a number of varying width touches a digit */
 #define TIMEFD_WARNING_UNSETTLED_YEAR 13u          /* a year that may have more than four digits touches a digit */
-#define TIMEFD_WARNING_DEPRECATED_COMPONENT 14u    /* a component stands for another; no text is read as such a one */
+#define TIMEFD_WARNING_DEPRECATED_COMPONENT 14u    /* a deprecated component; no text is read as one */
 
-/* No description has more warnings than there are. */
+/* The most warnings that a description can have: one of each. */
 #define TIMEFD_MOST_WARNINGS 14u
 
-/* A warning of a description, and the bytes that it speaks of. Each of these is about the text as a whole, so that they are all of it. */
+/* A warning of a description, and the bytes that it is about. Each of the warnings above is about the whole text. */
 typedef struct timefd_warning {
     uint32_t code; /* one of the warnings above */
     size_t start;  /* the index of the first of the bytes, */
     size_t end;    /* and the index after the last one */
 } timefd_warning;
 
-/* What is said of a text whose warnings are asked for. */
+/* The answer on a text whose warnings are asked for. */
 typedef struct timefd_warnings_answer {
     uint32_t status; /* one of the five, and the value that timefd_judge has */
     size_t value;
     size_t count;   /* how many warnings an accepted text has, or else 0 */
-    size_t written; /* how many of them were written, the first ones */
+    size_t written; /* how many of them were written: the first ones */
 } timefd_warnings_answer;
 
-/* Says what timefd_judge says, and writes the warnings of an accepted text to the front of the `room` warnings at `warnings`: all of
-   them, in the order of their numbers, or as many as there is room for. TIMEFD_MOST_WARNINGS are always enough. So
-   `%Y-%m-%d` in version 3 has TIMEFD_WARNING_NO_COMPONENT and TIMEFD_WARNING_OTHER_LANGUAGE, and each moment is written by it
-   as `%Y-%m-%d`. The rest of the buffer stays as it was, and so does all of it unless the status is TIMEFD_ACCEPTED.
+/* Checks a text as timefd_judge does, and writes the warnings of an accepted one to the front of the `room` warnings at `warnings`: all
+   of them, in the order of their numbers, or as many as there is room for. A room of TIMEFD_MOST_WARNINGS is always enough.
 
-   TIMEFD_NO_MEMORY may come of a description in any language. The buffer is as that of timefd_check. There are at most
-   PTRDIFF_MAX / sizeof(timefd_warning) warnings. */
+       "%Y-%m-%d" in version 3    TIMEFD_WARNING_NO_COMPONENT and TIMEFD_WARNING_OTHER_LANGUAGE: it writes every moment as %Y-%m-%d
+
+   The rest of the buffer stays as it was, and so does all of it unless the status is TIMEFD_ACCEPTED. In any language memory may run
+   out. `room` is at most PTRDIFF_MAX / sizeof(timefd_warning). */
 timefd_warnings_answer timefd_warnings(uint32_t kind, const uint8_t *text, size_t len, timefd_warning *warnings, size_t room);
 
 /* Converts the `len` bytes at `text` from version 1 to version 2, with the same items, and writes the result to the `room` bytes
-   at `buffer` if they have room for all of it: 2 * len bytes have. The value is the length of the result, written or not. A text
-   that timefd_judge refuses as version 1 is refused for the same fault, and nothing is written. TIMEFD_UNKNOWN_KIND never comes.
+   at `buffer` if they have room for all of it: 2 * len bytes are always enough. The value is the length of the result, written or
+   not. A text that timefd_judge refuses as version 1 is refused for the same fault, and nothing is written. The status is never
+   TIMEFD_UNKNOWN_KIND.
 
        a]b    a\]b */
 timefd_answer timefd_v1_to_v2(const uint8_t *text, size_t len, uint8_t *buffer, size_t room);
 
 /* Converts the `len` bytes at `text` from version 2 to version 3, with the same items, as timefd_v1_to_v2 does, with the faults
-   of version 2. But no room always suffices: where it is too little, the value is how much the result wants.
+   of version 2. But no room is always enough: if it is too little, the value is how much the result needs.
 
        [YEAR]    [year range:extended]
 
-   The result has small letters, its modifiers in one order, only those that differ from version 3's default and the range of each
-   year that has one, and `[`, `]` and `\` of literals after a `\`. Versions 2 and 3 parse it alike, and a second conversion
-   changes nothing. */
+   The result has small letters and its modifiers in one order. It has only those modifiers that differ from version 3's default, and
+   the range of each year that has one. A `\` stands before each `[`, `]` and `\` of a literal. Versions 2 and 3 parse the result
+   alike, and a second conversion changes nothing. */
 timefd_answer timefd_v2_to_v3(const uint8_t *text, size_t len, uint8_t *buffer, size_t room);
 
 /* Converts the `len` bytes at `text` from the language `from` to the language `to`, with the same items, as timefd_v1_to_v2 does,
@@ -228,14 +231,15 @@ timefd_answer timefd_v2_to_v3(const uint8_t *text, size_t len, uint8_t *buffer, 
 
        %d.%m. from strftime to version 3    [day].[month].
 
-   From version 1 it leads to versions 2 and 3, from version 2 and from strftime to version 3, and from version 3 to its normal
-   form, which is the same for all descriptions that mean the same. No other pair has a conversion: the status is
-   TIMEFD_NO_CONVERSION then, and TIMEFD_UNKNOWN_KIND where `from` or `to` is no language. To version 2 it writes what
-   timefd_v1_to_v2 does, and 2 * len bytes always suffice; from version 2 what timefd_v2_to_v3 does; and from strftime 53 * len
-   bytes always suffice. Literals side by side become one in conversions from version 1, and in those from strftime, where what a
-   letter stands for comes in place of it, part by part.
+   Version 1 is converted to versions 2 and 3, version 2 and strftime to version 3, and version 3 to its normal form, which is the same
+   for all descriptions that mean the same. No other pair has a conversion: then the status is TIMEFD_NO_CONVERSION, or
+   TIMEFD_UNKNOWN_KIND if `from` or `to` isn't a language.
 
-   From version 3 it wants 192 KiB of stack: a text that is nested 127 deep takes up to 155 of them. */
+   To version 2 it writes what timefd_v1_to_v2 does, and 2 * len bytes are always enough. From version 2 it writes what timefd_v2_to_v3
+   does. From strftime 53 * len bytes are always enough. Conversions from version 1 and from strftime make one literal of those side by
+   side; those from strftime also write a composite letter part by part.
+
+   From version 3 it needs 192 KiB of stack: a text that is nested 127 deep takes up to 155 of them. */
 timefd_answer timefd_convert(uint32_t from, uint32_t to, const uint8_t *text, size_t len, uint8_t *buffer, size_t room);
 
 /* The dialects: languages and libraries whose formats are converted to version 3. None has the number of a language. */
@@ -249,7 +253,7 @@ timefd_answer timefd_convert(uint32_t from, uint32_t to, const uint8_t *text, si
 #define TIMEFD_GO 108u     /* layouts of Go's time */
 #define TIMEFD_MOMENT 109u /* tokens of moment.js, for JavaScript */
 
-/* Why a part of a format has no text of version 3. timefd_names.h has a sentence on each, and what to do. */
+/* Why a part of a format has no text of version 3. timefd_names.h has a sentence on each reason, and what to do. */
 #define TIMEFD_REASON_BACKSLASH 1u          /* a `\` takes the meaning of the next token away */
 #define TIMEFD_REASON_CAPITALS 2u           /* it writes a name in capitals, or changes their case */
 #define TIMEFD_REASON_DATETIME_ONLY 3u      /* Ruby's `DateTime` alone has it */
@@ -289,26 +293,26 @@ timefd_answer timefd_convert(uint32_t from, uint32_t to, const uint8_t *text, si
 
 /* The answer on a format of a dialect. */
 typedef struct timefd_convert_answer {
-    uint32_t status; /* one of the five; TIMEFD_UNKNOWN_KIND where the number is that of no dialect */
-    uint32_t reason; /* where the format is refused, one of the reasons above; else 0 */
+    uint32_t status; /* one of the first five; TIMEFD_UNKNOWN_KIND if no dialect has the number */
+    uint32_t reason; /* if the format is refused, one of the reasons above; else 0 */
 
-    /* The length of the text of version 3 in bytes; of a format that is refused, how many of its bytes stand before the first part that
-       has no text; else 0. */
+    /* The length of the text of version 3 in bytes. If the format is refused, how many of its bytes are before the first part that has
+       no text. Else 0. */
     size_t value;
 
     size_t written;      /* how many bytes were written: all of the text, or none */
-    uint32_t first_year; /* the text writes the same as the format from this year on, up to the year 9999; 0 where it is not accepted */
-    bool whole_minutes;  /* whether it does so only where the offset has no seconds */
+    uint32_t first_year; /* the text writes the same as the format from this year on, up to the year 9999; 0 if it isn't accepted */
+    bool whole_minutes;  /* whether it does so only if the offset has no seconds */
 } timefd_convert_answer;
 
 /* Converts the `len` bytes at `format`, a format of the dialect with this number, to a text of version 3 that writes the same, and
    writes that to the `room` bytes at `buffer` if they have room for all of it. Else the buffer stays as it was, and the value says
-   how much room the text wants.
+   how much room the text needs.
 
        %d.%m.%Y of TIMEFD_PYTHON    [day].[month].[year], from the year 1000 on
        QQ yyyy of TIMEFD_JAVA       TIMEFD_REFUSED, TIMEFD_REASON_QUARTER, value 0
 
-   The first part, from the left, that has no text is refused, and nothing is written. TIMEFD_NO_MEMORY may come of any format. */
+   The first part, from the left, that has no text is refused, and nothing is written. With any format memory may run out. */
 timefd_convert_answer timefd_convert_format(uint32_t dialect, const uint8_t *format, size_t len, uint8_t *buffer, size_t room);
 
 /* What a node is. */
@@ -317,9 +321,9 @@ timefd_convert_answer timefd_convert_format(uint32_t dialect, const uint8_t *for
 #define TIMEFD_COMPOUND 3u  /* its members in turn */
 #define TIMEFD_OPTIONAL 4u  /* one member, which a parser may skip */
 #define TIMEFD_FIRST 5u     /* alternatives: a parser takes the first that fits, a formatter the first of all */
-#define TIMEFD_COMPOSITE 6u /* from timefd_read_composites alone: a composite letter of strftime, whose list stands elsewhere */
+#define TIMEFD_COMPOSITE 6u /* only from timefd_read_composites: a composite letter of strftime, whose list is elsewhere */
 
-/* The components. Those that the library of Rust calls deprecated come as what they stand for. */
+/* The components. One that Rust's crate `time` calls deprecated comes as the one that it stands for. */
 #define TIMEFD_DAY 1u
 #define TIMEFD_MONTH_SHORT 2u
 #define TIMEFD_MONTH_LONG 3u
@@ -358,7 +362,7 @@ timefd_convert_answer timefd_convert_format(uint32_t dialect, const uint8_t *for
 #define TIMEFD_UNIX_TIMESTAMP_NANOSECOND 36u
 #define TIMEFD_END 37u
 
-/* The values of modifiers. Each is 0 where the component doesn't have it. */
+/* The values of modifiers. A modifier that the component doesn't have is 0. */
 #define TIMEFD_PADDING_SPACE 1u
 #define TIMEFD_PADDING_ZERO 2u
 #define TIMEFD_PADDING_NONE 3u
@@ -382,9 +386,9 @@ typedef struct timefd_node {
     uint8_t format;         /* of an optional: whether a formatter writes it, TIMEFD_FALSE or TIMEFD_TRUE */
     uint16_t ignored;       /* how many bytes a parser skips, 1 to 65535 */
     uint32_t bytes;         /* the bytes that are reserved for it, the length of the longest text that it can be shown as;
-                               UINT32_MAX where there are more */
+                               UINT32_MAX if there are more */
     size_t start;           /* of a literal the index of its first byte in the buffer of literals; of any other node the index
-                               of the first node of its members, which is its own index where it has none */
+                               of the first node of its members, or its own index if it has none */
     size_t count;           /* how many bytes a literal has, and how many members any other node */
 } timefd_node;
 
@@ -395,9 +399,9 @@ typedef struct timefd_read_answer {
     size_t nodes;    /* how many nodes an accepted text has, or else 0 */
     size_t literals; /* how many bytes its literals have together, or else 0 */
     bool written;    /* whether both buffers had room for all of them */
-    size_t bytes;    /* the length of the longest text that an accepted text can be shown as, in every language, so that a
-                        buffer of that length is never too short; SIZE_MAX where there are more, and 0 where the text is not
-                        accepted. For version 3 it is the value. */
+    size_t bytes;    /* the length of the longest text that a description can write, in every language: a buffer of that length
+                        is never too short. SIZE_MAX if there are more, and 0 if the text isn't accepted. In version 3 it is
+                        the value. */
 } timefd_read_answer;
 
 /* Checks a text as timefd_judge does, and writes the nodes of a description to the `node_room` nodes at `nodes`, and the bytes of
@@ -405,46 +409,45 @@ typedef struct timefd_read_answer {
 
        "due [day]" in version 3    a literal, a component, and a compound of these two; the literals are "due "
 
-   If either has no room for all, or the text is refused, what both hold then means nothing. The answer says how much room is
-   needed, so a program may come again with more. These are always enough: for version 3 len + 1 nodes, for versions 1 and 2 len
-   nodes, and for each len bytes of literals; for strftime 7 * len nodes and 3 * len bytes. Memory is taken for nested
-   descriptions of version 3 alone.
+   If either has no room for all, or the text is refused, what both hold afterwards means nothing. The answer says how much room is
+   needed, so a program may call again with more. These are always enough: for version 3 len + 1 nodes, for versions 1 and 2 len
+   nodes, and for each of these len bytes of literals; for strftime 7 * len nodes and 3 * len bytes. Only nested descriptions of
+   version 3 take memory.
 
-   Each node stands after those of its members. In version 3 the last node is the whole description: of one part that part, else a
-   compound, and that of the empty text has no members. The members of the node with the index i are found from the last one back:
-   the last one's node has the index i - 1. Where a member's node has the index k, that of the member before it has the index
-   start - 1, with the `start` of node k, or k - 1 where node k is a literal or a component, which have no nodes but their own. Of
-   versions 1 and 2 and of strftime the nodes are those of the items in turn; versions 1 and 2 have literals and components alone,
-   and strftime has compounds of these. */
+   Each node comes after those of its members. In version 3 the last node is the whole description: its one part, or else a compound;
+   the empty text is a compound without members. The members of node i are found from the last one back: the last one is node i - 1.
+   If a member is node k, the member before it is node start - 1, with the `start` of node k; or node k - 1 if node k is a literal or a
+   component, which have no nodes but their own. In versions 1 and 2 and in strftime the nodes are those of the items in turn; versions
+   1 and 2 have only literals and components, and strftime has compounds of these too. */
 timefd_read_answer timefd_read(uint32_t kind, const uint8_t *text, size_t len, timefd_node *nodes, size_t node_room,
                                uint8_t *literals, size_t literal_room);
 
-/* Reads a text as timefd_read does, with a limit on nesting: at most `limit` nested descriptions may stand around one another,
-   from 0, where none may be nested, to 127, the limit of all other calls. A greater number counts as 127. It bounds how deep a
-   program goes that walks the nodes.
+/* Reads a text as timefd_read does, with a limit on nesting: at most `limit` nested descriptions may stand around one another. With 0
+   none may be nested; 127 is the limit of all other calls, and a greater number counts as 127. The limit bounds how deep a program
+   goes that walks the nodes.
 
        "[optional [[day]]]" in version 3, with the limit 0    TIMEFD_REFUSED, value 10
 
-   A text that nests more is refused at the `[` of the first nested description inside of too many, unless it is refused for what
-   stands in front of that. Versions 1 and 2, which take no nested descriptions, have the limit too; strftime nests none.
-   timefd_check and timefd_diagnose don't report this fault where the limit 127 allows the text. */
+   A text that nests more is refused at the `[` of the first nested description inside too many, unless it is refused for something
+   before that. Versions 1 and 2, which take no nested descriptions, have the limit too; strftime nests none. timefd_check and
+   timefd_diagnose don't report this fault if the limit 127 allows the text. */
 timefd_read_answer timefd_read_within(uint32_t kind, uint32_t limit, const uint8_t *text, size_t len, timefd_node *nodes,
                                       size_t node_room, uint8_t *literals, size_t literal_room);
 
-/* A text of strftime of all composite letters, %c%D%F%r%R%T%z, and how many nodes and bytes of literals timefd_read writes of it. */
+/* All composite letters in one text of strftime, and how many nodes and bytes of literals timefd_read writes for it. */
 #define TIMEFD_COMPOSITES "%c%D%F%r%R%T%z"
 #define TIMEFD_COMPOSITE_NODES 47u
 #define TIMEFD_COMPOSITE_LITERALS 16u
 
 /* Reads a text of strftime as timefd_read does, but a composite letter is one node, a TIMEFD_COMPOSITE. Its `start` and `count`
-   are those of its list among the nodes of TIMEFD_COMPOSITES, which a program reads once, by timefd_read, into two buffers of its
-   own, where the literals of these lists stand too.
+   are those of its list among the nodes of TIMEFD_COMPOSITES. A program reads these nodes once, by timefd_read, into two buffers of
+   their own, which have the literals of the lists too.
 
        "%F %H"    three nodes: a composite, a literal and a component
 
-   So there are as many nodes as items: len nodes and len bytes of literals are always enough. TIMEFD_UNKNOWN_KIND never comes,
-   and no memory is taken. timefd_format_nodes takes the nodes of timefd_read alone: to it such a node is no part of a
-   description. */
+   So there are as many nodes as items: len nodes and len bytes of literals are always enough. The status is never
+   TIMEFD_UNKNOWN_KIND, and no memory is taken. timefd_format_nodes and timefd_read_nodes take only nodes of timefd_read: for them a
+   composite isn't part of a description. */
 timefd_read_answer timefd_read_composites(const uint8_t *text, size_t len, timefd_node *nodes, size_t node_room,
                                           uint8_t *literals, size_t literal_room);
 
@@ -453,12 +456,12 @@ timefd_read_answer timefd_read_composites(const uint8_t *text, size_t len, timef
 #define TIMEFD_HAS_TIME 2u
 #define TIMEFD_HAS_OFFSET 4u
 
-/* A date, a time of day, an offset from UTC, or some of these. The fields of what isn't known are not looked at. */
+/* A date, a time of day, an offset from UTC, or some of these. No call looks at the fields of what isn't known. */
 typedef struct timefd_moment {
     uint32_t known;
     int32_t year;           /* -999999 to 999999 */
     uint32_t nanosecond;    /* 0 to 999999999 */
-    int32_t offset_seconds; /* how many seconds the clock is ahead of UTC, behind it as a negative number: less than 26 hours */
+    int32_t offset_seconds; /* how many seconds the clock is ahead of UTC; negative if it is behind. Less than 26 hours either way */
     uint8_t month;          /* 1 to 12 */
     uint8_t day;            /* 1 to the month's last */
     uint8_t hour;           /* 0 to 23 */
@@ -466,15 +469,15 @@ typedef struct timefd_moment {
     uint8_t second;         /* 0 to 59 */
 } timefd_moment;
 
-/* Why a component shows nothing: the moment has no date, no time of day, or no offset; the component shows no year of so many
-   digits; the instant is in no year from -999999 to 999999 of UTC. */
+/* Why a component shows nothing: the moment has no date, no time of day, or no offset; the component doesn't show years of so many
+   digits; the instant isn't in the years -999999 to 999999 of UTC. */
 #define TIMEFD_NO_DATE 1u
 #define TIMEFD_NO_TIME 2u
 #define TIMEFD_NO_OFFSET 3u
 #define TIMEFD_YEAR_TOO_LONG 4u
 #define TIMEFD_INSTANT_OUT_OF_RANGE 5u
 
-/* Which number of a moment is out of its range: the first one, in this order. */
+/* Which number of a moment is out of its range. In this order the first one is reported. */
 #define TIMEFD_RANGE_YEAR 1u
 #define TIMEFD_RANGE_MONTH 2u
 #define TIMEFD_RANGE_DAY 3u
@@ -489,32 +492,31 @@ typedef struct timefd_format_answer {
     uint32_t status;
     uint32_t reason;    /* why a component shows nothing, or which number is out of its range, or else 0 */
     uint32_t component; /* which component shows nothing, by its number in nodes, or else 0. It is the first such one. */
-    size_t value;       /* how many bytes the text has that was to be written; of TIMEFD_REFUSED the index of the fault, of
+    size_t value;       /* how many bytes the text has that was to be written; with TIMEFD_REFUSED the index of the fault, with
                            TIMEFD_NO_DESCRIPTION that of the node; or else 0 */
     size_t written;     /* how many bytes were written: all of the text, or none */
 } timefd_format_answer;
 
 /* Writes the moment by the description, the `len` bytes at `text` in the language `kind`, to the `room` bytes at `buffer` if they
-   have room for all of it. Else it writes nothing, and the value is how much room is needed. In version 3 as many bytes as
-   timefd_judge answers are always enough. What is written is UTF-8.
+   have room for all of it. Else it writes nothing, and the value is how much room is needed. In version 3 the value of timefd_judge
+   is always enough room. What is written is UTF-8.
 
        "[day].[month].[year]" in version 3, and 2026-11-23    23.11.2026 */
 timefd_format_answer timefd_format(uint32_t kind, const uint8_t *text, size_t len, const timefd_moment *moment, uint8_t *buffer,
                                    size_t room);
 
-/* Writes the moment by nodes that timefd_read wrote, or by others of that form, and the bytes of their literals, as timefd_format
-   writes it by the text that they were read of. It takes no memory, and no more stack for a deeper nesting. The only statuses are
-   TIMEFD_ACCEPTED, TIMEFD_UNSHOWN, TIMEFD_OUT_OF_RANGE and TIMEFD_NO_DESCRIPTION.
+/* Writes the moment by nodes that timefd_read wrote, or by others of that form, and the bytes of their literals. It writes what
+   timefd_format writes by the text that the nodes were read from. It takes no memory, and no more stack for deeper nesting. The only
+   statuses are TIMEFD_ACCEPTED, TIMEFD_UNSHOWN, TIMEFD_OUT_OF_RANGE and TIMEFD_NO_DESCRIPTION.
 
-   Of a node of members it looks at `count`, which is 1 of an optional, and neither at `start` nor at `bytes`; nor at a number that
-   the node's component doesn't have. Where the text would have more than SIZE_MAX bytes, the value is SIZE_MAX. What is written is UTF-8 where the
-   literals are. */
+   Of a node with members it looks at `count`, which is 1 for an optional, and neither at `start` nor at `bytes`; nor does it look at a
+   number that the node's component doesn't have. If the text would have more than SIZE_MAX bytes, the value is SIZE_MAX. What is
+   written is UTF-8 if the literals are. */
 timefd_format_answer timefd_format_nodes(const timefd_node *nodes, size_t node_count, const uint8_t *literals,
                                          size_t literal_count, const timefd_moment *moment, uint8_t *buffer, size_t room);
 
-/* Why a part of a date doesn't read: the date goes on with nothing that the component reads; the component was read before, and
-   reads another value here; the date doesn't go on with the literal text of the description; the description has been read, and
-   the date goes on. */
+/* Why a part of a date doesn't match: the component can't read what comes next; the component was read before, and has another value
+   here; the date doesn't go on with the literal text of the description; the description has ended, and the date goes on. */
 #define TIMEFD_READS_NOTHING 1u
 #define TIMEFD_READS_ANOTHER_VALUE 2u
 #define TIMEFD_ANOTHER_TEXT 3u
@@ -549,17 +551,17 @@ timefd_format_answer timefd_format_nodes(const timefd_node *nodes, size_t node_c
 #define TIMEFD_PART_UNIX_MICROSECOND 25u
 #define TIMEFD_PART_UNIX_NANOSECOND 26u
 
-/* What is said of a date that is read. */
+/* The answer on a date that is read. */
 typedef struct timefd_date_answer {
     uint32_t status;
-    uint32_t reason;      /* of TIMEFD_UNREAD why, or else 0 */
-    uint32_t component;   /* of TIMEFD_UNREAD the component that doesn't read, by its number in nodes; 0 where it is a literal or
-                             the description's end, and of any other status */
-    uint32_t part;        /* of TIMEFD_MISSING a part that was not read, of TIMEFD_CONTRADICTION one that disagrees with others, or
+    uint32_t reason;      /* with TIMEFD_UNREAD why, or else 0 */
+    uint32_t component;   /* with TIMEFD_UNREAD the component that doesn't match, by its number in nodes, or 0 for a literal or the
+                             description's end; with any other status 0 */
+    uint32_t part;        /* with TIMEFD_MISSING a part that wasn't read, with TIMEFD_CONTRADICTION one that contradicts others, or
                              else 0 */
-    size_t value;         /* of TIMEFD_REFUSED the index of the description's fault, of TIMEFD_UNREAD an index in the date, or
-                             else 0 */
-    timefd_moment moment; /* what was read; of any other status than TIMEFD_ACCEPTED nothing is known. The fields of what isn't
+    size_t value;         /* with TIMEFD_REFUSED the index of the description's fault, with TIMEFD_UNREAD an index in the date, with
+                             TIMEFD_NO_DESCRIPTION the index of the node, or else 0 */
+    timefd_moment moment; /* what was read; with any other status than TIMEFD_ACCEPTED nothing is known. The fields of what isn't
                              known are 0. */
 } timefd_date_answer;
 
@@ -569,38 +571,40 @@ typedef struct timefd_date_answer {
        "31/02/2026" by the same                               TIMEFD_CONTRADICTION, and TIMEFD_PART_DAY
 
    All of the date is read, unless an `end` drops what follows. A number that is padded is read in its full width: `[day]` reads
-   "01", and not "1". Any other one takes as many digits as it can, so that two of them want something between them; a name is read in any case where the description says so. An `optional` is skipped
-   where its member doesn't read, and of the members of a `first` the first one that reads is taken.
+   "01", and not "1". Any other number takes as many digits as it can, so two of them need something between them. A name is read in
+   any case if the description says so. An `optional` is skipped if its member doesn't match, and of the members of a `first` the
+   first that matches is taken.
 
-   A date, a time of day or an offset is known where something of it was read; after a Unix timestamp all three are. Where what
-   was read says a part twice, as a weekday beside a date, both agree, else the status is TIMEFD_CONTRADICTION. A description with
-   a fault is refused for it, whatever the date is that is UTF-8, and timefd_diagnose reports the whole fault. TIMEFD_NO_MEMORY
-   may come of a description in any language.
+   A date, a time of day or an offset is known if something of it was read; after a Unix timestamp all three are. If a part was read
+   twice, like a weekday beside a date, both have to agree; else the status is TIMEFD_CONTRADICTION. A description with a fault is
+   refused for it, whatever the date is as long as it is UTF-8, and timefd_diagnose reports the whole fault. In any language memory may
+   run out.
 
-   It takes 2 KiB of stack for each level that a description of version 3 is nested, so that it wants 256 KiB where one is nested
-   127 deep; one that is nested forty deep keeps within the 112 KiB. */
+   It takes 2 KiB of stack for each level of nesting in version 3. So it needs 256 KiB for a description that is nested 127 deep, and
+   stays within the 112 KiB for one that is nested forty deep. */
 timefd_date_answer timefd_read_date(uint32_t kind, const uint8_t *text, size_t len, const uint8_t *date, size_t date_len);
 
-/* Reads the `date_len` bytes at `date` by nodes that timefd_read wrote, or by others of that form, and the bytes of their literals, as
-   timefd_read_date reads them by the text that the nodes were read of: so a program parses a description once. The statuses are
-   TIMEFD_ACCEPTED, TIMEFD_NO_MEMORY, TIMEFD_NO_DESCRIPTION, TIMEFD_UNREAD, TIMEFD_CONTRADICTION, TIMEFD_MISSING,
-   TIMEFD_DATE_NOT_UTF8, and TIMEFD_NOT_UTF8 where a literal isn't UTF-8 by itself.
+/* Reads the `date_len` bytes at `date` by nodes that timefd_read wrote, or by others of that form, and the bytes of their literals. It
+   reads what timefd_read_date reads by the text that the nodes were read from: so a program parses a description once. The statuses
+   are TIMEFD_ACCEPTED, TIMEFD_NO_MEMORY, TIMEFD_NO_DESCRIPTION, TIMEFD_UNREAD, TIMEFD_CONTRADICTION, TIMEFD_MISSING,
+   TIMEFD_DATE_NOT_UTF8, and TIMEFD_NOT_UTF8 if a literal isn't UTF-8 by itself.
 
-   Of a node of members it looks at `count`, which is 1 of an optional, and neither at `start` nor at `bytes`; nor at a number that
-   the node's component doesn't have. It takes memory for a list of them, and 2 KiB of stack for each level that the nodes are nested. */
+   Of a node with members it looks at `count`, which is 1 for an optional, and neither at `start` nor at `bytes`; nor does it look at a
+   number that the node's component doesn't have. It takes memory for a list of the nodes, and 2 KiB of stack for each level of
+   nesting. */
 timefd_date_answer timefd_read_nodes(const timefd_node *nodes, size_t node_count, const uint8_t *literals, size_t literal_count,
                                      const uint8_t *date, size_t date_len);
 
-/* The same calls with their answers by pointer, for a program that goes on with later versions of the shared library. `size` is that
-   of the answer in the program's own header:
+/* The same calls with their answers by pointer, for a program that also runs with later versions of the shared library. `size` is the
+   size of the answer in the program's own header:
 
        timefd_answer answer;
        timefd_judge_into(TIMEFD_VERSION_3, text, len, &answer, sizeof answer);
 
-   Later versions put new fields behind those that an answer or timefd_fault has here, and change neither timefd_node, timefd_warning
-   nor timefd_moment. A program that is older than its library gets the fields that it knows, and one that is newer gets 0 in those
-   that the library lacks: so a field more breaks nothing. The bytes at `answer` need not have been set before, and overlap nothing
-   else. These hand on what the calls above answer; they are written in C, and only tested. */
+   Later versions put new fields after those that an answer or timefd_fault has here, and don't change timefd_node, timefd_warning or
+   timefd_moment. A program that is older than its library gets the fields that it knows. One that is newer gets 0 in those that the
+   library lacks. So a new field breaks nothing. The bytes at `answer` need not have been set before, and overlap nothing else. These
+   calls pass on what the calls above answer; they are written in C, and only tested. */
 void timefd_judge_into(uint32_t kind, const uint8_t *text, size_t len, timefd_answer *answer, size_t size);
 void timefd_check_into(uint32_t kind, const uint8_t *text, size_t len, uint8_t *sentence, size_t room, timefd_answer *answer,
                        size_t size);
@@ -630,7 +634,7 @@ void timefd_read_date_into(uint32_t kind, const uint8_t *text, size_t len, const
 void timefd_read_nodes_into(const timefd_node *nodes, size_t node_count, const uint8_t *literals, size_t literal_count,
                             const uint8_t *date, size_t date_len, timefd_date_answer *answer, size_t size);
 
-/* Where each field stands, as the library and this compiler have to agree on it. */
+/* The position of each field, on which the library and this compiler have to agree. */
 #ifdef __cplusplus
 #define TIMEFD_IS(what) static_assert(what, #what)
 #elif __STDC_VERSION__ >= 201112L

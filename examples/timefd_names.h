@@ -2,7 +2,7 @@
 
        printf("%s\n", timefd_fault_name(TIMEFD_FAULT_UNKNOWN_NAME));    unknown-name
 
-   They are those that the linter and timefd_format write. A number that isn't in the header has the empty text.
+   They are those that the linter and timefd_format write. For a number that isn't in the header you get the empty text.
 
    The functions are compiled into the program that calls them; the library has none of them. */
 
@@ -17,7 +17,7 @@
 extern "C" {
 #endif
 
-/* Answers what a status says: "memory ran out". Of a refused text timefd_check writes what is wrong. */
+/* Answers what a status means: "memory ran out". What is wrong with a refused text, timefd_check writes. */
 static inline const char *timefd_status_sentence(uint32_t status) {
     switch (status) {
     case TIMEFD_ACCEPTED: return "the text is accepted";
@@ -63,7 +63,7 @@ static inline const char *timefd_fault_name(uint32_t code) {
     return "";
 }
 
-/* Answers the name that the brackets of a component begin with: "month" of each of the three. */
+/* Answers the name that a component's bracket begins with: "month" for each of the three months. */
 static inline const char *timefd_component_name(uint32_t component) {
     switch (component) {
     case TIMEFD_DAY: return "day";
@@ -150,7 +150,7 @@ static inline const char *timefd_reason_name(uint32_t reason) {
     return "";
 }
 
-/* Answers what a reason says: "it writes the name of a time zone". */
+/* Answers what a reason means: "it writes the name of a time zone". */
 static inline const char *timefd_reason_sentence(uint32_t reason) {
     switch (reason) {
     case TIMEFD_REASON_BACKSLASH: return "a `\\` takes the meaning of the next token away";
@@ -296,16 +296,16 @@ static inline const char *timefd_part_name(uint32_t part) {
     return "";
 }
 
-/* Writes the sentence of a refused text's fault, and answers its length. */
+/* Writes the sentence of the fault of a refused text, and answers its length. */
 static inline size_t timefd_private_fault_sentence(uint32_t kind, const char *text, char *sentence, size_t room) {
     timefd_answer answer;
     timefd_check_text(kind, text, sentence, room, &answer);
     return answer.sentence_len;
 }
 
-/* Writes why timefd_format_text or timefd_format_nodes_text wrote nothing, with a 0 at the end, and answers how many bytes the whole
-   sentence has without it; where there is too little room, it is cut. `kind` and `text` are those that the call had; of nodes the text
-   may be null.
+/* Writes why timefd_format_text or timefd_format_nodes_text wrote nothing, with a 0 at the end. Answers how many bytes the whole
+   sentence has without the 0; if there is too little room, the sentence is cut. `kind` and `text` are those that the call had; after a
+   call by nodes the text may be null.
 
        char sentence[128];
        timefd_format_sentence(TIMEFD_VERSION_3, "[hour]", &answer, sentence, sizeof sentence);

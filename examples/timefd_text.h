@@ -5,21 +5,21 @@
            puts(text);
        }
 
-   There are two of each. A function that ends in `_text` takes texts that end with a 0. One that ends in `_chars` takes a text and
-   its length, which may hold a 0 or be part of a longer text:
+   Each call has two functions. One that ends in `_text` takes texts that end with a 0. One that ends in `_chars` takes a text and its
+   length; such a text may hold a 0, or be part of a longer text:
 
        const char *column = "23/11/2026,home";
        timefd_date_answer answer;
        timefd_read_date_chars(TIMEFD_VERSION_3, "[day]/[month]/[year]", 20, column, 10, &answer);
 
-   Each function returns whether it did all that it is for, and sets `answer`, which may be null, to what the call answers: why it
-   didn't, how much room it wants, where a fault is. A text may be null only if its length is given as 0.
+   Each function returns true if it did all of its work. It sets `answer`, which may be null, to what the call answers: why it didn't,
+   how much room it needs, where a fault is. A text may be null only if its length is given as 0.
 
-   A buffer of `room` bytes needs no first value. What is written ends with a 0, which takes up room but isn't counted: a text of
-   `value` bytes wants value + 1. If there is too little room, or nothing to write, the buffer holds the empty text. It may be null if
-   `room` is 0.
+   A buffer of `room` bytes needs no first value. What is written ends with a 0, which takes room but isn't counted: a text of `value`
+   bytes needs value + 1. If there is too little room, or nothing to write, the buffer holds the empty text. It may be null if `room`
+   is 0.
 
-   timefd_v1_to_v2 and timefd_v2_to_v3 have none here: timefd_convert_text does what they do.
+   timefd_v1_to_v2 and timefd_v2_to_v3 have no functions here: timefd_convert_text does what they do.
 
    The functions are compiled into the program that calls them; the library has none of them. */
 
@@ -34,7 +34,7 @@
 extern "C" {
 #endif
 
-/* Clears the buffer, and answers how much room it has in front of a 0. */
+/* Clears the buffer, and answers how much room it has before a 0. */
 static inline size_t timefd_private_clear(char *buffer, size_t room) {
     if (room == 0) {
         return 0;
@@ -58,7 +58,7 @@ static inline bool timefd_judge_text(uint32_t kind, const char *text, timefd_ans
     return timefd_judge_chars(kind, text, strlen(text), answer);
 }
 
-/* Whether the text is accepted; of a refused one `sentence` says what is wrong, as timefd_check writes it: as much of it as there is
+/* Whether the text is accepted. If it is refused, `sentence` says what is wrong, as timefd_check writes it: as much of it as there is
    room for, in whole characters.
 
        char sentence[128];
@@ -80,7 +80,7 @@ static inline bool timefd_check_text(uint32_t kind, const char *text, char *sent
 }
 
 /* Whether the text is accepted, as timefd_check_text says it. For a refused text `word` also holds the nearest word that is allowed,
-   or none, and `diagnosis` all of the fault. A room of 17 bytes is enough for each word.
+   or the empty text, and `diagnosis` the whole fault. A room of 17 bytes is enough for every word.
 
        timefd_diagnosis diagnosis;
        char word[17];
@@ -163,8 +163,8 @@ static inline bool timefd_convert_format_text(uint32_t dialect, const char *form
     return timefd_convert_format_chars(dialect, format, strlen(format), buffer, room, answer);
 }
 
-/* Whether both buffers hold the description, as timefd_read writes its nodes and literals. They have been set to something before, and
-   no 0 follows the literals. */
+/* Whether both buffers hold the description, as timefd_read writes its nodes and literals. The buffers have been set to some value
+   before, and no 0 follows the literals. */
 static inline bool timefd_read_chars(uint32_t kind, const char *text, size_t len, timefd_node *nodes, size_t node_room,
                                      uint8_t *literals, size_t literal_room, timefd_read_answer *answer) {
     const timefd_read_answer found =
@@ -246,7 +246,7 @@ static inline bool timefd_format_nodes_text(const timefd_node *nodes, size_t nod
     return found.status == TIMEFD_ACCEPTED && found.value < room;
 }
 
-/* Whether the date reads by the description `text`, as timefd_read_date says it. Then answer->moment is what was read.
+/* Whether the date matches the description `text`, as timefd_read_date says it. Then answer->moment is what was read.
 
        timefd_date_answer answer;
        if (timefd_read_date_text(TIMEFD_VERSION_3, "[day]/[month]/[year]", "23/11/2026", &answer)) {
@@ -266,7 +266,7 @@ static inline bool timefd_read_date_text(uint32_t kind, const char *text, const 
     return timefd_read_date_chars(kind, text, strlen(text), date, strlen(date), answer);
 }
 
-/* Whether the date reads by nodes and their literals, as timefd_read_nodes says it: the description isn't parsed again. Then
+/* Whether the date matches nodes and their literals, as timefd_read_nodes says it: the description isn't parsed again. Then
    answer->moment is what was read. */
 static inline bool timefd_read_nodes_chars(const timefd_node *nodes, size_t node_count, const uint8_t *literals,
                                            size_t literal_count, const char *date, size_t date_len, timefd_date_answer *answer) {

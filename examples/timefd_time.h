@@ -4,8 +4,8 @@
 
    The functions are compiled into the program that calls them; the library has none of them.
 
-   A number that a moment can't hold is never changed into one that it can: a leap second, a year after 999999 or a month 12 of a
-   struct tm becomes a number out of its range, and timefd_format answers TIMEFD_OUT_OF_RANGE for it and says which. */
+   A number that a moment can't hold is never changed into one that it can hold. A leap second, a year after 999999 or a month 12 of a
+   struct tm becomes a number out of its range: timefd_format answers TIMEFD_OUT_OF_RANGE for it, and says which number it is. */
 
 #ifndef TIMEFD_TIME_H
 #define TIMEFD_TIME_H
@@ -19,7 +19,7 @@
 extern "C" {
 #endif
 
-/* How many days are from 0000-01-01 to 1970-01-01. */
+/* How many days there are from 0000-01-01 to 1970-01-01. */
 #define TIMEFD_PRIVATE_EPOCH 719528
 
 /* The quotient, rounded down. */
@@ -37,31 +37,30 @@ static inline bool timefd_private_is_leap(int64_t year) {
     return year % 4 == 0 && (year % 100 != 0 || year % 400 == 0);
 }
 
-/* How many days are from 0000-01-01 to the first day of the year; of an earlier year as a negative number. */
+/* How many days there are from 0000-01-01 to the first day of the year; negative for an earlier year. */
 static inline int64_t timefd_private_days_before_year(int64_t year) {
     int64_t last = year - 1;
     int64_t leap_days = timefd_private_quotient(last, 4) - timefd_private_quotient(last, 100) + timefd_private_quotient(last, 400);
     return 365 * year + leap_days + 1;
 }
 
-/* How many days of the year are before the month, from 1; before month 13 there are all of the year. */
+/* How many days of the year are before the month, which counts from 1. Before month 13 there are all days of the year. */
 static inline int64_t timefd_private_days_before_month(int64_t year, int month) {
     static const int16_t DAYS[] = {0, 31, 59, 90, 120, 151, 181, 212, 243, 273, 304, 334, 365};
     return DAYS[month - 1] + (month > 2 && timefd_private_is_leap(year));
 }
 
-/* The year as a moment has it: beyond 999999 one that is out of its range. */
+/* The year as a moment has it; beyond 999999 it is a number out of its range. */
 static inline int32_t timefd_private_year(int64_t year) {
     return year < -999999 ? -1000000 : year > 999999 ? 1000000 : (int32_t)year;
 }
 
-/* The number as a moment has it: where it has no room for it 255, which is out of each range. */
+/* The number as a moment has it; 255, which is out of every range, if a moment has no room for it. */
 static inline uint8_t timefd_private_number(int number) {
     return number < 0 || number > 255 ? (uint8_t)255 : (uint8_t)number;
 }
 
-/* The date and the time of day that a clock shows so many seconds after 1970-01-01 00:00:00 UTC, as far from UTC as the offset
-   says. */
+/* The date and the time of day that a clock with this offset shows so many seconds after 1970-01-01 00:00:00 UTC. */
 static inline timefd_moment timefd_private_moment(int64_t seconds, uint32_t nanosecond, int32_t offset_seconds) {
     int64_t clock = timefd_private_rest(seconds, 86400) + offset_seconds;
     int64_t second_of_day = timefd_private_rest(clock, 86400);
@@ -92,7 +91,7 @@ static inline timefd_moment timefd_private_moment(int64_t seconds, uint32_t nano
     return moment;
 }
 
-/* Answers what a clock shows at a time, where it is so many seconds ahead of UTC, or behind it as a negative number.
+/* Answers what a clock shows at a time. The clock is so many seconds ahead of UTC; a negative number means that it is behind.
 
        timefd_moment_of_time(0, 0)       1970-01-01 00:00:00 +00:00
        timefd_moment_of_time(0, 3600)    1970-01-01 01:00:00 +01:00 */
@@ -100,7 +99,7 @@ static inline timefd_moment timefd_moment_of_time(time_t seconds, int32_t offset
     return timefd_private_moment((int64_t)seconds, 0, offset_seconds);
 }
 
-/* Answers the date and the time of day in a struct tm, without an offset. It looks at neither tm_wday, tm_yday nor tm_isdst.
+/* Answers the date and the time of day in a struct tm, without an offset. It doesn't look at tm_wday, tm_yday and tm_isdst.
 
        struct tm eve = {.tm_year = 126, .tm_mon = 11, .tm_mday = 24};
        timefd_moment_of_tm(&eve)    2026-12-24 00:00:00 */
@@ -117,7 +116,7 @@ static inline timefd_moment timefd_moment_of_tm(const struct tm *tm) {
     return moment;
 }
 
-/* Answers the same with the offset that the clock has: 0 for what gmtime gives, and where a struct tm has it tm_gmtoff. */
+/* Answers the same with the offset of the clock: 0 for what gmtime gives; else tm_gmtoff, if the struct tm has it. */
 static inline timefd_moment timefd_moment_of_tm_with_offset(const struct tm *tm, int32_t offset_seconds) {
     timefd_moment moment = timefd_moment_of_tm(tm);
     moment.known |= TIMEFD_HAS_OFFSET;
@@ -125,7 +124,7 @@ static inline timefd_moment timefd_moment_of_tm_with_offset(const struct tm *tm,
     return moment;
 }
 
-/* Whether so much is known of the moment, and all its numbers are in their ranges. */
+/* Whether these parts of the moment are known, and its numbers are in their ranges. */
 static inline bool timefd_private_is_known(const timefd_moment *moment, uint32_t known) {
     bool is_date = moment->year >= -999999 && moment->year <= 999999 && moment->month >= 1 && moment->month <= 12 &&
                    moment->day >= 1 &&
@@ -136,14 +135,14 @@ static inline bool timefd_private_is_known(const timefd_moment *moment, uint32_t
     return (moment->known & known) == known && is_date && is_time && (is_offset || (known & TIMEFD_HAS_OFFSET) == 0);
 }
 
-/* How many days are from 0000-01-01 to the date of the moment. */
+/* How many days there are from 0000-01-01 to the date of the moment. */
 static inline int64_t timefd_private_days(const timefd_moment *moment) {
     return timefd_private_days_before_year(moment->year) + timefd_private_days_before_month(moment->year, moment->month) +
            moment->day - 1;
 }
 
-/* The seconds from 1970-01-01 00:00:00 UTC to the moment, without its nanoseconds. False where it isn't known whole, or no time_t
-   has so many. */
+/* The seconds from 1970-01-01 00:00:00 UTC to the moment, without its nanoseconds. False if a part of the moment isn't known, or a
+   time_t can't hold the number. */
 static inline bool timefd_private_seconds(const timefd_moment *moment, time_t *seconds) {
     if (!timefd_private_is_known(moment, TIMEFD_HAS_DATE | TIMEFD_HAS_TIME | TIMEFD_HAS_OFFSET)) {
         return false;
@@ -157,8 +156,8 @@ static inline bool timefd_private_seconds(const timefd_moment *moment, time_t *s
     return true;
 }
 
-/* Sets `seconds` to the time that the moment is. False, and nothing is set, where it is none exactly: a date, a time of day and
-   an offset have to be known, in their ranges, and a whole second.
+/* Sets `seconds` to the time that the moment is. Answers false and sets nothing if the moment isn't exactly such a time: a date, a time
+   of day and an offset have to be known and in their ranges, and the second has to be a whole one.
 
        time_t seconds;
        if (timefd_time_of_moment(&answer.moment, &seconds)) { .. } */
@@ -167,8 +166,8 @@ static inline bool timefd_time_of_moment(const timefd_moment *moment, time_t *se
 }
 
 /* Sets `tm` to the date and the time of day of the moment, with tm_wday and tm_yday, and a negative tm_isdst, which says that
-   daylight saving time isn't known. A struct tm has no offset: that of the moment is left out. False, and nothing is set, where a
-   date and a time of day aren't known, in their ranges, or it is no whole second. */
+   daylight saving time isn't known. A struct tm has no offset, so that of the moment is left out. Answers false and sets nothing
+   unless a date and a time of day are known and in their ranges, and the second is a whole one. */
 static inline bool timefd_tm_of_moment(const timefd_moment *moment, struct tm *tm) {
     if (moment->nanosecond != 0 || !timefd_private_is_known(moment, TIMEFD_HAS_DATE | TIMEFD_HAS_TIME)) {
         return false;
@@ -186,7 +185,7 @@ static inline bool timefd_tm_of_moment(const timefd_moment *moment, struct tm *t
     return true;
 }
 
-/* A struct timespec is there in C from 2011 on, and by POSIX. */
+/* C has struct timespec from 2011 on, and so has POSIX. */
 #if defined(TIME_UTC) || defined(CLOCK_REALTIME)
 
 /* Answers what a clock shows at a time with nanoseconds, as timefd_moment_of_time does.

@@ -35,9 +35,9 @@ void __wrap_free(void *block) {
     __real_free(block);
 }
 
-/* The text in a block of exactly its length, so that a memory checker sees what is read behind
+/* The text in a block of exactly its length, so that a memory checker notices what is read after
    it. */
-static uint8_t *lend(uint32_t kind, const struct text *text) {
+static uint8_t *exact_copy(uint32_t kind, const struct text *text) {
     remember(kind, text);
     uint8_t *bytes = __real_malloc(text->len + (text->len == 0));
     if (bytes == NULL) {
@@ -75,11 +75,11 @@ static void check_filled(uint32_t kind, const struct text *text, const struct bu
     const uint8_t *front = buffer->guarded + GUARD;
     bool is_kept = written <= room && is_filled(buffer->guarded, GUARD) &&
                    is_filled(front + written, room - written + GUARD);
-    expect(is_kept, kind, text, "that nothing is written but the bytes that are told");
+    expect(is_kept, kind, text, "that nothing is written but the bytes that are reported");
 }
 
 timefd_answer judge(uint32_t kind, const struct text *text) {
-    uint8_t *bytes = lend(kind, text);
+    uint8_t *bytes = exact_copy(kind, text);
     timefd_answer answer = timefd_judge(kind, bytes, text->len);
     take_back(kind, text, bytes);
     return answer;
@@ -87,7 +87,7 @@ timefd_answer judge(uint32_t kind, const struct text *text) {
 
 timefd_answer check(uint32_t kind, const struct text *text, struct buffer *sentence,
                     size_t room) {
-    uint8_t *bytes = lend(kind, text);
+    uint8_t *bytes = exact_copy(kind, text);
     uint8_t *front = fill(sentence, room);
     timefd_answer answer = timefd_check(kind, bytes, text->len, front, room);
     take_back(kind, text, bytes);
@@ -97,7 +97,7 @@ timefd_answer check(uint32_t kind, const struct text *text, struct buffer *sente
 
 timefd_diagnosis diagnose(uint32_t kind, const struct text *text, struct buffer *sentence,
                           size_t room, struct buffer *word, size_t word_room) {
-    uint8_t *bytes = lend(kind, text);
+    uint8_t *bytes = exact_copy(kind, text);
     uint8_t *front = fill(sentence, room);
     uint8_t *word_front = fill(word, word_room);
     timefd_diagnosis diagnosis =
@@ -109,7 +109,7 @@ timefd_diagnosis diagnose(uint32_t kind, const struct text *text, struct buffer 
 }
 
 timefd_answer convert(const struct text *text, struct buffer *buffer, size_t room) {
-    uint8_t *bytes = lend(0, text);
+    uint8_t *bytes = exact_copy(0, text);
     uint8_t *front = fill(buffer, room);
     timefd_answer answer = timefd_v1_to_v2(bytes, text->len, front, room);
     take_back(0, text, bytes);
@@ -118,7 +118,7 @@ timefd_answer convert(const struct text *text, struct buffer *buffer, size_t roo
 }
 
 timefd_answer modernize(uint32_t kind, const struct text *text, struct buffer *buffer, size_t room) {
-    uint8_t *bytes = lend(kind, text);
+    uint8_t *bytes = exact_copy(kind, text);
     uint8_t *front = fill(buffer, room);
     timefd_answer answer =
         timefd_convert(kind, TIMEFD_VERSION_3, bytes, text->len, front, room);
@@ -128,7 +128,7 @@ timefd_answer modernize(uint32_t kind, const struct text *text, struct buffer *b
 }
 
 timefd_convert_answer convert_format(uint32_t dialect, const struct text *text, struct buffer *buffer, size_t room) {
-    uint8_t *bytes = lend(dialect, text);
+    uint8_t *bytes = exact_copy(dialect, text);
     uint8_t *front = fill(buffer, room);
     timefd_convert_answer answer = timefd_convert_format(dialect, bytes, text->len, front, room);
     take_back(dialect, text, bytes);
@@ -138,7 +138,7 @@ timefd_convert_answer convert_format(uint32_t dialect, const struct text *text, 
 
 timefd_format_answer format(uint32_t kind, const struct text *text, const timefd_moment *moment,
                             struct buffer *buffer, size_t room) {
-    uint8_t *bytes = lend(kind, text);
+    uint8_t *bytes = exact_copy(kind, text);
     uint8_t *front = fill(buffer, room);
     timefd_format_answer answer = timefd_format(kind, bytes, text->len, moment, front, room);
     take_back(kind, text, bytes);
@@ -158,7 +158,7 @@ timefd_format_answer format_nodes(uint32_t kind, const struct text *text,
 }
 
 timefd_date_answer read_date(uint32_t kind, const struct text *text, const struct text *date) {
-    uint8_t *bytes = lend(kind, text);
+    uint8_t *bytes = exact_copy(kind, text);
     uint8_t *date_bytes = __real_malloc(date->len + (date->len == 0));
     if (date_bytes == NULL) {
         abort();
@@ -175,7 +175,7 @@ timefd_date_answer read_date(uint32_t kind, const struct text *text, const struc
 timefd_date_answer read_date_by_nodes(uint32_t kind, const struct text *text,
                                       const struct node_buffers *buffers, timefd_read_answer read,
                                       const struct text *date) {
-    uint8_t *date_bytes = lend(kind, date);
+    uint8_t *date_bytes = exact_copy(kind, date);
     timefd_date_answer answer =
         timefd_read_nodes(buffers->nodes + 1, read.nodes, buffers->literals + GUARD, read.literals,
                           date_bytes, date->len);
@@ -185,7 +185,7 @@ timefd_date_answer read_date_by_nodes(uint32_t kind, const struct text *text,
 }
 
 timefd_read_answer read_within(uint32_t kind, uint32_t limit, const struct text *text) {
-    uint8_t *bytes = lend(kind, text);
+    uint8_t *bytes = exact_copy(kind, text);
     timefd_read_answer answer = timefd_read_within(kind, limit, bytes, text->len, NULL, 0, NULL, 0);
     take_back(kind, text, bytes);
     return answer;
@@ -194,9 +194,9 @@ timefd_read_answer read_within(uint32_t kind, uint32_t limit, const struct text 
 /* Reads nodes, with one for a composite letter of strftime or with its members. */
 static timefd_read_answer read_into(uint32_t kind, bool composes, const struct text *text,
                                     struct node_buffers *buffers, size_t node_room, size_t literal_room) {
-    uint8_t *bytes = lend(kind, text);
-    size_t behind = (1 + node_room + 1) * sizeof(timefd_node);
-    memset(buffers->nodes, FILL, behind);
+    uint8_t *bytes = exact_copy(kind, text);
+    size_t filled_len = (1 + node_room + 1) * sizeof(timefd_node);
+    memset(buffers->nodes, FILL, filled_len);
     memset(buffers->literals, FILL, GUARD + literal_room + GUARD);
     timefd_node *nodes_front = buffers->nodes + 1;
     uint8_t *literals_front = buffers->literals + GUARD;
@@ -204,17 +204,17 @@ static timefd_read_answer read_into(uint32_t kind, bool composes, const struct t
         composes ? timefd_read_composites(bytes, text->len, nodes_front, node_room, literals_front, literal_room)
                  : timefd_read(kind, bytes, text->len, nodes_front, node_room, literals_front, literal_room);
     take_back(kind, text, bytes);
-    /* What buffers hold that are too short, or of a text that is refused, is not told. */
-    bool is_told = answer.written || answer.status == TIMEFD_NOT_UTF8;
-    size_t nodes = is_told ? answer.nodes : node_room;
-    size_t literals = is_told ? answer.literals : literal_room;
+    /* What buffers hold that are too short, or after a text is refused, isn't defined. */
+    bool is_defined = answer.written || answer.status == TIMEFD_NOT_UTF8;
+    size_t nodes = is_defined ? answer.nodes : node_room;
+    size_t literals = is_defined ? answer.literals : literal_room;
     const uint8_t *filled = (const uint8_t *)buffers->nodes;
     size_t end = (1 + nodes) * sizeof(timefd_node);
     bool is_kept = nodes <= node_room && literals <= literal_room &&
-                   is_filled(filled, sizeof(timefd_node)) && is_filled(filled + end, behind - end) &&
+                   is_filled(filled, sizeof(timefd_node)) && is_filled(filled + end, filled_len - end) &&
                    is_filled(buffers->literals, GUARD) &&
                    is_filled(buffers->literals + GUARD + literals, literal_room - literals + GUARD);
-    expect(is_kept, kind, text, "that nothing is written but the nodes and literals that are told");
+    expect(is_kept, kind, text, "that nothing is written but the nodes and literals that are reported");
     return answer;
 }
 

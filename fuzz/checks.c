@@ -35,7 +35,7 @@ static void check_bytes(uint32_t kind, const struct text *text, timefd_answer an
            "that an unknown kind is said to be one");
 }
 
-/* A sentence has its index once: at its end, or behind that only where a combination is refused. */
+/* A sentence has its index once: at its end, with more after it only if a combination is refused. */
 static void check_form(uint32_t kind, const struct text *text, const uint8_t *bytes,
                        timefd_answer answer) {
     struct sentence cut;
@@ -43,9 +43,9 @@ static void check_form(uint32_t kind, const struct text *text, const uint8_t *by
         expect(false, kind, text, "a sentence with the index of the answer");
         return;
     }
-    bool has_context = cut.behind_len > 5 && memcmp(bytes, "the `", 5) == 0 &&
-                       (memcmp(cut.behind, " for ", 5) == 0 || memcmp(cut.behind, " when", 5) == 0);
-    expect(cut.behind_len == 0 || has_context, kind, text, "a sentence that ends with its index");
+    bool has_context = cut.rest_len > 5 && memcmp(bytes, "the `", 5) == 0 &&
+                       (memcmp(cut.rest, " for ", 5) == 0 || memcmp(cut.rest, " when", 5) == 0);
+    expect(cut.rest_len == 0 || has_context, kind, text, "a sentence that ends with its index");
 }
 
 /* A buffer that is too short gets the longest front of the sentence that ends between two

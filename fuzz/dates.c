@@ -30,7 +30,7 @@ static bool is_in(uint32_t number, uint32_t first, uint32_t last) {
     return number >= first && number <= last;
 }
 
-/* Nothing is told but what the status has. */
+/* Nothing is reported but what belongs to the status. */
 static bool is_in_form(timefd_date_answer answer, const struct text *date) {
     bool is_unread = answer.status == TIMEFD_UNREAD;
     bool has_component =

@@ -1,27 +1,27 @@
-/* What holds of a fault that is told whole. */
+/* What has to hold for a fault that is reported whole. */
 
 #include "fuzz.h"
 
 /* The longest name, key or value that is allowed anywhere has room. */
 enum { WORD = 16 };
 
-static bool is_placed(const struct text *text, const timefd_fault *told, size_t index) {
-    return told->start == index && told->start <= told->end && told->end <= text->len &&
-           (told->start < told->end || told->start == text->len) &&
-           is_boundary(text->bytes, text->len, told->start) && is_boundary(text->bytes, text->len, told->end);
+static bool is_placed(const struct text *text, const timefd_fault *diagnosed, size_t index) {
+    return diagnosed->start == index && diagnosed->start <= diagnosed->end && diagnosed->end <= text->len &&
+           (diagnosed->start < diagnosed->end || diagnosed->start == text->len) &&
+           is_boundary(text->bytes, text->len, diagnosed->start) && is_boundary(text->bytes, text->len, diagnosed->end);
 }
 
-static bool is_silent(const timefd_fault *told) {
-    return told->code == 0 && told->start == 0 && told->end == 0 && told->nearest_len == 0 && told->nearest_written == 0;
+static bool is_silent(const timefd_fault *diagnosed) {
+    return diagnosed->code == 0 && diagnosed->start == 0 && diagnosed->end == 0 && diagnosed->nearest_len == 0 && diagnosed->nearest_written == 0;
 }
 
 /* `answer` is that of timefd_check with room for the whole sentence. */
 void check_diagnosis(uint32_t kind, const struct text *text, timefd_answer answer) {
     static struct buffer sentence, word;
-    timefd_diagnosis told = diagnose(kind, text, &sentence, text->len + SENTENCE, &word, WORD);
-    const timefd_fault *fault = &told.fault;
-    bool is_same = told.answer.status == answer.status && told.answer.value == answer.value &&
-                   told.answer.sentence_len == answer.sentence_len && told.answer.written == answer.written;
+    timefd_diagnosis diagnosed = diagnose(kind, text, &sentence, text->len + SENTENCE, &word, WORD);
+    const timefd_fault *fault = &diagnosed.fault;
+    bool is_same = diagnosed.answer.status == answer.status && diagnosed.answer.value == answer.value &&
+                   diagnosed.answer.sentence_len == answer.sentence_len && diagnosed.answer.written == answer.written;
     expect(is_same, kind, text, "the same answer from timefd_diagnose as from timefd_check");
     expect(!fault->out_of_memory, kind, text, "memory for the nearest word");
     if (answer.status != TIMEFD_REFUSED) {

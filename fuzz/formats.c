@@ -19,7 +19,7 @@ timefd_format_answer show(uint32_t kind, const struct text *text, struct buffer 
     return format(kind, text, &MOMENT, buffer, ROOM);
 }
 
-/* A buffer that is too short is as it was, and the same length is told. */
+/* A buffer that is too short stays as it was, and the same length is reported. */
 static void check_too_short(uint32_t kind, const struct text *text, timefd_format_answer whole) {
     static struct buffer buffer;
     size_t room = random_below(whole.value);

@@ -26,7 +26,7 @@ static const struct text *choose_kept(void) {
     return &kept.texts[random_below(kept.count)];
 }
 
-/* Keeps a text, in the place of another where there is no room. */
+/* Keeps a text, in place of another if there is no room. */
 static void keep(const struct text *text) {
     struct text *place = &kept.texts[kept.count < KEPT ? kept.count++ : random_below(KEPT)];
     place->len = 0;

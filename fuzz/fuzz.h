@@ -11,7 +11,7 @@ enum {
     LANGUAGES = 4,       /* their numbers are 1 to 4 */
     LONGEST = 4096,      /* no text that is tried is longer, in bytes */
     ROOM = 2 * LONGEST,  /* enough for each text of version 2, and for each sentence */
-    GUARD = 16,          /* how many bytes stand before and behind a buffer */
+    GUARD = 16,          /* how many bytes there are before and after a buffer */
     SENTENCE = 256,      /* no sentence has so many bytes more than its text */
     NESTING_LIMIT = 127, /* how many nested descriptions may stand around one another */
     NODES_A_BYTE = 8,    /* no text has so many nodes for each byte, and so many more, */
@@ -25,23 +25,23 @@ struct text {
     uint8_t bytes[ROOM];
 };
 
-/* A buffer that a call writes to, which begins behind the first GUARD bytes. */
+/* A buffer that a call writes to, which begins after the first GUARD bytes. */
 struct buffer {
     uint8_t guarded[GUARD + ROOM + GUARD];
 };
 
-/* The buffers of a call that writes nodes, each behind a first node or the first GUARD bytes. */
+/* The buffers of a call that writes nodes, each after a first node or the first GUARD bytes. */
 struct node_buffers {
     timefd_node nodes[1 + NODE_ROOM + 1];
     uint8_t literals[GUARD + LITERAL_ROOM + GUARD];
 };
 
-/* The sentence of a fault: what stands up to its index, and what stands behind that. */
+/* The sentence of a fault: what comes before its index, and what comes after it. */
 struct sentence {
     const uint8_t *front;
     size_t front_len;
-    const uint8_t *behind;
-    size_t behind_len;
+    const uint8_t *rest;
+    size_t rest_len;
 };
 
 /* random.c: numbers that the seed decides. */

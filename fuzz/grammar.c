@@ -4,7 +4,7 @@
 
 #include <string.h>
 
-/* A component, and words that its head may have behind the name. */
+/* A component, and words that its head may have after the name. */
 struct head {
     const char *name;
     const char *modifiers[8];
@@ -179,18 +179,18 @@ void mutate(struct text *text) {
     static const uint8_t BYTES[] = "[]\\ :%_-0ad9+\t\x0b\xc3\xa9\xff";
     size_t at = random_below(text->len + 1);
     uint8_t *here = text->bytes + at;
-    size_t behind = text->len - at;
+    size_t rest = text->len - at;
     size_t choice = random_below(4);
-    if (choice == 0 && behind > 0) {
-        memmove(here, here + 1, behind - 1);
+    if (choice == 0 && rest > 0) {
+        memmove(here, here + 1, rest - 1);
         text->len--;
-    } else if (choice == 1 && behind > 1) {
+    } else if (choice == 1 && rest > 1) {
         uint8_t byte = here[0];
         here[0] = here[1];
         here[1] = byte;
     } else if (text->len < LONGEST) {
-        uint8_t byte = choice == 2 && behind > 0 ? *here : BYTES[random_below(sizeof BYTES - 1)];
-        memmove(here + 1, here, behind);
+        uint8_t byte = choice == 2 && rest > 0 ? *here : BYTES[random_below(sizeof BYTES - 1)];
+        memmove(here + 1, here, rest);
         *here = byte;
         text->len++;
     }

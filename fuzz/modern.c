@@ -40,7 +40,7 @@ static void check_again(uint32_t kind, const struct text *text) {
            kind, text, "that its text of version 3 is its own normal form");
 }
 
-/* A buffer that is too short is as it was, and the same length is told. */
+/* A buffer that is too short stays as it was, and the same length is reported. */
 static void check_no_room(uint32_t kind, const struct text *text, size_t len) {
     static struct buffer buffer;
     timefd_answer answer = modernize(kind, text, &buffer, random_below(len));

@@ -49,7 +49,7 @@ static size_t nesting_of(const timefd_node *node, const struct tree *members) {
 }
 
 /* Takes the members of a node off the trees so far, and puts its own there: how many there are then,
-   or 0 where it doesn't fit them. */
+   or 0 if it doesn't fit them. */
 static size_t grown(const timefd_node *node, size_t index, size_t depth) {
     bool has_count = node->what == TIMEFD_OPTIONAL ? node->count == 1 : true;
     if (!has_count || node->count > depth) {
@@ -117,7 +117,7 @@ static bool is_answer(timefd_read_answer a, timefd_read_answer b) {
            a.literals == b.literals && a.written == b.written && a.bytes == b.bytes;
 }
 
-/* With a limit on nesting the same is told of a description that keeps it, and any other is refused. */
+/* With a limit on nesting the answer is the same for a description that keeps to it, and any other is refused. */
 static void check_limit(uint32_t kind, const struct text *text, timefd_read_answer answer) {
     size_t nesting = kind == TIMEFD_VERSION_3 ? trees[0].nesting : 0;
     timefd_read_answer none = answer;
@@ -131,7 +131,7 @@ static void check_limit(uint32_t kind, const struct text *text, timefd_read_answ
     }
 }
 
-/* With less room in one buffer than is needed the same is told, but that all is written. */
+/* With less room in one buffer than is needed the answer is the same, except that not all is written. */
 static void check_less_room(uint32_t kind, const struct text *text, timefd_read_answer answer) {
     static struct node_buffers less;
     timefd_read_answer full = answer;
@@ -150,8 +150,8 @@ static void check_less_room(uint32_t kind, const struct text *text, timefd_read_
            text, "all nodes in buffers of just their room");
 }
 
-/* With one node for a composite letter the same is told of a text of strftime, and each item, of one node,
-   reserves what it does with its members. */
+/* With one node for a composite letter the answer on a text of strftime is the same, and each item is one node that
+   reserves as much as with its members. */
 static void check_composites(const struct text *text, timefd_read_answer answer) {
     static struct node_buffers one;
     timefd_read_answer composed = read_composites(text, &one, text->len, text->len);

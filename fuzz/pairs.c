@@ -1,4 +1,4 @@
-/* What holds of a text behind an accepted one: the laws of joining and of shift. */
+/* What has to hold for a text after an accepted one: the laws of joining and of shift. */
 
 #include "fuzz.h"
 
@@ -34,7 +34,7 @@ static bool are_joined(uint32_t kind, const struct text *first, const struct tex
 
 static bool is_same_but_for_index(const struct sentence *a, const struct sentence *b) {
     return a->front_len == b->front_len && memcmp(a->front, b->front, a->front_len) == 0 &&
-           a->behind_len == b->behind_len && memcmp(a->behind, b->behind, a->behind_len) == 0;
+           a->rest_len == b->rest_len && memcmp(a->rest, b->rest, a->rest_len) == 0;
 }
 
 static bool ask_for_sentence(uint32_t kind, const struct text *text, size_t index,

@@ -117,7 +117,7 @@ def moment(numbers, is_strftime, most):
     offset = f'{numbers.choice("+-")}{numbers.randint(0, 23):02}:{numbers.randint(0, 59):02}'
     if not is_strftime:
         offset += f':{numbers.randint(0, 59):02}'
-    # A year of other than four digits has six behind its sign.
+    # A year of other than four digits has a sign and six digits.
     shown = f'{year:04}' if 0 <= year <= 9999 else f'{year:+07}'
     return f'{shown}-{month:02}-{day:02}T{clock}{fraction}{offset}'
 
@@ -126,8 +126,8 @@ def run(program, lines, *words):
     """What the program writes of the lines. It has to take them all."""
     ended = subprocess.run([program, *words], input=lines, capture_output=True, check=False)
     if ended.returncode or ended.stderr:
-        told = ended.stderr.decode(errors='replace').splitlines()
-        sys.exit(f'round_trip.py: {words} ended with {ended.returncode}, and told of {len(told)} lines: {told[:3]}')
+        reported = ended.stderr.decode(errors='replace').splitlines()
+        sys.exit(f'round_trip.py: {words} ended with {ended.returncode}, and wrote {len(reported)} messages: {reported[:3]}')
     return ended.stdout
 
 

@@ -5,7 +5,7 @@
 #     fuzz/run.sh [COUNT] [SEED]              COUNT texts of each of four sorts: 300000, from seed 1
 #     fuzz/run.sh --valgrind [COUNT] [SEED]   the same under valgrind's memcheck: 1000
 #
-# It takes the library of the folder TIMEFD_LIB_DIR, or else that which `rt lib` leaves, and has it built where there is none.
+# It takes the library of the folder TIMEFD_LIB_DIR, or else that which `rt lib` leaves, and has it built if there is none.
 # With TIMEFD_PROCESSOR=aarch64 it takes the library for that processor, and qemu runs it.
 set -eu
 cd "$(dirname "$0")"

@@ -22,5 +22,5 @@ bool cut_sentence(const uint8_t *bytes, size_t len, size_t index, struct sentenc
         return false;
     }
     *sentence = (struct sentence){bytes, front, bytes + front + digits, len - front - digits};
-    return memmem(sentence->behind, sentence->behind_len, MARK, mark) == NULL;
+    return memmem(sentence->rest, sentence->rest_len, MARK, mark) == NULL;
 }

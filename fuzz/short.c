@@ -29,7 +29,7 @@ static size_t count_symbols(const char *const *symbols) {
     return count;
 }
 
-/* The text with this number: 0 is the empty one, and behind all texts of so many symbols come those
+/* The text with this number: 0 is the empty one, and after all texts of so many symbols come those
    of one more. */
 static void make(const struct symbols *table, uint32_t kind, size_t number, struct text *text) {
     const char *const *symbols = kind == TIMEFD_STRFTIME ? table->of_strftime : table->of_versions;

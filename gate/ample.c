@@ -1,6 +1,6 @@
 /* Calls the static library over long texts with all the memory there is: no call may say that memory ran out, ask for blocks
-   more often than doubling does, or hold more at once than lists and texts hold that double. And each call takes null beside
-   the length 0. gate/library builds it, with malloc, realloc and free of the library led to the functions below. */
+   more often than doubling does, or have more at once than lists and texts have that double. And each call takes null with
+   the length 0. gate/library builds it, with malloc, realloc and free of the library replaced by the functions below. */
 
 #include "../examples/timefd.h"
 
@@ -17,7 +17,7 @@ void *__wrap_malloc(size_t size);
 void *__wrap_realloc(void *block, size_t size);
 void __wrap_free(void *block);
 
-/* A block's length in front of it; the first room of a list, of what items write, and of any text; the bytes of an item and of a
+/* A block's length before it; the first room of a list, of what items write, and of any text; the bytes of an item and of a
    node; the nodes of a piece. */
 enum { FRONT = 16, FIRST_ROOM = 16, FIRST_TEXT = 64, FIRST_BYTES = 8, ITEM = 24, NODE = 32, PIECE_NODES = 14 };
 
@@ -25,7 +25,7 @@ static size_t asked; /* how many blocks a call asked for */
 static size_t held;  /* how many bytes it holds, and how many it held at most */
 static size_t most;
 static size_t failed;
-static bool tells; /* whether each call is told of, and not the wrong ones alone */
+static bool shows_all; /* whether each call is reported, and not only the wrong ones */
 
 static void take(size_t size) {
     asked++;
@@ -109,7 +109,7 @@ static size_t greater(size_t a, size_t b) { return a > b ? a : b; }
 static void expect(const char *call, const char *name, uint32_t status, size_t blocks, size_t bytes) {
     bool is_wrong = status != TIMEFD_ACCEPTED || asked > blocks || most > bytes || held != 0;
     failed += is_wrong;
-    if (is_wrong || tells) {
+    if (is_wrong || shows_all) {
         fprintf(stderr,
                 "%sgate/library: %s of %s: status %" PRIu32 ", %zu blocks of at most %zu, %zu bytes of at most %zu, %zu left\n",
                 is_wrong ? "" : "right: ", call, name, status, asked, blocks, most, bytes, held);
@@ -354,10 +354,10 @@ static const struct row {
     {TIMEFD_STRFTIME, "20 MB", "", "x", "", 20000000, 1, false},
 };
 
-/* With any argument each call is told of. */
+/* With any argument each call is reported. */
 int main(int count, char **arguments) {
     (void)arguments;
-    tells = count > 1;
+    shows_all = count > 1;
     for (size_t i = 0; i < sizeof ROWS / sizeof ROWS[0]; i++) {
         const struct row *row = &ROWS[i];
         char *bytes = repeated(row->front, row->piece, row->count, row->end);

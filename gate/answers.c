@@ -1,5 +1,5 @@
 /* Answers by pointer are those by value: all of a structure as the header has it, its front for a program that knows fewer fields, and
-   0 behind it for one that knows more. */
+   0 after it for one that knows more. */
 
 #include <stdio.h>
 #include <string.h>
@@ -12,7 +12,7 @@
 
 static int failed;
 
-/* Fields that stand side by side: where they begin, and how many bytes they have; the last one has none. */
+/* Fields side by side: where they begin, and how many bytes they have; the last one has none. */
 struct fields {
     size_t start, len;
 };
@@ -24,8 +24,8 @@ static const struct fields FORMAT[] = {{0, 12}, {16, 16}, {0}};
 static const struct fields CONVERT[] = {{0, 29}, {0}};
 static const struct fields DATE[] = {{0, 45}, {0}};
 
-/* Whether so many bytes of the answer were written, with 0 behind what is known, and nothing behind these. */
-static bool is_handed_on(const uint8_t *got, size_t size, const void *whole, size_t known, const struct fields *fields) {
+/* Whether so many bytes of the answer were written, with 0 after what is known, and nothing after these. */
+static bool is_passed_on(const uint8_t *got, size_t size, const void *whole, size_t known, const struct fields *fields) {
     for (const struct fields *it = fields; it->len != 0; it++) {
         size_t end = it->start + it->len < size ? it->start + it->len : size;
         if (end > it->start && memcmp(got + it->start, (const uint8_t *)whole + it->start, end - it->start) != 0)
@@ -56,11 +56,11 @@ static void expect(const char *name, bool holds) {
             } got;                                                                                  \
             memset(&got, '.', sizeof got);                                                          \
             timefd_##name##_into(__VA_ARGS__, &got.answer, sizes[i]);                               \
-            expect(#name, is_handed_on(got.bytes, sizes[i], &whole, sizeof whole, fields));         \
+            expect(#name, is_passed_on(got.bytes, sizes[i], &whole, sizeof whole, fields));         \
         }                                                                                           \
     } while (0)
 
-/* A fault stands by itself, so that fields behind the answer don't move it. */
+/* A fault is on its own, so that new fields after the answer don't move it. */
 static void try_diagnose(const char *text) {
     uint8_t sentence[ROOM] = {0}, word[ROOM] = {0}, fault[sizeof(timefd_fault) + MORE], answer[sizeof(timefd_answer) + MORE];
     timefd_diagnosis whole = timefd_diagnose(TIMEFD_VERSION_3, TEXT(text), sentence, ROOM, word, ROOM);
@@ -69,8 +69,8 @@ static void try_diagnose(const char *text) {
         memset(fault, '.', sizeof fault);
         timefd_diagnose_into(TIMEFD_VERSION_3, TEXT(text), sentence, ROOM, word, ROOM, (timefd_answer *)(void *)answer,
                              sizeof answer, (timefd_fault *)(void *)fault, size);
-        expect("diagnose", is_handed_on(answer, sizeof answer, &whole.answer, sizeof whole.answer, ANSWER) &&
-                               is_handed_on(fault, size, &whole.fault, sizeof whole.fault, FAULT));
+        expect("diagnose", is_passed_on(answer, sizeof answer, &whole.answer, sizeof whole.answer, ANSWER) &&
+                               is_passed_on(fault, size, &whole.fault, sizeof whole.fault, FAULT));
     }
 }
 

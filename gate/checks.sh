@@ -1,4 +1,4 @@
-# What those scripts of the gate have in common that start the programs by hand: they go to the top of the repository, and read this
+# What those scripts of the gate have in common that start the programs themselves: they go to the top of the repository, and read this
 # file. It finds the programs, in the folder $TIMEFD_PROGRAMS or where `rt ci` left them, makes the folder $room for files, and
 # counts checks.
 # shellcheck shell=sh disable=SC2034
@@ -18,7 +18,7 @@ room=$(mktemp -d)
 trap 'rm -rf "$room"' EXIT
 passed=0
 failed=0
-# What the program in hand is to write is in `wanted`, and what it is to say on the standard error is an argument.
+# What the program has to write is in `wanted`, and what it has to say on the standard error is an argument.
 : > "$room/wanted"
 : > "$room/out"
 

@@ -1,4 +1,4 @@
-"""A function once more in its file, under another name and with a wrong body: nothing calls it, so it is refused for its own body."""
+"""A copy of a function in its file, under another name and with a wrong body: nothing calls it, so it is refused for its own body."""
 import os
 import re
 import shutil
@@ -39,7 +39,7 @@ class Copy:
         return text
 
     def add_proofs(self, crate, folder):
-        """Gives the copy what is written by hand of the function's proof."""
+        """Gives the copy what is written manually of the function's proof."""
         parts = [*self.function.module, *[self.function.owner] * bool(self.function.block)]
         here = "/".join([folder, "proofs", *parts])
         if not os.path.isdir(f"{here}/{self.function.name}"):
@@ -70,7 +70,7 @@ def copy_of(source, pairs, name):
 
 
 def texts_with(source, copies):
-    """The files in which these copies stand, each behind its function."""
+    """The files with these copies, each after its function."""
     texts = {}
     for file in {it.function.file for it in copies}:
         data, text, at = source.data[file], "", 0

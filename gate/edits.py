@@ -1,14 +1,14 @@
-"""Wrong bodies as they lie in files: where they are, what they say, and a crate's sources with one of them in its place.
+"""Wrong bodies as files: where they are, what they say, and a crate's sources with one of them applied.
 
-A file NAME.edit has a line `file: src/FILE.rt`, then pairs of lines `old: TEXT` and `new: TEXT`. Each old text stands once in that
-file, as the pairs before have left it, and the new one takes its place: so `rt must-fail` reads them too.
+A file NAME.edit has a line `file: src/FILE.rt`, then pairs of lines `old: TEXT` and `new: TEXT`. Each old text occurs once in that
+file, as the pairs before have left it, and the new text replaces it. `rt must-fail` reads such files too.
 """
 import os
 import re
 
 TOP = os.path.dirname(os.path.dirname(os.path.abspath(__file__)))
 # Where the wrong bodies of a crate lie: those that `rt ci` tries, those that `gate/wrong --promised` tries in each run of the gate,
-# those that gate/wrong tries by hand, and those that no proof refuses.
+# those that only gate/wrong tries, and those that no proof refuses.
 MUST_FAIL = "crates/{}/must-fail"
 PROMISED = "wrong/promised/{}"
 ASIDE = "wrong/{}"

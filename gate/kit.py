@@ -1,10 +1,10 @@
 #!/usr/bin/env python3
-"""The toolchain's own modules, for the scripts of this repository, which have them from here alone.
+"""The toolchain's own modules, for the scripts of this repository, which get them only from here.
 
     gate/kit.py     looks for each name of the tables below in the kit that `rt` belongs to, and builds nothing
 
-The toolchain promises nothing of them. So the tables have each name that a script uses, and where a kit lacks one, the script stops
-with a sentence before it does anything.
+The toolchain promises nothing about them. So the tables have each name that a script uses. If a kit lacks one, the script stops with
+a sentence before it does anything.
 """
 import functools
 import importlib.machinery
@@ -37,13 +37,13 @@ def stop(why):
 
 
 def folder():
-    """Where `rt` and its modules lie."""
+    """Where `rt` and its modules are."""
     found = shutil.which("rt")
     return os.path.dirname(os.path.realpath(found)) if found else stop("there is no rt: put the kit's bin/ into PATH")
 
 
 def with_names(it, what, names):
-    """The module or object itself, which has all of these names."""
+    """The module or object itself, if it has all of these names."""
     lacking = [name for name in names if not hasattr(it, name)]
     if lacking:
         stop(f"the kit of {folder()} has no `{lacking[0]}` in {what}: see what stands for it there, and change gate/kit.py")

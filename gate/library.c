@@ -1,5 +1,5 @@
 /* Refuses each allocation of each call of the static library in turn, and compares nodes byte by byte. gate/library builds it,
-   with malloc, realloc and free of the library led to the functions below, and runs it. */
+   with malloc, realloc and free of the library replaced by the functions below, and runs it. */
 
 #include "../examples/timefd.h"
 
@@ -45,7 +45,7 @@ struct sample {
     const char *text;
 };
 
-/* What one call answered, and the bytes of the buffers behind it. */
+/* What one call answered, and the bytes of its buffers. */
 struct outcome {
     timefd_answer answer;
     timefd_read_answer read;
@@ -245,7 +245,7 @@ static bool takes_little(const struct sample *sample) {
     return !is_refused || asked <= (has_room ? 1 : 0);
 }
 
-/* Of a fault whose nearest word found no memory all else is told as ever. */
+/* If there was no memory for the nearest word of a fault, everything else is reported as always. */
 static void take_word(struct outcome *ample, const struct outcome *one) {
     if (one->diagnosis.fault.out_of_memory) {
         ample->diagnosis.fault.out_of_memory = true;
@@ -326,7 +326,7 @@ static bool reads_alike(const struct sample *sample, size_t *count) {
     }
 }
 
-/* Formats of other languages: some are accepted, and of others a part is refused, behind one that takes memory or at once. */
+/* Formats of other languages: some are accepted, and of others a part is refused, after one that takes memory or at once. */
 static const struct foreign {
     uint32_t dialect;
     const char *format;
@@ -365,8 +365,8 @@ static bool converts_alike(const struct foreign *given, size_t *count) {
     for (size_t number = 1; held == 0; number++) {
         timefd_convert_answer one = convert_refusing(given, buffer, number);
         bool was_refused = asked >= number;
-        const timefd_convert_answer *told = was_refused ? &OUT : &ample;
-        if (!is_same_conversion(&one, told) || memcmp(buffer, was_refused ? blank : wanted, ROOM) != 0) {
+        const timefd_convert_answer *expected = was_refused ? &OUT : &ample;
+        if (!is_same_conversion(&one, expected) || memcmp(buffer, was_refused ? blank : wanted, ROOM) != 0) {
             return false;
         }
         if (!was_refused) {
@@ -377,7 +377,7 @@ static bool converts_alike(const struct foreign *given, size_t *count) {
     return false;
 }
 
-/* A literal that ends inside of a character is no text, and a date has to be one. */
+/* A literal that ends inside a character is no text, and a date has to be one. */
 static bool reads_texts_alone(void) {
     static const timefd_node HALF = {.what = TIMEFD_LITERAL, .count = 1}, WHOLE = {.what = TIMEFD_LITERAL, .count = 2};
     const uint8_t *accent = (const uint8_t *)"\303\251";
@@ -530,7 +530,7 @@ static bool is_laid_out(const struct layout *layout) {
 }
 
 /* Faults, the bytes that are at fault, and the nearest word. */
-struct told {
+struct expected {
     uint32_t kind;
     const char *text;
     uint32_t code;
@@ -539,7 +539,7 @@ struct told {
     const char *nearest;
 };
 
-static const struct told TOLD[] = {
+static const struct expected EXPECTED[] = {
     {TIMEFD_VERSION_3, "[year]-[mnth]", TIMEFD_FAULT_UNKNOWN_NAME, 8, 12, "month"},
     {TIMEFD_VERSION_2, "[hour padding:zreo]", TIMEFD_FAULT_INVALID_MODIFIER, 14, 18, "zero"},
     {TIMEFD_VERSION_2, "[hour PADING:zero]", TIMEFD_FAULT_INVALID_MODIFIER, 6, 12, "padding"},
@@ -552,15 +552,15 @@ static const struct told TOLD[] = {
 };
 
 /* Whether a diagnosis is so, with room for the word and with none. */
-static bool is_told(const struct told *told) {
-    struct sample sample = {told->kind, told->text};
+static bool is_as_expected(const struct expected *expected) {
+    struct sample sample = {expected->kind, expected->text};
     struct outcome outcome = outcome_of(DIAGNOSE, &sample, 0);
     const timefd_fault *found = &outcome.diagnosis.fault;
-    size_t len = strlen(told->nearest);
+    size_t len = strlen(expected->nearest);
     timefd_fault short_of_room =
-        timefd_diagnose(told->kind, (const uint8_t *)told->text, strlen(told->text), NULL, 0, NULL, 0).fault;
-    return found->code == told->code && found->start == told->start && found->end == told->end &&
-           found->nearest_len == len && found->nearest_written == len && memcmp(outcome.word, told->nearest, len) == 0 &&
+        timefd_diagnose(expected->kind, (const uint8_t *)expected->text, strlen(expected->text), NULL, 0, NULL, 0).fault;
+    return found->code == expected->code && found->start == expected->start && found->end == expected->end &&
+           found->nearest_len == len && found->nearest_written == len && memcmp(outcome.word, expected->nearest, len) == 0 &&
            outcome.word[len] == '.' && short_of_room.nearest_len == len && short_of_room.nearest_written == 0;
 }
 
@@ -592,10 +592,10 @@ int main(void) {
         failed++;
         fprintf(stderr, "gate/library: a byte that is no UTF-8\n");
     }
-    for (size_t i = 0; i < sizeof TOLD / sizeof TOLD[0]; i++) {
-        if (!is_told(&TOLD[i])) {
+    for (size_t i = 0; i < sizeof EXPECTED / sizeof EXPECTED[0]; i++) {
+        if (!is_as_expected(&EXPECTED[i])) {
             failed++;
-            fprintf(stderr, "gate/library: the fault of %s\n", TOLD[i].text);
+            fprintf(stderr, "gate/library: the fault of %s\n", EXPECTED[i].text);
         }
     }
     for (size_t i = 0; i < sizeof SAMPLES / sizeof SAMPLES[0]; i++) {

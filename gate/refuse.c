@@ -1,5 +1,5 @@
 /* Loaded before the C library (LD_PRELOAD): refuses the one allocation that REFUSED_ALLOCATION numbers, from 1 on, and
-   then makes the file that REFUSAL_MARK names. In the end it writes to the file that BLOCKS_HELD names how many blocks were
+   then makes the file that REFUSAL_MARK names. At the end it writes to the file that BLOCKS_HELD names how many blocks were
    not freed. `gate/memory` builds it. */
 
 #include <errno.h>

@@ -1,5 +1,5 @@
 /* Calls the library over texts of each family nested as deep as they may be, and deeper, and measures how much stack each call
-   takes: no more than timefd.h names, and for each level no more than stands here. */
+   takes: no more than timefd.h names, and for each level no more than the bounds here. */
 #define _GNU_SOURCE
 #include "../examples/timefd.h"
 

@@ -1,4 +1,4 @@
-"""Steps that run side by side, as processors allow, each once those that it follows have passed."""
+"""Steps that run side by side, on as many processors as there are, each after those that it follows have passed."""
 import concurrent.futures
 import os
 import pathlib
@@ -96,7 +96,7 @@ def refuse_after_failures(waiting, outcomes):
 
 
 def chosen(all_steps, words):
-    """The steps that have one of the words in their names, or all where there is no word, and those that they follow."""
+    """The steps that have one of the words in their names, or all if there is no word, and those that they follow."""
     known = {it.name: it for it in all_steps}
     asked = [it.name for it in all_steps if not words or any(word in it.name for word in words)]
     for name in asked:

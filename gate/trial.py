@@ -1,9 +1,9 @@
-"""The wrong bodies of one crate, tried: the prover has to refuse each. One check tries many.
+"""Tries the wrong bodies of one crate: the prover has to refuse each. One check tries many.
 
-A wrong body stands in a copy of its function, with the same clauses and proofs, and the same check has to prove another copy, of the
-function as it is. What has no copy (a method of a trait, a function in a cycle of calls, what stands outside of functions) is tried
-alone, in its place, and so is what a check leaves open, as it doesn't compile or has a limit. The checks of a crate come one behind
-another, as each takes over what those in front have proved: a check proves also what is called.
+A wrong body is put into a copy of its function, with the same clauses and proofs, and the same check has to prove another copy, of the
+function as it is. What can't be copied (a method of a trait, a function in a cycle of calls, what is outside of functions) is tried
+alone, in place, and so is what a check leaves open because it doesn't compile or has a limit. The checks of a crate run one after
+another, because each takes over what those before it have proved: a check also proves what is called.
 """
 import contextlib
 import os

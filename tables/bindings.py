@@ -7,7 +7,7 @@ from layout import arm_of_many, arm_of_rust
 from place import Between, Table, each
 from rattle import grouped
 
-# What makes the node of a component with these fields; the last three are alone in their kind.
+# What makes the node of a component with these fields; the last three are the only ones of their kind.
 NODE_OF = {
     ("padding",): "padded({number}, padding)",
     ("case_sensitive",): "named({number}, case_sensitive)",
@@ -127,7 +127,7 @@ def reason_numbers():
     return [f"#define {name:{width}} /* {it['sentence']} */" for name, it in zip(names, reasons())]
 
 
-def told_of_reasons(key):
+def texts_of_reasons(key):
     return lambda: [f"    case TIMEFD_REASON_{capitals(it)}: return {json.dumps(it[key])};" for it in reasons()]
 
 
@@ -140,7 +140,7 @@ TABLES = [
     Table("examples/timefd_names.h", Between(("static inline const char *timefd_component_name(", "switch"), "    }"), names_of_c),
     Table("examples/timefd.h", Between(("/* Why a part of a format",), ""), reason_numbers),
     *(Table("examples/timefd_names.h", Between((f"static inline const char *timefd_reason_{key}(", "switch"), "    }"),
-            told_of_reasons(key)) for key in ("name", "sentence", "cure")),
+            texts_of_reasons(key)) for key in ("name", "sentence", "cure")),
     each("bindings/python/timefd/nodes.py", Between(("class Name(", "return name", ""), ""), BY_NUMBER,
          '    {0.capitals} = {0.number}, "{0.name}"'),
     Table(COMPONENTS, Between(("pub enum Component {",), "}"), variants),

@@ -17,7 +17,7 @@ def in_capitals(name):
 
 @dataclasses.dataclass(frozen=True)
 class Component:
-    """A row. A deprecated component has a variant, a name, a module and a line about it alone."""
+    """A row. A deprecated component has only a variant, a name, a module and a line about it."""
 
     variant: str
     name: str
@@ -50,12 +50,12 @@ class Component:
 
     @property
     def modifiers(self):
-        """The fields in the order in which texts have them: what fills stands first."""
+        """The fields in the order in which texts have them: the padding comes first."""
         return tuple(sorted(self.fields, key=lambda field: field != "padding"))
 
     @property
     def form(self):
-        """The name with the words that tell the form."""
+        """The name with the words that say the form."""
         return f"{self.name} {self.words}".strip()
 
     @property
@@ -83,7 +83,7 @@ class Name:
 
 
 def kind(field):
-    """What numbers of this field stand for: all that are true or false are flags."""
+    """What numbers of this field mean: all that are true or false are flags."""
     return "flag" if FIELDS[field]["type"] == "bool" else field
 
 
@@ -121,7 +121,7 @@ def moved(components, moves):
 
 
 def by_module():
-    """All of them by the module of their types: a deprecated one behind those that it stands for."""
+    """All of them by the module of their types: a deprecated one after those that it stands for."""
     listed = moved(MODERN, TABLE["orders"]["types"])
     for old in DEPRECATED:
         at = max(at for at, it in enumerate(listed) if it.name == old.name)

@@ -84,13 +84,13 @@ def rows_of(name):
 
 
 def key_of(name, text):
-    """The byte that selects a row: the one after the `%`, or the first; the row of `%` alone has none."""
+    """The byte that selects a row: the one after the `%`, or the first; the row of a single `%` has none."""
     return text.encode()[1:2] if load(name)["kind"] == "percent" else text.encode()[:1]
 
 
 @functools.cache
 def groups_of(name):
-    """The rows by the byte that selects them, the longest first. The row of `%` alone counts where no other does."""
+    """The rows by the byte that selects them, the longest first. The row of a single `%` counts if no other does."""
     groups = {}
     for text, row in sorted(rows_of(name).items(), key=lambda it: -len(it[0].encode())):
         groups.setdefault(key_of(name, text), {})[text] = row
@@ -102,7 +102,7 @@ def groups_of(name):
 
 
 def parts_of(name):
-    """The groups in parts that search can prove: of up to 58 bytes. Flags, digits and other marks are a part of their own where there are more."""
+    """The groups in parts that search can prove: of up to 58 bytes. If there are more, flags, digits and other marks are a part of their own."""
     groups = groups_of(name)
     if len(groups) <= 58:
         return {"groups": groups}
@@ -334,11 +334,11 @@ def rust_arm(row, key):
 
 def reason_enum():
     match = {key: "".join(rust_arm(row, key) for row in reasons()) for key in ("name", "sentence", "cure")}
-    told = {"name": "The name of the reason, such as `zone-name`.",
-            "sentence": "Why a part has no text of version 3, as a sentence without a capital and a full stop.",
-            "cure": "What to do about it, in a sentence."}
+    meanings = {"name": "The name of the reason, such as `zone-name`.",
+                "sentence": "Why a part has no text of version 3, as a sentence without a capital and a full stop.",
+                "cure": "What to do about it, in a sentence."}
     functions = "\n".join(
-        f"    /// {told[key]}\n    pub fn {key}(self) -> &'static str\n        ensures {{ result.now ≡ spec.{key} self }}\n"
+        f"    /// {meanings[key]}\n    pub fn {key}(self) -> &'static str\n        ensures {{ result.now ≡ spec.{key} self }}\n"
         f"    {{\n        match self {{\n{match[key]}        }}\n    }}\n" for key in match)
     functions += ("\n    /// Whether the dialect has no such directive, or no such flag of it.\n    pub fn is_unknown(self) -> bool\n"
                   "        ensures { result ≡ spec.is_unknown self }\n    {\n        match self {\n            "
@@ -396,12 +396,12 @@ def bound_arm(row, key):
 
 def bound_reasons():
     """The reasons in the crate for Rust."""
-    told = {"name": "The name of the reason, such as `zone-name`.",
-            "sentence": "Why a part has no text of version 3, as a sentence without a capital and a full stop.",
-            "cure": "What to do about it, in a sentence."}
+    meanings = {"name": "The name of the reason, such as `zone-name`.",
+                "sentence": "Why a part has no text of version 3, as a sentence without a capital and a full stop.",
+                "cure": "What to do about it, in a sentence."}
     functions = "".join(
-        f"\n    /// {told[key]}\n    #[must_use]\n    pub fn {key}(self) -> &'static str {{\n        match self {{\n"
-        f"{''.join(bound_arm(row, key) for row in reasons())}        }}\n    }}\n" for key in told)
+        f"\n    /// {meanings[key]}\n    #[must_use]\n    pub fn {key}(self) -> &'static str {{\n        match self {{\n"
+        f"{''.join(bound_arm(row, key) for row in reasons())}        }}\n    }}\n" for key in meanings)
     numbers = "".join(f"            {row['number']} => Self::{camel(row['name'])},\n" for row in reasons())
     return ("//! Why a part of a format has no text of version 3. `tables/write` writes them.\n\n"
             "/// Why a part of a format has no text of version 3.\n"

@@ -2,13 +2,13 @@
 import re
 
 WIDTH = 100
-# What brackets may hold at most where they stand in one line, and the longest line that stands below a name.
+# How much brackets may have inside if they are on one line, and the longest line below a name.
 SHORT = 60
 BELOW = 72
 
 
 def split(inside):
-    """What stands between the brackets of a call, cut at its own commas."""
+    """What is between the brackets of a call, cut at its own commas."""
     parts, depth = [""], 0
     for letter in inside:
         depth += (letter in "([{") - (letter in ")]}")
@@ -20,11 +20,11 @@ def split(inside):
 
 
 def openings(value):
-    """Where a value may be broken, from outside to inside: what stands before, inside and behind the brackets."""
-    before, behind = "", ""
+    """Where a value may be broken, from outside to inside: what is before, inside and after the brackets."""
+    before, after = "", ""
     while found := re.fullmatch(r"([^\s(\[]*[(\[])(.*)([)\]]+)", value, re.S):
-        before, parts, behind = before + found[1], split(found[2]), found[3] + behind
-        yield before, parts, behind
+        before, parts, after = before + found[1], split(found[2]), found[3] + after
+        yield before, parts, after
         if len(parts) > 1:
             break
         value = parts[0]
@@ -36,10 +36,10 @@ def arm(indent, pattern, value):
     line = f"{begin}{pattern} => {value},"
     if len(line) <= WIDTH and not (found and len(", ".join(found[-1][1])) > SHORT):
         return [line]
-    for before, parts, behind in reversed(found):
+    for before, parts, after in reversed(found):
         first = f"{begin}{pattern} => {before}"
         if len(first) <= WIDTH:
-            return [first, *(f"{begin}    {part}," for part in parts), f"{begin}{behind},"]
+            return [first, *(f"{begin}    {part}," for part in parts), f"{begin}{after},"]
     return [f"{begin}{pattern} =>", f"{begin}    {value},"]
 
 
@@ -83,7 +83,7 @@ def statement(path, names):
 
 
 def filled(first, parts, indent, width=WIDTH):
-    """As many parts in each line as it holds, the first ones behind these words."""
+    """As many parts in each line as it has room for, the first ones after these words."""
     lines = [first]
     for part in parts:
         if len(lines[-1]) + 1 + len(part) > width:
@@ -99,7 +99,7 @@ def equation(left, right):
 
 
 def broken(left, parts):
-    """A row: in one line, or all below, or where that is too long as much in each line as it holds."""
+    """A row: in one line, or all below, or if that is too long, as much in each line as it has room for."""
     line = f"{left} {' '.join(parts)}"
     if len(line) <= WIDTH:
         return [line]

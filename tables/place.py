@@ -1,4 +1,4 @@
-"""Where a table stands in a file: found by what stands around it, so that no file has marks."""
+"""Where a table is in a file: found by the lines around it, so that no file needs marks."""
 import dataclasses
 import typing
 
@@ -8,7 +8,7 @@ class NotFound(Exception):
 
 
 def first(lines, begin, wanted, indented=False):
-    """The first line from this one on that begins so, with its indentation or whatever that is; or an empty one."""
+    """The first line from this one on that begins so, with this indentation or with any; or an empty one."""
     for at in range(begin, len(lines)):
         line = lines[at] if indented else lines[at].strip()
         if line.startswith(wanted) if wanted else not line:
@@ -26,7 +26,7 @@ def ending(lines, begin, wanted):
 
 @dataclasses.dataclass(frozen=True)
 class Between:
-    """Behind lines that begin so, one behind another, up to one that is indented and begins so."""
+    """After lines that begin so, one after another, up to one that is indented and begins so."""
 
     after: tuple
     before: str
@@ -71,7 +71,7 @@ class Line:
 
 @dataclasses.dataclass(frozen=True)
 class Run:
-    """All lines one behind another that begin so."""
+    """All lines one after another that begin so."""
 
     begins: str
 

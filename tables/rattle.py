@@ -24,14 +24,14 @@ WORDS_OF = {
     "digits": "numbered",
     "trailing_input": "trailed",
 }
-# The field of a node, where its name is another one.
+# The field of a node, if its name is another one.
 IN_NODE = {"count": "ignored"}
-# Where the bytes of a component are told by a field, or are none, its node has no argument for them.
+# If a field determines the bytes of a component, or there are none, its node has no argument for them.
 WITHOUT_BYTES = ("subsecond", "ignored", "end")
 
 
 def arms(components, value, fields="_", indent=8, enum="Component"):
-    """An arm for each component, with what the value is of it."""
+    """An arm for each component, with its value."""
     return [line for it in components for line in arm(indent, f"{enum}::{it.variant}({fields})", value(it))]
 
 
@@ -91,7 +91,7 @@ def first_words():
 
 
 def second_words():
-    """The many that have no second modifier stand in one arm."""
+    """The many that have no second modifier are in one arm."""
     some = [it for it in ALL if len(it.modifiers) == 2]
     others = [it for it in ALL if it not in some]
     return arms(some, lambda it: word(it.modifiers[1]), "fields") + arm_of_many(8, patterns(others), '""')

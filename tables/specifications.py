@@ -4,7 +4,7 @@ from layout import WIDTH, broken, equation, filled
 from place import Between, Table, each
 from rattle import IN_NODE, NODE_OF, WITHOUT_BYTES, WORDS_OF
 
-# The variable that stands for a field, where it isn't its first letter.
+# The variable for a field, if it isn't its first letter.
 LETTER_OF = {"is_uppercase": "u", "case_sensitive": "s"}
 
 

@@ -98,7 +98,7 @@ class Browser:
         self.tool("Emulation.setEmulatedMedia", features=[{"name": "prefers-color-scheme", "value": "dark" if dark else "light"}])
 
     def complaints(self):
-        """What stands in the console as an error."""
+        """What the console shows as errors."""
         return [it["message"] for it in self.call("POST", f"{self.at}/se/log", {"type": "browser"}) if it["level"] == "SEVERE"]
 
     def shot(self, path):

@@ -1,6 +1,6 @@
-/* The heap of the WebAssembly module, in the place of malloc. Blocks have sizes that are powers of two, from 32 bytes on, and each
-   size has a list of the blocks that were given back. The memory grows from inside; what the browser doesn't give is answered as
-   want of memory. */
+/* The heap of the WebAssembly module, in place of malloc. Blocks have sizes that are powers of two, from 32 bytes on, and each
+   size has a list of the blocks that were given back. The module itself grows the memory; if the browser doesn't give it, the answer is
+   that memory ran out. */
 typedef unsigned long u64;
 
 /* What the toolchain's code expects of its three calls: whether there is a block, and the block. */
@@ -9,7 +9,7 @@ typedef struct {
     void *start;
 } allocation;
 
-/* What stands in front of each block. A block that was given back is in the list of its class. */
+/* What is before each block. A block that was given back is in the list of its class. */
 typedef struct block {
     u64 class;
     struct block *next;
@@ -41,7 +41,7 @@ static block *head_of(void *start) {
     return (block *)((unsigned char *)start - HEAD);
 }
 
-/* Whether the memory goes up to this place, once it has grown. */
+/* Whether the memory goes up to this address, once it has grown. */
 static int reaches(u64 place) {
     u64 have = __builtin_wasm_memory_size(0) * PAGE;
     if (place <= have) {
@@ -104,7 +104,7 @@ void rattle_dealloc(void *start) {
     give_back(start);
 }
 
-/* Room for the page: where it writes a text, and where an answer is written for it. 0 where there is none. */
+/* Room for the page: where it writes a text, and where an answer is written for it. 0 if there is none. */
 void *timefd_room(u64 size) {
     return take(size ? size : 1);
 }

@@ -48,7 +48,7 @@ u64 fill(u64 size, u64 value) {
     return (u64)room[300] << 8 | room[300 + size];
 }
 
-/* An address that stands in the data. */
+/* An address in the data. */
 u64 letter(u64 which, u64 place) {
     return (u64)(u8)names[which][place];
 }

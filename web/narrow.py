@@ -1,8 +1,8 @@
 """Gives a WebAssembly module of 64-bit addresses a memory of 32-bit ones, which every engine has.
 
 Numbers and calls keep their 64 bits: an address is narrowed where the module loads, stores, copies or fills, and nowhere else. So the
-module means the same as long as it stays inside its memory, of 4 GiB at most; outside of it, it may read elsewhere where the wide one
-stops. What this file doesn't know of WebAssembly it refuses."""
+module means the same as long as it stays inside its memory, of 4 GiB at most; outside it may read elsewhere where the wide module
+stops. What this file doesn't know about WebAssembly, it refuses."""
 
 from wasm_bytes import END, FORMS, GROW, I32_CONST, I64_CONST, MAGIC, SIZE, Reader, Section, Unknown, block, changed, each, immediate, number, signed
 
@@ -85,7 +85,7 @@ def elements(reader):
 
 
 def active_segment(reader):
-    """Bytes, and the address where they stand."""
+    """Bytes, and the address where they are."""
     if reader.number() != 0 or reader.byte() != I64_CONST:
         raise Unknown("a segment of data stands at no constant address")
     address = reader.signed()
@@ -97,13 +97,13 @@ def active_segment(reader):
 
 
 class Locals:
-    """The places that a function has for what stands above an address, each declared when it is first asked for."""
+    """The locals of a function for what is above an address on the stack, each declared when it is first asked for."""
 
     def __init__(self, first):
         self.first, self.added = first, []
 
     def place(self, value, taken):
-        """A place for a value of this type, which is none of those that are taken."""
+        """A local for a value of this type that isn't in use."""
         for at, kind in enumerate(self.added):
             if kind == value and self.first + at not in taken:
                 return self.first + at

@@ -70,10 +70,10 @@ function unread(text, said) {
     const words = made("p", `${said.message}${said.start === undefined ? "" : `, at byte ${said.start}`}`, "why");
     if (said.start === undefined) return [words];
     const { cut, length } = cutter(text);
-    const behind = cut(said.start, length);
-    const first = String.fromCodePoint(...[behind.codePointAt(0)].filter((it) => it !== undefined));
+    const after = cut(said.start, length);
+    const first = String.fromCodePoint(...[after.codePointAt(0)].filter((it) => it !== undefined));
     const excerpt = made("div", undefined, "text");
-    excerpt.append(cut(0, said.start).slice(-60), made("mark", first === "" ? "\u00a0" : first), behind.slice(first.length, first.length + 60));
+    excerpt.append(cut(0, said.start).slice(-60), made("mark", first === "" ? "\u00a0" : first), after.slice(first.length, first.length + 60));
     return [excerpt, words];
 }
 
@@ -109,7 +109,7 @@ function showRows(text, said, writes, names) {
     by("sum").textContent = `Reserves ${said.bytes} byte${said.bytes === 1 ? "" : "s"} in all.${left > 0 ? ` ${left} more parts are not shown.` : ""}`;
 }
 
-// Marks the part at a place in the field and in what is written.
+// Marks the part at a position in the field and in what is written.
 function near(place) {
     document.querySelectorAll("[data-place]").forEach((it) => it.classList.toggle("near", Number(it.dataset.place) === place));
 }
@@ -209,7 +209,7 @@ function show(kind, text, focuses) {
     answer();
 }
 
-// Puts a text in the place of what is selected in the field, so that the browser's "undo" takes it back.
+// Puts a text in place of what is selected in the field, so that the browser's "undo" takes it back.
 function put(text) {
     const done = text === "" ? document.execCommand("delete") : document.execCommand("insertText", false, text);
     if (!done) by("text").setRangeText(text, by("text").selectionStart, by("text").selectionEnd, "end");
@@ -237,7 +237,7 @@ function asked() {
     try {
         if (found) return show(Number(found[1]), decodeURIComponent(found[2]), false);
     } catch {
-        // It is cut off, or made by hand.
+        // The link is cut off, or somebody made it up.
     }
     answer();
 }

@@ -7,7 +7,7 @@ const MOMENT = 20;
 const ANSWER = 16;
 const ROOM = 16384;
 
-// Gives the two calls of a module, from its bytes. It wants nothing of its host.
+// Gives the two calls of a module, from its bytes. It needs nothing from its host.
 export async function load(bytes) {
     return callsOf((await WebAssembly.instantiate(bytes, {})).instance);
 }
@@ -22,7 +22,7 @@ function callsOf(instance) {
     const bytesAt = (at, len) => new Uint8Array(calls.memory.buffer, Number(at), len);
     const numbersAt = (at, len) => new DataView(calls.memory.buffer, Number(at), len);
 
-    // Runs with blocks of these sizes, which are given back. Where memory ran out it answers null.
+    // Runs with blocks of these sizes, which are given back. If memory ran out it answers null.
     const withBlocks = (sizes, run) => {
         const blocks = sizes.map((size) => calls.timefd_room(BigInt(size)));
         const all = blocks.every((block) => block !== 0n);
@@ -42,7 +42,7 @@ function callsOf(instance) {
     };
 
     // What a call left in `out`, whose room is this.
-    const told = (answer, out, room) => {
+    const outcome = (answer, out, room) => {
         const numbers = numbersAt(answer, ANSWER);
         const [status, len] = [STATUSES[numbers.getUint32(0, true)], Number(numbers.getBigUint64(8, true))];
         const json = status === "reported" && len <= room ? new TextDecoder().decode(bytesAt(out, len)) : null;
@@ -54,7 +54,7 @@ function callsOf(instance) {
             bytesAt(text, bytes.length).set(bytes);
             writeMoment(fields, moment);
             calls.timefd_web_report(language, text, BigInt(bytes.length), fields, out, BigInt(room), answer);
-            return told(answer, out, room);
+            return outcome(answer, out, room);
         });
 
     const read = (language, description, bytes, room) =>
@@ -62,10 +62,10 @@ function callsOf(instance) {
             bytesAt(by, description.length).set(description);
             bytesAt(text, bytes.length).set(bytes);
             calls.timefd_web_read(language, by, BigInt(description.length), text, BigInt(bytes.length), out, BigInt(room), answer);
-            return told(answer, out, room);
+            return outcome(answer, out, room);
         });
 
-    // Runs a call with some room, and again where its object wants more: the status, and the object as it was written, `json`,
+    // Runs a call with some room, and again if its object needs more: the status, and the object as it was written, `json`,
     // and read, `said`.
     const answered = (run) => {
         let it = run(ROOM);

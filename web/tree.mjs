@@ -31,7 +31,7 @@ export function writer(report, kind, text, at) {
     };
 }
 
-// The places of the nodes that stand right in the node at a place.
+// The positions of the nodes that are directly in the node at a position.
 function members(nodes, place) {
     const found = [];
     for (let next = place + 1; next < nodes.length && nodes[next].depth > nodes[place].depth; next += 1) {

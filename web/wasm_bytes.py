@@ -33,7 +33,7 @@ class Operand(typing.NamedTuple):
 
 
 class Form(typing.NamedTuple):
-    """What follows an instruction's number, and what stands above the address that it takes; `None` where it takes none."""
+    """What follows an instruction's number, and what is above the address that it takes; `None` if it takes none."""
 
     kind: Kind
     above: tuple | None = None
@@ -143,7 +143,7 @@ def changed(body, change):
 
 
 def immediate(code, kind):
-    """What follows an instruction's number. The offset of an address is written anew, as linkers leave room for one of 64 bits."""
+    """What follows an instruction's number. The offset of an address is rewritten, because linkers leave room for one of 64 bits."""
     begin = code.at
     match kind:
         case Kind.NOTHING:

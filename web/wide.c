@@ -20,7 +20,7 @@ u128 __multi3(u128 a, u128 b) {
     return product(a_low, b_low) + joined(a_low * (u64)(b >> 64) + (u64)(a >> 64) * b_low, 0);
 }
 
-/* The quotient, one bit at a time, the highest first: each takes the place of the bit that it is made of. The divisor isn't 0. */
+/* The quotient, one bit at a time, the highest first: each replaces the bit that it is made from. The divisor isn't 0. */
 u128 __udivti3(u128 a, u128 b) {
     u128 rest = 0;
     for (int bits = 128; bits > 0; bits -= 1) {

@@ -2,9 +2,9 @@
 """Compares what `timefd_format` writes by formats of Python, C, GNU date, Ruby and Java with what these programs write themselves, of
 random formats and moments; and reads back what they wrote by those formats that begin with a whole date and time.
 
-    bench/dialects/dialects.py [COUNT] [SEED]    COUNT formats of each, 500 where none is given
+    bench/dialects/dialects.py [COUNT] [SEED]    COUNT formats of each, by default 500
 
-A format is made of rows of `tables/dialects`, whose texts write the same of all these moments: from the year 1970 to 9999, with offsets of
+A format is made of rows of `tables/dialects`, whose texts write the same for all these moments: from the year 1970 to 9999, with offsets of
 whole minutes. It takes the program in out/, which ./build makes, or that of $TIMEFD_PROGRAMS. What isn't installed is named, and left out.
 """
 import ctypes
@@ -26,7 +26,7 @@ import dialects
 
 PROGRAM = str(pathlib.Path(os.environ.get("TIMEFD_PROGRAMS", TOP / "out"), "timefd_format").absolute())
 MOMENTS = 8
-# None is a colon: behind an offset, digits after it would be its seconds.
+# None is a colon: after an offset, the digits that follow a colon would be its seconds.
 SEPARATORS = (" ", "/", ", ", "_", ".", " | ")
 
 
@@ -103,9 +103,9 @@ def ours(*words):
 
 
 def read_back(name, format_, texts):
-    """Whether the texts are read by the format, and written again; `None` where the format is refused to read by."""
-    found, told = ours("--language", name, "--read", format_, "--", format_, *texts)
-    return None if "of the format: " in told else found == texts
+    """Whether the texts are read by the format, and written again; `None` if the format is refused to read by."""
+    found, reported = ours("--language", name, "--read", format_, "--", format_, *texts)
+    return None if "of the format: " in reported else found == texts
 
 
 def compare(name, count):
@@ -115,11 +115,11 @@ def compare(name, count):
     written = differ = refused = read = 0
     for format_, moments in rows:
         texts = [next(wanted) for _ in moments]
-        found, told = ours("--language", name, "--", format_, *(it.isoformat() for it in moments))
+        found, reported = ours("--language", name, "--", format_, *(it.isoformat() for it in moments))
         written += len(texts)
         if found != texts:
             differ += 1
-            print(f"{name}: {format_!r} of {moments[0].isoformat()}: {texts[:1]} wanted, {found[:1]} {told[:200]}")
+            print(f"{name}: {format_!r} of {moments[0].isoformat()}: {texts[:1]} wanted, {found[:1]} {reported[:200]}")
         if not format_.startswith(whole):
             continue
         is_read = read_back(name, format_, texts)

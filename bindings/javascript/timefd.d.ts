@@ -29,7 +29,7 @@ export type FaultCode =
     | "unsupported-flag"
     | "unsupported-letter";
 
-/** Where something stands in a text: `text.slice(start, end)`, or the same bytes of UTF-8. */
+/** Where something is in a text: `text.slice(start, end)`, or the same bytes of UTF-8. */
 export interface Span {
     readonly start: number;
     readonly end: number;
@@ -48,7 +48,7 @@ export interface TimeOfDay {
     readonly hour: number;
     readonly minute: number;
     readonly second: number;
-    /** Below 1,000,000,000. It is 0 where it is left out. */
+    /** Below 1,000,000,000. By default 0. */
     readonly nanosecond?: number;
 }
 
@@ -56,19 +56,19 @@ export interface TimeOfDay {
 export interface MomentParts {
     readonly date?: CalendarDate | null;
     readonly time?: TimeOfDay | null;
-    /** How many seconds the clock is ahead of UTC; negative where UTC is ahead. */
+    /** How many seconds the clock is ahead of UTC; negative if it is behind. */
     readonly offsetSeconds?: number | null;
 }
 
-/** What `Temporal.ZonedDateTime` has, where the engine has Temporal. */
+/** What `Temporal.ZonedDateTime` has, if the engine has Temporal. */
 export interface Zoned {
     readonly epochNanoseconds: bigint;
     readonly offsetNanoseconds: number;
 }
 
-/** A date, a time of day and an offset from UTC, each `null` where it isn't known. It doesn't change. */
+/** A date, a time of day and an offset from UTC, each `null` if it isn't known. A moment never changes. */
 export class Moment implements MomentParts {
-    /** Throws a `TypeError` for what is no whole number, and a `RangeError` for one that is out of its range. */
+    /** Throws a `TypeError` for what isn't a whole number, and a `RangeError` for a number that is out of its range. */
     constructor(parts?: MomentParts);
 
     readonly date: CalendarDate | null;
@@ -84,7 +84,7 @@ export class Moment implements MomentParts {
 
     /**
      * The instant, to the millisecond. Without an offset the clock is this machine's; without a time it is midnight. Throws a
-     * `TypeError` where there is no date.
+     * `TypeError` if there is no date.
      */
     toDate(): Date;
 
@@ -94,7 +94,7 @@ export class Moment implements MomentParts {
 
 /** A format, checked once, which writes and reads moments. */
 export class Format {
-    /** Throws a `FormatError` where the text is no format. The language is version 3 where none is given. */
+    /** Throws a `FormatError` if the text isn't a format. By default the language is version 3. */
     constructor(text: string, options?: { readonly language?: Language });
 
     readonly text: string;
@@ -103,12 +103,12 @@ export class Format {
     /** The bytes of UTF-8 of the longest text that it writes. */
     readonly maxBytes: number;
 
-    /** The text in version 3 with the same meaning; of version 3 the normal form. */
+    /** The text in version 3 with the same meaning; for a text of version 3 the normal form. */
     readonly version3: string;
 
     /**
-     * Writes a `Date` as this machine's clock shows it, or a whole moment. Throws a `TypeError` where the moment lacks a part, a
-     * `RangeError` where a number is out of its range, and a `WriteError` where a component can't show it.
+     * Writes a `Date` as this machine's clock shows it, or a whole moment. Throws a `TypeError` if the moment lacks a part, a
+     * `RangeError` if a number is out of its range, and a `WriteError` if a component can't show it.
      */
     format(moment: Date | Zoned | MomentParts): string;
 
@@ -119,7 +119,7 @@ export class Format {
     toString(): string;
 }
 
-/** A text is no format: `message` is the sentence of its fault. */
+/** A text isn't a format: `message` is the sentence of its fault. */
 export class FormatError extends Error {
     readonly name: "FormatError";
 
@@ -142,7 +142,7 @@ export class FormatError extends Error {
     readonly bytes: Span;
 }
 
-/** A component of the format can't show the moment, as `[year range:standard]` the year 12026. */
+/** A component of the format can't show the moment, like `[year range:standard]` the year 12026. */
 export class WriteError extends Error {
     readonly name: "WriteError";
 
@@ -150,17 +150,17 @@ export class WriteError extends Error {
     readonly format: string;
 }
 
-/** A text isn't read by a format: `message` says why. */
+/** A format can't read a text: `message` says why. */
 export class ReadError extends Error {
     readonly name: "ReadError";
 
     /** The whole text. */
     readonly text: string;
 
-    /** The component that doesn't read, as `month`; or `null` where it is none. */
+    /** The component that doesn't match, like `month`, or `null` if it isn't a component. */
     readonly component: string | null;
 
-    /** The code unit at which it doesn't read; or `null` where each part was read, and they make no moment. */
+    /** The code unit at which the text doesn't match, or `null` if every part was read, but they make no moment. */
     readonly index: number | null;
 
     /** The same, in bytes of UTF-8. */

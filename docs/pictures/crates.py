@@ -1,8 +1,8 @@
 #!/usr/bin/env python3
-"""Draws the crates of crates.txt, without those of tests: each above all that it stands on. The picture is crates.svg.
+"""Draws the crates of crates.txt, without those of tests: each above all crates that it uses. The picture is crates.svg.
 
     docs/pictures/crates.py            writes the file beside this script
-    docs/pictures/crates.py --check    fails where the file would change
+    docs/pictures/crates.py --check    fails if the file would change
 
 A line leads from a crate to one that it stands on, but for those that it also reaches by another. Dark boxes are programs and the
 crates that people call; the others are parts that the prover or the gate wants apart.
@@ -23,7 +23,7 @@ STYLE = (
 
 
 def crates():
-    """What each crate stands on, of this repository's own."""
+    """The crates of this repository that each crate uses."""
     found = {}
     for line in (TOP / "crates.txt").read_text().split("\n"):
         head, colon, rest = line.partition(":")
@@ -37,7 +37,7 @@ def short(name):
 
 
 def reach(below, name, known):
-    """All crates that one stands on, straight or not."""
+    """All crates that one uses, directly or not."""
     if name not in known:
         known[name] = set()
         for it in below[name]:
@@ -46,7 +46,7 @@ def reach(below, name, known):
 
 
 def lines(below, known):
-    """Of what each crate stands on, those that no other of them leads to."""
+    """Of the crates that each crate uses, those that it doesn't also use by another one."""
     return {name: [it for it in its if not any(it in known[other] for other in its)] for name, its in below.items()}
 
 
@@ -58,7 +58,7 @@ def heights(below, known):
 
 
 def rows(below, height):
-    """The crates of each height, each about above what it stands on and below what stands on it."""
+    """The crates of each height, each roughly above those that it uses and below those that use it."""
     levels = [sorted(it for it in below if height[it] == level) for level in range(max(height.values()) + 1)]
     place = {it: at / len(level) for level in levels for at, it in enumerate(level)}
     above = {it: [up for up in below if it in below[up]] for it in below}

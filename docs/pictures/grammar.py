@@ -2,7 +2,7 @@
 """Draws the grammars of docs/LANGUAGES.md as railroad diagrams: one SVG for each language, and one for components.
 
     docs/pictures/grammar.py            writes the files beside this script
-    docs/pictures/grammar.py --check    fails where a file would change
+    docs/pictures/grammar.py --check    fails if a file would change
 
 A grammar is a list of rows: a name and what it stands for, put together from the classes below. A round box holds bytes as
 they are written, a square box names what is drawn in another row or said in words.
@@ -56,7 +56,7 @@ class Skip:
 
 
 class Then:
-    """One behind another."""
+    """One after another."""
 
     def __init__(self, *parts):
         self.parts = parts
@@ -75,7 +75,7 @@ class Then:
 
 
 class Or:
-    """One of several: the first stands on the line, and the others below it."""
+    """One of several: the first is on the line, and the others are below it."""
 
     def __init__(self, *parts):
         self.parts = parts

@@ -1,6 +1,6 @@
 /* Writes dates by descriptions. ../run.sh builds and runs it.
 
-   format FILE: each line of the file is a language, the eight numbers of a date and, behind a bar,
+   format FILE: each line of the file is a language, the eight numbers of a date and, after a bar,
    a description. */
 
 #define _POSIX_C_SOURCE 200809L

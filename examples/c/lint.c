@@ -1,6 +1,6 @@
 /* A linter: shows which lines of a file are no descriptions of version 3, and where. ../run.sh builds and runs it.
 
-   lint FILE: the exit status is 0 where all lines are descriptions, 1 where one is none, 2 where that isn't known. */
+   lint FILE: the exit status is 0 if all lines are descriptions, 1 if one isn't, 2 if that isn't known. */
 
 #define _POSIX_C_SOURCE 200809L
 

@@ -7,7 +7,7 @@ cd "$(dirname "$0")/.."
 . ../packages/processors
 folder=$(../packages/library)
 library=$folder/libtimefd.a
-# A library that nothing proved has a header of its own beside it.
+# A library that isn't proved has a header of its own beside it.
 header=.
 [ ! -e "$folder/timefd.h" ] || header=$folder
 out=out/$processor

@@ -1,8 +1,8 @@
 /* Three tasks with formats of dates. ../run.sh builds and runs it.
 
-   tasks log CONFIG [MOMENT] < MESSAGES    writes each line behind the time, by the format under `timestamp` of a TOML file
+   tasks log CONFIG [MOMENT] < MESSAGES    writes each line after the time, by the format under `timestamp` of a TOML file
    tasks column FROM TO < IN.csv           rewrites the dates of the first column; a line whose date isn't read stays as it is
-   tasks check < FORMATS                   says of each format how long a date gets, or what is wrong */
+   tasks check < FORMATS                   says for each format how long a date gets, or what is wrong */
 
 #define _POSIX_C_SOURCE 200809L
 
@@ -27,7 +27,7 @@ static bool next_line(FILE *file, char *line) {
     return true;
 }
 
-/* Whether a text is a format; else what is wrong is said behind `front`. */
+/* Whether a text is a format; if it isn't, writes what is wrong, after `front`. */
 static bool is_format(const char *front, const char *text, timefd_diagnosis *found, FILE *to) {
     char sentence[ROOM], word[32];
     bool is_one = timefd_diagnose_text(TIMEFD_VERSION_3, text, sentence, sizeof sentence, word, sizeof word, found);

@@ -1,5 +1,5 @@
-//! Rewrites a few texts of version 1 as ones of version 2, one of version 2 as one of version 3, and one of each language in
-//! version 3's normal form. `../run.sh` builds and runs it.
+//! Rewrites a few texts of version 1 in version 2, one of version 2 in version 3, and one of each language in version 3's
+//! normal form. `../run.sh` builds and runs it.
 
 // Another program uses the rest of the module.
 #[allow(dead_code)]

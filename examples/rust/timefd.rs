@@ -1,4 +1,4 @@
-//! The static library, behind safe functions. `../timefd.h` says what each number means.
+//! The static library, called by safe functions. `../timefd.h` says what each number means.
 
 pub const VERSION_1: u32 = 1;
 pub const VERSION_2: u32 = 2;

@@ -1,8 +1,8 @@
 """Three tasks with formats of dates.
 
-tasks.py log CONFIG [MOMENT] < MESSAGES    writes each line behind the time, by the format under `timestamp` of a TOML file
+tasks.py log CONFIG [MOMENT] < MESSAGES    writes each line after the time, by the format under `timestamp` of a TOML file
 tasks.py column FROM TO < IN.csv           rewrites the dates of the first column; a line whose date isn't read stays as it is
-tasks.py check < FORMATS                   says of each format how long a date gets, or what is wrong
+tasks.py check < FORMATS                   says for each format how long a date gets, or what is wrong
 """
 
 import datetime

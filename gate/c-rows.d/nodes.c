@@ -52,7 +52,7 @@ static const char *read_in(reader *read, const struct field *fields, long long n
     return NULL;
 }
 
-/* Prints the bytes of the longest text that is shown, the literals and the nodes, or the answer where there are none. */
+/* Prints the bytes of the longest text that is shown, the literals and the nodes, or the answer if there are none. */
 static const char *read_whole(reader *read, const struct field *fields) {
     timefd_node nodes[NODES];
     uint8_t literals[ROOM];

@@ -25,7 +25,7 @@ static void push_character(struct field *field, unsigned long it) {
     }
 }
 
-/* Appends what an escape stands for, and returns what follows it, or NULL where there is no such escape. */
+/* Appends what an escape stands for, and returns what follows it, or NULL if there is no such escape. */
 static const char *take_escape(const char *rest, struct field *field) {
     static const char letters[] = "ntr0\\\"'", meant[] = "\n\t\r\0\\\"'";
     const char *simple = *rest ? strchr(letters, *rest) : NULL;

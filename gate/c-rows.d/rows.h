@@ -1,7 +1,7 @@
 /* Tables of what a library answers. Each line asks one thing: the name of a call, and its fields after it, with a space in between. A
    field is a number, or a text as Rust's literals have it: in double quotes, with their escapes, perhaps with a `b` in front, and
    with `*COUNT` after it where the text is repeated. Empty lines, and those that begin with `#`, are printed as they are; any other
-   line is answered by one line, which begins with `error: ` where it isn't understood, or where a call contradicts itself. */
+   line is answered by one line, which begins with `error: ` if it isn't understood, or if a call contradicts itself. */
 
 #ifndef ROWS_H
 #define ROWS_H

@@ -1,5 +1,5 @@
 /* Answers the rows of web.in, which gate/web-rows compares with web.out: what the page's library says. It prints the object, or the
-   status where there is none. */
+   status if there is none. */
 
 #include "buffers.h"
 

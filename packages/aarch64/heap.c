@@ -1,6 +1,6 @@
-/* The library's calls for memory on aarch64. The toolchain has them in liblibc_c.a, for x86-64 alone, so these stand here: the
-   same three functions over malloc, realloc and free. The library's proofs rest on what the toolchain states of them; that these
-   do it is tested, and not proved. The callers ask for no alignment above 16, which malloc gives, and for no size above the
+/* The library's calls for memory on aarch64. The toolchain has them in liblibc_c.a only for x86-64. So here are the same three
+   functions over malloc, realloc and free. The library's proofs rest on what the toolchain states about them; that these
+   do so is tested, and not proved. The callers ask for no alignment above 16, which malloc gives, and for no size above the
    greatest of an object. */
 #include <stdbool.h>
 #include <stddef.h>
@@ -15,7 +15,7 @@ tried rattle_alloc(size_t size, size_t align);
 tried rattle_realloc(void *block, size_t kept, size_t size, size_t align);
 void rattle_dealloc(void *block);
 
-/* Where there is no memory the answer still names a byte, as the caller's type has no null pointer. */
+/* If there is no memory the answer still names a byte, as the caller's type has no null pointer. */
 static _Alignas(16) unsigned char no_block[16];
 
 static tried answer(void *block) {

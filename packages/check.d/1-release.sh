@@ -1,4 +1,4 @@
-# The same bytes from two folders, whatever the umask, the time zone and the language; and the release in a clean folder.
+# The packages have the same bytes from two folders, whatever the umask, the time zone and the language; and the release in a clean folder.
 
 "$here/make"
 releases=$here/out/release

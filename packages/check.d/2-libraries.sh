@@ -1,20 +1,20 @@
-# The libraries, by C and C++.
+# The libraries, from C and C++.
 
 same 'the version of the header' "$(grep -c "of this header's version, $version:" "$prefix/include/timefd.h")" 1
 declared=$(sed -n 's/^[a-z].* \(timefd_[a-z0-9_]*\)(.*/\1/p' "$prefix/include/timefd.h" | sort | tr '\n' ' ')
-# The newest version of glibc that a file wants.
+# The newest version of glibc that a file needs.
 newest_glibc() {
     "${tools}objdump" -T "$1" | grep -o 'GLIBC_[0-9.]*' | sort -u -V | tail -n 1
 }
 
-# What the libraries in a folder, of the processor that for_processor was given, show and want.
+# What the libraries in a folder, for the processor that for_processor was given, export and need.
 check_libraries() {
     defined=$("${tools}nm" -g --defined-only "$1/libtimefd.a" | sed -n 's/.* [A-Z] //p' | sort | tr '\n' ' ')
     same "libtimefd.a for $processor shows what the header declares and nothing else" "$defined" "$declared"
     defined=$("${tools}nm" -D --defined-only "$1/libtimefd.so" | sed -n 's/.* T \([^@]*\).*/\1/p' | sort | tr '\n' ' ')
     same "libtimefd.so for $processor shows what the header declares and nothing else" "$defined" "$declared"
     wanted=$("${tools}nm" -g --undefined-only "$1/libtimefd.a" | sed -n 's/.* U //p' | sort | tr '\n' ' ')
-    # The first two are of the compiler's own library: they divide numbers of 128 bits, and tell what is left.
+    # The first two are of the compiler's own library: they divide numbers of 128 bits, and give the remainder.
     same "libtimefd.a for $processor wants of the compiler and the C library" "$wanted" \
         '__udivti3 __umodti3 free malloc memcpy memmove memset realloc '
     same "libtimefd.so for $processor wants glibc" "$(newest_glibc "$1/libtimefd.so")" "GLIBC_$glibc"

@@ -10,7 +10,7 @@ for name in timefd timefd_lint timefd_format; do
     readelf -l "$prefix/bin/$name" | grep -q INTERP && fail "$name of the release wants a loader"
     cc -static-pie "$release/objects/$name.o" -o "$room/$name.linked"
 done
-same 'timefd, linked anew' "$(printf 'due [day]' | "$room/timefd.linked" 3)" 'ok bytes 6'
+same 'timefd, linked again' "$(printf 'due [day]' | "$room/timefd.linked" 3)" 'ok bytes 6'
 
 # The steps of a CI and the hook for commits, over a project whose source has bad formats, and then none.
 project=$room/project
@@ -36,12 +36,12 @@ cat > "$room/results.py" << 'END'
 import json, sys
 log = json.load(sys.stdin)
 print(log["version"])
-for told in log["runs"][0]["results"]:
-    place = told["locations"][0]["physicalLocation"]
-    at = place["region"]
-    words = [told["level"], told["ruleId"], place["artifactLocation"]["uri"]]
+for result in log["runs"][0]["results"]:
+    location = result["locations"][0]["physicalLocation"]
+    at = location["region"]
+    words = [result["level"], result["ruleId"], location["artifactLocation"]["uri"]]
     words += [at[name] for name in ("startLine", "startColumn", "endLine", "endColumn")]
-    for fix in told.get("fixes", []):
+    for fix in result.get("fixes", []):
         words.append(fix["artifactChanges"][0]["replacements"][0]["insertedContent"]["text"])
     print(*words)
 END

@@ -11,7 +11,7 @@ python_tests venv "$top/bindings/python/tests"
 clean "$top/examples/tasks/compare" "$room/venv/bin/python" "$top/examples/tasks/tasks.py" > "$room/said" || fail 'the three tasks in Python'
 has mypy 'the types of the module for Python' || true
 
-# What the extension of a wheel shows and wants:   check_extension FILE
+# What the extension of a wheel exports and needs:   check_extension FILE
 check_extension() {
     same "the extension for $processor shows" "$("${tools}nm" -D --defined-only "$1" | sed -n 's/.* T //p')" PyInit__timefd
     same "the extension for $processor wants no later glibc than its tag says" \
@@ -19,7 +19,7 @@ check_extension() {
 }
 check_extension "$("$room/venv/bin/python" -B -c 'from timefd import calls; print(calls._timefd.__file__)')"
 
-# The extension over musl: its loader finds all that it wants, given names in the place of Python's.
+# The extension over musl: its loader finds all that it wants, given names in place of Python's.
 if has musl-gcc 'the wheel for musl'; then
     python3 -m zipfile -e "$releases/timefd-$version-cp39-abi3-musllinux_1_2_x86_64.whl" "$room/musl"
     extension=$room/musl/timefd/_timefd.abi3.so

@@ -1,4 +1,4 @@
-# What was installed goes again, and leaves nothing but folders that others share.
+# What was installed is removed again; only folders that others share stay.
 
 make -s -C "$release" uninstall PREFIX="$prefix"
 same 'uninstall leaves no file' "$(find "$room/clean" ! -type d)" ''

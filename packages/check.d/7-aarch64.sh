@@ -1,4 +1,4 @@
-# The packages for aarch64: what they hold; and the library under qemu, in C and C++, over the examples, with made-up texts, with
+# The packages for aarch64: what is in them; and the library under qemu, in C and C++, over the examples, with made-up texts, with
 # each allocation refused, and on a small stack.
 
 if has aarch64-linux-gnu-g++ 'the packages for aarch64'; then

@@ -38,7 +38,7 @@ _timefd_lint() {
     esac
 }
 
-# Behind `--`, `--guess` and the description no word is an option.
+# After `--`, `--guess` and the description no word is an option.
 _timefd_format() {
     local word value=
     for word in "${COMP_WORDS[@]:1:COMP_CWORD-1}"; do

@@ -1,8 +1,8 @@
 """The functions that the library exports: how a program reaches them, and how C calls them.
 
-A module that is made without proofs is that of a program, and has what its `main` reaches. So the library's is that of a program
-which could call each export. There an export is a function as any other: it takes the place of its answer where that is a struct,
-and a pointer that isn't null beside the length 0. A small file of C gives each its name, and C's way to call it.
+A module that is made without proofs belongs to a program, and has what its `main` reaches. So the library's module is that of a program
+that could call each export. There an export is a function like any other: if its answer is a struct, it takes a pointer to it,
+and it takes a pointer that isn't null with the length 0. A small file in C gives each its name, and C's way to call it.
 """
 import re
 import typing

@@ -1,5 +1,5 @@
-/* The start of a program that nothing proved: below what `--version` writes it says so, unless TIMEFD_UNPROVED is set, as the
-   tests set it, which compare with what proved programs write. */
+/* The start of a program that isn't proved. After what `--version` writes, it says so, unless TIMEFD_UNPROVED is set: tests set it,
+   because they compare with what proved programs write. */
 
 #include <stdio.h>
 #include <stdlib.h>

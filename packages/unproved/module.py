@@ -1,4 +1,4 @@
-"""The module of a crate, without the checks that a try adds."""
+"""The module of a crate, without the checks that `rt try` adds."""
 import pathlib
 import re
 import sys

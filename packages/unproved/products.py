@@ -1,4 +1,4 @@
-"""What `./build` makes, each by itself: programs, and the library."""
+"""What `./build` makes, one by one: programs, and the library."""
 import os
 import pathlib
 import re

@@ -8,7 +8,7 @@ pub fn items(by: &'static str) -> Vec<FormatItem<'static>> {
     let Some((front, rest)) = nested else {
         return plain(by);
     };
-    let (inside, behind) = rest.split_once("]]]").expect("a component ends each nested description");
+    let (inside, after) = rest.split_once("]]]").expect("a component ends each nested description");
     let members = inside.split("]] [[");
     let mut members = members.clone().enumerate().map(|(place, member)| {
         let open = if place > 0 { "[" } else { "" };
@@ -24,7 +24,7 @@ pub fn items(by: &'static str) -> Vec<FormatItem<'static>> {
     };
     let mut items = plain(front);
     items.push(item);
-    items.extend(plain(behind));
+    items.extend(plain(after));
     items
 }
 

@@ -1,4 +1,4 @@
-// What browsers import: the module of WebAssembly is fetched from where this package's scripts lie.
+// What browsers import: the WebAssembly module is fetched from the folder of this package's scripts.
 
 import { start } from "./library.mjs";
 import { load } from "./timefd.mjs";

@@ -1,8 +1,8 @@
-// Why a text is no format, why it writes nothing, and why a text is not read by it.
+// Why a text isn't a format, why a format writes nothing, and why it can't read a text.
 
 import { cutter } from "./places.mjs";
 
-// The index of the code unit at which a byte of the text stands.
+// The index of the code unit in which a byte of the text is.
 const unitAt = (text, byte) => cutter(text).cut(0, byte).length;
 
 export class FormatError extends Error {

@@ -7,7 +7,7 @@ export function start(loaded) {
     calls = loaded;
 }
 
-// What the text is as one of a language, and what it writes of the moment's numbers.
+// What the text is in a language, and what it writes for the moment's numbers.
 export const report = (language, numbers, text) => object(calls.report(language, numbers, text));
 
 // What the text shows by a description of a language.

@@ -93,7 +93,7 @@ function millisecondsOf(instant) {
     return instant.getTime();
 }
 
-// How many seconds the clock of this machine is ahead of UTC. getTimezoneOffset has minutes alone.
+// How many seconds the clock of this machine is ahead of UTC. getTimezoneOffset has only minutes.
 function offsetHere(instant) {
     const shown = new Date(0);
     shown.setUTCFullYear(instant.getFullYear(), instant.getMonth(), instant.getDate());

@@ -4,7 +4,7 @@ import functools, http.server, json, os, pathlib, shutil, subprocess, tempfile, 
 
 SECONDS = 300
 TASKS = pathlib.Path(__file__).resolve().parents[3] / "examples/tasks/compare"
-# The words that Node wants for memories of 64 bits: later versions have them by themselves, and Node 20 on request.
+# The options that Node needs for memories of 64 bits: later versions have these memories by default, and Node 20 on request.
 NODE_WORDS = ([], ["--experimental-wasm-memory64"])
 
 
@@ -29,7 +29,7 @@ class Node:
         return json.loads(ran.stdout) + [self.example(words, it) for it in sorted((room / "examples").glob("*.mjs"))]
 
     def example(self, words, script):
-        """Runs an example over the text that lies beside it, and compares what it writes."""
+        """Runs an example over the text that is beside it, and compares what it writes."""
         given, wanted = (script.with_suffix(it) for it in (".in", ".out"))
         if not wanted.exists():
             return self.tasks(words, script)

@@ -1,4 +1,4 @@
-// Runs all checks under Node, over the package `timefd` that lies in node_modules above:   node node.mjs FOLDER
+// Runs all checks under Node, over the package `timefd` in node_modules above:   node node.mjs FOLDER
 // The folder has rows of the page's library, web.in and web.out.
 
 import { readFileSync } from "node:fs";

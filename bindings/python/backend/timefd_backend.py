@@ -1,5 +1,5 @@
 """Builds a wheel or a source archive of this package, by the hooks that pip calls (PEP 517). It needs a C compiler, Python's headers
-and the library: that of the folder TIMEFD_LIB_DIR, of a source archive, or what the repository has built.
+and the library: the one in the folder TIMEFD_LIB_DIR, in a source archive, or what the repository has built.
 """
 
 import os

@@ -1,4 +1,4 @@
-"""The module that the tests are of. Where its extension is missing for want of Python's headers, they are skipped, and say so."""
+"""The module that is tested. If its extension is missing because there are no headers of Python, the tests are skipped, and say so."""
 
 import pathlib
 import sys

@@ -1,4 +1,4 @@
-"""Formats of dates, as `[year]-[month]-[day]` of Rust's crate `time`, versions 1, 2 and 3, or `%Y-%m-%d` of strftime.
+"""Formats of dates, like `[year]-[month]-[day]` of Rust's crate `time`, versions 1, 2 and 3, or `%Y-%m-%d` of strftime.
 
     >>> import datetime
     >>> import timefd
@@ -17,17 +17,17 @@
     '[day].[month].[year repr:last_two]'
 
     Format(text, language)            keeps a description: format, read_date, read_time, read_datetime, read, nodes, warnings, max_bytes
-    check(text, language)             whether a text is a description, or what is wrong with it
+    check(text, language)             how many bytes a description reserves, or how many items it has; or what is wrong with it
     parse(text, language)             its items: Literal, Component, Compound, Optional, First
     convert(text, source, target)     the same description in a later language
     convert_format(dialect, format)   a format of Python, Java, Go and others in version 3
-    format(text, moment, language)    what Format writes, of a text that is parsed each time
+    format(text, moment, language)    what Format writes; the text is parsed each time
     read(text, moment, language)      what Format reads
 
-A language is one of `Language`, and VERSION_3 where none is given. All errors are an `Error`, which is a `ValueError`:
+A language is one of `Language`, by default VERSION_3. All errors are an `Error`, which is a `ValueError`:
 `InvalidDescription`, `FormatRefused`, `NothingShown`, `NotRead`, `NoMoment`. A wrong type is a `TypeError`. The calls may come from any thread.
 
-The reading is done by a library whose every function is proved; this module is only tested.
+A library whose functions are all proved does the work; this module is only tested.
 """
 
 # This finds the extension, which the others import.
@@ -47,7 +47,7 @@ from timefd.warning import Warning as Warning
 
 __version__ = "0.2.0"
 
-# `from timefd import *` gives all but `format`, `Warning` and `Optional`, which would take the place of builtins and of
+# `from timefd import *` gives everything but `format`, `Warning` and `Optional`, which would take the place of builtins and of
 # `typing.Optional`.
 __all__ = [
     "Component",

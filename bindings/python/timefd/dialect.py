@@ -41,9 +41,9 @@ class Dialect(enum.Enum):
 
 
 class ConvertedFormat(typing.NamedTuple):
-    """A format as a text of version 3, and of which moments that writes the same.
+    """A format as a text of version 3, and for which moments it writes the same.
 
-    They are those from the year `first_year` on, up to the year 9999, and where `whole_minutes` is true, those whose offset has no
+    They are those from the year `first_year` on, up to the year 9999; if `whole_minutes` is true, only those whose offset has no
     seconds.
     """
 

@@ -35,25 +35,25 @@ class FaultKind(enum.IntEnum):
     REFUSED_MODIFIER = 19
 
     def __str__(self) -> str:
-        """The name that the linter tells, as `unclosed-bracket`."""
+        """The name that the linter writes, like `unclosed-bracket`."""
         return self.name.lower().replace("_", "-")
 
 
 class Error(ValueError):
-    """What all errors of this package are: that a text is no description, or a value can't be written or read by one."""
+    """The class of all errors of this package: a text isn't a description, or a value can't be written or read by one."""
 
 
 def _characters(text: str, index: int) -> int:
-    """How many characters of a text stand before a byte of its UTF-8."""
+    """How many characters of a text are before a byte of its UTF-8."""
     return len(text.encode()[:index].decode())
 
 
 class InvalidDescription(Error):
-    """A text is no description: `str` is the sentence of its fault, `kind` which one it is, and `text` the text.
+    """A text isn't a description: `str` is the sentence of its fault, `kind` which fault it is, and `text` the text.
 
     `span` are the bytes at fault, by their indices in UTF-8, and `index` is the first of them. `character_span` and
     `character_index` are the same in characters: `text[slice(*error.character_span)]` is what is at fault. `nearest` is the
-    nearest of the words that are allowed there, or None where none is near.
+    nearest of the words that are allowed there, or None if none is near.
     """
 
     def __init__(
@@ -68,7 +68,7 @@ class InvalidDescription(Error):
 
     @property
     def character_index(self) -> int:
-        """How many characters stand before what is at fault."""
+        """How many characters are before what is at fault."""
         return _characters(self.text, self.index)
 
     @property
@@ -94,7 +94,7 @@ class FormatRefused(Error):
 
     @property
     def character_index(self) -> int:
-        """How many characters of the format stand before the part."""
+        """How many characters of the format are before the part."""
         return _characters(self.format, self.index)
 
     def __str__(self) -> str:
@@ -102,7 +102,7 @@ class FormatRefused(Error):
 
 
 class NothingShown(Error):
-    """A component shows nothing of the moment: `component` is the first such one, and `str` says why."""
+    """A component shows nothing of the moment: `component` is the first one, and `str` says why."""
 
     def __init__(self, component: Name, reason: str) -> None:
         super().__init__(component, reason)
@@ -113,7 +113,7 @@ class NothingShown(Error):
 
 
 class Unread(enum.IntEnum):
-    """Why a part of a date doesn't read, by its number in `timefd.h`, which says what each means."""
+    """Why a part of a date doesn't match, by its number in `timefd.h`, which says what each means."""
 
     READS_NOTHING = 1
     READS_ANOTHER_VALUE = 2
@@ -165,10 +165,10 @@ class Part(enum.IntEnum):
 
 
 class NotRead(Error):
-    """A part of a date doesn't read: `why` says in which way, `str` as a sentence, and `moment` is what was to be read.
+    """A part of a date doesn't match: `why` says in which way, `str` is a sentence on it, and `moment` is what was to be read.
 
     `index` is where the first such part begins, in bytes of UTF-8, and `character_index` in characters. `component` is the one
-    that doesn't read, or None where it is a literal or the end.
+    that doesn't match, or None if it is a literal or the end.
     """
 
     def __init__(self, why: Unread, component: typing.Optional[Name], index: int, moment: str) -> None:
@@ -180,7 +180,7 @@ class NotRead(Error):
 
     @property
     def character_index(self) -> int:
-        """How many characters of the moment stand before the part."""
+        """How many characters of the moment are before the part."""
         return _characters(self.moment, self.index)
 
     def __str__(self) -> str:
@@ -195,7 +195,7 @@ class NotRead(Error):
 
 
 class NoMoment(Error):
-    """What was read is no moment: `part` is missing, where `is_missing` says so, and else disagrees with others."""
+    """What was read makes no moment: `part` is missing if `is_missing` is true, and otherwise contradicts others."""
 
     def __init__(self, part: Part, is_missing: bool) -> None:
         super().__init__(part, is_missing)

@@ -37,13 +37,13 @@ class Format:
     ...
     timefd.errors.InvalidDescription: invalid component name `mnth` at byte index 1
 
-    It never changes. Two are equal where their texts and languages are.
+    It never changes. Two are equal if their texts and languages are.
     """
 
     __slots__ = ("_language", "_max_bytes", "_prepared", "_text")
 
     def __init__(self, text: str, language: Language = Language.VERSION_3) -> None:
-        """Parses the text. Raises `InvalidDescription` where it is refused."""
+        """Parses the text. Raises `InvalidDescription` if it is refused."""
         self._prepared, self._max_bytes = _timefd.prepare(text, language)
         self._text, self._language = text, Language(language)
 
@@ -72,7 +72,7 @@ class Format:
 
     @property
     def warnings(self) -> tuple[Warning, ...]:
-        """What is suspect in the text, in the order of the numbers: nothing, of most.
+        """What is suspect in the text, in the order of the numbers. For most texts that is nothing.
 
         >>> [str(it) for it in Format("%Y-%m-%d").warnings]
         ['no-component', 'other-language']
@@ -80,9 +80,9 @@ class Format:
         return tuple(map(Warning, _timefd.warnings(self._text, self._language)))
 
     def format(self, moment: datetime.date | datetime.time) -> str:
-        """What the description writes of a date, time or datetime.
+        """What the description writes for a date, time or datetime.
 
-        Raises `NothingShown` where a component needs what `moment` hasn't.
+        Raises `NothingShown` if a component needs what `moment` lacks.
         """
         return _timefd.format_prepared(self._prepared, moment)
 
@@ -91,15 +91,15 @@ class Format:
         return _timefd.read_prepared(self._prepared, moment)
 
     def read_date(self, moment: str) -> datetime.date:
-        """The date that a string shows. Raises what `read` does, and `Error` where the string shows more or another thing."""
+        """The date that a string shows. Raises what `read` does, and `Error` if the string shows more or something else."""
         return self._read(moment, datetime.date)
 
     def read_time(self, moment: str) -> datetime.time:
-        """The time of day that a string shows, as `read_date`. It has a `tzinfo` where the string shows an offset."""
+        """The time of day that a string shows, like `read_date`. It has a `tzinfo` if the string shows an offset."""
         return self._read(moment, datetime.time)
 
     def read_datetime(self, moment: str) -> datetime.datetime:
-        """The date with a time of day that a string shows, as `read_date`. It has a `tzinfo` where the string shows an offset."""
+        """The date and time of day that a string shows, like `read_date`. It has a `tzinfo` if the string shows an offset."""
         return self._read(moment, datetime.datetime)
 
     def _read(self, moment: str, kind: type[_Kind]) -> _Kind:

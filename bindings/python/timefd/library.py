@@ -1,4 +1,4 @@
-"""Where the extension `timefd._timefd` lies: the proved library, and its calls for Python."""
+"""Where the extension `timefd._timefd` is: the proved library, and its calls for Python."""
 
 import importlib.machinery
 import importlib.util

@@ -11,15 +11,15 @@ __all__ = ["format", "read"]
 
 
 def format(text: str, moment: datetime.date | datetime.time, language: Language = Language.VERSION_3) -> str:
-    """What a text writes of a date, a time of day or both, as the module `datetime` has them.
+    """What a format writes for a date, a time of day or both, which are values of the module `datetime`.
 
     >>> format("[year]-[month]-[day]", datetime.date(2026, 11, 23))
     '2026-11-23'
     >>> format("%H:%M", datetime.time(5, 6), Language.STRFTIME)
     '05:06'
 
-    Raises `InvalidDescription` where the text is refused, `NothingShown` where a component needs what `moment` hasn't, and
-    `TypeError` where `moment` is no date, time or datetime. A `Format` parses its text once for many moments.
+    Raises `InvalidDescription` if the text is refused, `NothingShown` if a component needs what `moment` lacks, and
+    `TypeError` if `moment` isn't a date, time or datetime. A `Format` parses its text once for many moments.
     """
     return _timefd.format(text, moment, language)
 
@@ -27,7 +27,7 @@ def format(text: str, moment: datetime.date | datetime.time, language: Language 
 def read(
     text: str, moment: str, language: Language = Language.VERSION_3
 ) -> datetime.date | datetime.time | datetime.timezone:
-    """What another text shows by a text: a date, a time of day or both, as the module `datetime` has them.
+    """What a string shows by a format: a date, a time of day or both, as values of the module `datetime`.
 
     >>> read("[day]/[month]/[year]", "23/11/2026")
     datetime.date(2026, 11, 23)
@@ -40,11 +40,11 @@ def read(
     ...
     timefd.errors.NotRead: the component `month` was expected at byte 3
 
-    It is a `timezone` where an offset alone was read. What is shorter than a microsecond is dropped. `Format` has calls that
-    answer one of these types alone.
+    It is a `timezone` if only an offset was read. What is shorter than a microsecond is dropped. `Format` has calls that
+    answer only one of these types.
 
-    Raises `InvalidDescription` where the text is refused, `NotRead` where a part of `moment` doesn't read, `NoMoment` where what
-    was read determines none, and `Error` where `datetime` has no such value: where nothing was read, or an offset beside a date
-    alone, a year that is none of 1 to 9999, or an offset of 24 hours.
+    Raises `InvalidDescription` if the text is refused, `NotRead` if a part of `moment` doesn't match, `NoMoment` if what
+    was read determines no moment, and `Error` if `datetime` has no such value: if nothing was read, or an offset with only a date,
+    or a year outside of 1 to 9999, or an offset of 24 hours.
     """
     return _timefd.read(text, moment, language)

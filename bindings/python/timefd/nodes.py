@@ -79,7 +79,7 @@ class TrailingInput(enum.IntEnum):
 
 @dataclass(frozen=True)
 class Literal:
-    """Text that stands as it is."""
+    """Text that is written as it is."""
 
     text: str
     max_bytes: int
@@ -87,7 +87,7 @@ class Literal:
 
 @dataclass(frozen=True)
 class Component:
-    """A part of a date or time, with its modifiers; each is `None` where the component doesn't have it.
+    """A part of a date or time, with its modifiers; each is `None` if the component doesn't have it.
 
     `digits` is from 1 to 9, or 10 for one or more; `ignored` is how many bytes a parser skips.
     """
@@ -191,7 +191,7 @@ def _of_members(row: _Row, members: tuple[Node, ...]) -> Node:
 
 
 def decoded(rows: typing.Iterable[tuple[int, ...]], literals: bytes) -> list[Node]:
-    """The nodes that are no member of another, in turn. Each row stands after those of its members."""
+    """The nodes that aren't members of another, in turn. Each row comes after those of its members."""
     nodes: list[Node] = []
     for numbers in rows:
         row = _Row(*numbers)

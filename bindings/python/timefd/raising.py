@@ -42,7 +42,7 @@ def nothing_shown(component: int, reason: int) -> Error:
 
 
 def number_out_of_range(number: int) -> Error:
-    """Of a value that a class derived from those of `datetime` has alone."""
+    """The error of a value that only a class derived from those of `datetime` has."""
     names = ("year", "month", "day", "hour", "minute", "second", "microsecond", "offset from UTC")
     return Error(f"the {names[number - 1]} of the moment is out of its range")
 

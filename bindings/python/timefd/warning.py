@@ -30,5 +30,5 @@ class Warning(enum.IntEnum):
     DEPRECATED_COMPONENT = 14
 
     def __str__(self) -> str:
-        """The name that the linter tells, as `no-component`."""
+        """The name that the linter writes, like `no-component`."""
         return self.name.lower().replace("_", "-")

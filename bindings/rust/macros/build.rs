@@ -1,4 +1,4 @@
-//! Links the library as `timefd` does, and looks whether this compiler tells places inside of a
+//! Links the library as `timefd` does, and tests whether this compiler knows positions inside a
 //! literal.
 
 use std::env;

@@ -4,7 +4,7 @@ use alloc::boxed::Box;
 use alloc::string::String;
 use alloc::vec::Vec;
 
-/// A buffer of so many values. `None` where there is no memory for it.
+/// A buffer of so many values. `None` if there is no memory for it.
 pub(crate) fn filled<T: Clone>(len: usize, value: T) -> Option<Vec<T>> {
     let mut buffer = Vec::new();
     buffer.try_reserve_exact(len).ok()?;
@@ -12,7 +12,7 @@ pub(crate) fn filled<T: Clone>(len: usize, value: T) -> Option<Vec<T>> {
     Some(buffer)
 }
 
-/// These values in a buffer of their own, with no room to spare. `None` where there is no memory.
+/// These values in a buffer of their own, with no room to spare. `None` if there is no memory.
 pub(crate) fn copied<T: Copy>(values: &[T]) -> Option<Vec<T>> {
     let mut buffer = Vec::new();
     buffer.try_reserve_exact(values.len()).ok()?;
@@ -20,7 +20,7 @@ pub(crate) fn copied<T: Copy>(values: &[T]) -> Option<Vec<T>> {
     Some(buffer)
 }
 
-/// A text of these bytes, with no room to spare. `None` where there is no memory for it.
+/// A text of these bytes, with no room to spare. `None` if there is no memory for it.
 pub(crate) fn string(bytes: &[u8]) -> Option<String> {
     Some(String::from_utf8(copied(bytes)?).expect("the library writes text"))
 }

@@ -1,4 +1,4 @@
-//! Descriptions put together part by part.
+//! Descriptions built part by part.
 
 use alloc::string::String;
 
@@ -9,7 +9,7 @@ use crate::error::ParseError;
 use crate::literal::push_escaped;
 use crate::version::Version;
 
-/// A description that is put together part by part, where a program has parts and no text.
+/// A description that is built part by part, if a program has parts and not a text.
 ///
 /// ```
 /// use timefd::{Component, DescriptionBuilder, Moment, Padding, Time};
@@ -32,7 +32,7 @@ use crate::version::Version;
 /// # Ok::<(), Box<dyn std::error::Error>>(())
 /// ```
 ///
-/// It keeps the text of version 3 that it has come to, and [`build`](Self::build) parses that: so
+/// It keeps the text of version 3 for its parts so far, and [`build`](Self::build) parses that: so
 /// what is built is the same as what is read.
 #[derive(Debug, Clone, Default, PartialEq, Eq, Hash)]
 #[must_use = "it builds nothing until `build` is called"]
@@ -46,7 +46,7 @@ impl DescriptionBuilder {
         Self { text: String::new() }
     }
 
-    /// Adds text that stands for itself, brackets and backslashes too.
+    /// Adds text that is written as it is, brackets and backslashes too.
     pub fn literal(mut self, text: &str) -> Self {
         push_escaped(&mut self.text, text);
         self
@@ -58,13 +58,13 @@ impl DescriptionBuilder {
         self
     }
 
-    /// Adds all that another builder has, in turn.
+    /// Adds all parts of another builder, in turn.
     pub fn parts(mut self, others: Self) -> Self {
         self.text.push_str(&others.text);
         self
     }
 
-    /// Adds a part that input may have or not. A formatter writes it where `format` is true.
+    /// Adds a part that input may have or lack. A formatter writes it if `format` is true.
     pub fn optional(mut self, format: bool, part: Self) -> Self {
         let name = if format { "[optional [" } else { "[optional format:false [" };
         self.push(&[name, &part.text, "]]"]);
@@ -92,7 +92,7 @@ impl DescriptionBuilder {
         self
     }
 
-    /// The description of all parts, in version 3. Its text has just the modifiers that it needs.
+    /// The description of all parts, in version 3. Its text has only the modifiers that it needs.
     ///
     /// # Errors
     ///
@@ -102,7 +102,7 @@ impl DescriptionBuilder {
         FormatDescription::parse(Version::Three, &self.text).map(FormatDescription::into_owned)
     }
 
-    /// The text of version 3 that it has come to.
+    /// The text of version 3 for the parts so far.
     #[must_use]
     pub fn text(&self) -> &str {
         &self.text

@@ -29,7 +29,7 @@ pub(crate) enum Nesting {
 const AS_THE_HEADER_SAYS: &str = "the nodes are as the header says";
 
 impl<'a> Content<'a> {
-    /// What a node of a tree is, whose literals this text lends.
+    /// What a node of a tree is, whose literals are borrowed from this text.
     #[inline]
     pub(crate) fn of(node: &RawNode, text: &'a str) -> Self {
         match node.what {

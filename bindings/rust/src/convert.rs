@@ -1,4 +1,4 @@
-//! Texts of one language as ones of another.
+//! Conversions of texts from one language to another.
 
 use alloc::string::String;
 use core::error::Error;
@@ -10,9 +10,9 @@ use crate::error::ParseError;
 use crate::sys;
 use crate::version::{Language, Version};
 
-/// Rewrites a text of a language as one of another that has the same items: from version 1 to
-/// versions 2 and 3, from version 2 to version 3, from strftime to version 3, and from version 3 to
-/// version 3, which is the description's normal form, the same for all that mean the same.
+/// Rewrites a text of one language in another, with the same items: version 1 in versions 2 and 3,
+/// version 2 and strftime in version 3, and version 3 in its normal form, which is the same for all
+/// descriptions that mean the same.
 ///
 /// # Errors
 ///
@@ -41,7 +41,7 @@ pub fn convert(
     if first.value <= SHORT {
         return buffer::string(&short[..first.value]).ok_or(NO_MEMORY);
     }
-    // The library is asked once more, as it has said how much room it wants.
+    // The library is asked once more, since it has said how much room it needs.
     let mut long = buffer::filled(first.value, 0).ok_or(NO_MEMORY)?;
     let second = converted(from, to, text, &mut long)?;
     assert_eq!(second.written, long.len(), "there was room for what the library reported");
@@ -77,8 +77,8 @@ pub fn v2_to_v3(text: &str) -> Result<String, ParseError> {
     convert(Version::Two, Version::Three, text).map_err(ConvertError::of_text)
 }
 
-/// The text of version 3 that has the same items, in its normal form where the description is of
-/// version 3. Where memory runs out that is [`fmt::Error`].
+/// The text of version 3 that has the same items, in its normal form if the description is of
+/// version 3. If memory runs out, it is [`fmt::Error`].
 ///
 /// ```
 /// use timefd::{FormatDescription, Language, Version};
@@ -99,9 +99,9 @@ impl fmt::Display for FormatDescription<'_> {
 #[derive(Debug, Clone, PartialEq, Eq)]
 #[non_exhaustive]
 pub enum ConvertError {
-    /// The text is no text of its language, or memory ran out.
+    /// The language refuses the text, or memory ran out.
     Parse(ParseError),
-    /// There is no conversion from this language to this one.
+    /// There is no conversion from the one language to the other.
     NoConversion,
 }
 
@@ -124,7 +124,7 @@ impl fmt::Display for ConvertError {
     }
 }
 
-/// It has no source: the sentence of [`ConvertError::Parse`] is that of what it holds.
+/// It has no source: the sentence of [`ConvertError::Parse`] is that of the error inside.
 impl Error for ConvertError {}
 
 /// Room on the stack for what most texts become.

@@ -44,8 +44,8 @@ pub fn convert_format(
     Ok(ConvertedFormat { text, first_year: first.first_year, whole_minutes: first.whole_minutes })
 }
 
-/// A format as a text of version 3, and for which moments that writes the same: those of the years
-/// up to 9999 whose year and whose week's year are this one at least.
+/// A format as a text of version 3, and for which moments it writes the same: those up to the year
+/// 9999 whose year, and whose ISO year, isn't before the first year here.
 #[derive(Debug, Clone, PartialEq, Eq)]
 #[non_exhaustive]
 pub struct ConvertedFormat {
@@ -57,7 +57,7 @@ pub struct ConvertedFormat {
     pub whole_minutes: bool,
 }
 
-/// Why a format is not converted. It shows itself as a sentence, with what to do.
+/// Why a format is not converted. It displays as a sentence, with what to do.
 #[derive(Debug, Clone, Copy, PartialEq, Eq)]
 #[non_exhaustive]
 pub enum ConvertFormatError {
@@ -67,7 +67,7 @@ pub enum ConvertFormatError {
     OutOfMemory,
 }
 
-/// What of a format has no text of version 3.
+/// The part of a format that has no text of version 3.
 #[derive(Debug, Clone, Copy, PartialEq, Eq)]
 #[non_exhaustive]
 pub struct Refusal {
@@ -78,7 +78,7 @@ pub struct Refusal {
 }
 
 impl ConvertFormatError {
-    /// What has no text of version 3. `None` where memory ran out.
+    /// The part that has no text of version 3. `None` if memory ran out.
     #[must_use]
     pub fn refusal(&self) -> Option<Refusal> {
         match self {
@@ -104,13 +104,13 @@ impl fmt::Display for Refusal {
     }
 }
 
-/// It has no source: the sentence of [`ConvertFormatError::Refused`] is that of what it holds.
+/// It has no source: the sentence of [`ConvertFormatError::Refused`] is that of the error inside.
 impl Error for ConvertFormatError {}
 
 /// Room on the stack for what most formats become.
 const SHORT: usize = 256;
 
-/// The text of a format, once the library has said how much room it wants.
+/// The text of a format, once the library has said how much room it needs.
 fn long_text(dialect: Dialect, format: &str, len: usize) -> Result<String, ConvertFormatError> {
     let mut long = buffer::filled(len, 0).ok_or(ConvertFormatError::OutOfMemory)?;
     let answer = converted(dialect, format, &mut long)?;

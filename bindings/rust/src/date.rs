@@ -2,7 +2,7 @@
 
 use crate::range::{Number, RangeError};
 
-/// A day of the Gregorian calendar. It shows itself as `2026-11-23`, and is read of such a text.
+/// A day of the Gregorian calendar. It displays as `2026-11-23`, and is parsed from such a text.
 ///
 /// ```
 /// use timefd::Date;
@@ -14,7 +14,7 @@ use crate::range::{Number, RangeError};
 /// # Ok::<(), Box<dyn std::error::Error>>(())
 /// ```
 ///
-/// Its fields can be set to what is no day: then what writes it says so.
+/// Its fields can be set to what isn't a day: then writing it is an error.
 #[derive(Debug, Clone, Copy, PartialEq, Eq, PartialOrd, Ord, Hash)]
 pub struct Date {
     /// From -999,999 to 999,999.
@@ -49,7 +49,7 @@ impl Date {
         Self::new(self.year, self.month, self.day)
     }
 
-    /// How many days it is after 1970-01-01, before it as a negative number.
+    /// How many days it is after 1970-01-01, negative if it is before that.
     pub(crate) fn unix_days(self) -> i64 {
         // Years begin on 1 March here, so that a leap day is the last one.
         let month = (i64::from(self.month) + 9) % 12;
@@ -59,7 +59,7 @@ impl Date {
         365 * year + leap_days + day_of_year - DAYS_BEFORE_1970
     }
 
-    /// The day that is so many days after 1970-01-01. `None` where its year is out of its range.
+    /// The day that is so many days after 1970-01-01. `None` if its year is out of its range.
     #[cfg(any(test, feature = "std"))]
     pub(crate) fn of_unix_days(days: i64) -> Option<Self> {
         let days = days.checked_add(DAYS_BEFORE_1970)?;

@@ -7,7 +7,7 @@ use crate::component::Component;
 use crate::modifier::{Padding, SubsecondDigits, TrailingInput, boolean};
 use crate::sys::RawNode;
 
-/// The component of a node. `None` where the numbers name none, which the library never answers.
+/// The component of a node. `None` if the numbers name none, which the library never answers.
 pub(crate) fn component(node: &RawNode) -> Option<Component> {
     if node.component <= 22 { of_date(node) } else { of_time(node) }
 }

@@ -1,4 +1,4 @@
-//! A description that was read.
+//! A description that was parsed.
 
 use alloc::vec::Vec;
 use core::fmt;
@@ -13,7 +13,7 @@ use crate::sys::{self, COMPOUND, RawNode, ReadAnswer};
 use crate::tree::{BuildError, Tree};
 use crate::version::{Language, Version};
 
-/// A format description: what is written of a date or time, and what of it is read.
+/// A format description, by which dates and times are written and read.
 ///
 /// ```
 /// use timefd::{Component, FormatDescription, Node, Version};
@@ -27,8 +27,8 @@ use crate::version::{Language, Version};
 /// # Ok::<(), timefd::ParseError>(())
 /// ```
 ///
-/// It borrows its text; [`into_owned`](Self::into_owned) makes one that is kept for longer. Two are
-/// equal where they have the same nodes, whatever texts and languages they were read from.
+/// It borrows its text; [`into_owned`](Self::into_owned) makes one that you can keep. Two are
+/// equal if they have the same nodes, whatever texts and languages they were read from.
 #[derive(Clone)]
 pub struct FormatDescription<'a> {
     language: Language,
@@ -42,7 +42,7 @@ impl<'a> FormatDescription<'a> {
     ///
     /// # Errors
     ///
-    /// The fault that the rules of the language assign to the text, or that memory ran out.
+    /// The fault of the text by the rules of the language, or that memory ran out.
     ///
     /// ```
     /// use timefd::{FormatDescription, Language, Version};
@@ -83,8 +83,8 @@ impl<'a> FormatDescription<'a> {
         }
     }
 
-    /// The same with a text of its own, which borrows nothing: so it is kept in a struct, or sent to
-    /// another thread. It copies the text where that is borrowed, and parses nothing.
+    /// The same with a text of its own, which borrows nothing: so you can keep it in a struct, or send it to
+    /// another thread. It copies the text if that is borrowed, and parses nothing.
     ///
     /// ```
     /// use timefd::{Date, FormatDescription, Moment, ParseError, Version};
@@ -120,7 +120,7 @@ impl<'a> FormatDescription<'a> {
         &self.tree.text
     }
 
-    /// The text, copied where it is borrowed.
+    /// The text, copied if it is borrowed.
     #[cfg(feature = "serde")]
     pub(crate) fn into_text(self) -> alloc::string::String {
         self.tree.text.into_owned()
@@ -132,7 +132,7 @@ impl<'a> FormatDescription<'a> {
         self.language
     }
 
-    /// The version that it was read in. `None` where that is strftime.
+    /// The version that it was read in. `None` if that is strftime.
     ///
     /// ```
     /// use timefd::{FormatDescription, Language, Version};
@@ -151,8 +151,8 @@ impl<'a> FormatDescription<'a> {
     }
 
     /// The greatest length of any text that the description is shown as, in bytes, whatever language
-    /// it was read in. A buffer of that length is always long enough, and where each component takes
-    /// its longest text, all of it is needed. Where a `usize` can't count it, it is `usize::MAX`.
+    /// it was read in. A buffer of that length is always long enough, and if each component takes
+    /// its longest text, all of it is needed. If a `usize` can't count it, it is `usize::MAX`.
     ///
     /// ```
     /// use timefd::{FormatDescription, Language, Version};
@@ -192,7 +192,7 @@ impl<'a> FormatDescription<'a> {
     }
 
     /// What a formatter writes, in turn: of alternatives the first, and of a part that may be
-    /// skipped nothing where its flag says so.
+    /// skipped nothing if its flag says so.
     ///
     /// ```
     /// use timefd::{FormatDescription, Part, Version};
@@ -249,7 +249,7 @@ fn expect_accepted(language: Language, text: &str, status: u32) -> Result<(), Pa
     }
 }
 
-/// The nodes and the bytes of literals of a text that was read before, by an answer that tells how much
+/// The nodes and the bytes of literals of a text that was read before, by an answer that says how much
 /// room they need.
 #[cold]
 #[inline(never)]

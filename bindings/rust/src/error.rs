@@ -6,7 +6,7 @@ use core::fmt;
 use crate::fault::Fault;
 use crate::sys;
 
-/// Why a text is not read. It shows itself as a sentence.
+/// Why a text is not read. It displays as a sentence.
 ///
 /// ```
 /// use timefd::{FormatDescription, Version};
@@ -18,7 +18,7 @@ use crate::sys;
 #[derive(Debug, Clone, PartialEq, Eq)]
 #[non_exhaustive]
 pub enum ParseError {
-    /// The text is no description.
+    /// The text isn't a description.
     Invalid(Fault),
     /// Memory ran out: for what a description holds, or for what is reported of a fault, which is
     /// copied. The library itself finds a fault without memory.
@@ -26,7 +26,7 @@ pub enum ParseError {
 }
 
 impl ParseError {
-    /// The fault of the text. `None` where memory ran out.
+    /// The fault of the text. `None` if memory ran out.
     #[must_use]
     pub fn fault(&self) -> Option<&Fault> {
         match self {
@@ -35,7 +35,7 @@ impl ParseError {
         }
     }
 
-    /// The index of the byte at fault: how many bytes of the text stand before it. `None` where
+    /// The index of the byte at fault: how many bytes of the text are before it. `None` where
     /// memory ran out.
     pub fn index(&self) -> Option<usize> {
         self.fault().map(Fault::index)

@@ -1,4 +1,4 @@
-//! Why a text is no description, and where.
+//! Why a text isn't a description, and where.
 
 use alloc::boxed::Box;
 use core::error::Error;
@@ -8,8 +8,8 @@ use core::ops::Range;
 use crate::buffer;
 use crate::sys;
 
-/// Which fault a text has, whatever word of it the fault is about. The names are those that the
-/// linter of timefd's repository tells.
+/// Which fault a text has, whatever word of the text it is about. The names are those that the
+/// linter of timefd's repository writes.
 #[derive(Debug, Clone, Copy, PartialEq, Eq, PartialOrd, Ord, Hash)]
 #[non_exhaustive]
 pub enum FaultKind {
@@ -21,40 +21,40 @@ pub enum FaultKind {
     InvalidModifier,
     /// A bracket has no name.
     MissingName,
-    /// A component lacks a modifier that it has to have.
+    /// A component lacks a modifier that it needs.
     MissingModifier,
-    /// A backslash, or a percent sign of strftime, stands before nothing that it takes.
+    /// What follows a backslash, or a percent sign of strftime, is nothing that it takes.
     InvalidEscape,
-    /// A `]` stands alone, where version 3 wants a backslash before it.
+    /// A `]` stands alone, and version 3 needs a backslash before it.
     UnescapedBracket,
-    /// A nested description touches the word in front of it.
+    /// A nested description touches the word before it.
     MissingSpace,
     /// `optional` has no nested description.
     MissingDescription,
     /// `first` has none.
     MissingAlternative,
-    /// A nested description stands inside of too many.
+    /// A nested description stands inside too many.
     NestedTooDeep,
     /// `optional` has more than one nested description.
     SeveralDescriptions,
-    /// `optional` stands in a version without it.
+    /// `optional` stands in a version that lacks it.
     OptionalItem,
-    /// `first` stands in a version without it.
+    /// `first` stands in a version that lacks it.
     FirstItem,
     /// A flag of strftime that is not read.
     UnsupportedFlag,
     /// A letter of strftime that is not read.
     UnsupportedLetter,
-    /// A component has a nested description, and takes none.
+    /// A component has a nested description, but takes none.
     NestedInComponent,
-    /// A bracket has a key twice, where version 3 takes it once.
+    /// A bracket has a key twice, and version 3 takes it once.
     DuplicateModifier,
-    /// A key stands with a value of another that refuses it.
+    /// A key stands beside a value of another key that excludes it.
     RefusedModifier,
 }
 
 impl FaultKind {
-    /// Its name, as `unclosed-bracket`, which stays the same whatever the sentence says.
+    /// Its name, like `unclosed-bracket`, which stays the same if the sentence changes.
     #[must_use]
     pub fn name(self) -> &'static str {
         match self {
@@ -113,7 +113,7 @@ impl fmt::Display for FaultKind {
     }
 }
 
-/// The fault that the rules assign to a text. It shows itself as a sentence.
+/// The fault that the rules assign to a text. It displays as a sentence.
 ///
 /// ```
 /// use timefd::{FaultKind, FormatDescription, ParseError, Version};
@@ -149,8 +149,8 @@ impl Fault {
         self.kind.name()
     }
 
-    /// The index of the byte at fault: how many bytes of the text stand before it. It is at most the
-    /// text's length, and stands between two characters, so that both parts of the text can be sliced.
+    /// The index of the byte at fault: how many bytes of the text are before it. It is at most the
+    /// text's length, and is between two characters, so that both parts of the text can be sliced.
     #[must_use]
     pub fn index(&self) -> usize {
         self.start
@@ -163,7 +163,7 @@ impl Fault {
         self.start..self.end
     }
 
-    /// The nearest of the names, keys or values that are allowed there, where one is near.
+    /// The nearest of the names, keys or values that are allowed there, if one is near.
     #[must_use]
     pub fn nearest(&self) -> Option<&str> {
         Some(&self.words[self.sentence_len..]).filter(|word| !word.is_empty())
@@ -176,7 +176,7 @@ impl Fault {
         &self.words[..self.sentence_len]
     }
 
-    /// The fault of a text that the language of a number refuses. `None` where there is no memory
+    /// The fault of a text that the language of a number refuses. `None` if there is no memory
     /// for what is reported of it.
     pub(crate) fn of(kind: u32, text: &str) -> Option<Self> {
         let (mut sentence, mut word) = ([0; SHORT], [0; LONGEST_WORD]);

@@ -19,8 +19,8 @@ use crate::write::WriteError;
 ///
 /// # Errors
 ///
-/// A number of the moment that is out of its range; what the language refuses the text for; the first
-/// component that shows nothing of the moment; or that memory ran out.
+/// A number of the moment that is out of its range; the fault of the text; the first component that
+/// shows nothing of the moment; or that memory ran out.
 ///
 /// ```
 /// use timefd::{Date, FormatError, Lack, Language, Moment, Version};
@@ -45,7 +45,7 @@ pub fn format(
 #[derive(Debug, Clone, PartialEq, Eq)]
 #[non_exhaustive]
 pub enum FormatError {
-    /// The text is no description, or memory ran out.
+    /// The text isn't a description, or memory ran out.
     Parse(ParseError),
     /// A component shows nothing of the moment.
     Unshown {
@@ -76,7 +76,7 @@ impl fmt::Display for FormatError {
     }
 }
 
-/// It has no source: the sentence of [`FormatError::Parse`] is that of what it holds.
+/// It has no source: the sentence of [`FormatError::Parse`] is that of the error inside.
 impl Error for FormatError {}
 
 /// Room on the stack for what most descriptions write.
@@ -107,7 +107,7 @@ impl Pattern<'_> {
         }
     }
 
-    /// Hands what is written to an output, all at once; it takes no memory where that is short.
+    /// Writes the text to an output in one write; it takes no memory if the text is short.
     pub(crate) fn format_to<E>(
         self,
         moment: &Moment,

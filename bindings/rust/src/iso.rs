@@ -148,7 +148,7 @@ impl Zone {
     }
 }
 
-/// The text in front of its offset, and of which form that is.
+/// The text before its offset, and of which form that is.
 fn split_zone(text: &str) -> (&str, Zone) {
     if let Some(local) = text.strip_suffix(['Z', 'z']) {
         return (local, Zone::Utc);

@@ -1,9 +1,9 @@
-//! Reads the format descriptions of `time` (`[year]-[month]-[day]`, versions 1, 2 and 3) and those
-//! of strftime (`%Y-%m-%d`) into their nodes, or answers the one fault that the rules assign, with
-//! its byte index.
+//! Parses the format descriptions of `time` (`[year]-[month]-[day]`, versions 1, 2 and 3) and those
+//! of strftime (`%Y-%m-%d`), or answers the one fault of a bad one, with its byte index. By a good one
+//! it writes and reads dates.
 //!
-//! The reading is done by a static library that is proved; this crate gives it a face in Rust, and
-//! is itself only tested. [`FormatDescription`] is where to begin:
+//! A static library that is proved does the work; this crate calls it from Rust, and is itself only
+//! tested. Begin with [`FormatDescription`]:
 //!
 //! ```
 //! use timefd::{FormatDescription, Part, Version};
@@ -41,7 +41,7 @@
 //! ```
 //!
 //! Calls may come from any thread. Reading a text that is nested as deep as it may be, 127 deep,
-//! takes some 53 KiB of stack, and reading a date by it up to 256 KiB.
+//! takes about 53 KiB of stack, and reading a date by it up to 256 KiB.
 
 #![no_std]
 

@@ -2,13 +2,13 @@
 //! nor memory.
 //!
 //! A node follows all that is below it. The next member of the node around it is given by a
-//! field that says nothing else, or nothing that isn't known without it: of a literal `bytes`, which
-//! its length tells; of a component `start`, which is its own index; of a node with members `count`,
-//! which a walk over them tells.
+//! field that isn't needed otherwise, because what it says is known without it: of a literal `bytes`,
+//! which is its length; of a component `start`, which is its own index; of a node with members
+//! `count`, which a walk over them finds.
 
 use crate::sys::{COMPONENT, LITERAL, RawNode};
 
-/// The index of the first of all nodes below a node, or its own where there is none.
+/// The index of the first of all nodes below a node, or its own if there is none.
 pub(crate) fn begin(nodes: &[RawNode], index: u32) -> u32 {
     let node = &nodes[index as usize];
     if is_leaf(node) { index } else { node.start as u32 } // A u32 counts the nodes.
@@ -25,7 +25,7 @@ pub(crate) fn next(nodes: &[RawNode], index: u32) -> u32 {
     }
 }
 
-/// How many members end in front of a place. The first node of all below them has the index `first`.
+/// How many members end before a place. The first node of all below them has the index `first`.
 pub(crate) fn count(nodes: &[RawNode], first: u32, end: u32) -> u32 {
     let (mut count, mut rest) = (0, end);
     while rest > first {
@@ -60,7 +60,7 @@ fn set_next(node: &mut RawNode, next: u32) {
 }
 
 /// Links the members of each node in a ring, and the items. It answers how many items there are, and
-/// `None` where the nodes are nested in no order, or one has other members than it says.
+/// `None` if the nodes are nested in no order, or one has other members than it says.
 #[inline(never)]
 pub(crate) fn link(nodes: &mut [RawNode]) -> Option<u32> {
     for index in 0..nodes.len() {
@@ -76,7 +76,7 @@ pub(crate) fn link(nodes: &mut [RawNode]) -> Option<u32> {
     link_members(nodes, 0, nodes.len() as u32)
 }
 
-/// Links the members that end in front of a place, and answers how many there are. The first node of
+/// Links the members that end before a place, and answers how many there are. The first node of
 /// all below the first member has the index `first`.
 fn link_members(nodes: &mut [RawNode], first: u32, end: u32) -> Option<u32> {
     if first >= end {

@@ -51,13 +51,13 @@ impl<'a, 'b> Literals<'a, 'b> {
         Self { text, bytes, at: 0 }
     }
 
-    /// Whether ASCII lends all whose places were asked for.
+    /// Whether all whose positions were asked for are borrowed from `ASCII`.
     pub(crate) fn are_ascii(&self) -> bool {
         self.at == 0
     }
 
     /// By which place so many bytes from an index among the library's are [`borrowed`]. The text holds
-    /// them after the literal before. `None` where it doesn't, which the library never answers.
+    /// them after the literal before. `None` if it doesn't, which the library never answers.
     #[inline]
     pub(crate) fn place(&mut self, start: usize, count: usize) -> Option<usize> {
         if count == 1 {

@@ -1,4 +1,4 @@
-//! Literals found again in texts made by hand.
+//! Literals found again in texts that these tests make up.
 
 use std::format;
 use std::string::String;
@@ -6,7 +6,7 @@ use std::string::String;
 use super::{Literals, borrowed};
 
 /// Literals of two bytes and more: such as are found by their first byte, and such as are too long for
-/// that; some with their own front in front of them.
+/// that; some with their own front before them.
 const SOUGHT: [&str; 6] =
     [", ", "é", "aab", "abcdefghijklmnop", "abcdefghijklmnopq", "aaaaaaaaaaaaaaaaaaab"];
 

@@ -1,6 +1,6 @@
 //! The macro of descriptions.
 
-/// A description that is read while the program is compiled: a `&'static FormatDescription<'static>`
+/// A description that is parsed while the program is compiled: a `&'static FormatDescription<'static>`
 /// that is made of constants, so that nothing is parsed when the program runs.
 ///
 /// ```
@@ -13,7 +13,7 @@
 /// # Ok::<(), Box<dyn std::error::Error>>(())
 /// ```
 ///
-/// It is one of version 3, or of the language that is named before it:
+/// Its language is version 3, or the one that is named before the text:
 ///
 /// ```
 /// use timefd::format_description;
@@ -23,8 +23,8 @@
 /// # Ok::<(), Box<dyn std::error::Error>>(())
 /// ```
 ///
-/// A bad text is an error of the compiler, which says what is wrong, where in the text, and which word
-/// that is allowed there is the nearest. A compiler that marks places inside of a literal marks the
+/// A bad text is an error of the compiler, which says what is wrong, where in the text, and which
+/// allowed word is the nearest. A compiler that marks places inside a literal marks the
 /// bytes at fault; others mark the literal, and the message has the text with marks below it:
 ///
 /// ```compile_fail
@@ -42,10 +42,10 @@
 ///   |                     ^^^^^^^^^^^^^^^
 /// ```
 ///
-/// What [`warnings`](crate::FormatDescription::warnings) finds suspect in a good one is a warning of
-/// the compiler, but for a date that it leaves open, as not each description is read by. It is one of
-/// the lint `deprecated`, as macros have no other: `#[allow(deprecated)]` at the statement turns it
-/// off.
+/// What [`warnings`](crate::FormatDescription::warnings) finds suspect in a good text is a warning of
+/// the compiler, except that the text may leave a date open, since not every description is for
+/// reading. The lint is `deprecated`, because macros have no other: `#[allow(deprecated)]` at the
+/// statement turns it off.
 #[macro_export]
 macro_rules! format_description {
     ($($argument:tt)*) => { $crate::prepared::format_description!($crate; $($argument)*) };

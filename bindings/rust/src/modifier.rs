@@ -55,7 +55,7 @@ pub enum SubsecondDigits {
     Eight,
     /// Nine: nanoseconds.
     Nine,
-    /// As many of nine as stand before the zeros at the end, and at least one.
+    /// Nine without the zeros at the end, but at least one.
     #[default]
     OneOrMore,
 }

@@ -1,4 +1,4 @@
-//! What is known of a value that is written or read.
+//! What is known of a moment that is written or read.
 
 use core::cmp::Ordering;
 
@@ -26,19 +26,19 @@ use crate::{lack::Lack, value_error::ValueError};
 /// # Ok::<(), Box<dyn std::error::Error>>(())
 /// ```
 ///
-/// It shows itself as RFC 3339 and ISO 8601 write what it has, and is read of such a text.
+/// It displays in the forms of RFC 3339 and ISO 8601, and is parsed from such a text.
 ///
-/// Those of which all three parts are known are in the order of time, whatever their offsets are.
-/// Others are ordered by their parts: the date, the time, the offset; and those that lack one stand
-/// in front of those that have it.
+/// Moments of which all three parts are known are in the order of time, whatever their offsets are.
+/// Others are ordered by their parts: the date, the time, the offset; and those that lack a part come
+/// before those that have it.
 #[derive(Debug, Clone, Copy, Default, PartialEq, Eq, Hash)]
 pub struct Moment {
     /// The day of the calendar.
     pub date: Option<Date>,
     /// The time of day.
     pub time: Option<Time>,
-    /// How many seconds the clock is ahead of UTC, behind as a negative number: less than 26
-    /// hours.
+    /// How many seconds the clock is ahead of UTC; negative if it is behind. Less than 26 hours
+    /// either way.
     pub offset_seconds: Option<i32>,
 }
 
@@ -62,7 +62,7 @@ impl Moment {
         raw
     }
 
-    /// What the library tells as known.
+    /// What the library says is known.
     pub(crate) fn of_raw(raw: &RawMoment) -> Self {
         let is_known = |bit| raw.known & bit != 0;
         let date = Date { year: raw.year, month: raw.month, day: raw.day };
@@ -110,7 +110,7 @@ impl Moment {
         Ok((date, time, self.offset_seconds.ok_or(Lack::NoOffset)?))
     }
 
-    /// Its date and its time of day, where it has no offset that would be lost.
+    /// Its date and its time of day, if it has no offset that would be lost.
     #[cfg(any(feature = "time", feature = "chrono", feature = "jiff"))]
     pub(crate) fn local_parts(&self) -> Result<(Date, Time), ValueError> {
         self.check()?;
@@ -122,7 +122,7 @@ impl Moment {
         }
     }
 
-    /// How many whole seconds it is after 1970-01-01T00:00:00Z, where that is known.
+    /// How many whole seconds it is after 1970-01-01T00:00:00Z, if that is known.
     pub(crate) fn unix_seconds(&self) -> Option<i64> {
         let seconds = self.date?.unix_days() * 86_400 + self.time?.seconds();
         Some(seconds - i64::from(self.offset_seconds?))

@@ -11,13 +11,13 @@ use crate::tree::Tree;
 #[derive(Debug, Clone)]
 #[non_exhaustive]
 pub enum Node<'a> {
-    /// Text that stands for itself.
+    /// Text that is written as it is.
     Literal(&'a str),
     /// A part of a date or time.
     Component(Component),
     /// Its members, one after another.
     Compound(Members<'a>),
-    /// A part that input may have or not. A formatter writes it where `format` is true.
+    /// A part that input may have or lack. A formatter writes it if `format` is true.
     Optional {
         /// Whether a formatter writes it.
         format: bool,
@@ -29,8 +29,8 @@ pub enum Node<'a> {
     First(Members<'a>),
 }
 
-/// One node of a description, with all that is below it. It is a place in the description, and
-/// copied for nothing.
+/// One node of a description, with everything below it. It is a position in the description, so
+/// copying it costs nothing.
 #[derive(Clone, Copy)]
 pub struct Item<'a> {
     tree: &'a Tree<'a>,
@@ -66,7 +66,7 @@ impl<'a> Item<'a> {
         self.tree.max_bytes(self.index)
     }
 
-    /// The members: the last one stands in front of the node, and the first node of all below it has
+    /// The members: the last one is before the node, and the first node of all below it has
     /// the index `begin`.
     fn members(self, begin: u32) -> Members<'a> {
         Members::in_front_of(self.index, self.tree, self.tree.members(self.index, begin))
@@ -89,7 +89,7 @@ impl fmt::Debug for Item<'_> {
 #[must_use = "iterators do nothing unless they are gone through"]
 pub struct Members<'a> {
     tree: &'a Tree<'a>,
-    /// The index of the next one from the front, and from the back, where any is left.
+    /// The index of the next one from the front, and from the back, if any is left.
     front: u32,
     back: u32,
     left: u32,
@@ -101,7 +101,7 @@ impl<'a> Members<'a> {
         Self::in_front_of(tree.len(), tree, tree.items())
     }
 
-    /// So many members, of which the last one stands in front of a place.
+    /// So many members, of which the last one is before a place.
     fn in_front_of(place: u32, tree: &'a Tree<'a>, count: u32) -> Self {
         let back = place.saturating_sub(1);
         // The ring leads from the last one to the first.

@@ -11,7 +11,7 @@ use crate::tree::Tree;
 #[derive(Debug, Clone, Copy, PartialEq, Eq)]
 #[non_exhaustive]
 pub enum Part<'a> {
-    /// Text that stands for itself.
+    /// Text that is written as it is.
     Literal(&'a str),
     /// A part of a date or time.
     Component(Component),

@@ -31,7 +31,7 @@ macro_rules! presets {
 
 presets! {
     /// A timestamp of RFC 3339, as `2026-11-23T05:06:07+01:00`. It also reads a fraction of the
-    /// second. It doesn't read `Z` in the place of the offset, as no component stands for that:
+    /// second. It doesn't read `Z` in place of the offset, since no component stands for that:
     /// `"2026-11-23T04:06:07Z".parse::<Moment>()` does.
     RFC_3339 = concat!(
         "[year]-[month]-[day]T[hour]:[minute]:[second][optional format:false [.[subsecond]]]",

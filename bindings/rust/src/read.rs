@@ -18,8 +18,8 @@ use crate::version::Language;
 ///
 /// # Errors
 ///
-/// What the language refuses the description for; the first part of the text that doesn't read; why
-/// what was read is no moment; or that memory ran out.
+/// The fault of the description; the first part of the text that doesn't match; why what was read is
+/// no moment; or that memory ran out.
 ///
 /// ```
 /// use timefd::{Date, Language, MomentPart, ReadError, Version};
@@ -49,7 +49,7 @@ impl FormatDescription<'_> {
     ///
     /// # Errors
     ///
-    /// The first part of the text that doesn't read; why what was read is no moment; or that memory
+    /// The first part of the text that doesn't match; why what was read is no moment; or that memory
     /// ran out.
     ///
     /// ```
@@ -77,38 +77,38 @@ const NO_MEMORY: ReadError = ReadError::Parse(ParseError::OutOfMemory);
 #[derive(Debug, Clone, PartialEq, Eq)]
 #[non_exhaustive]
 pub enum ReadError {
-    /// The text of the description is none, or memory ran out.
+    /// The text of the description isn't a description, or memory ran out.
     Parse(ParseError),
-    /// A part of the text doesn't read. It is the first one.
+    /// A part of the text doesn't match. It is the first one.
     Unread {
-        /// Where it begins: how many bytes of the text stand before it.
+        /// Where it begins: how many bytes of the text are before it.
         index: usize,
-        /// Why it doesn't read.
+        /// Why it doesn't match.
         why: Unread,
     },
     /// The whole text was read, and this has to be known too.
     Missing(MomentPart),
-    /// The whole text was read, and no moment has all that was read: this disagrees with others.
+    /// The whole text was read, and no moment has all that was read: this contradicts others.
     Contradiction(MomentPart),
 }
 
-/// Why a part of a text doesn't read.
+/// Why a part of a text doesn't match.
 #[derive(Debug, Clone, Copy, PartialEq, Eq, Hash)]
 #[non_exhaustive]
 pub enum Unread {
-    /// The text goes on with nothing that the component reads.
+    /// The component can't read what comes next.
     ReadsNothing {
         /// Which component it is.
         component: ComponentKind,
     },
-    /// The component was read before, and reads another value here.
+    /// The component was read before, and has another value here.
     ReadsAnotherValue {
         /// Which component it is.
         component: ComponentKind,
     },
     /// The text doesn't go on with the literal text of the description.
     AnotherText,
-    /// The description has been read, and text follows.
+    /// The description has ended, and text follows.
     TextFollows,
 }
 
@@ -154,7 +154,7 @@ impl fmt::Display for ReadError {
     }
 }
 
-/// It has no source: the sentence of [`ReadError::Parse`] is that of what it holds.
+/// It has no source: the sentence of [`ReadError::Parse`] is that of the error inside.
 impl Error for ReadError {}
 
 /// Reads a text by a description of a language.

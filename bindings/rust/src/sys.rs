@@ -1,4 +1,4 @@
-//! The static library behind safe functions. All that is unsafe stands here; the header `timefd.h`
+//! The static library, called by safe functions. All unsafe code is here; the header `timefd.h`
 //! says what the calls are and what a caller keeps to.
 //!
 //! Why the calls are sound, beside what each says:
@@ -66,7 +66,7 @@ pub(crate) fn zeroed_nodes<const COUNT: usize>() -> [RawNode; COUNT] {
     unsafe { core::mem::zeroed() }
 }
 
-/// These nodes in a block of their own. `None` where there is no memory for it. A `Vec` says so too, and
+/// These nodes in a block of their own. `None` if there is no memory for it. A `Vec` says so too, and
 /// takes some 50 instructions more, of 1,000 in which a date is parsed.
 pub(crate) fn boxed(nodes: &[RawNode]) -> Option<Box<[RawNode]>> {
     if nodes.is_empty() {
@@ -196,7 +196,7 @@ pub(crate) struct DateAnswer {
     pub(crate) moment: RawMoment,
 }
 
-/// Where each field stands, as the header has it.
+/// The position of each field, as the header has it.
 const _: () = {
     use core::mem::{offset_of, size_of};
     assert!(size_of::<Answer>() == 32 && size_of::<RawNode>() == 32);
@@ -332,7 +332,7 @@ fn expect_version() {
     assert_eq!(found, ANSWERED, "libtimefd is of another version than this crate");
 }
 
-/// What the text is in a language, with its nodes and the bytes of its literals where both buffers
+/// What the text is in a language, with its nodes and the bytes of its literals if both buffers
 /// have room.
 pub(crate) fn read(
     kind: u32,
@@ -365,7 +365,7 @@ pub(crate) fn check(kind: u32, text: &str, sentence: &mut [u8]) -> Answer {
 }
 
 /// What the text is in a language, with the front of the sentence of its fault, the nearest word
-/// where its buffer has room for it, and what else is reported of the fault.
+/// if its buffer has room for it, and what else is reported of the fault.
 pub(crate) fn diagnose(kind: u32, text: &str, sentence: &mut [u8], word: &mut [u8]) -> Diagnosis {
     expect_version();
     // SAFETY: the pointers and the lengths are those of three slices that are borrowed for the
@@ -392,7 +392,7 @@ pub(crate) fn warnings(kind: u32, text: &str, warnings: &mut [RawWarning]) -> Wa
     }
 }
 
-/// The text of the second language for a text of the first, where the buffer has room for all of it.
+/// The text of the second language for a text of the first, if the buffer has room for all of it.
 pub(crate) fn convert(from: u32, to: u32, text: &str, buffer: &mut [u8]) -> Answer {
     expect_version();
     // SAFETY: as in `check`.
@@ -401,7 +401,7 @@ pub(crate) fn convert(from: u32, to: u32, text: &str, buffer: &mut [u8]) -> Answ
     }
 }
 
-/// The text of version 3 for a format of the dialect, where the buffer has room for all of it.
+/// The text of version 3 for a format of the dialect, if the buffer has room for all of it.
 pub(crate) fn convert_format(dialect: u32, format: &str, buffer: &mut [u8]) -> ConvertAnswer {
     expect_version();
     // SAFETY: as in `check`.
@@ -416,7 +416,7 @@ pub(crate) fn convert_format(dialect: u32, format: &str, buffer: &mut [u8]) -> C
     }
 }
 
-/// What the text writes of the moment, where the buffer has room for all of it.
+/// What the text writes of the moment, if the buffer has room for all of it.
 pub(crate) fn format(kind: u32, text: &str, moment: &RawMoment, buffer: &mut [u8]) -> FormatAnswer {
     expect_version();
     // SAFETY: as in `check`; the moment is borrowed for the call too.
@@ -425,7 +425,7 @@ pub(crate) fn format(kind: u32, text: &str, moment: &RawMoment, buffer: &mut [u8
     }
 }
 
-/// What nodes write of the moment, where the buffer has room for all of it.
+/// What nodes write of the moment, if the buffer has room for all of it.
 pub(crate) fn format_nodes(
     nodes: &[RawNode],
     literals: &[u8],

@@ -32,8 +32,8 @@ impl FormatDescription<'_> {
         }
     }
 
-    /// Copies the nodes that a walk goes over to as many, and what lends their literals to a buffer
-    /// that has room for it: ASCII, and the text after it.
+    /// Copies the nodes of a walk to as many others, and the text that their literals are borrowed from
+    /// to a buffer that has room for it: ASCII, and the description's text after it.
     fn copy_nodes(&self, walk: Walk, nodes: &mut [RawNode], literals: &mut [u8]) {
         let (ascii, text) = literals.split_at_mut(ASCII.len());
         ascii.copy_from_slice(ASCII.as_bytes());

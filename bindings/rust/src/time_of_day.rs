@@ -2,8 +2,8 @@
 
 use crate::range::{Number, RangeError};
 
-/// What a clock shows. By default it is midnight. It shows itself as `05:06:07`, or with a fraction
-/// as `05:06:07.5`, and is read of such a text, or of `05:06`.
+/// What a clock shows. By default it is midnight. It displays as `05:06:07`, or with a fraction
+/// as `05:06:07.5`, and is parsed from such a text, or from `05:06`.
 ///
 /// ```
 /// use timefd::Time;
@@ -14,7 +14,7 @@ use crate::range::{Number, RangeError};
 /// # Ok::<(), Box<dyn std::error::Error>>(())
 /// ```
 ///
-/// Its fields can be set to what is no time: then what writes it says so.
+/// Its fields can be set to what isn't a time: then writing it is an error.
 #[derive(Debug, Clone, Copy, Default, PartialEq, Eq, PartialOrd, Ord, Hash)]
 pub struct Time {
     /// From 0 to 23.

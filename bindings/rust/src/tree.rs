@@ -23,7 +23,7 @@ pub(crate) enum BuildError {
 /// The nodes of a description.
 #[derive(Debug, Clone)]
 pub(crate) struct Tree<'a> {
-    /// What lends the literals.
+    /// What the literals are borrowed from.
     pub(crate) text: Cow<'a, str>,
     /// The nodes as the library wrote them, but that `start` of a literal is the place by which it is
     /// borrowed, and that they are linked where some have members.
@@ -36,7 +36,7 @@ pub(crate) struct Tree<'a> {
 pub(crate) enum Walk {
     /// What a formatter writes.
     Written,
-    /// All, as a reader wants them.
+    /// All, as a reader needs them.
     All,
 }
 
@@ -45,7 +45,7 @@ pub(crate) enum Walk {
 pub(crate) enum Shape {
     /// None has members: each is an item, and each is written.
     Flat {
-        /// Whether each literal has one byte, so that ASCII lends all.
+        /// Whether each literal has one byte, so that all are borrowed from `ASCII`.
         is_ascii: bool,
     },
     /// Some have members.
@@ -58,7 +58,7 @@ pub(crate) enum Shape {
 }
 
 impl<'a> Tree<'a> {
-    /// The tree of the library's list, which is changed, and which lends its literals.
+    /// The tree of the library's list, which is changed, and of its literals.
     #[inline]
     pub(crate) fn build(
         nodes: &mut [RawNode],
@@ -74,7 +74,7 @@ impl<'a> Tree<'a> {
 }
 
 /// Gives each literal the place by which it is borrowed, and answers whether nodes are flat: literals and
-/// components alone. `None` where a literal has no place.
+/// components alone. `None` if a literal has no place.
 #[inline]
 fn settle(nodes: &mut [RawNode], literals: &mut Literals<'_, '_>) -> Option<bool> {
     let mut is_flat = true;
@@ -104,7 +104,7 @@ fn link(nodes: &mut [RawNode]) -> Result<Shape, BuildError> {
 }
 
 impl Tree<'_> {
-    /// The same, borrowed its literals by a text of its own.
+    /// The same with a text of its own, from which its literals are borrowed.
     pub(crate) fn into_owned(self) -> Tree<'static> {
         let Self { text, nodes, shape } = self;
         Tree { text: Cow::Owned(text.into_owned()), nodes, shape }
@@ -138,7 +138,7 @@ impl Tree<'_> {
         }
     }
 
-    /// The index of the first of all nodes below a node, or its own where there is none.
+    /// The index of the first of all nodes below a node, or its own if there is none.
     pub(crate) fn begin(&self, index: u32) -> u32 {
         links::begin(&self.nodes, index)
     }
@@ -195,7 +195,8 @@ impl Tree<'_> {
         }
     }
 
-    /// The nodes as the library takes them, with what lends their literals, where one text lends all.
+    /// The nodes as the library takes them, with the text that all their literals are borrowed from, if
+    /// there is one.
     pub(crate) fn as_taken(&self) -> Option<(&[RawNode], &'static str)> {
         match self.shape {
             Shape::Flat { is_ascii: true } => Some((&self.nodes, ASCII)),
@@ -204,7 +205,7 @@ impl Tree<'_> {
     }
 }
 
-/// Two are equal where their nodes are, wherever their literals stand.
+/// Two are equal if their nodes are, wherever their literals are.
 impl PartialEq for Tree<'_> {
     fn eq(&self, other: &Self) -> bool {
         let is_same = |index| {

@@ -1,4 +1,4 @@
-//! Lists of nodes made by hand, as the library would answer them.
+//! Lists of nodes that these tests make up, as the library would answer them.
 
 use std::format;
 use std::hash::{DefaultHasher, Hash, Hasher};
@@ -108,7 +108,7 @@ fn literal_text(part: Part<'_>) -> &str {
     }
 }
 
-/// The tree of a list, whose literals stand in the text of all of them.
+/// The tree of a list, whose literals are in the text of all of them.
 fn build(nodes: &[RawNode]) -> Result<Tree<'static>, BuildError> {
     Tree::build(&mut nodes.to_vec(), Literals::new(LITERALS, LITERALS.as_bytes()))
 }
@@ -126,7 +126,7 @@ fn items_and_parts() {
     }
 }
 
-/// Each walk goes backwards as it goes forwards, and tells how much is left.
+/// Each walk goes backwards as it goes forwards, and knows how much is left.
 #[test]
 fn backwards() {
     for (nodes, items, _) in LISTS {
@@ -179,7 +179,7 @@ fn members_are_counted() {
     assert_eq!(Members::items(&tree).len(), 2);
 }
 
-/// Two trees are equal where they have the same nodes, wherever their literals stand.
+/// Two trees are equal if they have the same nodes, wherever their literals are.
 #[test]
 fn equality() {
     let texts = [("ab: cd", "abcd"), ("cd; ab", "abcd")];

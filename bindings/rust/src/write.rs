@@ -150,7 +150,7 @@ impl<E: fmt::Display> fmt::Display for WriteError<E> {
     }
 }
 
-/// Its source is that of what it holds, whose sentence is its own.
+/// Its source is that of the error inside, whose sentence is its own.
 impl<E: Error> Error for WriteError<E> {
     fn source(&self) -> Option<&(dyn Error + 'static)> {
         match self {

@@ -7,7 +7,7 @@ use crate::content::Nesting;
 use crate::links;
 use crate::sys::RawNode;
 
-/// The indices of what a formatter writes of linked nodes, in turn. `None` where there is no memory
+/// The indices of what a formatter writes of linked nodes, in turn. `None` if there is no memory
 /// for them.
 pub(crate) fn written(nodes: &[RawNode]) -> Option<Box<[u32]>> {
     let backwards = || Backwards { nodes, rest: nodes.len() as u32 };

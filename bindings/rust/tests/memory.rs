@@ -28,7 +28,7 @@ thread_local! {
     static COUNT: Cell<Count> = const { Cell::new(NOTHING) };
 }
 
-/// Whether an allocation is granted that takes `new` bytes in the place of `old`.
+/// Whether an allocation is granted that takes `new` bytes in place of `old`.
 fn is_granted(old: usize, new: usize) -> bool {
     let mut count = COUNT.get();
     if count.is_on {

@@ -25,134 +25,40 @@ spelled : (v : DescriptionVersion) (text : Text) (list : List Tree)
     → answer_of v nesting_limit text ≡ Ok list → Spells v nesting_limit 0 text list
 spelled v text list e = subst (Answers v text) e (answer_is v nesting_limit text)
 
-no_name_reported : (v : DescriptionVersion) → IsReported v (codes "[]") missing_name 0
-unfolding answer_of
-no_name_reported One = reported One (codes "[]") _ refl
-no_name_reported Two = reported Two (codes "[]") _ refl
-no_name_reported Three = reported Three (codes "[]") _ refl
+reported_in_each : (text : Text) (f : Fault) → answer_of One nesting_limit text ≡ Err f
+    → answer_of Two nesting_limit text ≡ Err f → answer_of Three nesting_limit text ≡ Err f
+    → (v : DescriptionVersion) → FaultOf v nesting_limit text f
+reported_in_each text f one two three One = reported One text f one
+reported_in_each text f one two three Two = reported Two text f two
+reported_in_each text f one two three Three = reported Three text f three
 
-no_name_after_white_reported : (v : DescriptionVersion) → IsReported v (codes "[ ]") missing_name 1
-unfolding answer_of
-no_name_after_white_reported One = reported One (codes "[ ]") _ refl
-no_name_after_white_reported Two = reported Two (codes "[ ]") _ refl
-no_name_after_white_reported Three = reported Three (codes "[ ]") _ refl
-
-no_name_after_more_white_reported : (v : DescriptionVersion) → IsReported v (codes "[  ]") missing_name 1
-unfolding answer_of
-no_name_after_more_white_reported One = reported One (codes "[  ]") _ refl
-no_name_after_more_white_reported Two = reported Two (codes "[  ]") _ refl
-no_name_after_more_white_reported Three = reported Three (codes "[  ]") _ refl
-
-escaped_end_reported : (v : DescriptionVersion) → IsReported v (91 ∷ 100 ∷ 97 ∷ 121 ∷ 32 ∷ 92 ∷ 93 ∷ []) unclosed_bracket 0
-unfolding answer_of
-escaped_end_reported One = reported One (91 ∷ 100 ∷ 97 ∷ 121 ∷ 32 ∷ 92 ∷ 93 ∷ []) _ refl
-escaped_end_reported Two = reported Two (91 ∷ 100 ∷ 97 ∷ 121 ∷ 32 ∷ 92 ∷ 93 ∷ []) _ refl
-escaped_end_reported Three = reported Three (91 ∷ 100 ∷ 97 ∷ 121 ∷ 32 ∷ 92 ∷ 93 ∷ []) _ refl
-
-unclosed_reported : (v : DescriptionVersion) → IsReported v (codes "[foo") unclosed_bracket 0
-unfolding answer_of
-unclosed_reported One = reported One (codes "[foo") _ refl
-unclosed_reported Two = reported Two (codes "[foo") _ refl
-unclosed_reported Three = reported Three (codes "[foo") _ refl
-
-no_colon_before_the_end_reported : (v : DescriptionVersion) → IsReported v (codes "[foo bar") (invalid_modifier (codes "bar")) 5
-unfolding answer_of
-no_colon_before_the_end_reported One = reported One (codes "[foo bar") _ refl
-no_colon_before_the_end_reported Two = reported Two (codes "[foo bar") _ refl
-no_colon_before_the_end_reported Three = reported Three (codes "[foo bar") _ refl
-
-unknown_name_reported : (v : DescriptionVersion) → IsReported v (codes "[foo]") (invalid_name (codes "foo")) 1
-unfolding answer_of
-unknown_name_reported One = reported One (codes "[foo]") _ refl
-unknown_name_reported Two = reported Two (codes "[foo]") _ refl
-unknown_name_reported Three = reported Three (codes "[foo]") _ refl
-
-no_value_reported : (v : DescriptionVersion) → IsReported v (codes "[day padding:]") (invalid_modifier []) 12
-unfolding answer_of
-no_value_reported One = reported One (codes "[day padding:]") _ refl
-no_value_reported Two = reported Two (codes "[day padding:]") _ refl
-no_value_reported Three = reported Three (codes "[day padding:]") _ refl
-
-no_key_reported : (v : DescriptionVersion) → IsReported v (codes "[day :zero]") (invalid_modifier []) 5
-unfolding answer_of
-no_key_reported One = reported One (codes "[day :zero]") _ refl
-no_key_reported Two = reported Two (codes "[day :zero]") _ refl
-no_key_reported Three = reported Three (codes "[day :zero]") _ refl
-
-colon_in_a_value_reported : (v : DescriptionVersion) → IsReported v (codes "[day padding:zero:x]") (invalid_modifier (codes "zero:x")) 13
-unfolding answer_of
-colon_in_a_value_reported One = reported One (codes "[day padding:zero:x]") _ refl
-colon_in_a_value_reported Two = reported Two (codes "[day padding:zero:x]") _ refl
-colon_in_a_value_reported Three = reported Three (codes "[day padding:zero:x]") _ refl
-
-no_white_before_nested_reported : (v : DescriptionVersion) → IsReported v (codes "[day[x]]") expected_white 4
-unfolding answer_of
-no_white_before_nested_reported One = reported One (codes "[day[x]]") _ refl
-no_white_before_nested_reported Two = reported Two (codes "[day[x]]") _ refl
-no_white_before_nested_reported Three = reported Three (codes "[day[x]]") _ refl
-
-nested_in_an_unknown_name_reported : (v : DescriptionVersion) → IsReported v (codes "[foo [x]]") nested_here 0
-unfolding answer_of
-nested_in_an_unknown_name_reported One = reported One (codes "[foo [x]]") _ refl
-nested_in_an_unknown_name_reported Two = reported Two (codes "[foo [x]]") _ refl
-nested_in_an_unknown_name_reported Three = reported Three (codes "[foo [x]]") _ refl
-
-fault_inside_first_reported : (v : DescriptionVersion) → IsReported v (codes "[day [[foo]]]") (invalid_name (codes "foo")) 7
-unfolding answer_of
-fault_inside_first_reported One = reported One (codes "[day [[foo]]]") _ refl
-fault_inside_first_reported Two = reported Two (codes "[day [[foo]]]") _ refl
-fault_inside_first_reported Three = reported Three (codes "[day [[foo]]]") _ refl
-
-unclosed_inside_reported : (v : DescriptionVersion) → IsReported v (codes "[a[") unclosed_bracket 0
-unfolding answer_of
-unclosed_inside_reported One = reported One (codes "[a[") _ refl
-unclosed_inside_reported Two = reported Two (codes "[a[") _ refl
-unclosed_inside_reported Three = reported Three (codes "[a[") _ refl
-
-no_count_reported : (v : DescriptionVersion) → IsReported v (codes "[ignore]") (missing_modifier (codes "count")) 1
-unfolding answer_of
-no_count_reported One = reported One (codes "[ignore]") _ refl
-no_count_reported Two = reported Two (codes "[ignore]") _ refl
-no_count_reported Three = reported Three (codes "[ignore]") _ refl
-
-count_of_nought_reported : (v : DescriptionVersion) → IsReported v (codes "[ignore count:0]") (invalid_modifier (codes "0")) 14
-unfolding answer_of
-count_of_nought_reported One = reported One (codes "[ignore count:0]") _ refl
-count_of_nought_reported Two = reported Two (codes "[ignore count:0]") _ refl
-count_of_nought_reported Three = reported Three (codes "[ignore count:0]") _ refl
-
-word_after_nested_reported : (v : DescriptionVersion) → IsReported v (codes "[first [a]b]") unclosed_bracket 0
-unfolding answer_of
-word_after_nested_reported One = reported One (codes "[first [a]b]") _ refl
-word_after_nested_reported Two = reported Two (codes "[first [a]b]") _ refl
-word_after_nested_reported Three = reported Three (codes "[first [a]b]") _ refl
-
-signed_count_spelled : (v : DescriptionVersion) → IsSpelled v (codes "[ignore count:+5]") (component (Ignore (record { count = not_zero 4 })) ∷ [])
-unfolding answer_of
-signed_count_spelled One = spelled One (codes "[ignore count:+5]") _ refl
-signed_count_spelled Two = spelled Two (codes "[ignore count:+5]") _ refl
-signed_count_spelled Three = spelled Three (codes "[ignore count:+5]") _ refl
+spelled_in_each : (text : Text) (list : List Tree) → answer_of One nesting_limit text ≡ Ok list
+    → answer_of Two nesting_limit text ≡ Ok list → answer_of Three nesting_limit text ≡ Ok list
+    → (v : DescriptionVersion) → Spells v nesting_limit 0 text list
+spelled_in_each text list one two three One = spelled One text list one
+spelled_in_each text list one two three Two = spelled Two text list two
+spelled_in_each text list one two three Three = spelled Three text list three
 
 pub refused_texts : RefusedTexts
 unfolding answer_of
 refused_texts = record {
-  no_name = no_name_reported;
-  no_name_after_white = no_name_after_white_reported;
-  no_name_after_more_white = no_name_after_more_white_reported;
+  no_name = reported_in_each (codes "[]") _ refl refl refl;
+  no_name_after_white = reported_in_each (codes "[ ]") _ refl refl refl;
+  no_name_after_more_white = reported_in_each (codes "[  ]") _ refl refl refl;
   doubled_bracket_of_version_two = reported Two (codes "[[day]]") _ refl;
   doubled_bracket_of_version_three = reported Three (codes "[[day]]") _ refl;
   bare_closing_bracket = reported Three (92 ∷ 91 ∷ 91 ∷ 100 ∷ 97 ∷ 121 ∷ 93 ∷ 93 ∷ []) _ refl;
-  escaped_end = escaped_end_reported;
-  unclosed = unclosed_reported;
-  no_colon_before_the_end = no_colon_before_the_end_reported;
-  unknown_name = unknown_name_reported;
-  no_value = no_value_reported;
-  no_key = no_key_reported;
-  colon_in_a_value = colon_in_a_value_reported;
-  no_white_before_nested = no_white_before_nested_reported;
-  nested_in_an_unknown_name = nested_in_an_unknown_name_reported;
-  fault_inside_first = fault_inside_first_reported;
-  unclosed_inside = unclosed_inside_reported;
+  escaped_end = reported_in_each (91 ∷ 100 ∷ 97 ∷ 121 ∷ 32 ∷ 92 ∷ 93 ∷ []) _ refl refl refl;
+  unclosed = reported_in_each (codes "[foo") _ refl refl refl;
+  no_colon_before_the_end = reported_in_each (codes "[foo bar") _ refl refl refl;
+  unknown_name = reported_in_each (codes "[foo]") _ refl refl refl;
+  no_value = reported_in_each (codes "[day padding:]") _ refl refl refl;
+  no_key = reported_in_each (codes "[day :zero]") _ refl refl refl;
+  colon_in_a_value = reported_in_each (codes "[day padding:zero:x]") _ refl refl refl;
+  no_white_before_nested = reported_in_each (codes "[day[x]]") _ refl refl refl;
+  nested_in_an_unknown_name = reported_in_each (codes "[foo [x]]") _ refl refl refl;
+  fault_inside_first = reported_in_each (codes "[day [[foo]]]") _ refl refl refl;
+  unclosed_inside = reported_in_each (codes "[a[") _ refl refl refl;
   repeated_key = reported Three (codes "[hour repr:12 repr:24]") _ refl;
   padding_of_a_long_month = reported Three (codes "[month repr:long padding:none]") _ refl;
   case_of_a_numerical_month = reported Three (codes "[month case_sensitive:true]") _ refl;
@@ -165,11 +71,11 @@ refused_texts = record {
   sign_of_two_digits = reported Three (codes "[year repr:last_two sign:mandatory]") _ refl;
   range_of_two_digits_by_weeks = reported Three (codes "[year base:iso_week repr:last_two range:standard]") _ refl;
   sign_of_two_digits_by_weeks = reported Three (codes "[year base:iso_week repr:last_two sign:mandatory]") _ refl;
-  no_count = no_count_reported;
-  count_of_nought = count_of_nought_reported;
+  no_count = reported_in_each (codes "[ignore]") _ refl refl refl;
+  count_of_nought = reported_in_each (codes "[ignore count:0]") _ refl refl refl;
   optional_item_of_version_one = reported One (codes "[optional [[day]]]") _ refl;
   optional_item_of_version_two = reported Two (codes "[optional [[day]]]") _ refl;
-  word_after_nested = word_after_nested_reported;
+  word_after_nested = reported_in_each (codes "[first [a]b]") _ refl refl refl;
   no_escape_of_version_two = reported Two (195 ∷ 169 ∷ 92 ∷ 195 ∷ 169 ∷ []) _ refl;
   no_escape_of_version_three = reported Three (195 ∷ 169 ∷ 92 ∷ 195 ∷ 169 ∷ []) _ refl;
 }
@@ -186,7 +92,7 @@ spelled_texts = record {
   last_of_two_keys_in_version_two = spelled Two (codes "[hour repr:12 repr:24]") _ refl;
   key_of_no_use_in_version_one = spelled One (codes "[month repr:long padding:none]") _ refl;
   key_of_no_use_in_version_two = spelled Two (codes "[month repr:long padding:none]") _ refl;
-  signed_count = signed_count_spelled;
+  signed_count = spelled_in_each (codes "[ignore count:+5]") _ refl refl refl;
   optional_day = spelled Three (codes "[optional [[day]]]") _ refl;
   optional_of_none = spelled Three (codes "[optional []]") _ refl;
   two_alternatives = spelled Three (codes "[first [a] [bcd]]") _ refl;

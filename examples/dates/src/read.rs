@@ -149,7 +149,7 @@ impl Found {
     }
 }
 
-/// A year of four digits, or behind a sign of up to six.
+/// A year of four digits, or of up to six after a sign.
 fn year(
     input: &mut Input<'_>,
     padding: Padding,

@@ -41,8 +41,8 @@ const TABLES: [(&str, &[&str]); 2] = [
     ),
 ];
 
-/// How often a sample makes the call, and how many samples there are: their median is told. Samples are short, as
-/// others may run on the machine, and each call's stand among those of the others.
+/// How often a sample makes the call, and how many samples there are: their median is reported. Samples are short,
+/// because others may use the machine, and those of all calls alternate.
 const CALLS: u32 = 200;
 const SAMPLES: usize = 1_001;
 

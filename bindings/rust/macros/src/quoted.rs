@@ -39,8 +39,7 @@ impl Quoted {
         self.literal.span()
     }
 
-    /// Where bytes of the text stand in the program: inside of the literal, where the compiler tells
-    /// that.
+    /// Where bytes of the text are in the program: inside the literal, if the compiler knows that.
     #[cfg(timefd_subspan)]
     pub(crate) fn span_of(&self, bytes: Range<usize>) -> Option<Span> {
         let end =

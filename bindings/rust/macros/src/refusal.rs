@@ -19,7 +19,7 @@ impl Refusal {
         Self { span, message: message.to_string() }
     }
 
-    /// The fault of a text. Where the compiler doesn't mark places inside of a literal, the message
+    /// The fault of a text. Where the compiler doesn't mark places inside a literal, the message
     /// does.
     pub(crate) fn of_fault(fault: &Fault, quoted: &Quoted) -> Self {
         let advice = fault.nearest().map(|word| format!("the nearest word is `{word}`"));

@@ -34,7 +34,7 @@ pub(crate) fn block(code: TokenStream) -> TokenStream {
 }
 
 impl Code {
-    /// The same with these tokens in the place of their names.
+    /// The same with these tokens in place of their names.
     pub(crate) fn named(self, names: &[(Name, TokenTree)]) -> Self {
         let put = |token: TokenTree| match &token {
             TokenTree::Ident(ident) => {

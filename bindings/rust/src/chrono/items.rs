@@ -11,7 +11,7 @@ use crate::parts::Part;
 use crate::unsupported::Unsupported;
 
 /// The items that `chrono` writes as a formatter writes the description, of years from 0 to 9999: of
-/// alternatives the first, and of a part that may be skipped nothing where its flag says so. Names
+/// alternatives the first, and of a part that may be skipped nothing if its flag says so. Names
 /// are read whatever their letters' case is.
 ///
 /// # Errors

@@ -28,9 +28,9 @@ impl<'de: 'a, 'a> DeserializeIn<'de> for FormatDescription<'a> {
     }
 }
 
-/// What is said of a text that the input doesn't lend, good or bad.
-const NOT_LENT: &str = "the format can't be borrowed, since the input escapes it or lends no text: \
-                        take an `OwnedFormat`";
+/// The error of a text that can't be borrowed from the input, good or bad.
+const NOT_BORROWED: &str = "the format can't be borrowed, since the input escapes it or is read in pieces: \
+                            take an `OwnedFormat`";
 
 struct BorrowedVisitor {
     language: Language,
@@ -48,6 +48,6 @@ impl<'de> Visitor<'de> for BorrowedVisitor {
     }
 
     fn visit_str<E: Error>(self, _: &str) -> Result<Self::Value, E> {
-        Err(E::custom(NOT_LENT))
+        Err(E::custom(NOT_BORROWED))
     }
 }

@@ -51,9 +51,10 @@ language! {
 language! {
     /// For `#[serde(with = "timefd::serde::version_3")]`: formats of version 3.
     ///
-    /// A [`FormatDescription`](crate::FormatDescription) is read only where the input holds its
-    /// text as it is, and lends it: JSON escapes each text with a `\`, as `\[`, and an input that is
-    /// read in pieces lends none. An [`OwnedFormat`](super::OwnedFormat) is read of each.
+    /// A [`FormatDescription`](crate::FormatDescription) is read only if its text can be borrowed
+    /// from the input as it is: JSON escapes each text with a `\`, like `\[`, and nothing can be
+    /// borrowed from an input that is read in pieces. An [`OwnedFormat`](super::OwnedFormat) is read
+    /// from every input.
     version_3, Language::Version(Version::Three)
 }
 

@@ -13,7 +13,7 @@ use time::format_description::{self, Component as Theirs, FormatItem};
 use crate::unsupported::Unsupported;
 
 /// The items that `time` writes as a formatter writes the description: of alternatives the first,
-/// and of a part that may be skipped nothing where its flag says so.
+/// and of a part that may be skipped nothing if its flag says so.
 ///
 /// # Errors
 ///

@@ -1,4 +1,4 @@
-//! Descriptions put together part by part, the texts that they come to, and their items.
+//! Descriptions built part by part, the texts that they come to, and their items.
 
 use crate::rows::Tree::{self, Compound, First, Literal, Optional};
 use crate::rows::expect_items;

@@ -155,7 +155,7 @@ fn each_component_is_as_expected() {
     }
 }
 
-/// The component tells its bytes by itself too.
+/// The component alone knows its bytes too.
 #[test]
 fn each_component_knows_its_bytes() {
     for (text, bytes, component) in [DAYS, YEARS, CLOCKS, OTHERS].concat() {

@@ -1,5 +1,5 @@
-//! Writes dates. Each line of the file is a language, the eight numbers of a date and, behind a
-//! bar, a description:
+//! Writes dates. Each line of the file is a language, the eight numbers of a date and, after a bar,
+//! a description:
 //!
 //! ```text
 //! 3 2026 11 23 5 36 7 12345678 3600|[year]-[month]-[day]

@@ -1,4 +1,4 @@
-//! Reads dates. Each line of the file is a description of version 1 and, behind a bar, a date:
+//! Reads dates. Each line of the file is a description of version 1 and, after a bar, a date:
 //!
 //! ```text
 //! [day]. [month repr:long] [year]|23. November 2026

@@ -1,10 +1,10 @@
 //! Three tasks with formats of dates:
 //!
-//! - `tasks log CONFIG [MOMENT] < MESSAGES` writes each line behind the time, by the format under
+//! - `tasks log CONFIG [MOMENT] < MESSAGES` writes each line after the time, by the format under
 //!   `timestamp` of a TOML file;
 //! - `tasks column FROM TO < IN.csv` rewrites the dates of the first column; a line whose date isn't
 //!   read stays as it is;
-//! - `tasks check < FORMATS` says of each format how long a date gets, or what is wrong.
+//! - `tasks check < FORMATS` says for each format how long a date gets, or what is wrong.
 
 use std::error::Error;
 use std::io::{self, Write as _};

@@ -6,7 +6,7 @@ use std::path::PathBuf;
 use std::process::Command;
 
 /// The arguments of a call; the column in these of what is marked; the one where a compiler marks that
-/// can mark places inside of a literal; and the message, with its lines between ` | `.
+/// can mark places inside a literal; and the message, with its lines between ` | `.
 const REFUSED: &[(&str, i32, i32, &str)] = &[
     (
         r#"!("[year]-[mnth]")"#,

@@ -16,8 +16,8 @@ struct Owned {
     format: OwnedFormat,
 }
 
-const NOT_LENT: &str = "the format can't be borrowed, since the input escapes it or lends no text: \
-                        take an `OwnedFormat`";
+const NOT_BORROWED: &str = "the format can't be borrowed, since the input escapes it or is read in pieces: \
+                            take an `OwnedFormat`";
 
 /// Texts of JSON, and the formats that they escape.
 const ESCAPED: &[(&str, &str)] = &[
@@ -41,7 +41,7 @@ fn texts_with_escapes() {
         let owned: Owned = serde_json::from_str(input).expect(input);
         assert_eq!(owned.format.text(), *text);
         let error = serde_json::from_str::<Borrowed>(input).expect_err(input);
-        assert!(error.to_string().starts_with(NOT_LENT), "{error}");
+        assert!(error.to_string().starts_with(NOT_BORROWED), "{error}");
     }
 }
 
@@ -51,7 +51,7 @@ fn an_input_that_is_read_in_pieces() {
     let owned: OwnedFormat = version_3::deserialize(&mut pieces()).expect("a format");
     assert_eq!(owned.text(), "[day]");
     let error = version_3::deserialize::<FormatDescription, _>(&mut pieces());
-    assert!(error.expect_err("it can't be borrowed").to_string().starts_with(NOT_LENT));
+    assert!(error.expect_err("it can't be borrowed").to_string().starts_with(NOT_BORROWED));
 }
 
 /// The index counts the bytes of the format, not those of the input.
