@@ -2,12 +2,14 @@
 use Rattle.std.proofs.Common.{true≢false, ℕ, ◌≡◌, ◌≢◌, ◌==◌, ◌⊎◌, inl, inr, Bool, true, false, List, [], ◌∷◌, ◌++◌, length, map, Option, Some, None, refl, sym, ap, subst, ◌∙◌, arith, eqb-true, append_assoc, append-nil}
 use Rattle.std.proofs.lemmas.List.{map-append}
 use Rattle.std.specs.Io.KnownBytes.{Appends, IsAtEnd, Keeps}
+use Rattle.std.specs.declared.alloc.Global.{Global}
+use Rattle.std.specs.declared.string.String.{String}
 use denote.Ref.{Bor}
 use Rattle.timefd_component.specs.Tree.{Text}
 use Rattle.timefd_diagnosis.specs.Words.{texts}
 use Rattle.timefd_guess.specs.Found as guess
 use Rattle.timefd_rewrite.specs.Lines.{AreLinesOf, IsNextLine, without_newline}
-use Rattle.timefd_streams.specs.Words.{borrowed_bytes}
+use Rattle.timefd_streams.specs.Words.{borrowed_bytes, bytes_of}
 use Rattle.timefd_write.specs.declared.guess_run.GuessEnd.{GuessEnd}
 use Rattle.timefd_write.specs.declared.guess_run.GuessEnd.TheVariants as ends
 use Rattle.timefd_write.specs.declared.lines.LineRead.{LineRead}
@@ -78,6 +80,15 @@ pub of_input : (words : List (Bor Text)) (input before after : Option Text) (end
 of_input [] input before after end none over = over
 of_input (word ∷ words) input before after end none over =
     absurd (omega (arith, eqb-true (length (word ∷ words)) 0 none))
+
+-- The lines were read.
+pub of_read : (words : List (Bor Text)) (input before after : Option Text) (end : GuessEnd)
+    (lines slice : List (String Global)) → (length words == 0) ≡ true
+    → AreTextsOf input (bytes_of lines) → slice ≡ lines
+    → GuessesOver (bytes_of slice) before after end → IsGuessRun (texts words) input before after end
+of_read words input before after end lines slice none are same over =
+    of_input words input before after end none
+    (inl (bytes_of lines, are, subst (λ ls. GuessesOver (bytes_of ls) before after end) same over))
 
 -- The lines so far and those that are left are all lines.
 abbrev pub ReadsOn : Option Text → Option Text → List Text → Type 0

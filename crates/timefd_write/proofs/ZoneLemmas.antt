@@ -51,8 +51,11 @@ pub grown : (before after : Zones) (name : Text) (is added : Bool) → before.is
     → Gives before.database name is → is ≡ false → Adds name before.database after.database added
     → added ≡ true → after.is_whole ≡ false → IsWith before name after
 grown before after name is added part given unknown adds one rest =
-    inr (part, subst (Gives before.database name) unknown given,
-    inl (subst (Adds name before.database after.database) one adds, rest))
+    inr (
+      part,
+      subst (Gives before.database name) unknown given,
+      inl (subst (Adds name before.database after.database) one adds, rest),
+    )
 
 pub filled : (before after : Zones) (name : Text) (is : Bool) → before.is_whole ≡ false
     → Gives before.database name is → is ≡ false → after.is_whole ≡ true → IsWith before name after

@@ -147,7 +147,6 @@ fn now_at(rt: &HostRuntime, zone: &TimeZone<'_>) -> Now {
 }
 
 // Reads the zone's file into the database, from the first folder that has it, and returns whether one has.
-#[tactic(auto, using(crate::proofs::ZoneLemmas::after_none))]
 fn insert_zone(
     rt: &HostRuntime,
     zones: &mut TimeZoneDatabase,
@@ -158,16 +157,29 @@ fn insert_zone(
     if !is_file_name(name) {
         return Ok(false);
     }
-    if let Ok(folder) = env::var(rt, "TZDIR") {
-        if insert_from(rt, zones, &folder, name)? {
-            return Ok(true);
-        }
+    match env::var(rt, "TZDIR") {
+        Ok(folder) => insert_with(rt, zones, &folder, name),
+        Err(_) => insert_from_folders(rt, zones, name),
     }
-    insert_from_folders(rt, zones, name)
+}
+
+// The same, with this folder before those where systems keep their time zones.
+fn insert_with(
+    rt: &HostRuntime,
+    zones: &mut TimeZoneDatabase,
+    folder: &str,
+    name: &str,
+) -> Result<bool, AllocError>
+    ensures { IfOk result (spec.Adds name.now zones.old zones.new) }
+{
+    if insert_from(rt, zones, folder, name)? {
+        return Ok(true);
+    }
+    let is_added = insert_from_folders(rt, zones, name)?;
+    Ok(is_added)
 }
 
 // The same, from the folders where systems keep their time zones.
-#[tactic(auto, using(crate::proofs::ZoneLemmas::after_none))]
 fn insert_from_folders(
     rt: &HostRuntime,
     zones: &mut TimeZoneDatabase,
