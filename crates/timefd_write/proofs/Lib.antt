@@ -11,7 +11,9 @@ pub mod SecondsLemmas
 pub mod RunLemmas
 pub mod TableLemmas
 pub mod WarnedLemmas
+pub mod ZoneLemmas
 pub mod GuessLemmas
+pub mod GuessRunLemmas
 pub mod ExpectedLemmas
 pub mod MomentLemmas
 pub mod MessageLemmas

@@ -1,12 +1,13 @@
 -- Why a word isn't read.
 use Rattle.std.proofs.Common.{ℕ, ◌≡◌, inl, inr, Option, refl, subst}
+use Rattle.jiff_core.specs.declared.error.Error.{Error}
 use Rattle.timefd_component.specs.Tree.{Text}
 use Rattle.timefd_read_dates.specs.declared.fault.ReadError.{ReadError}
 use Rattle.timefd_description.specs.Sentences.{unread_sentence}
 use Rattle.timefd_write.specs.declared.moment.MomentError.TheVariants as fails
 use Rattle.timefd_write.specs.declared.source.Source.{Source}
 use Rattle.timefd_write.specs.Expected.{IsExpectedIn}
-use Rattle.timefd_write.specs.Messages.{IsStopSentence, IsUnreadMessage, expected_sentence, not_read}
+use Rattle.timefd_write.specs.Messages.{IsStopSentence, IsUnreadMessage, expected_sentence, no_moment, not_read}
 
 pub plain : (source : Source) (word : Text) (u : ReadError) (why : Text) → why ≡ unread_sentence u
     → IsStopSentence source word u why
@@ -20,3 +21,8 @@ pub unread : (source : Source) (line : Option ℕ) (word : Text) (u : ReadError)
     → IsStopSentence source word u why → message ≡ not_read line word why
     → IsUnreadMessage source line word (fails.Unread u) message
 unread source line word u why message stop is = (why, stop, is)
+
+-- A text that isn't a moment, and why.
+pub no_text : (source : Source) (line : Option ℕ) (word : Text) (e : Error) (why message : Text)
+    → message ≡ no_moment word why → IsUnreadMessage source line word (fails.Text e) message
+no_text source line word e why message is = (why, is)

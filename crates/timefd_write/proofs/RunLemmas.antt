@@ -122,7 +122,7 @@ pub lines_start : (otherwise : Otherwise) (source : Source) (o : BorrowedOutput)
 lines_start otherwise source o bytes before tally none failed after more runs =
     subst (λ t. RunsOn failed otherwise source o bytes before after (both t more)) (sym none) runs
 
-more_lines : (bytes rest : Option Text) (line : Text) (lines : List Text) (failed : Bool)
+pub more_lines : (bytes rest : Option Text) (line : Text) (lines : List Text) (failed : Bool)
     → IsNextLine bytes line rest → AreLinesOf rest lines failed
     → AreLinesOf bytes (line ∷ lines) failed
 more_lines None rest line lines failed next are = tt
@@ -151,11 +151,11 @@ line_more otherwise source o bytes left rest line word before between next tally
       (outcome, next, more, subst (λ w. IsOne otherwise source o frames.Line w between next outcome) without is, runs.2, refl),
     ))
 
-no_line_left : (left : Option Text) → IsAtEnd left → AreLinesOf left [] false
+pub no_line_left : (left : Option Text) → IsAtEnd left → AreLinesOf left [] false
 no_line_left None end = tt
 no_line_left (Some xs) end = end
 
-no_line_read : (left : Option Text) → AreLinesOf left [] true
+pub no_line_read : (left : Option Text) → AreLinesOf left [] true
 no_line_read None = tt
 no_line_read (Some xs) = (xs, refl)
 

@@ -1,5 +1,5 @@
 -- Descriptions in a language of `time`, and what is reported about formats that can't be converted.
-use Rattle.std.specs.Prelude.{ℕ, ◌≡◌, codes, decimal, ◌++◌, string_bytes}
+use Rattle.std.specs.Prelude.{ℕ, ◌≡◌, ◌==◌, Bool, true, false, Option, Some, None, codes, decimal, ◌++◌, if◌then◌else◌, string_bytes}
 use Rattle.timefd_component.specs.Tree.{Text}
 use Rattle.timefd_dialect.specs.Answers.{IsConverted, IsRefusedFor}
 use Rattle.timefd_dialect.specs.Limits.{all_limits}
@@ -51,3 +51,20 @@ at_index index = codes "at byte " ++ (decimal index ++ codes " of the format: ")
 
 abbrev pub refused_sentence : Refusal → Text
 refused_sentence refusal = at_index refusal.index ++ why refusal.reason
+
+-- the sentence for moments from this year on
+abbrev pub from_year : ℕ → Bool → Text
+from_year year true =
+    codes "the format writes this from the year " ++ (decimal year
+    ++ codes " on, of offsets of whole minutes")
+from_year year false = codes "the format writes this from the year " ++ (decimal year ++ codes " on")
+
+abbrev pub of_all_years : Bool → Option Text
+of_all_years true = Some (codes "the format writes this of offsets of whole minutes")
+of_all_years false = None
+
+-- the sentence on the moments for which a format writes the same
+abbrev pub limits_sentence : Limits → Option Text
+limits_sentence limits =
+    if limits.first_year == 0 then of_all_years limits.whole_minutes
+    else Some (from_year limits.first_year limits.whole_minutes)

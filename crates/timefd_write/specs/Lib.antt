@@ -3,6 +3,7 @@ pub mod Asked
 pub mod Descriptions
 pub mod Seconds
 pub mod Zones
+pub mod KnownZones
 pub mod Brackets
 pub mod Moments
 pub mod Absent
@@ -10,6 +11,7 @@ pub mod ReadBack
 pub mod Sources
 pub mod Tallies
 pub mod Expected
+pub mod Reports
 pub mod Messages
 pub mod Frames
 pub mod Fields
@@ -21,3 +23,4 @@ pub mod Runs
 pub mod Converted
 pub mod ToRead
 pub mod Guessed
+pub mod GuessRuns

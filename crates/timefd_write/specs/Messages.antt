@@ -1,5 +1,5 @@
 -- The messages about words that aren't written, and about arguments that the program can't use.
-use Rattle.std.specs.Prelude.{ℕ, ◌≡◌, ◌⊎◌, ◌++◌, codes, Option, Some, None, ⊤}
+use Rattle.std.specs.Prelude.{ℕ, ◌≡◌, ◌⊎◌, ◌++◌, codes, Option, Some, None}
 use Rattle.std.specs.Fmt.{decimal}
 use Rattle.timefd_component.specs.Tree.{Text}
 use Rattle.timefd_drawing.specs.Shown.{safe}
@@ -58,8 +58,8 @@ IsStopSentence source word u why =
     (why ≡ unread_sentence u)
     ⊎ ((literal : Text) × IsExpectedIn source word literal × (why ≡ expected_sentence literal u.index))
 
--- The message for a word that names or shows no moment. Why the word isn't one is in the words of the library
--- jiff.
+-- The message for a word that names or shows no moment. Why a text isn't a moment is in the words of the library
+-- jiff, which quote nothing.
 abbrev pub IsUnreadMessage : Source → Option ℕ → Text → MomentError → Text → Type 0
 IsUnreadMessage source line word fails.Clock message =
     message ≡ codes "timefd_format: the clock can't be read\n"
@@ -81,7 +81,7 @@ IsUnreadMessage source line word fails.NoInstant message =
     message ≡ no_moment word (codes "`--zone` shows what has a date, a time and an offset, as 2026-11-23T05:36:07+01:00")
 IsUnreadMessage source line word fails.Memory message = ⊥
 IsUnreadMessage source line word (fails.Absent day) message = message ≡ not_read line word (absent_sentence day)
-IsUnreadMessage source line word (fails.Text e) message = ⊤
+IsUnreadMessage source line word (fails.Text e) message = (why : Text) × (message ≡ no_moment word why)
 IsUnreadMessage source line word (fails.Unread u) message =
     (why : Text) × IsStopSentence source word u why × (message ≡ not_read line word why)
 IsUnreadMessage source line word (fails.Value v) message = message ≡ not_read line word (sentence v)

@@ -1,5 +1,5 @@
 -- The warnings that are reported about descriptions.
-use Rattle.std.specs.Prelude.{Bool, true, false, List, ◌++◌}
+use Rattle.std.specs.Prelude.{◌≡◌, Bool, true, false, List, ◌++◌, codes, Option}
 use Rattle.timefd_component.specs.Tree.{Text, Tree}
 use Rattle.timefd_drawing.specs.declared.draw.Format.{Format}
 use Rattle.timefd_drawing.specs.declared.position.Origin.{Origin}
@@ -15,10 +15,12 @@ use Rattle.timefd_warnings.specs.declared.warning.Warning.TheVariants.{NoCompone
 use Rattle.timefd_warnings.specs.Levels.{all_at, with_level}
 use Rattle.timefd_warnings.specs.Warns.{warns}
 use Rattle.timefd_write.specs.declared.language.Languages.{Languages}
+use Rattle.timefd_write.specs.declared.report.Reported.{Reported}
 use Rattle.timefd_write.specs.declared.source.Source.{Source}
 use Rattle.timefd_write.specs.declared.source.SourceKind.{SourceKind}
 use Rattle.timefd_write.specs.declared.source.SourceKind.TheVariants.{Names, Texts}
 use Rattle.timefd_write.specs.declared.warned.Warned as reported
+use Rattle.timefd_write.specs.Reports.{ReachesPeople}
 
 -- how components are written in the language
 abbrev pub spelling_of : Language → Style
@@ -60,3 +62,13 @@ abbrev pub warned_text : Bool → Origin → Origin → reported.Warned → Text
 warned_text colored read written w =
     messages (record { format = Format.Human; is_colored = colored }) read w.read
     ++ messages (record { format = Format.Human; is_colored = colored }) written w.written
+
+-- what messages call a description
+abbrev pub IsNamed : Text → Origin → Type 0
+IsNamed name origin = (origin.file.now ≡ name) × (origin.line ≡ 1)
+
+-- People see them, unless a write fails.
+abbrev pub ReportsWarnings : Bool → reported.Warned → Option Text → Option Text → Reported → Type 0
+ReportsWarnings colored warned before after r =
+    (read : Origin) × (written : Origin) × IsNamed (codes "<read>") read × IsNamed (codes "<description>") written
+    × ReachesPeople colored (warned_text colored read written warned) before after r

@@ -1,9 +1,10 @@
 -- What is written of words, one after another.
-use Rattle.std.specs.Prelude.{ℕ, ◌≡◌, ◌≤◌, Bool, List, [], ◌∷◌, ◌++◌, codes, drop, length, map, Option, Some, None, Result, Ok, Err, IfSome, IsUtf8, ⊤}
+use Rattle.std.specs.Prelude.{ℕ, ◌≡◌, ◌≤◌, ◌+◌, min, Bool, List, [], ◌∷◌, ◌++◌, codes, drop, length, map, Option, Some, None, Result, Ok, Err, IfSome, IsUtf8, ⊤}
 use Rattle.std.specs.Io.KnownBytes.{Appends, IsAtEnd}
 use Rattle.std.specs.declared.alloc.Global.{Global}
 use Rattle.std.specs.declared.vec.Vec.{Vec}
 use Rattle.timefd_component.specs.Tree.{Text, trees}
+use Rattle.timefd_component.specs.Reserved.{reserve}
 use Rattle.timefd_format.specs.declared.text.TextError.{TextError}
 use Rattle.timefd_format.specs.declared.text.TextError.TheVariants as fails
 use Rattle.timefd_format.specs.declared.unshown.Unshown.{Unshown}
@@ -134,3 +135,9 @@ abbrev pub IsRead : Option Text → Option Text → Text → LineRead → Type 0
 IsRead old new line reads.Line = IsNextLine old line new
 IsRead old new line reads.End = IsAtEnd old
 IsRead old new line reads.Failed = ⊤
+
+-- How many bytes are reserved for a line: for the longest text of the description and some more, or for most
+-- texts.
+abbrev pub line_room : BorrowedOutput → ℕ
+line_room (Items items) = 256
+line_room (Description d) = min (reserve (description_tree d)) 65536 + 64

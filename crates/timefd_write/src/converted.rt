@@ -3,6 +3,7 @@
 ghost use Rattle.std.specs.Prelude.{◌≡◌, ◌++◌, IfOk, OnOk, string_bytes};
 ghost use Rattle.std.specs.Result.{IfErr};
 ghost use Rattle.timefd_write.specs.Converted as spec;
+ghost use Rattle.timefd_write.specs.ToRead.{IsReported};
 
 use crate::language::Wording;
 use std::alloc::{AllocError, Global};
@@ -97,17 +98,33 @@ fn push_why(text: &mut String, reason: Reason) -> Result<(), AllocError>
 
 /// A sentence that says for which moments a format writes the same as this text. `None` if for all
 /// of them. An `Err` says that memory ran out.
-pub fn limits_sentence(alloc: Global, limits: Limits) -> Result<Option<String>, AllocError> {
-    let year = limits.first_year;
-    let sentence = match (year, limits.whole_minutes) {
-        (0, false) => return Ok(None),
-        (0, true) => {
-            String::from_str(alloc, "the format writes this of offsets of whole minutes")?
-        }
-        (_, false) => format!(in alloc; "the format writes this from the year {year} on")?,
-        (_, true) => format!(in alloc;
+pub fn limits_sentence(alloc: Global, limits: Limits) -> Result<Option<String>, AllocError>
+    ensures { IfOk result (IsReported (spec.limits_sentence limits)) }
+{
+    if limits.first_year == 0 {
+        return of_all_years(alloc, limits.whole_minutes);
+    }
+    Ok(Some(from_year(alloc, limits.first_year, limits.whole_minutes)?))
+}
+
+fn of_all_years(alloc: Global, whole_minutes: bool) -> Result<Option<String>, AllocError>
+    ensures { IfOk result (IsReported (spec.of_all_years whole_minutes)) }
+{
+    if whole_minutes {
+        Ok(Some(String::from_str(alloc, "the format writes this of offsets of whole minutes")?))
+    } else {
+        Ok(None)
+    }
+}
+
+fn from_year(alloc: Global, year: u16, whole_minutes: bool) -> Result<String, AllocError>
+    ensures { IfOk result (λ text. string_bytes text ≡ spec.from_year year whole_minutes) }
+{
+    if whole_minutes {
+        format!(in alloc;
             "the format writes this from the year {year} on, of offsets of whole minutes"
-        )?,
-    };
-    Ok(Some(sentence))
+        )
+    } else {
+        format!(in alloc; "the format writes this from the year {year} on")
+    }
 }

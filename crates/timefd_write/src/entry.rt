@@ -9,9 +9,10 @@ ghost use Rattle.timefd_write.specs.Written.{IsOne, IsOneOfMoment, IsSent, IsTal
 use crate::field::write_field;
 use crate::frame::{Entry, Frame, replace};
 use crate::line::write_line;
-use crate::message::{NOT_TEXT, report, unread_message, unshown_message};
+use crate::message::{NOT_TEXT, unread_message, unshown_message};
 use crate::otherwise::Otherwise;
 use crate::outcome::{Outcome, RunError, Tally};
+use crate::report::report;
 use crate::source::{Source, moment_in};
 use std::alloc::Global;
 use std::io::Write;
@@ -82,7 +83,7 @@ fn write_one<W: Write, E: Write>(
     ensures ends { IfErr result (EndsOnlyAsAsked otherwise) }
 {
     let Ok(text) = str::from_utf8(entry.text) else {
-        report(errors, NOT_TEXT.as_bytes());
+        report(alloc, errors, NOT_TEXT.as_bytes())?;
         replace(otherwise, entry, output)?;
         return Ok(Outcome::NotText);
     };
@@ -101,7 +102,7 @@ fn write_one<W: Write, E: Write>(
         ),
         Err(error) => {
             let message = unread_message(alloc, source, entry.line, text, error)?;
-            report(errors, message.as_bytes());
+            report(alloc, errors, message.as_bytes())?;
             replace(otherwise, entry, output)?;
             Ok(Outcome::Unread(error))
         }
@@ -138,7 +139,7 @@ fn write_moment<W: Write, E: Write>(
         None => Ok(Outcome::Written(moment)),
         Some(unshown) => {
             let message = unshown_message(alloc, text, unshown)?;
-            report(errors, message.as_bytes());
+            report(alloc, errors, message.as_bytes())?;
             replace(otherwise, entry, output)?;
             Ok(Outcome::Unshown(moment, unshown))
         }

@@ -1,10 +1,20 @@
 //! The run that `--guess` asks for.
 
+ghost use Rattle.std.specs.Prelude.{◌≡◌, ◌++◌, ◌∷◌, [], IfErr, IfOk, OnOk};
+ghost use Rattle.timefd_diagnosis.specs.Words.{texts};
+ghost use Rattle.timefd_rewrite.specs.Lines.{without_newline};
+ghost use Rattle.timefd_streams.specs.Words.{bytes_of};
+ghost use Rattle.timefd_write.specs.GuessRuns as spec;
+ghost use Rattle.timefd_write.specs.Written.{IsRead};
+
 use crate::asked::GuessRequest;
 use crate::guessed::write_guesses;
+use crate::lines::{LineRead, read_line};
 use crate::outcome::RunError;
-use std::alloc::AllocError;
-use std::io::{BufRead, BufReader, BufWriter, ErrorKind, Write};
+use std::alloc::{AllocError, Global};
+use std::io::{BufRead, Write};
+use std::str;
+use timefd_rewrite::without_newline;
 use timefd_streams::borrowed;
 
 /// How a run ends that looks for a description.
@@ -37,72 +47,124 @@ impl From<AllocError> for GuessEnd {
     }
 }
 
-/// Writes the descriptions that the words may be written by. Without words, the lines of the standard input
-/// are the texts.
-pub fn guess_end(rt: &HostRuntime, request: GuessRequest, words: &[&str]) -> GuessEnd {
+/// Writes the descriptions that the words may be written by. Without words, the lines of the input are the
+/// texts.
+#[tactic(auto, using(crate::proofs::GuessRunLemmas::of_words, crate::proofs::GuessRunLemmas::of_input))]
+pub fn guess_end<I: BufRead, W: Write, E: Write>(
+    alloc: Global,
+    request: GuessRequest,
+    words: &[&str],
+    input: &mut I,
+    output: &mut W,
+    errors: &mut E,
+) -> GuessEnd
+    ensures { spec.IsGuessRun (texts words.now) (I.remaining input.old) (W.contents output.old)
+        (W.contents output.new) result }
+{
     if !words.is_empty() {
-        return end_of(rt, request, words);
+        return end_of(alloc, request, words, output, errors);
     }
-    match input_end(rt, request) {
-        Ok(end) => end,
+    match input_lines(alloc, input) {
+        Ok(lines) => lines_end(alloc, request, &lines, output, errors),
         Err(end) => end,
     }
 }
 
-fn input_end(rt: &HostRuntime, request: GuessRequest) -> Result<GuessEnd, GuessEnd> {
-    let lines = input_lines(rt)?;
-    let words = borrowed(rt.alloc(), &lines)?;
-    Ok(end_of(rt, request, &words))
+// Writes the descriptions that the lines of the input may be written by.
+fn lines_end<W: Write, E: Write>(
+    alloc: Global,
+    request: GuessRequest,
+    lines: &[String],
+    output: &mut W,
+    errors: &mut E,
+) -> GuessEnd
+    ensures { spec.GuessesOver (bytes_of lines.now) (W.contents output.old) (W.contents output.new)
+        result }
+{
+    match borrowed(alloc, lines) {
+        Ok(words) => end_of(alloc, request, &words, output, errors),
+        Err(AllocError) => GuessEnd::Memory,
+    }
 }
 
-// The lines of the standard input.
-fn input_lines(rt: &HostRuntime) -> Result<Vec<String>, GuessEnd> {
-    let mut lines = Vec::new(rt.alloc());
-    let Ok(input) = BufReader::new(rt.alloc(), rt.stdin()) else {
-        return Err(GuessEnd::Memory);
-    };
-    for line in input.lines(rt.alloc()) {
-        match line {
-            Ok(line) => push_line(&mut lines, line)?,
-            Err(error) => return Err(read_error(error)),
+// The lines of the input, each without its newline.
+fn input_lines<I: BufRead>(alloc: Global, input: &mut I) -> Result<Vec<String>, GuessEnd>
+    ensures lines { IfOk result (λ texts. spec.AreTextsOf (I.remaining input.old) (bytes_of texts.items)) }
+    ensures end { IfErr result (spec.IsUnreadEnd (I.remaining input.old)) }
+{
+    let mut texts = Vec::new(alloc);
+    let mut bytes = Vec::new(alloc);
+    'lines: for _ in 0..u64::MAX {
+        match next_line(input, &mut bytes)? {
+            LineRead::Line => push_line(alloc, &bytes, &mut texts)?,
+            LineRead::End => return Ok(texts),
+            LineRead::Failed => return Err(GuessEnd::Read),
         }
     }
-    Ok(lines)
+    Err(GuessEnd::Read)
 }
 
-fn push_line(lines: &mut Vec<String>, line: String) -> Result<(), GuessEnd> {
-    match lines.push(line) {
+// Reads one more line instead of these bytes.
+fn next_line<I: BufRead>(input: &mut I, bytes: &mut Vec<u8>) -> Result<LineRead, GuessEnd>
+    ensures read { IfOk result (IsRead (I.remaining input.old) (I.remaining input.new)
+        bytes.new.items) }
+    ensures memory { IfErr result (λ end. end ≡ GuessEnd.Memory) }
+{
+    match read_line(input, bytes) {
+        Ok(read) => Ok(read),
+        Err(_) => Err(GuessEnd::Memory),
+    }
+}
+
+// Appends the text of a line, which is without its newline.
+fn push_line(alloc: Global, line: &[u8], texts: &mut Vec<String>) -> Result<(), GuessEnd>
+    ensures pushed { OnOk result (bytes_of texts.new.items
+        ≡ bytes_of texts.old.items ++ without_newline line.now ∷ []) }
+    ensures end { IfErr result (spec.IsLineEnd line.now) }
+{
+    let Ok(text) = str::from_utf8(without_newline(line)) else {
+        return Err(GuessEnd::NotText);
+    };
+    let text = String::from_str(alloc, text)?;
+    match texts.push(text) {
         Ok(()) => Ok(()),
         Err(_) => Err(GuessEnd::Memory),
     }
 }
 
-fn read_error(error: std::io::Error) -> GuessEnd {
-    match error.kind() {
-        ErrorKind::OutOfMemory => GuessEnd::Memory,
-        ErrorKind::InvalidData => GuessEnd::NotText,
-        _ => GuessEnd::Read,
-    }
-}
-
-fn end_of(rt: &HostRuntime, request: GuessRequest, words: &[&str]) -> GuessEnd {
+// Writes the descriptions that the texts may be written by.
+#[tactic(auto, using(crate::proofs::GuessRunLemmas::flushed, crate::proofs::GuessRunLemmas::no_texts))]
+fn end_of<W: Write, E: Write>(
+    alloc: Global,
+    request: GuessRequest,
+    words: &[&str],
+    output: &mut W,
+    errors: &mut E,
+) -> GuessEnd
+    ensures { spec.GuessesOver (texts words.now) (W.contents output.old) (W.contents output.new) result }
+{
     if words.is_empty() {
         return GuessEnd::NoText;
     }
-    let Ok(mut output) = BufWriter::new(rt.alloc(), rt.stdout()) else {
-        return GuessEnd::Memory;
-    };
-    let found = write_guesses(
-        rt.alloc(),
-        request.is_quiet,
-        words,
-        &mut output,
-        &mut rt.stderr(),
-    );
-    match (found, output.flush()) {
-        (Ok(true), Ok(())) => GuessEnd::Found,
-        (Ok(false), Ok(())) => GuessEnd::NotFound,
-        (Err(RunError::Memory), _) => GuessEnd::Memory,
-        (Ok(_) | Err(RunError::Write | RunError::Refused), _) => GuessEnd::Write,
+    match write_guesses(alloc, request.is_quiet, words, output, errors) {
+        Ok(is_found) => flushed_end(is_found, output),
+        Err(RunError::Memory) => GuessEnd::Memory,
+        Err(RunError::Write | RunError::Refused) => GuessEnd::Write,
+    }
+}
+
+// How a run ends, once what it wrote is passed on.
+fn flushed_end<W: Write>(is_found: bool, output: &mut W) -> GuessEnd
+    ensures { spec.IsFlushedEnd is_found (W.contents output.old) (W.contents output.new) result }
+{
+    match output.flush() {
+        Ok(()) => {
+            if is_found {
+                GuessEnd::Found
+            } else {
+                GuessEnd::NotFound
+            }
+        }
+        Err(_) => GuessEnd::Write,
     }
 }

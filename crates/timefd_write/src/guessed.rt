@@ -4,8 +4,8 @@ ghost use Rattle.std.specs.Prelude.{◌≡◌, IfOk, string_bytes};
 ghost use Rattle.timefd_guess.specs.Found.{texts};
 ghost use Rattle.timefd_write.specs.Guessed as spec;
 
-use crate::message::report;
 use crate::outcome::RunError;
+use crate::report::report;
 use std::alloc::{AllocError, Global};
 use std::io::Write;
 use timefd_guess::{Guess, guesses};
@@ -72,7 +72,7 @@ fn report_undecided<E: Write>(
         let undecided = found[at].undecided;
         if undecided > 0 {
             let message = swapped_message(alloc, undecided, count)?;
-            report(errors, message.as_bytes());
+            report(alloc, errors, message.as_bytes())?;
             return Ok(());
         }
     }

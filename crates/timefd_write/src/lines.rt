@@ -1,9 +1,10 @@
 //! The moments that the lines of a reader name, one after another.
 
-ghost use Rattle.std.specs.Prelude.{◌≡◌, IfErr, IfOk};
+ghost use Rattle.std.specs.Prelude.{◌≡◌, IfErr, IfOk, length};
 ghost use Rattle.timefd_write.specs.Frames.{EndsOnlyAsAsked};
 ghost use Rattle.timefd_write.specs.ReadBack.{AreLeavesOf};
 ghost use Rattle.timefd_write.specs.Sources.{AreLeavesIn};
+ghost use Rattle.timefd_write.specs.Written as spec;
 ghost use Rattle.timefd_write.specs.Written.{IsRead, IsReadMore, RunsOver};
 
 use crate::entry::tally_one;
@@ -63,9 +64,9 @@ pub fn read_more<R: BufRead>(reader: &mut R, bytes: &mut Vec<u8>) -> Result<Line
     }
 }
 
-// Reads one more line instead of these bytes.
+/// Reads one more line instead of these bytes. An `Err` says that memory ran out.
 #[tactic(auto, using(crate::proofs::ReadLemmas::whole_line))]
-fn read_line<R: BufRead>(reader: &mut R, bytes: &mut Vec<u8>) -> Result<LineRead, RunError>
+pub fn read_line<R: BufRead>(reader: &mut R, bytes: &mut Vec<u8>) -> Result<LineRead, RunError>
     ensures read { IfOk result (IsRead (R.remaining reader.old) (R.remaining reader.new)
         bytes.new.items) }
     ensures memory { IfErr result (λ error. error ≡ RunError.Memory) }
@@ -76,14 +77,22 @@ fn read_line<R: BufRead>(reader: &mut R, bytes: &mut Vec<u8>) -> Result<LineRead
 
 /// Room for the longest text of the description, or for most texts if that length is unknown or large. An
 /// `Err` says that memory ran out.
-pub fn line_room(alloc: Global, description: &BorrowedOutput<'_>) -> Result<Vec<u8>, AllocError> {
-    let count = match description {
+pub fn line_room(alloc: Global, description: &BorrowedOutput<'_>) -> Result<Vec<u8>, AllocError>
+    ensures { IfOk result (λ room. length room.items ≡ spec.line_room description.now) }
+{
+    vec![in alloc; 0u8; room_of(description)]
+}
+
+// How many bytes are reserved for a line.
+fn room_of(description: &BorrowedOutput<'_>) -> usize
+    ensures { result ≡ spec.line_room description.now }
+{
+    match description {
         BorrowedOutput::Items(_) => ITEM_ROOM,
         BorrowedOutput::Description(description) => {
-            description.view().max_bytes_needed().min(MOST_ROOM) + SPARE_ROOM
+            description.max_bytes_needed().min(MOST_ROOM) + SPARE_ROOM
         }
-    };
-    vec![in alloc; 0u8; count]
+    }
 }
 
 /// Writes a line for each line of the reader: the moment that it names or shows. Lines without a moment are

@@ -27,6 +27,7 @@ mod lines;
 mod message;
 mod moment;
 mod names;
+mod nearest;
 mod otherwise;
 mod outcome;
 mod partial;
@@ -34,6 +35,7 @@ mod progress;
 mod quoting;
 mod read_back;
 mod records;
+mod report;
 mod run;
 mod seconds;
 mod source;
@@ -56,6 +58,7 @@ use message::Manner;
 use names::Names;
 use outcome::RunError;
 use progress::{Progress, Watched};
+use report::{report, report_sentence};
 use run::run;
 use source::Clocks;
 use std::alloc::AllocError;
@@ -78,17 +81,23 @@ const FAILED: u8 = 4;
 
 const NOT_TEXT: u8 = 5;
 
+const MEMORY_RAN_OUT: &str = "timefd_format: memory ran out\n";
+
 // How many bytes of the standard input are read at once.
 const BUFFER: usize = 65_536;
 
-// Writes a sentence to the standard error, and returns the status.
+// Shows people a sentence on the standard error, and returns the status.
 fn reported(rt: &HostRuntime, status: u8, sentence: &str) -> u8 {
-    let _ = eprintln!(rt; "timefd_format: {sentence}");
-    status
+    match report_sentence(rt.alloc(), &mut rt.stderr(), sentence) {
+        Ok(_) => status,
+        Err(AllocError) => no_memory(rt),
+    }
 }
 
+// Reports that memory ran out, which takes none, and returns the status.
 fn no_memory(rt: &HostRuntime) -> u8 {
-    reported(rt, NO_MEMORY, "memory ran out")
+    let _ = report(rt.alloc(), &mut rt.stderr(), MEMORY_RAN_OUT.as_bytes());
+    NO_MEMORY
 }
 
 fn write_failed(rt: &HostRuntime) -> u8 {
@@ -147,7 +156,7 @@ fn not_converted(rt: &HostRuntime, error: DialectError) -> u8 {
 // all of them.
 fn report_limits(rt: &HostRuntime, description: &Described<'_>) -> Result<(), AllocError> {
     if let Some(sentence) = limits_sentence(rt.alloc(), description.limits())? {
-        reported(rt, 0, &sentence);
+        report_sentence(rt.alloc(), &mut rt.stderr(), &sentence)?;
     }
     Ok(())
 }
@@ -155,7 +164,7 @@ fn report_limits(rt: &HostRuntime, description: &Described<'_>) -> Result<(), Al
 // Reports the moments for which texts of a format are read, unless that's all of them.
 fn report_reading_limits(rt: &HostRuntime, read: &Described<'_>) -> Result<(), AllocError> {
     if let Some(sentence) = reading_limits_sentence(rt.alloc(), read.limits())? {
-        reported(rt, 0, &sentence);
+        report_sentence(rt.alloc(), &mut rt.stderr(), &sentence)?;
     }
     Ok(())
 }
@@ -251,7 +260,7 @@ fn clocked_status(
 }
 
 fn guess_status(rt: &HostRuntime, request: GuessRequest, texts: &[&str]) -> u8 {
-    match guess_end(rt, request, texts) {
+    match end_of_guess(rt, request, texts) {
         GuessEnd::Found => 0,
         GuessEnd::NotFound => reported(rt, REFUSED, "no description that is known reads all texts"),
         GuessEnd::NoText => reported(rt, REFUSED, "there is no text to find a description of"),
@@ -260,6 +269,24 @@ fn guess_status(rt: &HostRuntime, request: GuessRequest, texts: &[&str]) -> u8 {
         GuessEnd::Read => reported(rt, FAILED, "the standard input can't be read"),
         GuessEnd::Write => write_failed(rt),
     }
+}
+
+// Looks for a description of the texts, or of the lines of the standard input if there are none.
+fn end_of_guess(rt: &HostRuntime, request: GuessRequest, texts: &[&str]) -> GuessEnd {
+    let Ok(mut output) = BufWriter::new(rt.alloc(), rt.stdout()) else {
+        return GuessEnd::Memory;
+    };
+    let Ok(mut input) = BufReader::new(rt.alloc(), rt.stdin()) else {
+        return GuessEnd::Memory;
+    };
+    guess_end(
+        rt.alloc(),
+        request,
+        texts,
+        &mut input,
+        &mut output,
+        &mut rt.stderr(),
+    )
 }
 
 fn described_status(

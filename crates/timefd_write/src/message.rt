@@ -10,11 +10,8 @@ use crate::header::HeaderError;
 use crate::moment::MomentError;
 use crate::source::{Source, source_leaves};
 use std::alloc::{AllocError, Global};
-use std::io::Write;
 use timefd_description::unread_sentence;
-use timefd_diagnosis::Diagnostic;
 use timefd_drawing::shown::safe;
-use timefd_drawing::{Format, Origin, Style, drawn};
 use timefd_format::Unshown;
 use timefd_read_dates::{ReadError, Reason};
 
@@ -55,38 +52,9 @@ const NO_INSTANT: &str =
 
 const NO_DATE: &str = "no date agrees with all that was read";
 
-/// Writes a message to `errors`. A failure to write it is ignored, since it couldn't be reported
-/// either.
-pub fn report<E: Write>(errors: &mut E, message: &[u8]) {
-    let _ = errors.write_all(message);
-}
-
-/// Reports the fault of a text, drawn as the linter does. `name` is what the text is called. An
-/// `Err` says that memory ran out.
-pub fn report_fault<E: Write>(
-    alloc: Global,
-    is_colored: bool,
-    name: &str,
-    text: &str,
-    diagnostic: &Diagnostic,
-    errors: &mut E,
-) -> Result<(), AllocError> {
-    let style = Style {
-        format: Format::Human,
-        is_colored,
-    };
-    let origin = Origin {
-        file: name,
-        line: 1,
-    };
-    let drawing = drawn(alloc, style, origin, text, diagnostic)?;
-    report(errors, &drawing);
-    Ok(())
-}
-
 /// The message for a word that names or shows no moment, with the number of its line. An `Err` says
 /// that memory ran out.
-#[tactic(auto, using(crate::proofs::MessageLemmas::unread))]
+#[tactic(auto, using(crate::proofs::MessageLemmas::unread, crate::proofs::MessageLemmas::no_text))]
 pub fn unread_message(
     alloc: Global,
     source: &Source<'_>,
@@ -109,8 +77,8 @@ pub fn unread_message(
         MomentError::NoInstant => no_moment(alloc, word, NO_INSTANT),
         MomentError::Memory => Err(AllocError),
         MomentError::Text(error) => {
-            let word = safe(alloc, word)?;
-            format!(in alloc; "timefd_format: `{word}` is no moment: {error}\n")
+            let reason = format!(in alloc; "{error}")?;
+            no_moment(alloc, word, &reason)
         }
         MomentError::Absent(day) => {
             let sentence = absent_sentence(alloc, day)?;

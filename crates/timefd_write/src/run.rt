@@ -10,12 +10,13 @@ use crate::description::{Reading, read};
 use crate::end::RunEnd;
 use crate::language::Languages;
 use crate::lines::write_lines;
-use crate::message::{Manner, report_fault};
+use crate::message::Manner;
 use crate::otherwise::Otherwise;
 use crate::outcome::{RunError, Tally};
+use crate::report::report_fault;
 use crate::source::{Clocks, Source, source_of};
 use crate::table::write_table;
-use crate::warned::{WRITTEN, report_warned};
+use crate::warned::{WRITTEN, report_warnings, warned_by};
 use crate::words::write_words;
 use std::alloc::Global;
 use std::io::{BufRead, Write};
@@ -105,7 +106,8 @@ fn run_from<I: BufRead, W: Write, E: Write>(
             Ok(RunEnd::Refused)
         }
         Reading::Description(description) => {
-            let warned = report_warned(alloc, manner, languages, source, &description, errors)?;
+            let warned = warned_by(manner.is_quiet, languages, source, &description);
+            report_warnings(alloc, manner.is_colored, warned, errors)?;
             let tally = write_all(
                 alloc,
                 source,

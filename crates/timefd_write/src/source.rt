@@ -5,11 +5,11 @@ ghost use Rattle.timefd_write.specs.ReadBack.{now};
 ghost use Rattle.timefd_write.specs.Sources.{AreLeavesIn, IsFoundIn, IsMomentIn, IsOnClockIn, IsSourceOf, IsTextOf};
 
 use crate::description::{Reading, read};
-use crate::message::report_fault;
 use crate::moment::{MomentError, moment_named};
 use crate::names::Names;
 use crate::outcome::RunError;
 use crate::read_back::{leaves_of, moment_read};
+use crate::report::report_fault;
 use crate::warned::READ;
 use crate::zone::in_zone;
 use jiff_tz::TimeZone;

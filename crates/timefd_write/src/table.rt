@@ -14,11 +14,12 @@ use crate::fields::{cell_after, text_in};
 use crate::frame::{Entry, Frame, send};
 use crate::header::named_in;
 use crate::lines::line_room;
-use crate::message::{no_field_message, no_header_message, open_message, report, unnamed_message};
+use crate::message::{no_field_message, no_header_message, open_message, unnamed_message};
 use crate::otherwise::Otherwise;
 use crate::outcome::{RunError, Tally};
 use crate::read_back::leaves_of;
 use crate::records::{RecordRead, read_record};
+use crate::report::report;
 use crate::source::{Source, source_leaves};
 use std::alloc::Global;
 use std::io::{BufRead, Write};
@@ -100,7 +101,7 @@ fn write_named<R: BufRead, W: Write, E: Write>(
         RecordRead::Open => 1,
         RecordRead::End => {
             let message = no_header_message(alloc, name)?;
-            report(errors, message.as_bytes());
+            report(alloc, errors, message.as_bytes())?;
             return Ok(Tally::refused());
         }
         RecordRead::Failed => return Ok(Tally::at_end(true)),
@@ -124,7 +125,7 @@ fn write_named<R: BufRead, W: Write, E: Write>(
         }
         Err(error) => {
             let message = unnamed_message(alloc, name, error)?;
-            report(errors, message.as_bytes());
+            report(alloc, errors, message.as_bytes())?;
             Ok(Tally::refused())
         }
     }
@@ -238,7 +239,7 @@ fn tally_record<W: Write, E: Write>(
         }
         None => {
             let message = no_field_message(alloc, line)?;
-            report(errors, message.as_bytes());
+            report(alloc, errors, message.as_bytes())?;
             replace_record(otherwise, row, output)?;
             Ok(Tally::refused())
         }
@@ -260,7 +261,7 @@ fn tally_open<W: Write, E: Write>(
     ensures ends { IfErr result (EndsOnlyAsAsked otherwise) }
 {
     let message = open_message(alloc, line)?;
-    report(errors, message.as_bytes());
+    report(alloc, errors, message.as_bytes())?;
     replace_record(otherwise, row, output)?;
     Ok(Tally::refused())
 }

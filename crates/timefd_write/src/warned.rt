@@ -7,7 +7,7 @@ ghost use Rattle.timefd_write.specs.Warned as spec;
 
 use crate::description::borrowed;
 use crate::language::Languages;
-use crate::message::{Manner, report};
+use crate::report::{Reported, report_drawn};
 use crate::source::{Source, SourceKind};
 use std::alloc::{AllocError, Global};
 use std::io::Write;
@@ -32,33 +32,27 @@ pub struct Warned {
     pub written: Levels,
 }
 
-/// Reports the warnings about both descriptions, unless they are left out, and returns those that were
-/// reported. An `Err` says that memory ran out.
-pub fn report_warned<E: Write>(
+/// Shows people the warnings about both descriptions. An `Err` says that memory ran out.
+pub fn report_warnings<E: Write>(
     alloc: Global,
-    manner: Manner,
-    languages: Languages,
-    source: &Source<'_>,
-    description: &BorrowedOutput<'_>,
+    is_colored: bool,
+    warned: Warned,
     errors: &mut E,
-) -> Result<Warned, AllocError>
-    ensures { IfOk result (λ warned. warned
-        ≡ spec.warned_by manner.is_quiet languages source.now description.now) }
+) -> Result<Reported, AllocError>
+    ensures { IfOk result (spec.ReportsWarnings is_colored warned (E.contents errors.old)
+        (E.contents errors.new)) }
 {
-    let warned = warned_by(manner.is_quiet, languages, source, description);
-    let reported = warned_text(
-        alloc,
-        manner.is_colored,
-        named(READ),
-        named(WRITTEN),
-        warned,
-    )?;
-    report(errors, &reported);
-    Ok(warned)
+    let read = named(READ);
+    let written = named(WRITTEN);
+    let message = warned_text(alloc, is_colored, read, written, warned)?;
+    let reported = report_drawn(alloc, is_colored, errors, &message)?;
+    Ok(reported)
 }
 
 // The origin of a description that is called this.
-fn named(file: &str) -> Origin<'_> {
+fn named(file: &str) -> Origin<'_>
+    ensures { spec.IsNamed file.now result }
+{
     Origin { file, line: 1 }
 }
 
@@ -84,8 +78,8 @@ fn warned_text(
     Ok(reported)
 }
 
-// The warnings of both descriptions, unless they are left out.
-fn warned_by(
+/// The warnings about both descriptions, unless they are left out.
+pub fn warned_by(
     is_quiet: bool,
     languages: Languages,
     source: &Source<'_>,

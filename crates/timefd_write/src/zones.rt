@@ -1,13 +1,16 @@
 //! The time zones of the system, read from its files.
 
+ghost use Rattle.std.specs.Prelude.{◌≡◌, false, true, IfOk, string_bytes};
+ghost use Rattle.jiff_tz.specs.Database.{zone_count};
+ghost use Rattle.timefd_write.specs.KnownZones as spec;
+
 use crate::clock::moment_now;
 use crate::names::Now;
+use crate::nearest::{nearest_name, unknown_zone_sentence};
 use jiff_tz::{SystemTimeZone, TimeZone, TimeZoneDatabase};
 use std::alloc::{AllocError, Global};
 use std::io::{ErrorKind, Read};
 use std::{env, fs};
-use strsim::damerau_levenshtein;
-use timefd_drawing::shown::safe;
 use timefd_jiff::Error;
 
 // Where systems keep their time zones.
@@ -32,7 +35,10 @@ pub struct Zones {
 
 impl Zones {
     /// No time zone but `UTC`.
-    pub fn new(rt: &HostRuntime) -> Zones {
+    pub fn new(rt: &HostRuntime) -> Zones
+        ensures none { zone_count result.database ≡ 0 }
+        ensures part { result.is_whole ≡ false }
+    {
         Zones {
             database: TimeZoneDatabase::new(rt.alloc()),
             is_whole: false,
@@ -40,7 +46,9 @@ impl Zones {
     }
 
     /// All zones of the system. An `Err` says that memory ran out.
-    pub fn all(rt: &HostRuntime) -> Result<Zones, AllocError> {
+    pub fn all(rt: &HostRuntime) -> Result<Zones, AllocError>
+        ensures { IfOk result (λ zones. zones.is_whole ≡ true) }
+    {
         match TimeZoneDatabase::from_env(rt) {
             Ok(database) => Ok(Zones {
                 database,
@@ -53,55 +61,53 @@ impl Zones {
 
     /// Adds the zone of this name, in upper or lower case, if the system has one. Reads the one file of
     /// that name if there is one, and all zones otherwise. An `Err` says that memory ran out.
-    pub fn with(mut self, rt: &HostRuntime, name: &str) -> Result<Zones, AllocError> {
-        if self.is_whole || self.has(name)? {
+    #[tactic(auto, using(crate::proofs::ZoneLemmas::whole, crate::proofs::ZoneLemmas::known, crate::proofs::ZoneLemmas::grown, crate::proofs::ZoneLemmas::filled))]
+    pub fn with(self, rt: &HostRuntime, name: &str) -> Result<Zones, AllocError>
+        ensures { IfOk result (spec.IsWith self name.now) }
+    {
+        if self.is_whole {
             return Ok(self);
         }
-        insert_zone(rt, &mut self.database, name)?;
-        if self.has(name)? {
-            Ok(self)
+        if is_known(&self.database, name)? {
+            return Ok(self);
+        }
+        let mut database = self.database;
+        if insert_zone(rt, &mut database, name)? {
+            Ok(Zones {
+                database,
+                is_whole: false,
+            })
         } else {
             Zones::all(rt)
         }
     }
 
-    /// The message for a name that no zone has. An `Err` says that memory ran out.
-    pub fn unknown_sentence(&self, alloc: Global, name: &str) -> Result<String, AllocError> {
-        let nearest = self.nearest(alloc, name)?;
-        let name = safe(alloc, name)?;
-        match nearest {
-            Some(nearest) => {
-                format!(in alloc; "there is no time zone `{name}`; the nearest one is {nearest}")
-            }
-            None => {
-                format!(in alloc;
-                    "there is no time zone `{name}`; names are as Europe/Berlin and Etc/GMT+5"
-                )
-            }
-        }
+    /// The sentence for a name that no zone has, with the nearest name of a zone. An `Err` says that memory ran
+    /// out.
+    pub fn unknown_sentence(&self, alloc: Global, name: &str) -> Result<String, AllocError>
+        ensures { IfOk result (λ text. spec.IsUnknownSentence name.now (string_bytes text)) }
+    {
+        let names = self.names(alloc)?;
+        let nearest = nearest_name(alloc, &names, name)?;
+        unknown_zone_sentence(alloc, name, nearest)
     }
 
-    // The most similar name of a zone: the one that the fewest edits lead to, if those are few.
-    fn nearest(&self, alloc: Global, name: &str) -> Result<Option<&str>, AllocError> {
-        let mut fewest = name.len() / 3 + 1;
-        let mut found = None;
-        for candidate in self.database.available() {
-            let edits = damerau_levenshtein(alloc, name, candidate)?;
-            if edits < fewest {
-                fewest = edits;
-                found = Some(candidate);
-            }
-        }
-        Ok(found)
+    // The names of the zones.
+    fn names(&self, alloc: Global) -> Result<Vec<&str>, AllocError> {
+        self.database.available().collect(alloc)
     }
+}
 
-    fn has(&self, name: &str) -> Result<bool, AllocError> {
-        match self.database.get(name) {
-            Ok(_) => Ok(true),
-            Err(Error::TimeZoneNotFound) => Ok(false),
-            // There is no other error of a name that there is no zone of, but memory that ran out.
-            Err(_) => Err(AllocError),
-        }
+// Whether a name gives a zone.
+#[tactic(auto, using(crate::proofs::ZoneLemmas::gives))]
+fn is_known(zones: &TimeZoneDatabase, name: &str) -> Result<bool, AllocError>
+    ensures { IfOk result (spec.Gives zones.now name.now) }
+{
+    match zones.get(name) {
+        Ok(_) => Ok(true),
+        Err(Error::TimeZoneNotFound) => Ok(false),
+        // There is no other error of a name that there is no zone of, but memory that ran out.
+        Err(_) => Err(AllocError),
     }
 }
 
@@ -124,7 +130,7 @@ fn is_set(rt: &HostRuntime) -> bool {
 fn now_in(rt: &HostRuntime, system: &SystemTimeZone) -> Result<Now, AllocError> {
     let mut zones = TimeZoneDatabase::new(rt.alloc());
     if let SystemTimeZone::Name { name, .. } = system {
-        insert_zone(rt, &mut zones, name)?;
+        let _ = insert_zone(rt, &mut zones, name)?;
     }
     match system.time_zone(&zones) {
         Ok(zone) => Ok(now_at(rt, &zone)),
@@ -140,26 +146,53 @@ fn now_at(rt: &HostRuntime, zone: &TimeZone<'_>) -> Now {
     }
 }
 
-// Reads the zone's file into the database, from the first folder that has it.
+// Reads the zone's file into the database, from the first folder that has it, and returns whether one has.
 fn insert_zone(
     rt: &HostRuntime,
     zones: &mut TimeZoneDatabase,
     name: &str,
-) -> Result<(), AllocError> {
+) -> Result<bool, AllocError>
+    ensures { IfOk result (spec.Adds name.now zones.old zones.new) }
+{
     if !is_file_name(name) {
-        return Ok(());
+        return Ok(false);
     }
-    if let Ok(folder) = env::var(rt, "TZDIR") {
-        if insert_from(rt, zones, &folder, name)? {
-            return Ok(());
-        }
+    match env::var(rt, "TZDIR") {
+        Ok(folder) => insert_with(rt, zones, &folder, name),
+        Err(_) => insert_from_folders(rt, zones, name),
     }
+}
+
+// The same, with this folder before those where systems keep their time zones.
+fn insert_with(
+    rt: &HostRuntime,
+    zones: &mut TimeZoneDatabase,
+    folder: &str,
+    name: &str,
+) -> Result<bool, AllocError>
+    ensures { IfOk result (spec.Adds name.now zones.old zones.new) }
+{
+    if insert_from(rt, zones, folder, name)? {
+        return Ok(true);
+    }
+    let is_added = insert_from_folders(rt, zones, name)?;
+    Ok(is_added)
+}
+
+// The same, from the folders where systems keep their time zones.
+fn insert_from_folders(
+    rt: &HostRuntime,
+    zones: &mut TimeZoneDatabase,
+    name: &str,
+) -> Result<bool, AllocError>
+    ensures { IfOk result (spec.Adds name.now zones.old zones.new) }
+{
     for folder in FOLDERS {
         if insert_from(rt, zones, folder, name)? {
-            return Ok(());
+            return Ok(true);
         }
     }
-    Ok(())
+    Ok(false)
 }
 
 // Whether a name may be that of a zone's file below a folder: `Etc/GMT+5`, but not `../zone` or `/zone`.
@@ -171,12 +204,15 @@ fn is_file_name(name: &str) -> bool {
 }
 
 // Reads the zone's file in the folder into the database, and returns whether there is one.
+#[tactic(auto, using(crate::proofs::ZoneLemmas::added))]
 fn insert_from(
     rt: &HostRuntime,
     zones: &mut TimeZoneDatabase,
     folder: &str,
     name: &str,
-) -> Result<bool, AllocError> {
+) -> Result<bool, AllocError>
+    ensures { IfOk result (spec.Adds name.now zones.old zones.new) }
+{
     let path = format!(in rt.alloc(); "{folder}/{name}")?;
     let Some(bytes) = bytes_of(rt, &path)? else {
         return Ok(false);

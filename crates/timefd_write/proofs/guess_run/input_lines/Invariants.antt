@@ -1,0 +1,8 @@
+use Rattle.timefd_streams.specs.Words.{bytes_of}
+use Rattle.timefd_write.proofs.GuessRunLemmas.{ReadsOn}
+use Rattle.timefd_write.proofs.guess_run.input_lines.Given as goal
+
+-- The lines that were taken from the input are kept.
+abbrev pub invariant-lines : goal.invariant-lines
+invariant-lines g l =
+    ReadsOn (g.I.Read.remaining l.fn.input) (g.I.Read.remaining l.input) (bytes_of l.texts.items)

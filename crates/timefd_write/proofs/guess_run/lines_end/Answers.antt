@@ -1,0 +1,9 @@
+use Rattle.timefd_streams.specs.Words.{bytes_of}
+use Rattle.timefd_write.proofs.GuessRunLemmas.{of_lines}
+use Rattle.timefd_write.proofs.guess_run.lines_end.Goals as goal
+
+pub returns-in-Ok : goal.returns-in-Ok
+returns-in-Ok g c =
+    of_lines c.in-Ok.words.items c.deref.result.now (bytes_of c.args.lines.now)
+    (g.W.Write.contents c.args.output.now) (g.W.Write.contents c.end_of.new.output) c.end_of.result
+    c.in-Ok.ensures c.deref.ensures.value c.end_of.ensures

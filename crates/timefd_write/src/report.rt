@@ -1,0 +1,95 @@
+//! The only way for messages to reach people, who read them at a terminal: the terminal obeys and hides
+//! nothing of what they quote.
+
+ghost use Rattle.std.specs.Prelude.{false, IfOk};
+ghost use Rattle.timefd_write.specs.Reports as spec;
+
+use std::alloc::{AllocError, Global};
+use std::io::{ErrorKind, Write};
+use timefd_diagnosis::Diagnostic;
+use timefd_drawing::people::show;
+use timefd_drawing::{Format, Origin, Style, drawn};
+
+/// What became of a message.
+#[derive(Clone, Copy)]
+pub enum Reported {
+    /// People see all of it.
+    Seen,
+    /// A write of it failed. That isn't reported, since it couldn't be written either.
+    Failed,
+}
+
+/// Shows a message to people, without colours. An `Err` says that memory ran out.
+pub fn report<E: Write>(
+    alloc: Global,
+    errors: &mut E,
+    message: &[u8],
+) -> Result<Reported, AllocError>
+    ensures { IfOk result (spec.ReachesPeople false message.now (E.contents errors.old)
+        (E.contents errors.new)) }
+{
+    report_drawn(alloc, false, errors, message)
+}
+
+/// Shows people a sentence in a line of its own, after the name of the program. An `Err` says that memory ran
+/// out.
+pub fn report_sentence<E: Write>(
+    alloc: Global,
+    errors: &mut E,
+    sentence: &str,
+) -> Result<Reported, AllocError>
+    ensures { IfOk result (spec.ReachesPeople false (spec.line_of sentence.now) (E.contents errors.old)
+        (E.contents errors.new)) }
+{
+    let message = format!(in alloc; "timefd_format: {sentence}\n")?;
+    report(alloc, errors, message.as_bytes())
+}
+
+/// Shows people a message as it is drawn, with its colours if `is_colored` is true. An `Err` says that memory
+/// ran out.
+pub fn report_drawn<E: Write>(
+    alloc: Global,
+    is_colored: bool,
+    errors: &mut E,
+    message: &[u8],
+) -> Result<Reported, AllocError>
+    ensures { IfOk result (spec.ReachesPeople is_colored message.now (E.contents errors.old)
+        (E.contents errors.new)) }
+{
+    match show(alloc, is_colored, message, errors) {
+        Ok(()) => Ok(Reported::Seen),
+        Err(error) => {
+            if error.kind() == ErrorKind::OutOfMemory {
+                Err(AllocError)
+            } else {
+                Ok(Reported::Failed)
+            }
+        }
+    }
+}
+
+/// Shows people the fault of a text, drawn as the linter does. `name` is what the text is called. An `Err`
+/// says that memory ran out.
+pub fn report_fault<E: Write>(
+    alloc: Global,
+    is_colored: bool,
+    name: &str,
+    text: &str,
+    diagnostic: &Diagnostic,
+    errors: &mut E,
+) -> Result<Reported, AllocError>
+    ensures { IfOk result (spec.ReachesPeople is_colored
+        (spec.fault_text is_colored name.entry text.now diagnostic.now) (E.contents errors.old)
+        (E.contents errors.new)) }
+{
+    let style = Style {
+        format: Format::Human,
+        is_colored,
+    };
+    let origin = Origin {
+        file: name,
+        line: 1,
+    };
+    let drawing = drawn(alloc, style, origin, text, diagnostic)?;
+    report_drawn(alloc, is_colored, errors, &drawing)
+}
