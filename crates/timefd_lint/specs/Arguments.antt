@@ -41,35 +41,35 @@ values Allow = warning_names
 
 abbrev pub key_sentence : KeyFault → Text
 key_sentence NoEqualsSign =
-    codes "it wants `=` and a language after the key, as in `time_format=3`"
-key_sentence EmptyName = codes "it wants a key in front of `=`, as `time_format=3`"
+    codes "write `=` and a language after the key, as in `time_format=3`"
+key_sentence EmptyName = codes "write a key before `=`, as in `time_format=3`"
 key_sentence UnknownLanguage = codes "the language is one of 1, 2, 3, strftime"
 
 abbrev pub conflict_sentence : Conflicts → Text
 conflict_sentence conflicts.ServesFiles =
     codes
-    "`--lsp` serves an editor, which sends the texts, and wants no file"
+    "`--lsp` serves an editor, which sends the texts, and takes no file"
 conflict_sentence conflicts.ServesAlone =
     codes
     "`--lsp` serves an editor, and doesn't go with options on how files are looked at or rewritten"
 conflict_sentence conflicts.ExplainUndrawn =
     codes
-    "`--explain` draws trees, and goes with `--format human` alone"
+    "`--explain` draws trees, and goes only with `--format human`"
 conflict_sentence conflicts.LogRewritten =
     codes
     "`--format sarif` is one log, and doesn't go with `--to`, `--normal` and `--fix`"
 conflict_sentence conflicts.WriteWithoutVersion =
     codes
-    "`--write` wants `--to 2`, `--to 3`, `--normal` or `--fix`"
+    "`--write` needs `--to 2`, `--to 3`, `--normal` or `--fix`"
 conflict_sentence conflicts.KeysRewritten =
     codes
     "`--key` looks at files, and doesn't go with `--to`, `--normal` and `--fix`"
 conflict_sentence conflicts.PartialWithoutWrite =
     codes
-    "`--partial` goes with `--write` alone"
+    "`--partial` goes only with `--write`"
 conflict_sentence conflicts.UnsafeWithoutFix =
     codes
-    "`--unsafe` goes with `--fix` alone"
+    "`--unsafe` goes only with `--fix`"
 conflict_sentence conflicts.FixesRewritten =
     codes
     "`--fix` doesn't go with `--to` and `--normal`"
@@ -78,7 +78,7 @@ conflict_sentence conflicts.FixesWhole =
     "`--fix` mends line by line, and doesn't go with `--whole`"
 conflict_sentence conflicts.FixesNoFile =
     codes
-    "`--fix` wants the name of a file"
+    "`--fix` needs the name of a file"
 conflict_sentence conflicts.FixesInput =
     codes
     "`--fix` mends files, and `-` is the standard input"
@@ -96,16 +96,16 @@ conflict_sentence conflicts.RewritesWhole =
     "`--to` and `--normal` rewrite line by line, and don't go with `--whole`"
 conflict_sentence conflicts.RewritesNoFile =
     codes
-    "`--to` and `--normal` want the name of a file"
+    "`--to` and `--normal` need the name of a file"
 conflict_sentence conflicts.RewritesInput =
     codes
     "`--to` and `--normal` rewrite files, and `-` is the standard input"
 
 abbrev pub missing : Text → Text → Text
-missing option takes = codes "`" ++ (option ++ (codes "` wants a value: " ++ takes))
+missing option takes = codes "`" ++ (option ++ (codes "` needs a value: " ++ takes))
 
 abbrev pub no_value : Text → Text → Text
-no_value word option = codes "`" ++ (safe word ++ (codes "` is no value of `" ++ (option ++ codes "`")))
+no_value word option = codes "`" ++ (safe word ++ (codes "` isn't a value of `" ++ (option ++ codes "`")))
 
 -- a word that an option doesn't take as its value, and what it takes
 abbrev pub not_a_value : Text → Text → Text → Text

@@ -31,7 +31,7 @@ fn missing_sentence(alloc: Global, option: Valued) -> Result<String, AllocError>
 {
     let name = name(option);
     let values = values(alloc, option)?;
-    format!(in alloc; "`{name}` wants a value: {values}")
+    format!(in alloc; "`{name}` needs a value: {values}")
 }
 
 fn value_sentence(alloc: Global, option: Valued, word: &str) -> Result<String, AllocError>
@@ -55,7 +55,7 @@ fn no_value(alloc: Global, word: &str, option: &str) -> Result<String, AllocErro
     ensures { IfOk result (λ text. string_bytes text ≡ spec.no_value word.now option.now) }
 {
     let word = safe(alloc, word)?;
-    format!(in alloc; "`{word}` is no value of `{option}`")
+    format!(in alloc; "`{word}` isn't a value of `{option}`")
 }
 
 // A word that looks like an option but isn't one, with the option that may have been meant.
@@ -146,8 +146,8 @@ fn key_sentence(fault: KeyFault) -> &'static str
 {
     match fault {
         KeyFault::NoEqualsSign =>
-            "it wants `=` and a language after the key, as in `time_format=3`",
-        KeyFault::EmptyName => "it wants a key in front of `=`, as `time_format=3`",
+            "write `=` and a language after the key, as in `time_format=3`",
+        KeyFault::EmptyName => "write a key before `=`, as in `time_format=3`",
         KeyFault::UnknownLanguage => "the language is one of 1, 2, 3, strftime",
     }
 }
@@ -157,22 +157,22 @@ fn conflict_sentence(conflict: Conflict) -> &'static str
 {
     match conflict {
         Conflict::ServesFiles =>
-            "`--lsp` serves an editor, which sends the texts, and wants no file",
+            "`--lsp` serves an editor, which sends the texts, and takes no file",
         Conflict::ServesAlone => {
             "`--lsp` serves an editor, and doesn't go with options on how files are looked at or rewritten"
         }
-        Conflict::ExplainUndrawn => "`--explain` draws trees, and goes with `--format human` alone",
+        Conflict::ExplainUndrawn => "`--explain` draws trees, and goes only with `--format human`",
         Conflict::LogRewritten =>
             "`--format sarif` is one log, and doesn't go with `--to`, `--normal` and `--fix`",
         Conflict::WriteWithoutVersion =>
-            "`--write` wants `--to 2`, `--to 3`, `--normal` or `--fix`",
+            "`--write` needs `--to 2`, `--to 3`, `--normal` or `--fix`",
         Conflict::KeysRewritten =>
             "`--key` looks at files, and doesn't go with `--to`, `--normal` and `--fix`",
-        Conflict::PartialWithoutWrite => "`--partial` goes with `--write` alone",
-        Conflict::UnsafeWithoutFix => "`--unsafe` goes with `--fix` alone",
+        Conflict::PartialWithoutWrite => "`--partial` goes only with `--write`",
+        Conflict::UnsafeWithoutFix => "`--unsafe` goes only with `--fix`",
         Conflict::FixesRewritten => "`--fix` doesn't go with `--to` and `--normal`",
         Conflict::FixesWhole => "`--fix` mends line by line, and doesn't go with `--whole`",
-        Conflict::FixesNoFile => "`--fix` wants the name of a file",
+        Conflict::FixesNoFile => "`--fix` needs the name of a file",
         Conflict::FixesInput => "`--fix` mends files, and `-` is the standard input",
         Conflict::NormalOfAnother => {
             "`--normal` is the form of version 3, and doesn't go with `--to 2`"
@@ -185,7 +185,7 @@ fn conflict_sentence(conflict: Conflict) -> &'static str
         }
         Conflict::RewritesWhole =>
             "`--to` and `--normal` rewrite line by line, and don't go with `--whole`",
-        Conflict::RewritesNoFile => "`--to` and `--normal` want the name of a file",
+        Conflict::RewritesNoFile => "`--to` and `--normal` need the name of a file",
         Conflict::RewritesInput =>
             "`--to` and `--normal` rewrite files, and `-` is the standard input",
     }

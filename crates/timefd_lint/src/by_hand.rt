@@ -101,7 +101,7 @@ fn push_note(
     reported: &mut String,
 ) -> Result<(), AllocError> {
     reported.push_str(&position(alloc, name, source, description)?)?;
-    reported.push_str(": change by hand: ")?;
+    reported.push_str(": change manually: ")?;
     reported.push_str(why)?;
     reported.push_str("\n")
 }

@@ -100,9 +100,9 @@ fn failure(alloc: Global, text: &str, error: ConfigError) -> ConfigFailure {
                 "means nothing here: the settings are `exclude` and `[keys]`",
             )
         }
-        ConfigError::NotATable => wrong(alloc, "`keys` is no table"),
-        ConfigError::NotAList => wrong(alloc, "`exclude` is no list"),
-        ConfigError::NotAPattern => wrong(alloc, "`exclude` has a pattern that is no string"),
+        ConfigError::NotATable => wrong(alloc, "`keys` isn't a table"),
+        ConfigError::NotAList => wrong(alloc, "`exclude` isn't a list"),
+        ConfigError::NotAPattern => wrong(alloc, "`exclude` has a pattern that isn't a string"),
         ConfigError::EmptyName => wrong(alloc, "a key has no name"),
         ConfigError::WrongType(name) => {
             about(

@@ -78,7 +78,7 @@ impl Failure {
             Failure::Folder => "the file can't be read: it is a folder",
             Failure::Forbidden => "the file can't be read: permission denied",
             Failure::Unread => "the file can't be read",
-            Failure::NotRegular => "the file can't be rewritten: it is no regular file",
+            Failure::NotRegular => "the file can't be rewritten: it isn't a regular file",
             Failure::Special => {
                 "the file can't be written back: it has setuid, setgid or sticky set"
             }

@@ -35,7 +35,7 @@ fn end_status(rt: &HostRuntime, end: End) -> u8 {
         End::NoFrame => reported(
             rt,
             LEFT,
-            "what comes is no message: it has no header `Content-Length`, or more than 4096 bytes of headers",
+            "what came isn't a message: it has no header `Content-Length`, or more than 4096 bytes of headers",
         ),
         End::Unread => reported(rt, FAILED, "the standard input can't be read"),
         End::Unwritten => write_failed(rt),

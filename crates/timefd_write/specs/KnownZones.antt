@@ -42,7 +42,7 @@ unknown_sentence name (Some nearest) =
     codes "there is no time zone `" ++ (safe name ++ (codes "`; the nearest one is " ++ safe nearest))
 unknown_sentence name None =
     codes "there is no time zone `" ++ (safe name
-    ++ codes "`; names are as Europe/Berlin and Etc/GMT+5")
+    ++ codes "`; names look like Europe/Berlin and Etc/GMT+5")
 
 -- The sentence names the nearest of the zones' names, if one is near.
 abbrev pub IsUnknownSentence : Text → Text → Type 0

@@ -40,12 +40,12 @@ not_read None word why =
 -- the message for a word that isn't a moment, for this reason
 abbrev pub no_moment : Text → Text → Text
 no_moment word why =
-    codes "timefd_format: `" ++ (safe word ++ (codes "` is no moment: " ++ (why ++ codes "\n")))
+    codes "timefd_format: `" ++ (safe word ++ (codes "` isn't a moment: " ++ (why ++ codes "\n")))
 
 -- the message for a word whose offset isn't the one that the time zone in brackets has
 abbrev pub conflicting : Text → Conflict → Text
 conflicting word c =
-    codes "timefd_format: `" ++ (safe word ++ (codes "` is no moment: its offset is " ++ (offset_text c.written
+    codes "timefd_format: `" ++ (safe word ++ (codes "` isn't a moment: its offset is " ++ (offset_text c.written
     ++ (codes ", and the time zone in brackets has " ++ (offset_text c.zone ++ codes " then\n")))))
 
 abbrev pub expected_sentence : Text → ℕ → Text
@@ -73,7 +73,7 @@ IsUnreadMessage source line word fails.NoOffset message =
     message
     ≡ no_moment word (codes "a time zone in brackets is checked against a time and an offset; write both, as in 2026-11-23T05:36:07+01:00[Europe/Berlin]")
 IsUnreadMessage source line word fails.NoZone message =
-    message ≡ no_moment word (codes "there is no time zone of the name in brackets; names are as Europe/Berlin")
+    message ≡ no_moment word (codes "there is no time zone of the name in brackets; names look like Europe/Berlin")
 IsUnreadMessage source line word (fails.Conflict c) message = message ≡ conflicting word c
 IsUnreadMessage source line word fails.Years message =
     message ≡ no_moment word (codes "offsets of time zones are known in the years -9999 to 9999")
@@ -116,9 +116,9 @@ unnamed_message name header.Twice =
 -- the sentence for a word that isn't a value of the option
 abbrev pub no_language : LanguageOption → Text → Text
 no_language options.Both word =
-    codes "`" ++ (safe word ++ codes "` is no value of `--language`: one of 1, 2, 3, strftime, python, c, gnu, chrono, jiff, ruby, java, go, moment")
+    codes "`" ++ (safe word ++ codes "` isn't a value of `--language`: one of 1, 2, 3, strftime, python, c, gnu, chrono, jiff, ruby, java, go, moment")
 no_language options.Written word =
-    codes "`" ++ (safe word ++ codes "` is no value of `--to-language`: one of 1, 2, 3, strftime, python, c, gnu, chrono, jiff, ruby, java, go, moment")
+    codes "`" ++ (safe word ++ codes "` isn't a value of `--to-language`: one of 1, 2, 3, strftime, python, c, gnu, chrono, jiff, ruby, java, go, moment")
 
 -- the sentence that says what is wrong with the arguments
 abbrev pub option_sentence : OptionError → Text
@@ -126,21 +126,21 @@ option_sentence (errors.Unknown word) =
     codes "there is no option `" ++ (safe word.now
     ++ codes "`; --help lists them, and after `--` it is a description")
 option_sentence (errors.MissingLanguage option) =
-    codes "`" ++ (option_name option ++ codes "` wants a value: one of 1, 2, 3, strftime, python, c, gnu, chrono, jiff, ruby, java, go, moment")
-option_sentence errors.MissingRead = codes "`--read` wants a value: a description to read by"
+    codes "`" ++ (option_name option ++ codes "` needs a value: one of 1, 2, 3, strftime, python, c, gnu, chrono, jiff, ruby, java, go, moment")
+option_sentence errors.MissingRead = codes "`--read` needs a value: a description to read by"
 option_sentence errors.ReadTwice = codes "`--read` is given twice"
 option_sentence (errors.NoLanguage option word) = no_language option word.now
 option_sentence errors.MissingColumn =
-    codes "`--csv` wants a value: the number of a column, or its name in the first line"
+    codes "`--csv` needs a value: the number of a column, or its name in the first line"
 option_sentence errors.ColumnTwice =
     codes "`--csv` is given twice, and one run changes one column"
 option_sentence errors.NoColumn = codes "`--csv` counts from 1; there is no column 0"
 option_sentence errors.MissingOtherwise =
-    codes "`--else` wants a value: one of keep, empty, fail"
+    codes "`--else` needs a value: one of keep, empty, fail"
 option_sentence (errors.NoOtherwise word) =
-    codes "`" ++ (safe word.now ++ codes "` is no value of `--else`: one of keep, empty, fail")
+    codes "`" ++ (safe word.now ++ codes "` isn't a value of `--else`: one of keep, empty, fail")
 option_sentence errors.MissingZone =
-    codes "`--zone` wants a value: a time zone, as Europe/Berlin"
+    codes "`--zone` needs a value: a time zone, as Europe/Berlin"
 option_sentence errors.MomentBesideColumn =
     codes "`--csv` reads the standard input; no moment follows the description then"
 option_sentence errors.NothingRead =

@@ -43,7 +43,7 @@ const NO_OFFSET: &str =
     "a time zone in brackets is checked against a time and an offset; write both, as in \
     2026-11-23T05:36:07+01:00[Europe/Berlin]";
 
-const NO_ZONE: &str = "there is no time zone of the name in brackets; names are as Europe/Berlin";
+const NO_ZONE: &str = "there is no time zone of the name in brackets; names look like Europe/Berlin";
 
 const YEARS: &str = "offsets of time zones are known in the years -9999 to 9999";
 
@@ -142,7 +142,7 @@ fn no_moment(alloc: Global, word: &str, reason: &str) -> Result<String, AllocErr
     ensures { IfOk result (λ message. string_bytes message ≡ spec.no_moment word.now reason.now) }
 {
     let word = safe(alloc, word)?;
-    format!(in alloc; "timefd_format: `{word}` is no moment: {reason}\n")
+    format!(in alloc; "timefd_format: `{word}` isn't a moment: {reason}\n")
 }
 
 // The message for a word whose offset isn't the one that the time zone in brackets has.
@@ -152,7 +152,7 @@ fn conflicting(alloc: Global, word: &str, conflict: Conflict) -> Result<String, 
     let word = safe(alloc, word)?;
     let (written, zone) = (conflict.written, conflict.zone);
     format!(in alloc;
-        "timefd_format: `{word}` is no moment: its offset is {written}, and the time zone in \
+        "timefd_format: `{word}` isn't a moment: its offset is {written}, and the time zone in \
         brackets has {zone} then\n"
     )
 }

@@ -106,7 +106,7 @@ pub fn unknown_zone_sentence(
         }
         None => {
             format!(in alloc;
-                "there is no time zone `{name}`; names are as Europe/Berlin and Etc/GMT+5"
+                "there is no time zone `{name}`; names look like Europe/Berlin and Etc/GMT+5"
             )
         }
     }

@@ -17,9 +17,9 @@ pub const USAGE: &str = "usage: timefd_format [OPTION].. [--] DESCRIPTION [MOMEN
 
 Writes each moment by the format description, a line each. Without a moment it reads them from the
 standard input, one a line. A moment is a date, with a time of day and an offset where they are
-known, as 2026-11-23T05:36:07.25+01:00, which a zone may follow, as [Europe/Berlin]; the word now is
-that of the program's start in the zone of TZ, and @1700000000 that many seconds after 1970 began, in
-UTC.
+known, as 2026-11-23T05:36:07.25+01:00, which a zone may follow, as [Europe/Berlin]; now is the
+moment when the program began, in the zone of TZ, and @1700000000 is that many seconds after 1970
+began, in UTC.
 
   --language LANGUAGE            the language of the descriptions: 1, 2, 3 (if it isn't given),
                                  strftime of time, or python, c, gnu, chrono, jiff, ruby, java,
@@ -29,8 +29,8 @@ UTC.
   --csv COLUMN                   the standard input is comma-separated values, and the moments of
                                  this column are written in their place: its number, counted from
                                  1, or its name in the first line, which is kept then
-  --else keep|empty|fail         what stands where a moment isn't written: its text, nothing, or
-                                 the run ends; else a line is left out, and a field is kept
+  --else keep|empty|fail         what is written in place of a moment that can't be: its text or
+                                 nothing, or the run ends; else a line is left out, a field kept
   --guess [TEXT]..               writes the descriptions of version 3 that read all the texts and write
                                  them back, likeliest first; without a text those that read all
                                  lines of the standard input
@@ -42,9 +42,9 @@ UTC.
   --version, -V                  writes the program's version
   --                             ends the options
 
-The status is 0 where all moments are written, 1 where a description, a moment or a column is
-refused, 2 at wrong arguments, 3 where memory ran out, 4 where a read or a write failed, 5 where a
-line is no UTF-8.
+The status is 0 if all moments are written, 1 if a description, a moment or a column is refused,
+2 if the arguments are wrong, 3 if memory ran out, 4 if a read or a write failed, 5 if a line isn't
+UTF-8.
 ";
 
 /// A sentence that says what is wrong with the arguments. An `Err` says that memory ran out.
@@ -61,18 +61,18 @@ pub fn sentence(alloc: Global, error: OptionError<'_>) -> Result<String, AllocEr
         OptionError::MissingLanguage(option) => {
             let name = option.name();
             format!(in alloc;
-                "`{name}` wants a value: one of 1, 2, 3, strftime, python, c, gnu, chrono, \
+                "`{name}` needs a value: one of 1, 2, 3, strftime, python, c, gnu, chrono, \
                 jiff, ruby, java, go, moment"
             )
         }
         OptionError::MissingRead => {
-            String::from_str(alloc, "`--read` wants a value: a description to read by")
+            String::from_str(alloc, "`--read` needs a value: a description to read by")
         }
         OptionError::ReadTwice => String::from_str(alloc, "`--read` is given twice"),
         OptionError::NoLanguage(option, word) => no_language(alloc, option, word),
         OptionError::MissingColumn => String::from_str(
             alloc,
-            "`--csv` wants a value: the number of a column, or its name in the first line",
+            "`--csv` needs a value: the number of a column, or its name in the first line",
         ),
         OptionError::ColumnTwice => {
             String::from_str(
@@ -84,16 +84,16 @@ pub fn sentence(alloc: Global, error: OptionError<'_>) -> Result<String, AllocEr
             String::from_str(alloc, "`--csv` counts from 1; there is no column 0")
         }
         OptionError::MissingOtherwise => {
-            String::from_str(alloc, "`--else` wants a value: one of keep, empty, fail")
+            String::from_str(alloc, "`--else` needs a value: one of keep, empty, fail")
         }
         OptionError::NoOtherwise(word) => {
             let word = safe(alloc, word)?;
-            format!(in alloc; "`{word}` is no value of `--else`: one of keep, empty, fail")
+            format!(in alloc; "`{word}` isn't a value of `--else`: one of keep, empty, fail")
         }
         OptionError::MissingZone => {
             String::from_str(
                 alloc,
-                "`--zone` wants a value: a time zone, as Europe/Berlin",
+                "`--zone` needs a value: a time zone, as Europe/Berlin",
             )
         }
         OptionError::MomentBesideColumn => String::from_str(
@@ -122,13 +122,13 @@ fn no_language(alloc: Global, option: LanguageOption, word: &str) -> Result<Stri
     match option {
         LanguageOption::Both => {
             format!(in alloc;
-                "`{word}` is no value of `--language`: one of 1, 2, 3, strftime, python, c, gnu, \
+                "`{word}` isn't a value of `--language`: one of 1, 2, 3, strftime, python, c, gnu, \
                 chrono, jiff, ruby, java, go, moment"
             )
         }
         LanguageOption::Written => {
             format!(in alloc;
-                "`{word}` is no value of `--to-language`: one of 1, 2, 3, strftime, python, c, \
+                "`{word}` isn't a value of `--to-language`: one of 1, 2, 3, strftime, python, c, \
                 gnu, chrono, jiff, ruby, java, go, moment"
             )
         }
