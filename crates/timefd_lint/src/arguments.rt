@@ -145,8 +145,7 @@ fn key_sentence(fault: KeyFault) -> &'static str
     ensures { result.now ≡ spec.key_sentence fault }
 {
     match fault {
-        KeyFault::NoEqualsSign =>
-            "write `=` and a language after the key, as in `time_format=3`",
+        KeyFault::NoEqualsSign => "write `=` and a language after the key, as in `time_format=3`",
         KeyFault::EmptyName => "write a key before `=`, as in `time_format=3`",
         KeyFault::UnknownLanguage => "the language is one of 1, 2, 3, strftime",
     }

@@ -43,7 +43,8 @@ const NO_OFFSET: &str =
     "a time zone in brackets is checked against a time and an offset; write both, as in \
     2026-11-23T05:36:07+01:00[Europe/Berlin]";
 
-const NO_ZONE: &str = "there is no time zone of the name in brackets; names look like Europe/Berlin";
+const NO_ZONE: &str =
+    "there is no time zone of the name in brackets; names look like Europe/Berlin";
 
 const YEARS: &str = "offsets of time zones are known in the years -9999 to 9999";
 
