@@ -37,8 +37,10 @@ mod read_back;
 mod records;
 mod report;
 mod run;
+mod running;
 mod seconds;
 mod source;
+mod status;
 mod table;
 mod to_read;
 mod usage;
@@ -48,84 +50,20 @@ mod words;
 mod zone;
 mod zones;
 
-use asked::{Asked, GuessRequest, OptionError, Request, asked_of};
-use converted::{Described, limits_sentence, own_description, refused_sentence};
-use end::RunEnd;
+use asked::{Asked, GuessRequest, asked_of};
 use guess_run::{GuessEnd, guess_end};
-use jiff_tz::TimeZone;
-use language::Languages;
-use message::Manner;
-use names::Names;
-use outcome::RunError;
-use progress::{Progress, Watched};
-use report::{report, report_sentence};
-use run::run;
-use source::Clocks;
+use running::run_status;
+use status::{
+    FAILED, NOT_TEXT, REFUSED, WRONG_ARGUMENTS, no_memory, reported, write_failed, written,
+    wrong_arguments,
+};
 use std::alloc::AllocError;
-use std::io::{BufReader, BufWriter, IsTerminal, Write};
+use std::io::{BufReader, BufWriter};
 use std::process::ExitCode;
-use timefd_dialect::DialectError;
-use timefd_jiff::Error;
-use timefd_streams::{WordsError, all_words, borrowed, shows_colors};
-use to_read::{description_to_read, reading_limits_sentence};
-use zones::{Zones, now_of};
-
-// Exit statuses of runs that were broken off.
-const REFUSED: u8 = 1;
-
-const WRONG_ARGUMENTS: u8 = 2;
-
-const NO_MEMORY: u8 = 3;
-
-const FAILED: u8 = 4;
-
-const NOT_TEXT: u8 = 5;
-
-const MEMORY_RAN_OUT: &str = "timefd_format: memory ran out\n";
-
-// How many bytes of the standard input are read at once.
-const BUFFER: usize = 65_536;
-
-// Shows people a sentence on the standard error, and returns the status.
-fn reported(rt: &HostRuntime, status: u8, sentence: &str) -> u8 {
-    match report_sentence(rt.alloc(), &mut rt.stderr(), sentence) {
-        Ok(_) => status,
-        Err(AllocError) => no_memory(rt),
-    }
-}
-
-// Reports that memory ran out, which takes none, and returns the status.
-fn no_memory(rt: &HostRuntime) -> u8 {
-    let _ = report(rt.alloc(), &mut rt.stderr(), MEMORY_RAN_OUT.as_bytes());
-    NO_MEMORY
-}
-
-fn write_failed(rt: &HostRuntime) -> u8 {
-    reported(rt, FAILED, "the standard output can't be written")
-}
-
-fn wrong_arguments(rt: &HostRuntime, error: OptionError<'_>) -> u8 {
-    match usage::sentence(rt.alloc(), error) {
-        Ok(sentence) => reported(rt, WRONG_ARGUMENTS, &sentence),
-        Err(AllocError) => no_memory(rt),
-    }
-}
-
-// Whether faults are drawn in colours.
-fn is_colored(rt: &HostRuntime) -> bool {
-    rt.stderr().is_terminal() && shows_colors(rt)
-}
-
-// Writes a text to the standard output, and returns the status.
-fn written(rt: &HostRuntime, text: &str) -> u8 {
-    match rt.stdout().write_all(text.as_bytes()) {
-        Ok(()) => 0,
-        Err(_) => write_failed(rt),
-    }
-}
+use timefd_streams::{WordsError, all_words, borrowed};
 
 // Does what the words after the program's name ask for, and returns the status.
-fn status(rt: &HostRuntime, words: &[&str]) -> u8 {
+fn words_status(rt: &HostRuntime, words: &[&str]) -> u8 {
     match asked_of(words) {
         Ok(Asked::Help) => written(rt, usage::USAGE),
         Ok(Asked::Version) => written(rt, usage::VERSION),
@@ -139,124 +77,6 @@ fn status(rt: &HostRuntime, words: &[&str]) -> u8 {
         }
         Err(error) => wrong_arguments(rt, error),
     }
-}
-
-// Reports why a format of another language is not converted.
-fn not_converted(rt: &HostRuntime, error: DialectError) -> u8 {
-    match error {
-        DialectError::Refused(refusal) => match refused_sentence(rt.alloc(), refusal) {
-            Ok(sentence) => reported(rt, REFUSED, &sentence),
-            Err(AllocError) => no_memory(rt),
-        },
-        DialectError::Memory(_) => no_memory(rt),
-    }
-}
-
-// Reports the moments for which a format writes the same as its text in version 3, unless that's
-// all of them.
-fn report_limits(rt: &HostRuntime, description: &Described<'_>) -> Result<(), AllocError> {
-    if let Some(sentence) = limits_sentence(rt.alloc(), description.limits())? {
-        report_sentence(rt.alloc(), &mut rt.stderr(), &sentence)?;
-    }
-    Ok(())
-}
-
-// Reports the moments for which texts of a format are read, unless that's all of them.
-fn report_reading_limits(rt: &HostRuntime, read: &Described<'_>) -> Result<(), AllocError> {
-    if let Some(sentence) = reading_limits_sentence(rt.alloc(), read.limits())? {
-        report_sentence(rt.alloc(), &mut rt.stderr(), &sentence)?;
-    }
-    Ok(())
-}
-
-// The time zones that the words of a run may name.
-fn zones_of(rt: &HostRuntime, request: Request<'_>, moments: &[&str]) -> Result<Zones, AllocError> {
-    if request.read.is_none() && moments.is_empty() {
-        return Zones::all(rt);
-    }
-    let mut zones = Zones::new(rt);
-    if request.read.is_none() {
-        for moment in moments {
-            if let Some(name) = in_brackets(moment) {
-                zones = zones.with(rt, name)?;
-            }
-        }
-    }
-    match request.zone {
-        Some(name) => zones.with(rt, name),
-        None => Ok(zones),
-    }
-}
-
-// What is in brackets at the end of a word.
-fn in_brackets(word: &str) -> Option<&str> {
-    let (_, name) = word.strip_suffix(']')?.rsplit_once('[')?;
-    Some(name)
-}
-
-fn run_status(rt: &HostRuntime, request: Request<'_>, moments: &[&str]) -> u8 {
-    let Ok(zones) = zones_of(rt, request, moments) else {
-        return no_memory(rt);
-    };
-    let Some(name) = request.zone else {
-        return zoned_status(rt, request, moments, &zones, None);
-    };
-    match zones.database.get(name) {
-        Ok(zone) => zoned_status(rt, request, moments, &zones, Some(zone)),
-        Err(Error::TimeZoneNotFound) => unknown_zone(rt, &zones, name),
-        Err(_) => no_memory(rt),
-    }
-}
-
-// Reports that there is no such time zone, and names the nearest one.
-fn unknown_zone(rt: &HostRuntime, zones: &Zones, name: &str) -> u8 {
-    match zones.unknown_sentence(rt.alloc(), name) {
-        Ok(sentence) => reported(rt, WRONG_ARGUMENTS, &sentence),
-        Err(AllocError) => no_memory(rt),
-    }
-}
-
-fn zoned_status(
-    rt: &HostRuntime,
-    request: Request<'_>,
-    moments: &[&str],
-    zones: &Zones,
-    zone: Option<TimeZone<'_>>,
-) -> u8 {
-    let Ok(now) = now_of(rt) else {
-        return no_memory(rt);
-    };
-    let names = Names {
-        now,
-        zones: &zones.database,
-    };
-    clocked_status(rt, request, moments, Clocks { names, zone })
-}
-
-fn clocked_status(
-    rt: &HostRuntime,
-    request: Request<'_>,
-    moments: &[&str],
-    clocks: Clocks<'_>,
-) -> u8 {
-    let written = match own_description(rt.alloc(), request.wordings.written, request.description) {
-        Ok(written) => written,
-        Err(error) => return not_converted(rt, error),
-    };
-    if !request.is_quiet && report_limits(rt, &written).is_err() {
-        return no_memory(rt);
-    }
-    let Some(text) = request.read else {
-        return described_status(rt, request, clocks, None, &written, moments);
-    };
-    let read = match description_to_read(rt.alloc(), request.wordings.read, text) {
-        Ok(read) => read,
-        Err(error) => return not_converted(rt, error),
-    };
-    if !request.is_quiet && report_reading_limits(rt, &read).is_err() {
-        return no_memory(rt);
-    }
-    described_status(rt, request, clocks, Some(&read), &written, moments)
 }
 
 fn guess_status(rt: &HostRuntime, request: GuessRequest, texts: &[&str]) -> u8 {
@@ -289,105 +109,12 @@ fn end_of_guess(rt: &HostRuntime, request: GuessRequest, texts: &[&str]) -> Gues
     )
 }
 
-fn described_status(
-    rt: &HostRuntime,
-    request: Request<'_>,
-    clocks: Clocks<'_>,
-    read: Option<&Described<'_>>,
-    written: &Described<'_>,
-    moments: &[&str],
-) -> u8 {
-    let Ok(mut output) = BufWriter::new(rt.alloc(), rt.stdout()) else {
-        return no_memory(rt);
-    };
-    let progress = Progress::new(rt);
-    let end = run_to(
-        rt,
-        request,
-        clocks,
-        read,
-        written,
-        moments,
-        &progress,
-        &mut output,
-    );
-    progress.end();
-    match (end, output.flush()) {
-        (Ok(end), Ok(())) => end_status(rt, end.status()),
-        (Err(RunError::Memory), _) => no_memory(rt),
-        (Err(RunError::Refused), Ok(())) => REFUSED,
-        (Err(RunError::Write), _) | (_, Err(_)) => write_failed(rt),
-    }
-}
-
-fn run_to<W: Write>(
-    rt: &HostRuntime,
-    request: Request<'_>,
-    clocks: Clocks<'_>,
-    read: Option<&Described<'_>>,
-    written: &Described<'_>,
-    moments: &[&str],
-    progress: &Progress<'_>,
-    output: &mut W,
-) -> Result<RunEnd, RunError> {
-    let input = Watched::new(progress, rt.stdin());
-    let Ok(mut input) = BufReader::with_capacity(rt.alloc(), BUFFER, input) else {
-        return Err(RunError::Memory);
-    };
-    run(
-        rt.alloc(),
-        clocks,
-        Manner {
-            is_colored: is_colored(rt),
-            is_quiet: request.is_quiet,
-        },
-        languages_of(read, written),
-        text_of(read),
-        written.text(),
-        request.otherwise,
-        request.column,
-        moments,
-        &mut input,
-        output,
-        &mut rt.stderr(),
-    )
-}
-
-// The languages of both descriptions.
-fn languages_of(read: Option<&Described<'_>>, written: &Described<'_>) -> Languages {
-    let read = match read {
-        Some(read) => read.language(),
-        None => written.language(),
-    };
-    Languages {
-        read,
-        written: written.language(),
-    }
-}
-
-// The text of the description that moments are read by, if there is one.
-fn text_of<'a>(read: Option<&'a Described<'_>>) -> Option<&'a str> {
-    match read {
-        Some(read) => Some(read.text()),
-        None => None,
-    }
-}
-
-// Reports if the standard input wasn't read to its end.
-fn end_status(rt: &HostRuntime, status: u8) -> u8 {
-    if status == FAILED {
-        reported(rt, status, "the standard input can't be read")
-    } else {
-        status
-    }
-}
-
 fn args_status(rt: &HostRuntime, args: &[String]) -> u8 {
     let [_, words @ ..] = args else {
-        return status(rt, &[]);
+        return words_status(rt, &[]);
     };
     match borrowed(rt.alloc(), words) {
-        Ok(words) => status(rt, &words),
+        Ok(words) => words_status(rt, &words),
         Err(AllocError) => no_memory(rt),
     }
 }
