@@ -98,5 +98,5 @@ function callsOf(instance) {
 
 // The warning about a description, if some of the texts don't show which number is the day and which is the month; or null.
 export function swapped(undecided, texts) {
-    return undecided === 0 ? null : `day and month may be swapped: ${undecided} of ${texts} texts decide nothing`;
+    return undecided === 0 ? null : `day and month may be swapped: ${undecided} of ${texts} texts leave it open`;
 }

@@ -42,6 +42,6 @@ function lacking({ ConversionError, formatFor }, language, description, componen
 function guessed({ guess }, texts, wanted) {
     const found = guess(texts);
     const open = found.filter((it) => it.warning !== null).map((it) => it.warning);
-    const sentences = wanted.filter((it) => it[1] > 0).map((it) => `day and month may be swapped: ${it[1]} of ${texts.length} texts decide nothing`);
+    const sentences = wanted.filter((it) => it[1] > 0).map((it) => `day and month may be swapped: ${it[1]} of ${texts.length} texts leave it open`);
     return [[found.map((it) => [it.description, it.undecided]), open], [wanted, sentences]];
 }

@@ -14,7 +14,7 @@ fault_summary faults.MissingName = codes "a bracket without a name"
 fault_summary faults.MissingModifier = codes "a component without a modifier that it needs"
 fault_summary faults.InvalidEscape = codes "an escape that isn't one"
 fault_summary faults.UnescapedBracket = codes "a closing bracket that closes nothing"
-fault_summary faults.MissingSpace = codes "no space in front of a nested description"
+fault_summary faults.MissingSpace = codes "no space before a nested description"
 fault_summary faults.MissingDescription = codes "`optional` without a description"
 fault_summary faults.MissingAlternative = codes "`first` without an alternative"
 fault_summary faults.NestedTooDeep = codes "descriptions nested too deep"
@@ -33,28 +33,28 @@ summary (Fault code) = fault_summary code
 summary NotText = codes "bytes that aren't UTF-8"
 summary Unreadable = codes "a file that can't be read"
 summary Unwritable = codes "a file that can't be replaced"
-summary ByteOrderMark = codes "a byte-order mark in front of the first line"
+summary ByteOrderMark = codes "a byte-order mark before the first line"
 summary UnknownLanguage = codes "a comment that names no language"
 
 abbrev pub fault_explanation : Code → Text
 fault_explanation faults.UnclosedBracket =
     codes
-    "`due [day` ends inside of a bracket. Write `due [day]`. For a bracket as text write `[[` in version 1, `\\[` in versions 2 and 3."
+    "`due [day` ends inside a bracket. Write `due [day]`. For a bracket as text write `[[` in version 1, `\\[` in versions 2 and 3."
 fault_explanation faults.UnknownName =
     codes
-    "`[mnth]` is no component. Write `[month]`: the help has the nearest name. In strftime no directive has the letter."
+    "`[mnth]` isn't a component. Write `[month]`: the help has the nearest name. In strftime no directive has the letter."
 fault_explanation faults.InvalidModifier =
     codes
-    "`[day padding:zro]` has a value that `padding` doesn't take. Write `[day padding:zero]`: the help has all keys or values. A word without a colon is no modifier."
+    "`[day padding:zro]` has a value that `padding` doesn't take. Write `[day padding:zero]`: the help has all keys or values. A word without a colon isn't a modifier."
 fault_explanation faults.MissingName =
     codes
-    "`[]` is no component. Write a name. For a bracket as text write `[[` in version 1, `\\[` in versions 2 and 3."
+    "`[]` isn't a component. Write a name. For a bracket as text write `[[` in version 1, `\\[` in versions 2 and 3."
 fault_explanation faults.MissingModifier =
     codes
-    "`[ignore]` doesn't say how many bytes it passes over. Write `[ignore count:2]`."
+    "`[ignore]` doesn't say how many bytes it skips. Write `[ignore count:2]`."
 fault_explanation faults.InvalidEscape =
     codes
-    "`a\\b` has a backslash before a letter; versions 2 and 3 take it before a bracket or a backslash. Write `a\\\\b`. In strftime write a percent sign as `%%`."
+    "`a\\b` has a backslash before a letter; versions 2 and 3 allow it only before a bracket or a backslash. Write `a\\\\b`. In strftime write a percent sign as `%%`."
 fault_explanation faults.UnescapedBracket =
     codes
     "`[day]]` has one bracket too many. Leave it out, or write `[day]\\]` where it is text."
@@ -79,7 +79,7 @@ fault_explanation faults.UnsupportedFlag = codes "`%Od` has the flag `O`. Leave 
 fault_explanation faults.UnsupportedLetter = codes "`%Z` is the name of a time zone. Write `%z`, the offset from UTC."
 fault_explanation faults.NestedInComponent =
     codes
-    "`[day [x]]` has text inside of a component. Leave it out, or write it after the bracket: `[day]x`."
+    "`[day [x]]` has text inside a component. Leave it out, or write it after the bracket: `[day]x`."
 fault_explanation faults.DuplicateModifier =
     codes
     "`[day padding:zero padding:none]` has `padding` twice. Leave one out. In versions 1 and 2 the last one counts."

@@ -15,7 +15,7 @@ pub fn summary(code: ErrorCode) -> &'static str
         ErrorCode::NotText => "bytes that aren't UTF-8",
         ErrorCode::Unreadable => "a file that can't be read",
         ErrorCode::Unwritable => "a file that can't be replaced",
-        ErrorCode::ByteOrderMark => "a byte-order mark in front of the first line",
+        ErrorCode::ByteOrderMark => "a byte-order mark before the first line",
         ErrorCode::UnknownLanguage => "a comment that names no language",
     }
 }
@@ -31,7 +31,7 @@ fn fault_summary(code: Code) -> &'static str
         Code::MissingModifier => "a component without a modifier that it needs",
         Code::InvalidEscape => "an escape that isn't one",
         Code::UnescapedBracket => "a closing bracket that closes nothing",
-        Code::MissingSpace => "no space in front of a nested description",
+        Code::MissingSpace => "no space before a nested description",
         Code::MissingDescription => "`optional` without a description",
         Code::MissingAlternative => "`first` without an alternative",
         Code::NestedTooDeep => "descriptions nested too deep",
@@ -73,22 +73,22 @@ fn fault_explanation(code: Code) -> &'static str
 {
     match code {
         Code::UnclosedBracket => {
-            "`due [day` ends inside of a bracket. Write `due [day]`. For a bracket as text write `[[` in version 1, `\\[` in versions 2 and 3."
+            "`due [day` ends inside a bracket. Write `due [day]`. For a bracket as text write `[[` in version 1, `\\[` in versions 2 and 3."
         }
         Code::UnknownName => {
-            "`[mnth]` is no component. Write `[month]`: the help has the nearest name. In strftime no directive has the letter."
+            "`[mnth]` isn't a component. Write `[month]`: the help has the nearest name. In strftime no directive has the letter."
         }
         Code::InvalidModifier => {
-            "`[day padding:zro]` has a value that `padding` doesn't take. Write `[day padding:zero]`: the help has all keys or values. A word without a colon is no modifier."
+            "`[day padding:zro]` has a value that `padding` doesn't take. Write `[day padding:zero]`: the help has all keys or values. A word without a colon isn't a modifier."
         }
         Code::MissingName => {
-            "`[]` is no component. Write a name. For a bracket as text write `[[` in version 1, `\\[` in versions 2 and 3."
+            "`[]` isn't a component. Write a name. For a bracket as text write `[[` in version 1, `\\[` in versions 2 and 3."
         }
         Code::MissingModifier => {
-            "`[ignore]` doesn't say how many bytes it passes over. Write `[ignore count:2]`."
+            "`[ignore]` doesn't say how many bytes it skips. Write `[ignore count:2]`."
         }
         Code::InvalidEscape => {
-            "`a\\b` has a backslash before a letter; versions 2 and 3 take it before a bracket or a backslash. Write `a\\\\b`. In strftime write a percent sign as `%%`."
+            "`a\\b` has a backslash before a letter; versions 2 and 3 allow it only before a bracket or a backslash. Write `a\\\\b`. In strftime write a percent sign as `%%`."
         }
         Code::UnescapedBracket => {
             "`[day]]` has one bracket too many. Leave it out, or write `[day]\\]` where it is text."
@@ -115,7 +115,7 @@ fn fault_explanation(code: Code) -> &'static str
             "`%Z` is the name of a time zone. Write `%z`, the offset from UTC."
         }
         Code::NestedInComponent => {
-            "`[day [x]]` has text inside of a component. Leave it out, or write it after the bracket: `[day]x`."
+            "`[day [x]]` has text inside a component. Leave it out, or write it after the bracket: `[day]x`."
         }
         Code::DuplicateModifier => {
             "`[day padding:zero padding:none]` has `padding` twice. Leave one out. In versions 1 and 2 the last one counts."

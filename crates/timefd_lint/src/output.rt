@@ -35,7 +35,7 @@ impl Audience {
         }
     }
 
-    /// The same readers of a text that has no colours of its own: an escape in it is part of what it quotes.
+    /// Who reads a text that has no colours of its own: an escape in it is part of what it quotes.
     pub fn without_color(self) -> Audience
         ensures { result ≡ spec.without_color self }
     {

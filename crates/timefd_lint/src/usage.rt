@@ -8,11 +8,11 @@ pub const USAGE: &str = "usage: timefd_lint [OPTION].. [--] [FILE]..
 
 Reads format descriptions, one a line, from the files or from the standard input, and shows which
 are wrong, where, why, and what to write instead. The file - is the standard input. In a file
-whose name ends in .rs, a source of Rust, they are the string literals in calls of time, chrono and jiff.
-With --key they are, in files whose names end in .toml, .json, .yaml or .yml, strings of these keys.
-A folder stands for the sources below it, and with --key for those files too, but not for hidden ones
-and those that .gitignore files name, or the list exclude in a file .timefd.toml. Without a file, at
-a terminal, it is the working directory, unless an option says how lines are read: --language,
+whose name ends in .rs, a source of Rust, they are the string literals in calls of time, chrono and
+jiff. With --key they are, in files whose names end in .toml, .json, .yaml or .yml, strings of these
+keys. A folder stands for the sources below it, and with --key for those files too, but not for hidden
+ones and those that .gitignore files name, or the list exclude in a file .timefd.toml. Without a file,
+at a terminal, it is the working directory, unless an option says how lines are read: --language,
 --comment, --whole or --source. An option may stand after a file, and = may join it to its value.
 
   --language 1|2|3|strftime    the language of all lines; version 3 if it isn't given

@@ -49,13 +49,13 @@ is_given f (Ignore m) = true
 is_given f (End m) = true
 is_given f timestamp = false
 
--- the same of a part that is written
+-- A part that is written shows the same of each date that has what was read.
 abbrev pub is_part_given : Fields → Tree → Bool
 is_part_given f (component c) = is_given f (modern c)
 is_part_given f (literal bytes) = true
 is_part_given f several = false
 
--- the same of these parts, given whether it is so of those after them
+-- These parts do, given whether those after them do.
 abbrev pub with_parts : Fields → List Tree → Bool → Bool
 with_parts f [] after = after
 with_parts f (t ∷ ts) after = is_part_given f t && with_parts f ts after

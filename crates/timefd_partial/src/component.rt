@@ -70,7 +70,7 @@ fn is_year_given(fields: &Fields) -> bool
     fields.year.is_some() || has_halves
 }
 
-/// The same for the year of ISO weeks.
+/// Whether the year of ISO weeks was read, whole or as its century and its last two digits.
 fn is_iso_year_given(fields: &Fields) -> bool
     ensures { result
         ≡ spec.is_year_given fields.now.iso_year fields.now.iso_century fields.now.iso_year_last_two }

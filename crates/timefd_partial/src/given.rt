@@ -40,7 +40,7 @@ fn is_view_given(fields: &Fields, view: View<'_, '_>) -> bool
     given
 }
 
-/// The same of a part, given whether it is so of those after it.
+/// Whether a part and those after it show only what was read, given whether those after it do.
 fn is_leaf_given(fields: &Fields, leaf: Leaf<'_>, after: bool) -> bool
     ensures { result ≡ (spec.is_part_given fields.now (leaf_tree leaf.entry) && after) }
 {

@@ -29,4 +29,4 @@ WritesGuesses texts before after found =
 abbrev pub swapped_message : ℕ → ℕ → Text
 swapped_message undecided count =
     codes "timefd_format: day and month may be swapped: " ++ (decimal undecided
-    ++ (codes " of " ++ (decimal count ++ codes " texts decide nothing\n")))
+    ++ (codes " of " ++ (decimal count ++ codes " texts leave it open\n")))

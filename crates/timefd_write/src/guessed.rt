@@ -83,6 +83,6 @@ fn swapped_message(alloc: Global, undecided: usize, count: usize) -> Result<Stri
     ensures { IfOk result (λ message. string_bytes message ≡ spec.swapped_message undecided count) }
 {
     format!(in alloc;
-        "timefd_format: day and month may be swapped: {undecided} of {count} texts decide nothing\n"
+        "timefd_format: day and month may be swapped: {undecided} of {count} texts leave it open\n"
     )
 }

@@ -163,7 +163,8 @@ fn insert_zone(
     }
 }
 
-// The same, with this folder before those where systems keep their time zones.
+// Adds the zone of this name from a folder, or else from those where systems keep their time zones. Returns
+// whether there is one.
 fn insert_with(
     rt: &HostRuntime,
     zones: &mut TimeZoneDatabase,
@@ -179,7 +180,8 @@ fn insert_with(
     Ok(is_added)
 }
 
-// The same, from the folders where systems keep their time zones.
+// Adds the zone of this name from the folders where systems keep their time zones. Returns whether there is
+// one.
 fn insert_from_folders(
     rt: &HostRuntime,
     zones: &mut TimeZoneDatabase,
