@@ -46,11 +46,28 @@ def of_percent(table):
             if row["flags"] == "number":
                 written["v3"] = padded(row["v3"], flag)
             rows.setdefault("%" + flag + row["text"], written)
+    for text, row in of_widths(table["row"]).items() if table["widths"] else ():
+        rows.setdefault(text, row)
     for flag in table["flags"]:
         rows.setdefault("%" + flag, {"why": "flag"})
-    for digit in string.digits[1:] if table["widths"] else "":
-        rows.setdefault("%" + digit, {"why": "width"})
     return rows
+
+
+# The flags that fill a number up to a width, and what none but `-` says of it.
+FILLING = ("", "0", "_")
+
+
+def of_widths(rows):
+    """The rows of directives with the width that they have anyway, with the flags that fill. Every other width is refused."""
+    found = {}
+    for row in rows:
+        for flag in FILLING if "width" in row else ():
+            written = {key: row[key] for key in ("v3", "when") if key in row}
+            if row.get("flags") == "number":
+                written["v3"] = padded(row["v3"], flag)
+            found[f"%{flag}{row['width']}{row['text']}"] = written
+    refused = [f"%{flag}{digit}" for flag in (*FILLING, "-") for digit in string.digits[1:]]
+    return found | {text: {"why": "width"} for text in refused}
 
 
 def of_escapes(escape, rows, reserved):
@@ -101,13 +118,48 @@ def groups_of(name):
     return {key: groups[key] for key in order if key}
 
 
+# What the parts of a large table hold, by their names. Each part is a file of its own, and search proves up to 58 bytes of one.
+PARTS = {
+    "groups": "The rows", "padded": "The rows with a flag that sets the padding", "marked": "The rows with another mark than a letter",
+    "refused": "The rows of bytes that no text of version 3 is there for", "escaped": "The rows of escapes",
+}
+
+
+def part_of(name, key, rows):
+    """The part that the rows of a byte are in."""
+    if load(name)["kind"] == "percent":
+        return "groups" if key.isalpha() else "padded" if key in (b"-", b"_", b"0") else "marked"
+    if key == load(name).get("escape", "").encode():
+        return "escaped"
+    return "groups" if any("v3" in row for row in rows.values()) or "escape" in load(name) else "refused"
+
+
+@functools.cache
 def parts_of(name):
-    """The groups in parts that search can prove: of up to 58 bytes. If there are more, flags, digits and other marks are a part of their own."""
+    """The groups in parts, if there are more than 200 rows."""
     groups = groups_of(name)
-    if len(groups) <= 58:
+    if sum(map(len, groups.values())) <= 200:
         return {"groups": groups}
-    letters = {key: rows for key, rows in groups.items() if key.isalpha()}
-    return {"groups": letters, "marked": {key: rows for key, rows in groups.items() if key not in letters}}
+    parts = {}
+    for key, rows in groups.items():
+        parts.setdefault(part_of(name, key, rows), {})[key] = rows
+    return {part: parts[part] for part in PARTS if part in parts}
+
+
+def next_part(name, part):
+    """The part that follows, if one does."""
+    names = list(parts_of(name))
+    return dict(zip(names, names[1:])).get(part)
+
+
+def module_of(name, part):
+    """The module of a part in the code, and that in the specifications, such as `c_padded` and `CPadded`."""
+    whole = name if part == "groups" else f"{name}_{part}"
+    return whole, camel(whole.replace("_", "-"))
+
+
+def function_of(name, part):
+    return f"{module_of(name, part)[0]}_rows"
 
 
 def quoted(text):
@@ -175,11 +227,37 @@ def is_shared(key, rows):
     return shared_rows().get(key) == rust_constant(key, rows)
 
 
+def rust_uses(rows):
+    """The imports that the rows need."""
+    written = any("v3" in row for row in rows)
+    reason = "use crate::reason::Reason;\n" if any("why" in row for row in rows) else ""
+    return f"{reason}use crate::row::{{NotBefore, {'Range, ' if written else ''}Row, Verdict, row}};\n"
+
+
+@functools.cache
+def shared_groups():
+    """The rows that dialects share, by their byte."""
+    return {key: rows for name in NAMES if load(name)["kind"] == "percent" for key, rows in groups_of(name).items()
+            if is_shared(key, rows)}
+
+
 def rust_shared():
     constants = "\n".join(f"pub {constant}" for constant in shared_rows().values())
-    reason = "use crate::reason::Reason;\n" if " refused " in constants else ""
+    rows = [row for group in shared_groups().values() for row in group.values()]
     return ("//! Rows of strftime that several dialects share. `tables/write` writes them.\n\n"
-            f"{reason}use crate::row::{{NotBefore, Range, Row, Verdict, row}};\n\n{constants}")
+            f"{rust_uses(rows)}\n{constants}")
+
+
+def shared_name(key):
+    """The name of shared rows in the specifications."""
+    return constant_name(key).lower()
+
+
+def specified_shared():
+    groups = {key: shared_groups()[key] for key in shared_rows()}
+    text = ("-- Rows of strftime that several dialects share.\n" + specified_uses(groups, shared=False))
+    return text + "".join(f"\nabbrev pub {shared_name(key)} : List Entry\n{shared_name(key)} =\n    {listed_rows(rows)}\n"
+                          for key, rows in groups.items())
 
 
 def rust_arm_of(key):
@@ -207,14 +285,20 @@ def specified_row(text, row):
 KEYS = {"percent": "of the directives with this byte after the `%`", "runs": "that begin with this byte", "layout": "that begin with this byte"}
 
 
-def rust_match(name, part, about, others):
+def rust_match(name, part):
+    """The function that returns the rows of a part that a byte selects."""
     arms = "".join(map(rust_arm_of, parts_of(name)[part]))
-    function, visible = (f"{name}_rows", "pub ") if part == "groups" else (f"{part}_rows", "")
+    others = f"{function_of(name, next_part(name, part))}(byte)" if next_part(name, part) else "&[]"
+    about = f"{PARTS[part]} {KEYS[load(name)['kind']]}" if part == "groups" else f"{PARTS[part]}, {KEYS[load(name)['kind']]}"
     return (f"/// {about}, the longest first.\n"
-            f"#[tactic(auto, unfolding(crate::specs::{camel(name)}::{name}_{part}))]\n"
-            f"{visible}fn {function}(byte: u8) -> &'static [Row]\n"
+            f"#[tactic(auto, unfolding({path_of(name, part)}))]\n"
+            f"pub fn {function_of(name, part)}(byte: u8) -> &'static [Row]\n"
             f"    ensures {{ entries result.now ≡ rows_at byte {name}_{part} }}\n{{\n"
             f"    match byte {{\n{arms}        _ => {others},\n    }}\n}}\n\n")
+
+
+def path_of(name, part):
+    return f"crate::specs::{module_of(name, part)[1]}::{name}_{part}"
 
 
 def rust_keys(name):
@@ -222,66 +306,87 @@ def rust_keys(name):
     kept = {'"': '\\"', "\\": "\\\\", "\n": "\\n", "\r": "\\r"}
     keys = [key for part in parts_of(name).values() for key in part]
     listed = "".join(f"\\x{key[0]:X}" if key[0] >= 0x80 else kept.get(chr(key[0]), chr(key[0])) for key in keys)
-    unfolded = ", ".join(f"crate::specs::{camel(name)}::{it}" for it in definitions(name))
-    return (f"/// The bytes that select rows.\n#[tactic(auto, unfolding({unfolded}))]\n"
+    paths = [path_of(name, part) for part in parts_of(name)]
+    return (f"/// The bytes that select rows.\n{unfolding(paths)}"
             f"pub fn {name}_keys() -> &'static [u8]\n    ensures {{ result.now ≡ keys_of {name}_groups }}\n{{\n    KEYS\n}}\n\n"
             f'const KEYS: &[u8] = b"{listed}";\n\n')
 
 
-def rust_table(name):
-    groups, parts = groups_of(name), parts_of(name)
-    is_percent = load(name)["kind"] == "percent"
-    own = {key: rows for key, rows in groups.items() if not (is_percent and is_shared(key, rows))}
+def unfolding(paths):
+    """The attribute that unfolds these definitions."""
+    line = f"#[tactic(auto, unfolding({', '.join(paths)}))]\n"
+    return line if len(line) <= 101 else "#[tactic(auto, unfolding(\n" + "".join(f"    {it},\n" for it in paths) + "))]\n"
+
+
+def rust_table(name, part):
+    """A part of a dialect's table in code, as a file."""
+    groups, following = parts_of(name)[part], next_part(name, part)
+    own = {key: rows for key, rows in groups.items() if not (load(name)["kind"] == "percent" and is_shared(key, rows))}
     taken = sorted(constant_name(key) for key in groups if key not in own)
     shared = "\n".join(statement("use crate::tables::strftime", taken)) + "\n" if taken else ""
-    reason = "use crate::reason::Reason;\n" if any("why" in row for rows in own.values() for row in rows.values()) else ""
+    more = f"use crate::tables::{module_of(name, following)[0]}::{function_of(name, following)};\n" if following else ""
     constants = "\n".join(rust_constant(*group) for group in own.items())
-    matches = rust_match(name, "groups", f"The rows {KEYS[load(name)['kind']]}", "marked_rows(byte)" if len(parts) > 1 else "&[]")
-    if "marked" in parts:
-        matches += rust_match(name, "marked", "The rows of directives with a flag, a digit or another mark after the `%`", "&[]")
-    return (f"//! The rows of {TITLES[name]}. `tables/write` writes them.\n\n"
-            "ghost use Rattle.std.specs.Prelude.{◌≡◌};\nghost use Rattle.timefd_dialect.specs.Groups.{keys_of, rows_at};\n"
-            f"ghost use Rattle.timefd_dialect.specs.{camel(name)}.{{{', '.join(definitions(name))}}};\n"
+    words = "{keys_of, rows_at}" if part == "groups" else "{rows_at}"
+    return (f"//! {PARTS[part]} of {TITLES[name]}. `tables/write` writes them.\n\n"
+            f"ghost use Rattle.std.specs.Prelude.{{◌≡◌}};\nghost use Rattle.timefd_dialect.specs.Groups.{words};\n"
+            f"ghost use Rattle.timefd_dialect.specs.{module_of(name, part)[1]}.{{{name}_{part}}};\n"
             "ghost use Rattle.timefd_dialect.specs.Rows.{entries};\n\n"
-            f"{reason}use crate::row::{{NotBefore, Range, Row, Verdict, row}};\n{shared}\n{matches}{rust_keys(name)}{constants}")
+            f"{rust_uses([row for rows in own.values() for row in rows.values()])}{more}{shared}\n{rust_match(name, part)}"
+            f"{rust_keys(name) if part == 'groups' else ''}{constants}")
 
 
-def definitions(name):
-    return [f"{name}_{part}" for part in parts_of(name)]
+def rust_modules():
+    modules = sorted({"strftime"} | {module_of(name, part)[0] for name in NAMES for part in parts_of(name)})
+    return ("//! The table of each dialect. `tables/write` writes this file.\n\n" + "".join(f"pub mod {it};\n" for it in modules))
 
 
-def specified_group(key, rows):
-    """A group of rows that a byte selects."""
+def listed_rows(rows):
     between = " ∷ " if len(rows) == 1 else "\n    ∷ "
-    return f"under {key[0]} ({between.join([specified_row(*row) for row in rows.items()] + ['[]'])})"
+    return between.join([specified_row(*row) for row in rows.items()] + ["[]"])
 
 
-def specified_table(name):
-    groups = groups_of(name)
+def specified_group(name, key, rows):
+    """A group of rows that a byte selects."""
+    if load(name)["kind"] == "percent" and is_shared(key, rows):
+        return f"under {key[0]} {shared_name(key)}"
+    return f"under {key[0]} ({listed_rows(rows)})"
+
+
+def variants(path, names):
+    return [f"use Rattle.timefd_dialect.specs.declared.{path}.TheVariants.{{{', '.join(names)}}}"] if names else []
+
+
+def specified_uses(groups, shared):
+    """The imports that the rows of these groups need; `shared` says whether they are in groups."""
     rows = {text: row for group in groups.values() for text, row in group.items()}
     reasons = sorted({camel(row["why"]) for row in rows.values() if "why" in row})
     ranges = sorted({camel(row["when"]) for row in rows.values() if "when" in row})
     nexts = sorted({camel(row["not_before"]) for row in rows.values() if "not_before" in row})
-    if nexts:
-        ranges = ["Years0To9999"] + ranges
+    within = ["within"] if ranges else []
+    ranges = (["Years0To9999"] if nexts else []) + ranges
+    means = ["◌means◌"] if any("v3" in row and "when" not in row and "not_before" not in row for row in rows.values()) else []
+    refused = ["◌refused_for◌"] if any("why" in row and "not_before" not in row for row in rows.values()) else []
+    words = ([] if shared else ["Entry"]) + means + refused + within + (["before", "written", "refused"] if nexts else [])
     uses = ["use Rattle.std.specs.Prelude.{codes, List, [], ◌∷◌}"]
-    uses.append(f"use Rattle.timefd_dialect.specs.declared.reason.Reason.TheVariants.{{{', '.join(reasons)}}}")
-    if nexts:
-        uses.append(f"use Rattle.timefd_dialect.specs.declared.row.NotBefore.TheVariants.{{{', '.join(nexts)}}}")
-    if ranges:
-        uses.append(f"use Rattle.timefd_dialect.specs.declared.row.Range.TheVariants.{{{', '.join(ranges)}}}")
-    words = ["◌means◌", "◌refused_for◌"] + (["within"] if ranges and ranges != ["Years0To9999"] else []) + (
-        ["before", "written", "refused"] if nexts else [])
-    uses.append("use Rattle.timefd_dialect.specs.Groups.{Group, under}")
-    uses.append(f"use Rattle.timefd_dialect.specs.Rows.{{{', '.join(words)}}}")
-    parts = parts_of(name)
-    text = f"-- The rows of {TITLES[name]}, by the byte that selects them, the longest first.\n" + "\n".join(uses) + "\n"
-    for part, groups in reversed(parts.items()):
-        end = f"{name}_marked" if part == "groups" and "marked" in parts else "[]"
-        listed = "\n    ∷ ".join([specified_group(*group) for group in groups.items()] + [end])
-        about = "" if part == "groups" else "-- the groups of a flag, a digit or another mark\n"
-        text += f"\n{about}unfoldable pub {name}_{part} : List Group\n{name}_{part} =\n    {listed}\n"
-    return text
+    uses += variants("reason.Reason", reasons) + variants("row.NotBefore", nexts) + variants("row.Range", ranges)
+    uses += ["use Rattle.timefd_dialect.specs.Groups.{Group, under}"] if shared else []
+    return "\n".join(uses + [f"use Rattle.timefd_dialect.specs.Rows.{{{', '.join(words)}}}"]) + "\n"
+
+
+def specified_table(name, part):
+    """A part of a dialect's table in the specifications, as a file."""
+    groups, following = parts_of(name)[part], next_part(name, part)
+    own = {key: rows for key, rows in groups.items() if not (load(name)["kind"] == "percent" and is_shared(key, rows))}
+    taken = sorted(shared_name(key) for key in groups if key not in own)
+    uses = specified_uses(own, shared=True)
+    if following:
+        uses += f"use Rattle.timefd_dialect.specs.{module_of(name, following)[1]}.{{{name}_{following}}}\n"
+    if taken:
+        uses += f"use Rattle.timefd_dialect.specs.Strftime.{{{', '.join(taken)}}}\n"
+    end = f"{name}_{following}" if following else "[]"
+    listed = "\n    ∷ ".join([specified_group(name, *group) for group in groups.items()] + [end])
+    return (f"-- {PARTS[part]} of {TITLES[name]}, by the byte that selects them, the longest first.\n{uses}"
+            f"\nunfoldable pub {name}_{part} : List Group\n{name}_{part} =\n    {listed}\n")
 
 
 def rust_rows():
@@ -437,7 +542,10 @@ def files():
              "bindings/rust/src/reason.rs": bound_reasons(), "bindings/python/timefd/reason.py": python_reasons(),
              "crates/timefd_c/specs/FormatReasons.antt": specified_codes(),
              f"{CRATE}/src/rows.rt": rust_rows(), f"{CRATE}/src/tables/strftime.rt": rust_shared(), f"{CRATE}/specs/Tables.antt": specified_tables()}
-    for name in NAMES:
-        found[f"{CRATE}/src/tables/{name}.rt"] = rust_table(name)
-        found[f"{CRATE}/specs/{camel(name)}.antt"] = specified_table(name)
+    found[f"{CRATE}/src/tables.rt"] = rust_modules()
+    found[f"{CRATE}/specs/Strftime.antt"] = specified_shared()
+    for name, part in [(name, part) for name in NAMES for part in parts_of(name)]:
+        code, specification = module_of(name, part)
+        found[f"{CRATE}/src/tables/{code}.rt"] = rust_table(name, part)
+        found[f"{CRATE}/specs/{specification}.antt"] = specified_table(name, part)
     return found

@@ -9,6 +9,7 @@ pub mod ItemLemmas
 pub mod LawLemmas
 pub mod AnswerLemmas
 pub mod ExistsLemmas
+pub mod ReaderLemmas
 pub mod SpotLemmas
 pub mod BackLemmas
 pub mod WritingLemmas

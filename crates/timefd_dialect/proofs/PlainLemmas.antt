@@ -25,14 +25,24 @@ use Rattle.timefd_dialect.specs.Rows.{Entry, stands, longest, longest_from}
 use Rattle.timefd_dialect.specs.Steps.{TakesAll}
 use Rattle.timefd_dialect.specs.Tables.{rows_of}
 use Rattle.timefd_dialect.specs.Python.{python_groups}
-use Rattle.timefd_dialect.specs.C.{c_groups, c_marked}
-use Rattle.timefd_dialect.specs.Gnu.{gnu_groups, gnu_marked}
+use Rattle.timefd_dialect.specs.C.{c_groups}
+use Rattle.timefd_dialect.specs.CPadded.{c_padded}
+use Rattle.timefd_dialect.specs.CMarked.{c_marked}
+use Rattle.timefd_dialect.specs.Gnu.{gnu_groups}
+use Rattle.timefd_dialect.specs.GnuPadded.{gnu_padded}
+use Rattle.timefd_dialect.specs.GnuMarked.{gnu_marked}
 use Rattle.timefd_dialect.specs.Chrono.{chrono_groups}
-use Rattle.timefd_dialect.specs.Jiff.{jiff_groups, jiff_marked}
-use Rattle.timefd_dialect.specs.Ruby.{ruby_groups, ruby_marked}
+use Rattle.timefd_dialect.specs.Jiff.{jiff_groups}
+use Rattle.timefd_dialect.specs.JiffPadded.{jiff_padded}
+use Rattle.timefd_dialect.specs.JiffMarked.{jiff_marked}
+use Rattle.timefd_dialect.specs.Ruby.{ruby_groups}
+use Rattle.timefd_dialect.specs.RubyPadded.{ruby_padded}
+use Rattle.timefd_dialect.specs.RubyMarked.{ruby_marked}
 use Rattle.timefd_dialect.specs.Java.{java_groups}
+use Rattle.timefd_dialect.specs.JavaRefused.{java_refused}
 use Rattle.timefd_dialect.specs.Go.{go_groups}
 use Rattle.timefd_dialect.specs.Moment.{moment_groups}
+use Rattle.timefd_dialect.specs.MomentEscaped.{moment_escaped}
 use Rattle.timefd_dialect.proofs.RowLemmas.{all_pass, row_stands}
 
 -- No row begins with a literal byte.
@@ -45,8 +55,9 @@ abbrev is_marked : Dialect → Entry → Bool
 is_marked dialect row = not (begins_plain (is_plain dialect) row.text)
 
 all_marked : (dialect : Dialect) → all_pass (is_marked dialect) (rows_of dialect) ≡ true
-unfolding python_groups c_groups c_marked gnu_groups gnu_marked chrono_groups jiff_groups jiff_marked
-    ruby_groups ruby_marked java_groups go_groups moment_groups
+unfolding python_groups c_groups c_padded c_marked gnu_groups gnu_padded gnu_marked chrono_groups
+    jiff_groups jiff_padded jiff_marked ruby_groups ruby_padded ruby_marked java_groups java_refused
+    go_groups moment_groups moment_escaped
 all_marked Python = refl
 all_marked C = refl
 all_marked Gnu = refl

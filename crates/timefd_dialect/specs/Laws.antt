@@ -1,10 +1,11 @@
 -- What holds of all formats.
-use Rattle.std.specs.Prelude.{ℕ, ◌≡◌, ◌⊎◌, List}
+use Rattle.std.specs.Prelude.{ℕ, ◌≡◌, ◌⊎◌, List, Some, None}
 use Rattle.timefd_component.specs.Tree.{Text}
 use Rattle.timefd_dialect.specs.declared.dialect.Dialect.{Dialect}
 use Rattle.timefd_dialect.specs.declared.reason.Reason.{Reason}
 use Rattle.timefd_dialect.specs.declared.trapping.Found.{Found}
 use Rattle.timefd_dialect.specs.Reading.{Piece, Means, RefusedAt}
+use Rattle.timefd_dialect.specs.Readers.{pieces_of}
 use Rattle.timefd_dialect.specs.Traps.{AreTraps}
 
 -- A format either means a list of pieces, or is refused.
@@ -21,6 +22,12 @@ pub record OneAnswer (dialect : Dialect) (text : Text) : Type 0 where
       → RefusedAt dialect text s j → (r ≡ s) × (i ≡ j)
   pub not_both : (ps : List Piece) (r : Reason) (i : ℕ) → Means dialect text ps
       → ¬ (RefusedAt dialect text r i)
+
+-- The pieces that a format means are found, and none if a part of it is refused.
+pub record OneListOfPieces (dialect : Dialect) (text : Text) : Type 0 where
+  pub meant : (ps : List Piece) → Means dialect text ps → pieces_of dialect text ≡ Some ps
+  pub refused : (reason : Reason) (index : ℕ) → RefusedAt dialect text reason index
+      → pieces_of dialect text ≡ None
 
 -- A format has at most one list of traps.
 abbrev pub OneListOfTraps : Dialect → Text → Type 0
