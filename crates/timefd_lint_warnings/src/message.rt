@@ -3,6 +3,7 @@
 ghost use Rattle.std.specs.Prelude.{◌≡◌, IfOk, string_bytes};
 ghost use Rattle.timefd_lint_warnings.specs.Messages as spec;
 
+use crate::explained::explained;
 use std::alloc::{AllocError, Global};
 use timefd_drawing::github::{Command, annotation};
 use timefd_drawing::json::{Entry, push_number, push_text};
@@ -11,7 +12,7 @@ use timefd_drawing::shown::safe;
 use timefd_drawing::{Format, Origin, Style};
 use timefd_warnings::{Level, Warning};
 
-/// The message about a warning on a text that begins at this column of its line, in the requested
+/// The message about a warning on this text, which begins at this column of its line, in the requested
 /// format. An `Err` says that memory ran out.
 pub fn message(
     alloc: Global,
@@ -20,21 +21,23 @@ pub fn message(
     column: usize,
     level: Level,
     warning: Warning,
+    text: &str,
 ) -> Result<Vec<u8>, AllocError>
-    ensures { IfOk result (λ reported. reported.items ≡ spec.message style origin.entry column level warning) }
+    ensures { IfOk result (λ reported. reported.items
+        ≡ spec.message style origin.entry column level warning text.now) }
 {
     match style.format {
         Format::Human => {
-            let drawing = human(alloc, style.is_colored, origin, column, level, warning)?;
+            let drawing = human(alloc, style.is_colored, origin, column, level, warning, text)?;
             Ok(drawing.into_bytes())
         }
         Format::Short => {
             let line = short(alloc, origin, column, level, warning)?;
             Ok(line.into_bytes())
         }
-        Format::Json => json(alloc, origin, column, level, warning),
+        Format::Json => json(alloc, origin, column, level, warning, text),
         Format::Github => github(alloc, origin, column, level, warning),
-        Format::Sarif => sarif(alloc, origin, column, level, warning),
+        Format::Sarif => sarif(alloc, origin, column, level, warning, text),
     }
 }
 
@@ -84,14 +87,15 @@ fn human(
     column: usize,
     level: Level,
     warning: Warning,
+    text: &str,
 ) -> Result<String, AllocError>
     ensures { IfOk result (λ drawing. string_bytes drawing
-        ≡ spec.human is_colored origin.entry column level warning) }
+        ≡ spec.human is_colored origin.entry column level warning text.now) }
 {
     let (head, position, help) = (
         head(alloc, is_colored, level, warning.name(), warning.sentence())?,
         position(alloc, is_colored, origin, column)?,
-        help(alloc, is_colored, warning)?,
+        help(alloc, is_colored, warning, text)?,
     );
     format!(in alloc; "{head}{position}{help}\n")
 }
@@ -129,11 +133,16 @@ pub fn position(
 }
 
 // `= help: EXPLANATION`
-fn help(alloc: Global, is_colored: bool, warning: Warning) -> Result<String, AllocError>
-    ensures { IfOk result (λ line. string_bytes line ≡ spec.help is_colored warning) }
+fn help(
+    alloc: Global,
+    is_colored: bool,
+    warning: Warning,
+    text: &str,
+) -> Result<String, AllocError>
+    ensures { IfOk result (λ line. string_bytes line ≡ spec.help is_colored warning text.now) }
 {
     let (blue, plain) = (blue(is_colored), plain(is_colored));
-    let explanation = warning.explanation();
+    let explanation = explained(alloc, warning, text)?;
     format!(in alloc; "  {blue}={plain} help: {explanation}\n")
 }
 
@@ -189,11 +198,14 @@ fn sarif(
     column: usize,
     level: Level,
     warning: Warning,
+    text: &str,
 ) -> Result<Vec<u8>, AllocError>
-    ensures { IfOk result (λ reported. reported.items ≡ spec.sarif origin.entry column level warning) }
+    ensures { IfOk result (λ reported. reported.items
+        ≡ spec.sarif origin.entry column level warning text.now) }
 {
     let column = column as u64;
-    let message = with_help(alloc, warning.sentence(), warning.explanation())?;
+    let explanation = explained(alloc, warning, text)?;
+    let message = with_help(alloc, warning.sentence(), &explanation)?;
     let entry = Entry {
         code: warning.name(),
         file: origin.file,
@@ -219,12 +231,15 @@ fn json(
     column: usize,
     level: Level,
     warning: Warning,
+    text: &str,
 ) -> Result<Vec<u8>, AllocError>
-    ensures { IfOk result (λ line. line.items ≡ spec.json origin.entry column level warning) }
+    ensures { IfOk result (λ line. line.items
+        ≡ spec.json origin.entry column level warning text.now) }
 {
+    let explanation = explained(alloc, warning, text)?;
     let words = Words {
         code: warning.name(),
-        help: warning.explanation(),
+        help: &explanation,
         message: warning.sentence(),
         severity: severity(level),
     };

@@ -8,17 +8,19 @@ use std::alloc::{AllocError, Global};
 use timefd_drawing::{Origin, Style};
 use timefd_warnings::{Level, Levels, Warning};
 
-/// A message about each warning that isn't allowed, in the order of the codes. An `Err` says that
-/// memory ran out.
+/// A message about each warning on the text that isn't allowed, in the order of the codes. An `Err`
+/// says that memory ran out.
 pub fn messages(
     alloc: Global,
     style: Style,
     origin: Origin<'_>,
+    text: &str,
     found: Levels,
 ) -> Result<Vec<u8>, AllocError>
-    ensures { IfOk result (λ reported. reported.items ≡ spec.messages style origin.entry found) }
+    ensures { IfOk result (λ reported. reported.items
+        ≡ spec.messages style origin.entry text.now found) }
 {
-    messages_at(alloc, style, origin, 1, found)
+    messages_at(alloc, style, origin, 1, text, found)
 }
 
 /// A message about each warning that isn't allowed, in the order of the codes, on a text that begins
@@ -28,9 +30,11 @@ pub fn messages_at(
     style: Style,
     origin: Origin<'_>,
     column: usize,
+    text: &str,
     found: Levels,
 ) -> Result<Vec<u8>, AllocError>
-    ensures { IfOk result (λ reported. reported.items ≡ spec.messages_at style origin.entry column found) }
+    ensures { IfOk result (λ reported. reported.items
+        ≡ spec.messages_at style origin.entry column text.now found) }
 {
     let mut out = Vec::new(alloc);
     push_all(
@@ -39,6 +43,7 @@ pub fn messages_at(
         style,
         origin,
         column,
+        text,
         found,
         Warning::all(),
     )?;
@@ -51,11 +56,12 @@ fn push_all(
     style: Style,
     origin: Origin<'_>,
     column: usize,
+    text: &str,
     found: Levels,
     warnings: &[Warning],
 ) -> Result<(), AllocError>
     ensures { OnOk result (out.new.items
-        ≡ out.old.items ++ spec.messages_on style origin.entry column found warnings.now) }
+        ≡ out.old.items ++ spec.messages_on style origin.entry column text.now found warnings.now) }
 {
     for warning in warnings {
         push_one(
@@ -66,6 +72,7 @@ fn push_all(
             column,
             found.level_of(*warning),
             *warning,
+            text,
         )?;
     }
     Ok(())
@@ -80,14 +87,15 @@ fn push_one(
     column: usize,
     level: Level,
     warning: Warning,
+    text: &str,
 ) -> Result<(), AllocError>
     ensures { OnOk result (out.new.items
-        ≡ out.old.items ++ spec.reported_at style origin.entry column level warning) }
+        ≡ out.old.items ++ spec.reported_at style origin.entry column level warning text.now) }
 {
     match level {
         Level::Allowed => Ok(()),
         Level::Warned | Level::Denied => {
-            let reported = message(alloc, style, origin, column, level, warning)?;
+            let reported = message(alloc, style, origin, column, level, warning, text)?;
             out.extend_from_slice(&reported)
         }
     }
