@@ -1,5 +1,5 @@
 -- Texts of version 3 as formats.
-use Rattle.std.specs.Prelude.{ℕ, ◌≡◌, ◌+◌, Bool, true, false, not, ◌&&◌, nat_lt, eqb, if◌then◌else◌, List, [], ◌∷◌, ◌++◌, length, ⊤, string_bytes, Option, Some, None}
+use Rattle.std.specs.Prelude.{ℕ, ◌≡◌, ◌+◌, ◌==◌, Bool, true, false, not, ◌&&◌, ◌||◌, nat_lt, eqb, if◌then◌else◌, List, [], ◌∷◌, ◌++◌, length, ⊤, string_bytes, Option, Some, None}
 use Rattle.std.specs.List.{starts_with}
 use Rattle.timefd_component.specs.Tree.{Text}
 use Rattle.timefd_dialect.specs.declared.back.FormatError.{FormatError}
@@ -32,10 +32,18 @@ abbrev pub none_writes : List Entry → Text → Bool
 none_writes [] text = true
 none_writes (row ∷ rows) text = not (writes row text) && none_writes rows text
 
--- Which row is chosen: the one with the longest text, and the first one if several are as long.
+-- Which row is chosen: the one with the longest text of version 3. Of several with the same text it is the one
+-- with the shortest directive after a `%`, and the first one where no `%` is.
+
+-- the directive begins with a `%`, and is shorter than the other
+abbrev pub is_shorter : Text → Text → Bool
+is_shorter [] other = false
+is_shorter (b ∷ rest) other = (b == 37) && nat_lt (length (b ∷ rest)) (length other)
 
 abbrev pub is_better : Entry → Entry → Bool
-is_better row best = nat_lt (length (own_text best.meaning)) (length (own_text row.meaning))
+is_better row best =
+    nat_lt (length (own_text best.meaning)) (length (own_text row.meaning))
+    || ((length (own_text best.meaning) == length (own_text row.meaning)) && is_shorter row.text best.text)
 
 abbrev pub best_of : Option Entry → Entry → Entry
 best_of None row = row

@@ -1,4 +1,4 @@
--- The rows with another mark than a letter of C, by the byte that selects them, the longest first.
+-- The rows of widths and other marks of C, by the byte that selects them, the longest first.
 use Rattle.std.specs.Prelude.{codes, List, [], ◌∷◌}
 use Rattle.timefd_dialect.specs.declared.reason.Reason.TheVariants.{Capitals, Flag, Unsupported, Width}
 use Rattle.timefd_dialect.specs.declared.row.Range.TheVariants.{YearsFrom1, YearsFrom1000}
@@ -134,7 +134,12 @@ c_marked =
     ∷ codes "%#" refused_for Flag
     ∷ [])
     ∷ under 43 (codes "%+" refused_for Unsupported ∷ [])
-    ∷ under 50 (codes "%2d" means codes "[day]"
+    ∷ under 52 (codes "%4Y" means codes "[year]"
+    ∷ within YearsFrom1 (codes "%4G") (codes "[year base:iso_week]")
+    ∷ codes "%4" refused_for Width
+    ∷ [])
+    ∷ under 50 (codes "%2C" means codes "[year repr:century]"
+    ∷ codes "%2d" means codes "[day]"
     ∷ codes "%2e" means codes "[day padding:space]"
     ∷ codes "%2H" means codes "[hour]"
     ∷ codes "%2k" means codes "[hour padding:space]"
@@ -157,7 +162,6 @@ c_marked =
     ∷ codes "%1w" means codes "[weekday repr:sunday one_indexed:false]"
     ∷ codes "%1" refused_for Width
     ∷ [])
-    ∷ under 52 (codes "%4" refused_for Width ∷ [])
     ∷ under 53 (codes "%5" refused_for Width ∷ [])
     ∷ under 54 (codes "%6" refused_for Width ∷ [])
     ∷ under 55 (codes "%7" refused_for Width ∷ [])

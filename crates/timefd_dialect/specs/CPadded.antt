@@ -1,4 +1,4 @@
--- The rows with a flag that sets the padding of C, by the byte that selects them, the longest first.
+-- The rows of flags that set the padding of C, by the byte that selects them, the longest first.
 use Rattle.std.specs.Prelude.{codes, List, [], ◌∷◌}
 use Rattle.timefd_dialect.specs.declared.reason.Reason.TheVariants.{Flag, VariableWidth, Width}
 use Rattle.timefd_dialect.specs.declared.row.Range.TheVariants.{YearsFrom1, YearsFrom1000}
@@ -80,7 +80,8 @@ c_padded =
     ∷ codes "%-9" refused_for Width
     ∷ codes "%-" refused_for Flag
     ∷ [])
-    ∷ under 95 (within YearsFrom1000 (codes "%_Ec") (codes "[weekday repr:short] [month repr:short] [day padding:space] [hour]:[minute]:[second] [year]")
+    ∷ under 95 (codes "%_4Y" means codes "[year padding:space]"
+    ∷ within YearsFrom1000 (codes "%_Ec") (codes "[weekday repr:short] [month repr:short] [day padding:space] [hour]:[minute]:[second] [year]")
     ∷ within YearsFrom1000 (codes "%_EC") (codes "[year repr:century]")
     ∷ codes "%_Ex" means codes "[month]/[day]/[year repr:last_two]"
     ∷ codes "%_EX" means codes "[hour]:[minute]:[second]"
@@ -169,7 +170,10 @@ c_padded =
     ∷ codes "%_9" refused_for Width
     ∷ codes "%_" refused_for Flag
     ∷ [])
-    ∷ under 48 (within YearsFrom1000 (codes "%0Ec") (codes "[weekday repr:short] [month repr:short] [day padding:space] [hour]:[minute]:[second] [year]")
+    ∷ under 48 (codes "%04Y" means codes "[year]"
+    ∷ within YearsFrom1 (codes "%04G") (codes "[year base:iso_week]")
+    ∷ codes "%02C" means codes "[year repr:century]"
+    ∷ within YearsFrom1000 (codes "%0Ec") (codes "[weekday repr:short] [month repr:short] [day padding:space] [hour]:[minute]:[second] [year]")
     ∷ within YearsFrom1000 (codes "%0EC") (codes "[year repr:century]")
     ∷ codes "%0Ex" means codes "[month]/[day]/[year repr:last_two]"
     ∷ codes "%0EX" means codes "[hour]:[minute]:[second]"

@@ -1,4 +1,4 @@
--- The rows of bytes that no text of version 3 is there for of Java, by the byte that selects them, the longest first.
+-- The rows of letters that are always refused of Java, by the byte that selects them, the longest first.
 use Rattle.std.specs.Prelude.{codes, List, [], ◌∷◌}
 use Rattle.timefd_dialect.specs.declared.reason.Reason.TheVariants.{DayPeriod, Era, GmtOffset, HourFrom0Or24, JulianDay, LocalWeek, OptionalPart, PadLetter, Quarter, Reserved, TooManyLetters, UnitOfDay, UnknownLetter, WeekOfMonth, ZForUtc, ZoneName}
 use Rattle.timefd_dialect.specs.Groups.{Group, under}

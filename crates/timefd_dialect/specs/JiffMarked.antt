@@ -1,4 +1,4 @@
--- The rows with another mark than a letter of jiff, by the byte that selects them, the longest first.
+-- The rows of widths and other marks of jiff, by the byte that selects them, the longest first.
 use Rattle.std.specs.Prelude.{codes, List, [], ◌∷◌}
 use Rattle.timefd_dialect.specs.declared.reason.Reason.TheVariants.{Capitals, Flag, VariableFraction, VariableOffset, Width, ZoneName}
 use Rattle.timefd_dialect.specs.declared.row.Range.TheVariants.{From1970, WholeMinutes, YearsFrom1}

@@ -1,4 +1,4 @@
--- The rows with a flag that sets the padding of jiff, by the byte that selects them, the longest first.
+-- The rows of flags that set the padding of jiff, by the byte that selects them, the longest first.
 use Rattle.std.specs.Prelude.{codes, List, [], ◌∷◌}
 use Rattle.timefd_dialect.specs.declared.reason.Reason.TheVariants.{Flag, Width}
 use Rattle.timefd_dialect.specs.declared.row.Range.TheVariants.{From1970, WholeMinutes, YearsFrom1}

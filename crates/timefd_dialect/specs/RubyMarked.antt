@@ -1,4 +1,4 @@
--- The rows with another mark than a letter of Ruby, by the byte that selects them, the longest first.
+-- The rows of widths and other marks of Ruby, by the byte that selects them, the longest first.
 use Rattle.std.specs.Prelude.{codes, List, [], ◌∷◌}
 use Rattle.timefd_dialect.specs.declared.reason.Reason.TheVariants.{Capitals, DatetimeOnly, Flag, Width}
 use Rattle.timefd_dialect.specs.declared.row.Range.TheVariants.{YearsFrom1}

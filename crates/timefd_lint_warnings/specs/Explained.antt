@@ -14,11 +14,11 @@ after_comma dialect = codes ", " ++ name_of dialect
 abbrev pub listed : List Dialect → Text
 listed dialects = flat_map after_comma dialects
 
--- ` It is a format of python, c.`; nothing if there is no language
+-- ` Languages that read it as a format: python, c.`; nothing if there is no language
 abbrev pub named : List Dialect → Text
 named [] = []
 named (dialect ∷ others) =
-    codes " It is a format of " ++ (name_of dialect ++ (listed others ++ codes "."))
+    codes " Languages that read it as a format: " ++ (name_of dialect ++ (listed others ++ codes "."))
 
 -- the languages that would read a component, if the text has none
 abbrev pub hint : Warning → Text → Text

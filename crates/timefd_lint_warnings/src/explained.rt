@@ -48,7 +48,7 @@ fn named(alloc: Global, dialects: &[Dialect]) -> Result<String, AllocError>
         [first, others @ ..] => {
             let first = first.name();
             let others = listed(alloc, others)?;
-            format!(in alloc; " It is a format of {first}{others}.")
+            format!(in alloc; " Languages that read it as a format: {first}{others}.")
         }
     }
 }

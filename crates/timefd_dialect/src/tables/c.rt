@@ -79,18 +79,14 @@ pub fn c_rows(byte: u8) -> &'static [Row]
 }
 
 /// The bytes that select rows.
-#[tactic(auto, unfolding(
-    crate::specs::C::c_groups,
-    crate::specs::CPadded::c_padded,
-    crate::specs::CMarked::c_marked,
-))]
+#[tactic(auto, unfolding(crate::specs::C::c_groups, crate::specs::CPadded::c_padded, crate::specs::CMarked::c_marked))]
 pub fn c_keys() -> &'static [u8]
     ensures { result.now ≡ keys_of c_groups }
 {
     KEYS
 }
 
-const KEYS: &[u8] = b"deHkIljmMSUVWygCYGuwaAbBhpPDFrRTntzsEOZvfNLQqiJKocxX-_0%^#+231456789";
+const KEYS: &[u8] = b"deHkIljmMSUVWygCYGuwaAbBhpPDFrRTntzsEOZvfNLQqiJKocxX-_0%^#+423156789";
 
 const CAPITAL_C: &[Row] = &[row!("%C" => "[year repr:century]" within YearsFrom1000)];
 

@@ -1,4 +1,4 @@
-//! The rows with another mark than a letter of C. `tables/write` writes them.
+//! The rows of widths and other marks of C. `tables/write` writes them.
 
 ghost use Rattle.std.specs.Prelude.{◌≡◌};
 ghost use Rattle.timefd_dialect.specs.Groups.{rows_at};
@@ -9,7 +9,7 @@ use crate::reason::Reason;
 use crate::row::{NotBefore, Range, Row, Verdict, row};
 use crate::tables::strftime::PERCENT_SIGN;
 
-/// The rows with another mark than a letter, of the directives with this byte after the `%`, the longest first.
+/// The rows of widths and other marks of the directives with this byte after the `%`, the longest first.
 #[tactic(auto, unfolding(crate::specs::CMarked::c_marked))]
 pub fn c_marked_rows(byte: u8) -> &'static [Row]
     ensures { entries result.now ≡ rows_at byte c_marked }
@@ -19,10 +19,10 @@ pub fn c_marked_rows(byte: u8) -> &'static [Row]
         b'^' => CARET,
         b'#' => HASH,
         b'+' => PLUS_SIGN,
+        b'4' => DIGIT_FOUR,
         b'2' => DIGIT_TWO,
         b'3' => DIGIT_THREE,
         b'1' => DIGIT_ONE,
-        b'4' => DIGIT_FOUR,
         b'5' => DIGIT_FIVE,
         b'6' => DIGIT_SIX,
         b'7' => DIGIT_SEVEN,
@@ -164,7 +164,14 @@ const HASH: &[Row] = &[
 
 const PLUS_SIGN: &[Row] = &[row!("%+" refused Unsupported)];
 
+const DIGIT_FOUR: &[Row] = &[
+    row!("%4Y" => "[year]"),
+    row!("%4G" => "[year base:iso_week]" within YearsFrom1),
+    row!("%4" refused Width),
+];
+
 const DIGIT_TWO: &[Row] = &[
+    row!("%2C" => "[year repr:century]"),
     row!("%2d" => "[day]"),
     row!("%2e" => "[day padding:space]"),
     row!("%2H" => "[hour]"),
@@ -189,8 +196,6 @@ const DIGIT_ONE: &[Row] = &[
     row!("%1w" => "[weekday repr:sunday one_indexed:false]"),
     row!("%1" refused Width),
 ];
-
-const DIGIT_FOUR: &[Row] = &[row!("%4" refused Width)];
 
 const DIGIT_FIVE: &[Row] = &[row!("%5" refused Width)];
 

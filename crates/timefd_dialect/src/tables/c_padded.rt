@@ -1,4 +1,4 @@
-//! The rows with a flag that sets the padding of C. `tables/write` writes them.
+//! The rows of flags that set the padding of C. `tables/write` writes them.
 
 ghost use Rattle.std.specs.Prelude.{◌≡◌};
 ghost use Rattle.timefd_dialect.specs.Groups.{rows_at};
@@ -9,7 +9,7 @@ use crate::reason::Reason;
 use crate::row::{NotBefore, Range, Row, Verdict, row};
 use crate::tables::c_marked::c_marked_rows;
 
-/// The rows with a flag that sets the padding, of the directives with this byte after the `%`, the longest first.
+/// The rows of flags that set the padding of the directives with this byte after the `%`, the longest first.
 #[tactic(auto, unfolding(crate::specs::CPadded::c_padded))]
 pub fn c_padded_rows(byte: u8) -> &'static [Row]
     ensures { entries result.now ≡ rows_at byte c_padded }
@@ -100,6 +100,7 @@ const HYPHEN: &[Row] = &[
 ];
 
 const UNDERSCORE: &[Row] = &[
+    row!("%_4Y" => "[year padding:space]"),
     row!("%_Ec" => "[weekday repr:short] [month repr:short] [day padding:space] \
         [hour]:[minute]:[second] [year]" within YearsFrom1000),
     row!("%_EC" => "[year repr:century]" within YearsFrom1000),
@@ -195,6 +196,9 @@ const UNDERSCORE: &[Row] = &[
 ];
 
 const DIGIT_ZERO: &[Row] = &[
+    row!("%04Y" => "[year]"),
+    row!("%04G" => "[year base:iso_week]" within YearsFrom1),
+    row!("%02C" => "[year repr:century]"),
     row!("%0Ec" => "[weekday repr:short] [month repr:short] [day padding:space] \
         [hour]:[minute]:[second] [year]" within YearsFrom1000),
     row!("%0EC" => "[year repr:century]" within YearsFrom1000),

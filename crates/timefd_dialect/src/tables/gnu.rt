@@ -70,11 +70,7 @@ pub fn gnu_rows(byte: u8) -> &'static [Row]
 }
 
 /// The bytes that select rows.
-#[tactic(auto, unfolding(
-    crate::specs::Gnu::gnu_groups,
-    crate::specs::GnuPadded::gnu_padded,
-    crate::specs::GnuMarked::gnu_marked,
-))]
+#[tactic(auto, unfolding(crate::specs::Gnu::gnu_groups, crate::specs::GnuPadded::gnu_padded, crate::specs::GnuMarked::gnu_marked))]
 pub fn gnu_keys() -> &'static [u8]
     ensures { result.now ≡ keys_of gnu_groups }
 {

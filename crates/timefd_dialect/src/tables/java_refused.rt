@@ -1,4 +1,4 @@
-//! The rows of bytes that no text of version 3 is there for of Java. `tables/write` writes them.
+//! The rows of letters that are always refused of Java. `tables/write` writes them.
 
 ghost use Rattle.std.specs.Prelude.{◌≡◌};
 ghost use Rattle.timefd_dialect.specs.Groups.{rows_at};
@@ -8,7 +8,7 @@ ghost use Rattle.timefd_dialect.specs.Rows.{entries};
 use crate::reason::Reason;
 use crate::row::{NotBefore, Row, Verdict, row};
 
-/// The rows of bytes that no text of version 3 is there for, that begin with this byte, the longest first.
+/// The rows of letters that are always refused that begin with this byte, the longest first.
 #[tactic(auto, unfolding(crate::specs::JavaRefused::java_refused))]
 pub fn java_refused_rows(byte: u8) -> &'static [Row]
     ensures { entries result.now ≡ rows_at byte java_refused }

@@ -71,11 +71,7 @@ pub fn jiff_rows(byte: u8) -> &'static [Row]
 }
 
 /// The bytes that select rows.
-#[tactic(auto, unfolding(
-    crate::specs::Jiff::jiff_groups,
-    crate::specs::JiffPadded::jiff_padded,
-    crate::specs::JiffMarked::jiff_marked,
-))]
+#[tactic(auto, unfolding(crate::specs::Jiff::jiff_groups, crate::specs::JiffPadded::jiff_padded, crate::specs::JiffMarked::jiff_marked))]
 pub fn jiff_keys() -> &'static [u8]
     ensures { result.now ≡ keys_of jiff_groups }
 {

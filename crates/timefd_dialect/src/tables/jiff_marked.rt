@@ -1,4 +1,4 @@
-//! The rows with another mark than a letter of jiff. `tables/write` writes them.
+//! The rows of widths and other marks of jiff. `tables/write` writes them.
 
 ghost use Rattle.std.specs.Prelude.{◌≡◌};
 ghost use Rattle.timefd_dialect.specs.Groups.{rows_at};
@@ -9,7 +9,7 @@ use crate::reason::Reason;
 use crate::row::{NotBefore, Range, Row, Verdict, row};
 use crate::tables::strftime::PERCENT_SIGN;
 
-/// The rows with another mark than a letter, of the directives with this byte after the `%`, the longest first.
+/// The rows of widths and other marks of the directives with this byte after the `%`, the longest first.
 #[tactic(auto, unfolding(crate::specs::JiffMarked::jiff_marked))]
 pub fn jiff_marked_rows(byte: u8) -> &'static [Row]
     ensures { entries result.now ≡ rows_at byte jiff_marked }

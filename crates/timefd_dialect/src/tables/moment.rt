@@ -50,10 +50,7 @@ pub fn moment_rows(byte: u8) -> &'static [Row]
 }
 
 /// The bytes that select rows.
-#[tactic(auto, unfolding(
-    crate::specs::Moment::moment_groups,
-    crate::specs::MomentEscaped::moment_escaped,
-))]
+#[tactic(auto, unfolding(crate::specs::Moment::moment_groups, crate::specs::MomentEscaped::moment_escaped))]
 pub fn moment_keys() -> &'static [u8]
     ensures { result.now ≡ keys_of moment_groups }
 {

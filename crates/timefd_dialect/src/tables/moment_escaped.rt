@@ -8,7 +8,7 @@ ghost use Rattle.timefd_dialect.specs.Rows.{entries};
 use crate::reason::Reason;
 use crate::row::{NotBefore, Range, Row, Verdict, row};
 
-/// The rows of escapes, that begin with this byte, the longest first.
+/// The rows of escapes that begin with this byte, the longest first.
 #[tactic(auto, unfolding(crate::specs::MomentEscaped::moment_escaped))]
 pub fn moment_escaped_rows(byte: u8) -> &'static [Row]
     ensures { entries result.now ≡ rows_at byte moment_escaped }

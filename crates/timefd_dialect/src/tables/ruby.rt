@@ -73,11 +73,7 @@ pub fn ruby_rows(byte: u8) -> &'static [Row]
 }
 
 /// The bytes that select rows.
-#[tactic(auto, unfolding(
-    crate::specs::Ruby::ruby_groups,
-    crate::specs::RubyPadded::ruby_padded,
-    crate::specs::RubyMarked::ruby_marked,
-))]
+#[tactic(auto, unfolding(crate::specs::Ruby::ruby_groups, crate::specs::RubyPadded::ruby_padded, crate::specs::RubyMarked::ruby_marked))]
 pub fn ruby_keys() -> &'static [u8]
     ensures { result.now ≡ keys_of ruby_groups }
 {

@@ -1,4 +1,4 @@
-//! The rows with a flag that sets the padding of Ruby. `tables/write` writes them.
+//! The rows of flags that set the padding of Ruby. `tables/write` writes them.
 
 ghost use Rattle.std.specs.Prelude.{◌≡◌};
 ghost use Rattle.timefd_dialect.specs.Groups.{rows_at};
@@ -9,7 +9,7 @@ use crate::reason::Reason;
 use crate::row::{NotBefore, Range, Row, Verdict, row};
 use crate::tables::ruby_marked::ruby_marked_rows;
 
-/// The rows with a flag that sets the padding, of the directives with this byte after the `%`, the longest first.
+/// The rows of flags that set the padding of the directives with this byte after the `%`, the longest first.
 #[tactic(auto, unfolding(crate::specs::RubyPadded::ruby_padded))]
 pub fn ruby_padded_rows(byte: u8) -> &'static [Row]
     ensures { entries result.now ≡ rows_at byte ruby_padded }
