@@ -28,7 +28,15 @@ pub fn message(
 {
     match style.format {
         Format::Human => {
-            let drawing = human(alloc, style.is_colored, origin, column, level, warning, text)?;
+            let drawing = human(
+                alloc,
+                style.is_colored,
+                origin,
+                column,
+                level,
+                warning,
+                text,
+            )?;
             Ok(drawing.into_bytes())
         }
         Format::Short => {
@@ -133,12 +141,7 @@ pub fn position(
 }
 
 // `= help: EXPLANATION`
-fn help(
-    alloc: Global,
-    is_colored: bool,
-    warning: Warning,
-    text: &str,
-) -> Result<String, AllocError>
+fn help(alloc: Global, is_colored: bool, warning: Warning, text: &str) -> Result<String, AllocError>
     ensures { IfOk result (λ line. string_bytes line ≡ spec.help is_colored warning text.now) }
 {
     let (blue, plain) = (blue(is_colored), plain(is_colored));
