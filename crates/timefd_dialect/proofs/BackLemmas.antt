@@ -8,7 +8,6 @@ use Rattle.std.proofs.lemmas.Bool.Decides.{nat_tests, Decides-eqb}
 use Rattle.std.proofs.lemmas.Slice.Eq.{starts_is}
 use Rattle.timefd_component.specs.Tree.{Text}
 use Rattle.timefd_dialect.specs.declared.dialect.Dialect.{Dialect}
-use Rattle.timefd_dialect.specs.Back.{Lacks, LacksAt}
 use Rattle.timefd_dialect.specs.BackSteps.{IsAfter}
 use Rattle.timefd_dialect.specs.Quotes.{char_len}
 use Rattle.timefd_dialect.specs.QuoteSteps.{IsFirst}

@@ -12,5 +12,7 @@ pub mod ExistsLemmas
 pub mod ReaderLemmas
 pub mod SpotLemmas
 pub mod BackLemmas
+pub mod AskedLemmas
+pub mod FormatLemmas
 pub mod WritingLemmas
 pub mod ToReadLemmas

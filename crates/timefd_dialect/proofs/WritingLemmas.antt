@@ -9,7 +9,7 @@ use Rattle.timefd_dialect.specs.declared.dialect.Dialect.{Dialect}
 use Rattle.timefd_dialect.specs.declared.dialect.Leading.{Leading}
 use Rattle.timefd_dialect.specs.declared.dialect.Leading.TheVariants.{Percent, Bare}
 use Rattle.timefd_dialect.specs.declared.row.Row.{Row}
-use Rattle.timefd_dialect.specs.Back.{writes, none_writes, is_better, best_of, best_with, best_from, best_at, Lacks}
+use Rattle.timefd_dialect.specs.Best.{writes, none_writes, is_better, best_of, best_with, best_from, best_at, Lacks}
 use Rattle.timefd_dialect.specs.Dialects.{leading_of, unknown_rows}
 use Rattle.timefd_dialect.specs.Groups.{Group, all_rows, keys_of, rows_at}
 use Rattle.timefd_dialect.specs.Rows.{Entry, entry_of, found_entry}

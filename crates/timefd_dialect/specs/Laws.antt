@@ -4,6 +4,8 @@ use Rattle.timefd_component.specs.Tree.{Text}
 use Rattle.timefd_dialect.specs.declared.dialect.Dialect.{Dialect}
 use Rattle.timefd_dialect.specs.declared.reason.Reason.{Reason}
 use Rattle.timefd_dialect.specs.declared.trapping.Found.{Found}
+use Rattle.timefd_dialect.specs.Asked.{AsksFor}
+use Rattle.timefd_dialect.specs.Back.{IsMerged, MeansText}
 use Rattle.timefd_dialect.specs.Reading.{Piece, Means, RefusedAt}
 use Rattle.timefd_dialect.specs.Readers.{pieces_of}
 use Rattle.timefd_dialect.specs.Traps.{AreTraps}
@@ -33,3 +35,10 @@ pub record OneListOfPieces (dialect : Dialect) (text : Text) : Type 0 where
 abbrev pub OneListOfTraps : Dialect → Text → Type 0
 OneListOfTraps dialect text =
     (xs ys : List Found) → AreTraps dialect text xs → AreTraps dialect text ys → xs ≡ ys
+
+-- A text of version 3 asks for one format at most. `Merged` is never the answer if the dialect reads that format as
+-- just this text.
+pub record OneFormat (dialect : Dialect) (description : Text) : Type 0 where
+  pub one_format : (f g : Text) → AsksFor dialect description f → AsksFor dialect description g → f ≡ g
+  pub meant : (format : Text) → AsksFor dialect description format
+      → MeansText dialect format description → ¬ (IsMerged dialect description)

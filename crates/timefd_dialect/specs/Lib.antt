@@ -38,6 +38,9 @@ pub mod Roles
 pub mod TrapWords
 pub mod Traps
 pub mod SpotSteps
+pub mod Best
+pub mod Asked
 pub mod Back
 pub mod BackSteps
+pub mod AskedSteps
 pub mod Laws

@@ -1,7 +1,7 @@
 //! What holds of all formats: each law is the contract of a function with an empty body.
 
 ghost use Rattle.timefd_component.specs.Tree.{Text};
-ghost use Rattle.timefd_dialect.specs.Laws.{OneAnswer, OneListOfPieces, OneListOfTraps};
+ghost use Rattle.timefd_dialect.specs.Laws.{OneAnswer, OneFormat, OneListOfPieces, OneListOfTraps};
 ghost use Rattle.timefd_dialect.specs.declared.dialect.Dialect.{Dialect};
 
 /// A format has one meaning, or is refused for one reason at one index, but not both.
@@ -18,4 +18,10 @@ pub fn one_list_of_pieces()
 /// A format has at most one list of traps; `traps` returns it.
 pub fn one_list_of_traps()
     ensures { (dialect : Dialect) (text : Text) → OneListOfTraps dialect text }
+{}
+
+/// A text of version 3 asks for one format at most, and `Merged` isn't the answer if the dialect
+/// reads that format as just this text.
+pub fn one_format()
+    ensures { (dialect : Dialect) (description : Text) → OneFormat dialect description }
 {}

@@ -11,6 +11,7 @@ mod limits;
 mod longest;
 mod plain;
 mod quote;
+mod quoted;
 mod readable;
 mod reading;
 mod readings;

@@ -1,7 +1,7 @@
 //! The row whose text of version 3 a description begins with.
 
 ghost use Rattle.std.specs.Prelude.{◌≡◌, MatchOption, None, true};
-ghost use Rattle.timefd_dialect.specs.Back as spec;
+ghost use Rattle.timefd_dialect.specs.Best as spec;
 ghost use Rattle.timefd_dialect.specs.Rows.{entries, entry_of, found_entry, meaning_of};
 ghost use Rattle.timefd_dialect.specs.Tables.{groups_of};
 
@@ -11,7 +11,8 @@ use crate::row::{Row, Verdict};
 /// The row with the longest text that the description begins with. Of several rows with this text it
 /// is the one with the shortest directive after a `%`, or else the first.
 pub fn row_writing(dialect: Dialect, text: &str) -> Option<&'static Row>
-    ensures { MatchOption result (spec.Lacks dialect text.now)
+    ensures chosen { found_entry result ≡ spec.chosen dialect text.now }
+    ensures there { MatchOption result (spec.Lacks dialect text.now)
         (λ row. spec.writes (entry_of row.now) text.now ≡ true) }
 {
     best_at(dialect, dialect.keys(), text)
