@@ -1,5 +1,5 @@
 -- The pieces that a format means, and which dialects read it.
-use Rattle.std.proofs.Common.{ℕ, zero, suc, ◌≡◌, ◌<◌, cond, Bool, true, false, List, [], ◌∷◌, ◌++◌, append-nil, append_assoc, length, drop, Option, Some, None, refl, sym, ap, ◌∙◌, subst, arith, string_bytes}
+use Rattle.std.proofs.Common.{ℕ, zero, suc, ◌≡◌, ◌<◌, ◌==◌, cond, Bool, true, false, List, [], ◌∷◌, ◌++◌, append-nil, append_assoc, length, drop, Option, Some, None, refl, sym, ap, ◌∙◌, subst, arith, string_bytes}
 use Rattle.std.specs.List.{filter}
 use Rattle.timefd_component.specs.Tree.{Text}
 use Rattle.timefd_dialect.specs.declared.dialect.Dialect.{Dialect}
@@ -99,8 +99,17 @@ one_more test dialect rest old new whole so_far e =
     by true = refl
     by false = refl
 
--- A byte behind a backslash.
+-- What an escape leaves.
 
-pub skipped : (bytes : Text) → has_component (drop 1 bytes) ≡ has_component_after bytes
+skipped : (bytes : Text) → has_component (drop 1 bytes) ≡ has_component_after bytes
 skipped [] = refl
 skipped (b ∷ bytes) = refl
+
+pub component_after : (b : ℕ) (bytes rest : Text) → (b == 91) ≡ false → (b == 92) ≡ true
+    → rest ≡ drop 1 bytes → has_component (b ∷ bytes) ≡ has_component rest
+component_after b bytes rest e f is =
+    rw e (rw f (sym (skipped bytes) ∙ ap has_component (sym is)))
+
+pub component_other : (b : ℕ) (bytes : Text) → (b == 91) ≡ false → (b == 92) ≡ false
+    → has_component (b ∷ bytes) ≡ has_component bytes
+component_other b bytes e f = rw e (rw f refl)

@@ -1,6 +1,6 @@
 //! Which dialects read a text as a format.
 
-ghost use Rattle.std.specs.Prelude.{◌≡◌, ◌∷◌, ◌++◌, [], IfOk, OnOk, drop};
+ghost use Rattle.std.specs.Prelude.{◌≡◌, ◌==◌, ◌∷◌, ◌++◌, [], IfOk, OnOk, drop, false};
 ghost use Rattle.std.specs.List.{filter};
 ghost use Rattle.timefd_dialect.specs.Readers as spec;
 
@@ -77,13 +77,21 @@ fn has_component(text: &[u8]) -> bool
         if *byte == b'[' {
             return true;
         }
-        rest = if *byte == b'\\' {
-            after_first(after)
-        } else {
-            after
-        };
+        rest = after_byte(*byte, after);
     }
     false
+}
+
+/// What follows a byte that is no `[`, and what it escapes.
+#[tactic(auto, using(crate::proofs::ReaderLemmas::component_after, crate::proofs::ReaderLemmas::component_other))]
+fn after_byte(byte: u8, after: &[u8]) -> &[u8]
+    requires { (byte == 91) ≡ false }
+    ensures { spec.has_component (byte ∷ after.now) ≡ spec.has_component result.now }
+{
+    if byte == b'\\' {
+        return after_first(after);
+    }
+    after
 }
 
 /// What follows the first byte.
