@@ -256,6 +256,6 @@ all_run text old now rest so_far utf8 e =
       after = record {
         taken = so_far.taken;
         whole = so_far.whole;
-        left = record { shorter = so_far.shorter; utf8 = utf8; };
+        left = record { shorter = so_far.shorter; utf8 = utf8 };
       };
     }

@@ -71,18 +71,22 @@ pub row_more : (dialect : Dialect) (description rest format next : Text) (row : 
     → rest ≡ own_text (meaning_of row.verdict) ++ after.now → IsAfter rest after
     → HasAsked dialect description after.now next
 row_more dialect description rest format next row after so_far there ends is x whole leaves =
-    asked_more dialect description rest format next row.text.now after so_far
-    (there, subst (λ t. AsksBy t dialect rest row.text.now after.now) (sym ends)
-    (entry_of row, sym is, refl, whole)) x leaves
+    asked_more dialect description rest format next row.text.now after so_far (
+      there,
+      subst (λ t. AsksBy t dialect rest row.text.now after.now) (sym ends)
+          (entry_of row, sym is, refl, whole),
+    ) x leaves
 
 -- one more literal
 pub literal_more : (dialect : Dialect) (description rest format next : Text) (after : Bor (List ℕ))
     → HasAsked dialect description rest format → 0 < length rest → ends_literal rest ≡ false
     → TakesLiteral dialect rest format next after → HasAsked dialect description after.now next
 literal_more dialect description rest format next after so_far there goes t =
-    asked_more dialect description rest format next (quoted dialect (run_of rest).literal) after so_far
-    (there, subst (λ b. AsksBy b dialect rest (quoted dialect (run_of rest).literal) after.now) (sym goes)
-    (refl, t.rest_is)) t.appended t.after
+    asked_more dialect description rest format next (quoted dialect (run_of rest).literal) after so_far (
+      there,
+      subst (λ b. AsksBy b dialect rest (quoted dialect (run_of rest).literal) after.now) (sym goes)
+          (refl, t.rest_is),
+    ) t.appended t.after
 
 pub all_asked : (dialect : Dialect) (description rest format : Text)
     → HasAsked dialect description rest format → rest ≡ [] → AsksFor dialect description format
@@ -100,9 +104,12 @@ refused_merged dialect description format refusal asks at =
 pub other_merged : (dialect : Dialect) (description format : Text) (answer : Converted)
     → AsksFor dialect description format → IsConverted dialect format answer
     → ¬ (string_bytes answer.text ≡ description) → IsMerged dialect description
-other_merged dialect description format answer asks is other =
-    (format, asks, λ m. other
-    (is.2 ∙ ap text_of (one_meaning_law dialect format is.0 m.0 is.1 m.1) ∙ sym m.2))
+other_merged dialect description format answer asks is other = (
+  format,
+  asks,
+  λ m. other
+      (is.2 ∙ ap text_of (one_meaning_law dialect format is.0 m.0 is.1 m.1) ∙ sym m.2),
+)
 
 -- A description asks for one format at most.
 

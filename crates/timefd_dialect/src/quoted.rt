@@ -68,12 +68,7 @@ fn push_between_brackets(format: &mut String, literal: &str) -> Result<(), Alloc
 }
 
 /// Appends a literal, with each of its bytes that is the mark written twice.
-fn push_doubled(
-    format: &mut String,
-    literal: &str,
-    mark: u8,
-    text: &str,
-) -> Result<(), AllocError>
+fn push_doubled(format: &mut String, literal: &str, mark: u8, text: &str) -> Result<(), AllocError>
     requires text { text.now ≡ mark ∷ [] }
     requires mark { continues mark ≡ false }
     ensures { OnOk result (string_bytes format.new
@@ -89,12 +84,7 @@ fn push_doubled(
 
 /// Appends a character, and the mark in front of it if the character is the mark.
 #[tactic(auto, using(crate::proofs::AskedLemmas::doubled_mark, crate::proofs::AskedLemmas::doubled_other))]
-fn push_marked(
-    format: &mut String,
-    character: &str,
-    mark: u8,
-    text: &str,
-) -> Result<(), AllocError>
+fn push_marked(format: &mut String, character: &str, mark: u8, text: &str) -> Result<(), AllocError>
     requires character { IsCharacter character.now }
     requires text { text.now ≡ mark ∷ [] }
     requires mark { continues mark ≡ false }
