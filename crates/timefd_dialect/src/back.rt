@@ -40,6 +40,7 @@ impl From<AllocError> for FormatError {
 /// The error is `Lacking` with the index of the first bracket, from the left, that the dialect has
 /// no directive for; `Merged` where neighbours run together, so that the dialect would read them
 /// otherwise; or `Memory`.
+#[tactic(auto, using(crate::proofs::FormatLemmas::refused_merged, crate::proofs::FormatLemmas::other_merged))]
 pub fn from_version_three(
     alloc: Global,
     dialect: Dialect,

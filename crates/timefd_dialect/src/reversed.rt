@@ -21,6 +21,7 @@ use std::alloc::{AllocError, Global};
 use timefd_language::text::tail;
 
 /// The format that a text of version 3 asks for. The caller checks what the format means.
+#[tactic(auto, using(crate::proofs::FormatLemmas::nothing_asked, crate::proofs::FormatLemmas::row_more, crate::proofs::FormatLemmas::literal_more, crate::proofs::FormatLemmas::all_asked))]
 pub fn format_of(alloc: Global, dialect: Dialect, description: &str) -> Result<String, FormatError>
     ensures asked { IfOk result (λ format. spec.AsksFor dialect description.now
         (string_bytes format)) }
@@ -65,6 +66,7 @@ fn after_written<'a>(row: &Row, text: &'a str) -> &'a str
 }
 
 /// Appends the literal up to the next bracket, quoted, and returns what follows.
+#[tactic(auto, using(crate::proofs::FormatLemmas::literal_taken))]
 fn push_literal_run<'a>(
     alloc: Global,
     format: &mut String,
@@ -83,6 +85,7 @@ fn push_literal_run<'a>(
 
 /// Appends what the literal up to the next bracket means, without its escapes, and returns what
 /// follows.
+#[tactic(auto, using(crate::proofs::AskedLemmas::run_begun, crate::proofs::AskedLemmas::run_more, crate::proofs::AskedLemmas::all_run))]
 fn push_run<'a>(literal: &mut String, text: &'a str) -> Result<&'a str, AllocError>
     requires { spec.ends_literal text.now ≡ false }
     ensures { IfOk result (TakesRun text.now (string_bytes literal.old) (string_bytes literal.new)) }
@@ -95,6 +98,7 @@ fn push_run<'a>(literal: &mut String, text: &'a str) -> Result<&'a str, AllocErr
 }
 
 /// Appends the character at the front, or the one that an escape means, and returns what follows.
+#[tactic(auto, using(crate::proofs::AskedLemmas::plain_taken, crate::proofs::AskedLemmas::escape_taken))]
 fn push_unescaped<'a>(literal: &mut String, text: &'a str) -> Result<&'a str, AllocError>
     requires { spec.ends_literal text.now ≡ false }
     ensures { IfOk result (TakesCharacter text.now (string_bytes literal.old)
@@ -114,6 +118,7 @@ fn push_unescaped<'a>(literal: &mut String, text: &'a str) -> Result<&'a str, Al
 
 /// Appends the character after a backslash, or the backslash if none follows it, and returns what
 /// follows.
+#[tactic(auto, using(crate::proofs::AskedLemmas::after_taken, crate::proofs::AskedLemmas::end_taken))]
 fn push_escaped<'a>(literal: &mut String, after: &'a str) -> Result<&'a str, AllocError>
     ensures { IfOk result (TakesBytes (spec.escaped_run after.now) after.now
         (string_bytes literal.old) (string_bytes literal.new)) }
