@@ -1,5 +1,5 @@
 -- The format that a description asks for, so far and as a whole; and that it asks for one at most.
-use Rattle.std.proofs.Common.{ℕ, ◌≡◌, ◌<◌, ◌+◌, ◌==◌, Bool, true, false, List, [], ◌∷◌, ◌++◌, append-nil, append_assoc, length, Option, Some, refl, sym, ap, ◌∙◌, subst, arith, string_bytes}
+use Rattle.std.proofs.Common.{ℕ, ◌≡◌, ◌<◌, ◌+◌, ◌-◌, ◌==◌, Bool, true, false, List, [], ◌∷◌, ◌++◌, append-nil, append_assoc, length, Option, Some, refl, sym, ap, ◌∙◌, subst, arith, string_bytes}
 use Rattle.std.specs.Borrow.{Bor}
 use Rattle.timefd_component.specs.Tree.{Text}
 use Rattle.timefd_dialect.specs.declared.dialect.Dialect.{Dialect}
@@ -9,12 +9,13 @@ use Rattle.timefd_dialect.specs.declared.row.Row.{Row}
 use Rattle.timefd_dialect.specs.Answers.{IsConverted}
 use Rattle.timefd_dialect.specs.Asked.{run_of, quoted, ends_literal, AsksBy, AsksFront, AsksTo, AsksFor, joined_parts}
 use Rattle.timefd_dialect.specs.AskedSteps.{TakesLiteral, TakesRun}
-use Rattle.timefd_dialect.specs.Back.{IsMerged, MeansText}
+use Rattle.timefd_dialect.specs.Back.{IsMerged, LacksAt, MeansText}
 use Rattle.timefd_dialect.specs.BackSteps.{IsAfter}
-use Rattle.timefd_dialect.specs.Best.{chosen, own_text}
+use Rattle.timefd_dialect.specs.Best.{chosen, own_text, Lacks}
 use Rattle.timefd_dialect.specs.Laws.{OneFormat}
 use Rattle.timefd_dialect.specs.Reading.{RefusedAt, text_of}
 use Rattle.timefd_dialect.specs.Rows.{Entry, entry_of, found_entry, meaning_of}
+use Rattle.timefd_dialect.proofs.BackLemmas.{rest_within}
 use Rattle.timefd_dialect.proofs.LawLemmas.{one_meaning_law, not_both_law}
 
 pub literal_taken : (dialect : Dialect) (text literal old new : Text) (rest : Bor (List ℕ))
@@ -92,6 +93,23 @@ pub all_asked : (dialect : Dialect) (description rest format : Text)
     → HasAsked dialect description rest format → rest ≡ [] → AsksFor dialect description format
 all_asked dialect description rest format so_far e =
     (so_far.parts, subst (AsksTo dialect description so_far.parts) e so_far.asked, so_far.written)
+
+-- a bracket for which the dialect has no directive
+pub lacking : (dialect : Dialect) (description rest format : Text) (index : ℕ)
+    → HasAsked dialect description rest format → 0 < length rest → ends_literal rest ≡ true
+    → Lacks dialect rest → index ≡ length description - length rest
+    → LacksAt dialect description index
+lacking dialect description rest format index so_far there ends lacks is = record {
+  front = so_far.front;
+  rest = rest;
+  whole = so_far.whole;
+  at_index = omega (arith, is, rest_within description so_far.front rest so_far.whole);
+  lacks = lacks;
+  there = there;
+  bracket = ends;
+  parts = so_far.parts;
+  asked = so_far.asked;
+}
 
 -- A format that is asked for and that the dialect reads otherwise.
 

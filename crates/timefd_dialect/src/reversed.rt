@@ -21,7 +21,7 @@ use std::alloc::{AllocError, Global};
 use timefd_language::text::tail;
 
 /// The format that a text of version 3 asks for. The caller checks what the format means.
-#[tactic(auto, using(crate::proofs::FormatLemmas::nothing_asked, crate::proofs::FormatLemmas::row_more, crate::proofs::FormatLemmas::literal_more, crate::proofs::FormatLemmas::all_asked))]
+#[tactic(auto, using(crate::proofs::FormatLemmas::nothing_asked, crate::proofs::FormatLemmas::row_more, crate::proofs::FormatLemmas::literal_more, crate::proofs::FormatLemmas::all_asked, crate::proofs::FormatLemmas::lacking))]
 pub fn format_of(alloc: Global, dialect: Dialect, description: &str) -> Result<String, FormatError>
     ensures asked { IfOk result (λ format. spec.AsksFor dialect description.now
         (string_bytes format)) }
