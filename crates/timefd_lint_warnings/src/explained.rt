@@ -1,6 +1,7 @@
 //! What is said about a warning on a text: what it means, and which languages the text may be of.
 
 ghost use Rattle.std.specs.Prelude.{◌≡◌, ◌++◌, IfOk, OnOk, string_bytes};
+ghost use Rattle.timefd_dialect.specs.Readers.{readers};
 ghost use Rattle.timefd_lint_warnings.specs.Explained as spec;
 
 use std::alloc::{AllocError, Global};
@@ -22,7 +23,7 @@ fn hint(alloc: Global, warning: Warning, text: &str) -> Result<String, AllocErro
     ensures { IfOk result (λ hint. string_bytes hint ≡ spec.hint warning text.now) }
 {
     match warning {
-        Warning::NoComponent => named(alloc, &readers(alloc, text)?),
+        Warning::NoComponent => named_readers(alloc, text),
         Warning::OtherLanguage
         | Warning::MonthForMinute
         | Warning::MinuteForMonth
@@ -37,6 +38,14 @@ fn hint(alloc: Global, warning: Warning, text: &str) -> Result<String, AllocErro
         | Warning::UnsettledYear
         | Warning::DeprecatedComponent => Ok(String::new(alloc)),
     }
+}
+
+/// A sentence that names the languages that read the text.
+fn named_readers(alloc: Global, text: &str) -> Result<String, AllocError>
+    ensures { IfOk result (λ sentence. string_bytes sentence ≡ spec.named (readers text.now)) }
+{
+    let found = readers(alloc, text)?;
+    named(alloc, &found)
 }
 
 /// A sentence that names these languages.
