@@ -177,7 +177,7 @@ fn accepted<W: Write>(
         return Ok(TextEnd::Accepted(Levels::all_at(Level::Allowed)));
     };
     let found = found_in(alloc, options.language, text, levels)?;
-    let reported = messages(alloc, options.reporting.style, origin, text, found)?;
+    let reported = messages(alloc, options.reporting.style, origin, found)?;
     write(writer, &reported)?;
     Ok(TextEnd::Accepted(found))
 }

@@ -123,7 +123,7 @@ pub tree_and_warnings : (reporting : Reporting) (s : Source) (d : Description) (
     (language : Language) (text tree reported message : Text) (line col : ℕ)
     → IsExplainedIf reporting.explains language s.file.now line text tree → language ≡ language_in d → text ≡ text_of d
     → line ≡ line_number 1 s.text.now d.piece.start → col ≡ reported_column reporting.style.format s.text.now d.piece.start
-    → reported ≡ messages_at reporting.style (record { file = s.file; line = line }) col text found
+    → reported ≡ messages_at reporting.style (record { file = s.file; line = line }) col found
     → message ≡ tree ++ reported → IsMessageOn reporting s d (Accepted found) message
 tree_and_warnings reporting s d found language text tree reported message line col asked named same at_line at_column are is = (
   tree,
@@ -134,9 +134,8 @@ tree_and_warnings reporting s d found language text tree reported message line c
       (subst (λ n. IsExplainedIf reporting.explains language s.file.now n text tree) at_line asked)),
   is ∙ ap (λ t. tree ++ t)
       (are
-      ∙ ap (λ l. messages_at reporting.style (record { file = s.file; line = l }) col text found) at_line
-      ∙ ap (λ k. messages_at reporting.style (origin_of s d) k text found) at_column
-      ∙ ap (λ t. messages_at reporting.style (origin_of s d) (column_of reporting.style s d) t found) same),
+      ∙ ap (λ l. messages_at reporting.style (record { file = s.file; line = l }) col found) at_line
+      ∙ ap (λ k. messages_at reporting.style (origin_of s d) k found) at_column),
 )
 
 -- If neither trees nor warnings are asked for, nothing is reported.

@@ -56,7 +56,7 @@ IsTreeOf reporting s d tree =
 -- and that is reported, at its literal, in the order of their codes.
 abbrev pub IsTreeAndWarnings : Reporting → Source → Description → Levels → Text → Type 0
 IsTreeAndWarnings reporting s d found message = (tree : Text) × IsTreeOf reporting s d tree
-    × (message ≡ tree ++ messages_at reporting.style (origin_of s d) (column_of reporting.style s d) (text_of d) found)
+    × (message ≡ tree ++ messages_at reporting.style (origin_of s d) (column_of reporting.style s d) found)
 
 -- The report on a refused description is the drawing of its first fault, the drawings of the further ones,
 -- each at its position in the source, and a note at a call that takes it by name.

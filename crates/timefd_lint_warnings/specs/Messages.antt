@@ -11,12 +11,12 @@ use Rattle.timefd_drawing.specs.Github.{annotation}
 use Rattle.timefd_drawing.specs.Json.{text_field, number_field}
 use Rattle.timefd_drawing.specs.Sarif.{note_result, with_help}
 use Rattle.timefd_drawing.specs.Shown.{safe}
-use Rattle.timefd_lint_warnings.specs.Explained.{explained}
 use Rattle.timefd_warnings.specs.declared.levels.Level.{Level}
 use Rattle.timefd_warnings.specs.declared.levels.Level.TheVariants.{Allowed, Warned, Denied}
 use Rattle.timefd_warnings.specs.declared.levels.Levels.{Levels}
 use Rattle.timefd_warnings.specs.declared.warning.Warning.{Warning}
 use Rattle.timefd_warnings.specs.Codes.{all, name_of, sentence_of}
+use Rattle.timefd_warnings.specs.Explanations.{explanation_of}
 use Rattle.timefd_warnings.specs.Levels.{level_of}
 
 -- the severity of a warning with this level
@@ -53,16 +53,16 @@ position colored file line column =
     ++ (codes ":" ++ (decimal line ++ (codes ":" ++ (decimal column ++ codes "\n")))))))))
 
 -- `= help: EXPLANATION`
-abbrev pub help : Bool → Warning → Text → Text
-help colored w text =
+abbrev pub help : Bool → Warning → Text
+help colored w =
     codes "  " ++ (blue colored ++ (codes "=" ++ (plain colored ++ (codes " help: "
-    ++ (explained w text ++ codes "\n")))))
+    ++ (explanation_of w ++ codes "\n")))))
 
 -- A warning is about the whole text, and so it is at the start of the text.
-abbrev pub human : Bool → Origin → ℕ → Level → Warning → Text → Text
-human colored origin column level w text =
-    head colored level (name_of w) (sentence_of w) ++ (position colored origin.file.now origin.line column
-    ++ (help colored w text ++ codes "\n"))
+abbrev pub human : Bool → Origin → ℕ → Level → Warning → Text
+human colored origin column level w =
+    head colored level (name_of w) (sentence_of w) ++ (position colored origin.file.now origin.line column ++ (help colored w
+    ++ codes "\n"))
 
 -- `FILE:LINE:COLUMN: warning[CODE]: SENTENCE`
 abbrev pub short : Origin → ℕ → Level → Warning → Text
@@ -79,9 +79,9 @@ object code column file help line message severity =
     ++ text_field (codes ",\"message\":") message ++ text_field (codes ",\"severity\":") severity
     ++ codes "}\n"
 
-abbrev pub json : Origin → ℕ → Level → Warning → Text → Text
-json origin column level w text =
-    object (name_of w) column origin.file.now (explained w text) origin.line (sentence_of w)
+abbrev pub json : Origin → ℕ → Level → Warning → Text
+json origin column level w =
+    object (name_of w) column origin.file.now (explanation_of w) origin.line (sentence_of w)
     (severity level)
 
 -- the workflow command that annotates a warning with this level
@@ -95,36 +95,36 @@ github origin column level w =
     annotation (command level) (name_of w) origin.file.now origin.line column (sentence_of w)
 
 -- a result of SARIF
-abbrev pub sarif : Origin → ℕ → Level → Warning → Text → Text
-sarif origin column level w text =
-    note_result (name_of w) origin.file.now origin.line column (with_help (sentence_of w) (explained w text))
+abbrev pub sarif : Origin → ℕ → Level → Warning → Text
+sarif origin column level w =
+    note_result (name_of w) origin.file.now origin.line column (with_help (sentence_of w) (explanation_of w))
     (severity level)
 
-abbrev pub message_in : Format → Bool → Origin → ℕ → Level → Warning → Text → Text
-message_in Human colored origin column level w text = human colored origin column level w text
-message_in Json colored origin column level w text = json origin column level w text
-message_in Short colored origin column level w text = short origin column level w
-message_in Github colored origin column level w text = github origin column level w
-message_in Sarif colored origin column level w text = sarif origin column level w text
+abbrev pub message_in : Format → Bool → Origin → ℕ → Level → Warning → Text
+message_in Human colored origin column level w = human colored origin column level w
+message_in Json colored origin column level w = json origin column level w
+message_in Short colored origin column level w = short origin column level w
+message_in Github colored origin column level w = github origin column level w
+message_in Sarif colored origin column level w = sarif origin column level w
 
-abbrev pub message : Style → Origin → ℕ → Level → Warning → Text → Text
-message style origin column level w text =
-    message_in style.format style.is_colored origin column level w text
+abbrev pub message : Style → Origin → ℕ → Level → Warning → Text
+message style origin column level w =
+    message_in style.format style.is_colored origin column level w
 
--- the message about a warning on the text; nothing if it is allowed
-abbrev pub reported_at : Style → Origin → ℕ → Level → Warning → Text → Text
-reported_at style origin column Allowed w text = []
-reported_at style origin column Warned w text = message style origin column Warned w text
-reported_at style origin column Denied w text = message style origin column Denied w text
+-- the message about a warning; nothing if it is allowed
+abbrev pub reported_at : Style → Origin → ℕ → Level → Warning → Text
+reported_at style origin column Allowed w = []
+reported_at style origin column Warned w = message style origin column Warned w
+reported_at style origin column Denied w = message style origin column Denied w
 
-abbrev pub messages_on : Style → Origin → ℕ → Text → Levels → List Warning → Text
-messages_on style origin column text found ws =
-    flat_map (λ w. reported_at style origin column (level_of found w) w text) ws
+abbrev pub messages_on : Style → Origin → ℕ → Levels → List Warning → Text
+messages_on style origin column found ws =
+    flat_map (λ w. reported_at style origin column (level_of found w) w) ws
 
--- A message about each warning on the text that isn't allowed, in the order of the codes: if the text
--- begins at this column of its line, and if it begins at the first column.
-abbrev pub messages_at : Style → Origin → ℕ → Text → Levels → Text
-messages_at style origin column text found = messages_on style origin column text found all
+-- A message about each warning that isn't allowed, in the order of the codes: on a text that begins
+-- at this column of its line, and on one that begins at the first column.
+abbrev pub messages_at : Style → Origin → ℕ → Levels → Text
+messages_at style origin column found = messages_on style origin column found all
 
-abbrev pub messages : Style → Origin → Text → Levels → Text
-messages style origin text found = messages_at style origin 1 text found
+abbrev pub messages : Style → Origin → Levels → Text
+messages style origin found = messages_at style origin 1 found

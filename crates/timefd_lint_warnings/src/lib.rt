@@ -1,7 +1,6 @@
 //! What the linter reports about accepted texts: their warnings, and a message for each warning.
 #![tactic(auto)]
 
-mod explained;
 mod found;
 mod message;
 mod reported;

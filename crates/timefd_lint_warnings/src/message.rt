@@ -3,7 +3,6 @@
 ghost use Rattle.std.specs.Prelude.{◌≡◌, IfOk, string_bytes};
 ghost use Rattle.timefd_lint_warnings.specs.Messages as spec;
 
-use crate::explained::explained;
 use std::alloc::{AllocError, Global};
 use timefd_drawing::github::{Command, annotation};
 use timefd_drawing::json::{Entry, push_number, push_text};
@@ -12,7 +11,7 @@ use timefd_drawing::shown::safe;
 use timefd_drawing::{Format, Origin, Style};
 use timefd_warnings::{Level, Warning};
 
-/// The message about a warning on this text, which begins at this column of its line, in the requested
+/// The message about a warning on a text that begins at this column of its line, in the requested
 /// format. An `Err` says that memory ran out.
 pub fn message(
     alloc: Global,
@@ -21,31 +20,21 @@ pub fn message(
     column: usize,
     level: Level,
     warning: Warning,
-    text: &str,
 ) -> Result<Vec<u8>, AllocError>
-    ensures { IfOk result (λ reported. reported.items
-        ≡ spec.message style origin.entry column level warning text.now) }
+    ensures { IfOk result (λ reported. reported.items ≡ spec.message style origin.entry column level warning) }
 {
     match style.format {
         Format::Human => {
-            let drawing = human(
-                alloc,
-                style.is_colored,
-                origin,
-                column,
-                level,
-                warning,
-                text,
-            )?;
+            let drawing = human(alloc, style.is_colored, origin, column, level, warning)?;
             Ok(drawing.into_bytes())
         }
         Format::Short => {
             let line = short(alloc, origin, column, level, warning)?;
             Ok(line.into_bytes())
         }
-        Format::Json => json(alloc, origin, column, level, warning, text),
+        Format::Json => json(alloc, origin, column, level, warning),
         Format::Github => github(alloc, origin, column, level, warning),
-        Format::Sarif => sarif(alloc, origin, column, level, warning, text),
+        Format::Sarif => sarif(alloc, origin, column, level, warning),
     }
 }
 
@@ -95,15 +84,14 @@ fn human(
     column: usize,
     level: Level,
     warning: Warning,
-    text: &str,
 ) -> Result<String, AllocError>
     ensures { IfOk result (λ drawing. string_bytes drawing
-        ≡ spec.human is_colored origin.entry column level warning text.now) }
+        ≡ spec.human is_colored origin.entry column level warning) }
 {
     let (head, position, help) = (
         head(alloc, is_colored, level, warning.name(), warning.sentence())?,
         position(alloc, is_colored, origin, column)?,
-        help(alloc, is_colored, warning, text)?,
+        help(alloc, is_colored, warning)?,
     );
     format!(in alloc; "{head}{position}{help}\n")
 }
@@ -141,11 +129,11 @@ pub fn position(
 }
 
 // `= help: EXPLANATION`
-fn help(alloc: Global, is_colored: bool, warning: Warning, text: &str) -> Result<String, AllocError>
-    ensures { IfOk result (λ line. string_bytes line ≡ spec.help is_colored warning text.now) }
+fn help(alloc: Global, is_colored: bool, warning: Warning) -> Result<String, AllocError>
+    ensures { IfOk result (λ line. string_bytes line ≡ spec.help is_colored warning) }
 {
     let (blue, plain) = (blue(is_colored), plain(is_colored));
-    let explanation = explained(alloc, warning, text)?;
+    let explanation = warning.explanation();
     format!(in alloc; "  {blue}={plain} help: {explanation}\n")
 }
 
@@ -201,14 +189,11 @@ fn sarif(
     column: usize,
     level: Level,
     warning: Warning,
-    text: &str,
 ) -> Result<Vec<u8>, AllocError>
-    ensures { IfOk result (λ reported. reported.items
-        ≡ spec.sarif origin.entry column level warning text.now) }
+    ensures { IfOk result (λ reported. reported.items ≡ spec.sarif origin.entry column level warning) }
 {
     let column = column as u64;
-    let explanation = explained(alloc, warning, text)?;
-    let message = with_help(alloc, warning.sentence(), &explanation)?;
+    let message = with_help(alloc, warning.sentence(), warning.explanation())?;
     let entry = Entry {
         code: warning.name(),
         file: origin.file,
@@ -234,15 +219,12 @@ fn json(
     column: usize,
     level: Level,
     warning: Warning,
-    text: &str,
 ) -> Result<Vec<u8>, AllocError>
-    ensures { IfOk result (λ line. line.items
-        ≡ spec.json origin.entry column level warning text.now) }
+    ensures { IfOk result (λ line. line.items ≡ spec.json origin.entry column level warning) }
 {
-    let explanation = explained(alloc, warning, text)?;
     let words = Words {
         code: warning.name(),
-        help: &explanation,
+        help: warning.explanation(),
         message: warning.sentence(),
         severity: severity(level),
     };

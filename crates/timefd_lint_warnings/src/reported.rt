@@ -8,19 +8,17 @@ use std::alloc::{AllocError, Global};
 use timefd_drawing::{Origin, Style};
 use timefd_warnings::{Level, Levels, Warning};
 
-/// A message about each warning on the text that isn't allowed, in the order of the codes. An `Err`
-/// says that memory ran out.
+/// A message about each warning that isn't allowed, in the order of the codes. An `Err` says that
+/// memory ran out.
 pub fn messages(
     alloc: Global,
     style: Style,
     origin: Origin<'_>,
-    text: &str,
     found: Levels,
 ) -> Result<Vec<u8>, AllocError>
-    ensures { IfOk result (λ reported. reported.items
-        ≡ spec.messages style origin.entry text.now found) }
+    ensures { IfOk result (λ reported. reported.items ≡ spec.messages style origin.entry found) }
 {
-    messages_at(alloc, style, origin, 1, text, found)
+    messages_at(alloc, style, origin, 1, found)
 }
 
 /// A message about each warning that isn't allowed, in the order of the codes, on a text that begins
@@ -30,11 +28,9 @@ pub fn messages_at(
     style: Style,
     origin: Origin<'_>,
     column: usize,
-    text: &str,
     found: Levels,
 ) -> Result<Vec<u8>, AllocError>
-    ensures { IfOk result (λ reported. reported.items
-        ≡ spec.messages_at style origin.entry column text.now found) }
+    ensures { IfOk result (λ reported. reported.items ≡ spec.messages_at style origin.entry column found) }
 {
     let mut out = Vec::new(alloc);
     push_all(
@@ -43,7 +39,6 @@ pub fn messages_at(
         style,
         origin,
         column,
-        text,
         found,
         Warning::all(),
     )?;
@@ -56,12 +51,11 @@ fn push_all(
     style: Style,
     origin: Origin<'_>,
     column: usize,
-    text: &str,
     found: Levels,
     warnings: &[Warning],
 ) -> Result<(), AllocError>
     ensures { OnOk result (out.new.items
-        ≡ out.old.items ++ spec.messages_on style origin.entry column text.now found warnings.now) }
+        ≡ out.old.items ++ spec.messages_on style origin.entry column found warnings.now) }
 {
     for warning in warnings {
         push_one(
@@ -72,7 +66,6 @@ fn push_all(
             column,
             found.level_of(*warning),
             *warning,
-            text,
         )?;
     }
     Ok(())
@@ -87,15 +80,14 @@ fn push_one(
     column: usize,
     level: Level,
     warning: Warning,
-    text: &str,
 ) -> Result<(), AllocError>
     ensures { OnOk result (out.new.items
-        ≡ out.old.items ++ spec.reported_at style origin.entry column level warning text.now) }
+        ≡ out.old.items ++ spec.reported_at style origin.entry column level warning) }
 {
     match level {
         Level::Allowed => Ok(()),
         Level::Warned | Level::Denied => {
-            let reported = message(alloc, style, origin, column, level, warning, text)?;
+            let reported = message(alloc, style, origin, column, level, warning)?;
             out.extend_from_slice(&reported)
         }
     }

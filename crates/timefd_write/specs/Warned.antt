@@ -19,7 +19,6 @@ use Rattle.timefd_write.specs.declared.report.Reported.{Reported}
 use Rattle.timefd_write.specs.declared.source.Source.{Source}
 use Rattle.timefd_write.specs.declared.source.SourceKind.{SourceKind}
 use Rattle.timefd_write.specs.declared.source.SourceKind.TheVariants.{Names, Texts}
-use Rattle.timefd_write.specs.declared.warned.Texts.{Texts as SpelledTexts}
 use Rattle.timefd_write.specs.declared.warned.Warned as reported
 use Rattle.timefd_write.specs.Reports.{ReachesPeople}
 
@@ -58,19 +57,18 @@ warned_by false languages source o = record {
   written = warned_of languages.written o;
 }
 
--- The linter's messages about both, in order: about the text that moments are read by, and about the text
--- that they are written by.
-abbrev pub warned_text : Bool → Origin → Origin → SpelledTexts → reported.Warned → Text
-warned_text colored read written texts w =
-    messages (record { format = Format.Human; is_colored = colored }) read texts.read.now w.read
-    ++ messages (record { format = Format.Human; is_colored = colored }) written texts.written.now w.written
+-- The linter's messages about both, in order.
+abbrev pub warned_text : Bool → Origin → Origin → reported.Warned → Text
+warned_text colored read written w =
+    messages (record { format = Format.Human; is_colored = colored }) read w.read
+    ++ messages (record { format = Format.Human; is_colored = colored }) written w.written
 
 -- what messages call a description
 abbrev pub IsNamed : Text → Origin → Type 0
 IsNamed name origin = (origin.file.now ≡ name) × (origin.line ≡ 1)
 
 -- People see them, unless a write fails.
-abbrev pub ReportsWarnings : Bool → SpelledTexts → reported.Warned → Option Text → Option Text → Reported → Type 0
-ReportsWarnings colored texts warned before after r =
+abbrev pub ReportsWarnings : Bool → reported.Warned → Option Text → Option Text → Reported → Type 0
+ReportsWarnings colored warned before after r =
     (read : Origin) × (written : Origin) × IsNamed (codes "<read>") read × IsNamed (codes "<description>") written
-    × ReachesPeople colored (warned_text colored read written texts warned) before after r
+    × ReachesPeople colored (warned_text colored read written warned) before after r

@@ -1,6 +1,6 @@
 //! A whole run: from descriptions and words to lines.
 
-ghost use Rattle.std.specs.Prelude.{◌≡◌, IfErr, IfOk};
+ghost use Rattle.std.specs.Prelude.{IfErr, IfOk};
 ghost use Rattle.timefd_diagnosis.specs.Words.{texts};
 ghost use Rattle.timefd_write.specs.Frames.{EndsOnlyAsAsked};
 ghost use Rattle.timefd_write.specs.Runs.{IsInputRun, IsRun, IsRunFrom, IsRunOf};
@@ -16,7 +16,7 @@ use crate::outcome::{RunError, Tally};
 use crate::report::report_fault;
 use crate::source::{Clocks, Source, source_of};
 use crate::table::write_table;
-use crate::warned::{Texts, WRITTEN, report_warnings, warned_by};
+use crate::warned::{WRITTEN, report_warnings, warned_by};
 use crate::words::write_words;
 use std::alloc::Global;
 use std::io::{BufRead, Write};
@@ -61,7 +61,7 @@ pub fn run<I: BufRead, W: Write, E: Write>(
             &source,
             manner,
             languages,
-            texts_of(read, description),
+            description,
             otherwise,
             column,
             words,
@@ -73,23 +73,13 @@ pub fn run<I: BufRead, W: Write, E: Write>(
     }
 }
 
-// The texts of both descriptions.
-fn texts_of<'a>(read: Option<&'a str>, written: &'a str) -> Texts<'a>
-    ensures { result.written.now ≡ written.now }
-{
-    match read {
-        Some(read) => Texts { read, written },
-        None => Texts { read: "", written },
-    }
-}
-
 // Reports the warnings about the descriptions, and writes the moments that the words name or show.
 fn run_from<I: BufRead, W: Write, E: Write>(
     alloc: Global,
     source: &Source<'_>,
     manner: Manner,
     languages: Languages,
-    spelled: Texts<'_>,
+    description: &str,
     otherwise: Otherwise,
     column: Option<Column<'_>>,
     words: &[&str],
@@ -98,18 +88,18 @@ fn run_from<I: BufRead, W: Write, E: Write>(
     errors: &mut E,
 ) -> Result<RunEnd, RunError>
     ensures ends { IfErr result (EndsOnlyAsAsked otherwise) }
-    ensures run { IfOk result (IsRunFrom column.entry otherwise source.now manner.is_quiet languages spelled.entry.written.now
+    ensures run { IfOk result (IsRunFrom column.entry otherwise source.now manner.is_quiet languages description.now
         (texts words.now) (I.remaining input.old) (W.contents output.old)
         (W.contents output.new)) }
 {
     let tables = StrftimeTables::new();
-    match read(alloc, languages.written, &tables, spelled.written)? {
+    match read(alloc, languages.written, &tables, description)? {
         Reading::Refused(diagnostic) => {
             report_fault(
                 alloc,
                 manner.is_colored,
                 WRITTEN,
-                spelled.written,
+                description,
                 &diagnostic,
                 errors,
             )?;
@@ -117,7 +107,7 @@ fn run_from<I: BufRead, W: Write, E: Write>(
         }
         Reading::Description(description) => {
             let warned = warned_by(manner.is_quiet, languages, source, &description);
-            report_warnings(alloc, manner.is_colored, spelled, warned, errors)?;
+            report_warnings(alloc, manner.is_colored, warned, errors)?;
             let tally = write_all(
                 alloc,
                 source,

@@ -22,15 +22,6 @@ pub const READ: &str = "<read>";
 /// What messages call the description that moments are written by.
 pub const WRITTEN: &str = "<description>";
 
-/// The texts of both descriptions.
-#[derive(Clone, Copy)]
-pub struct Texts<'a> {
-    /// The text that moments are read by. It is empty if moments are named.
-    pub read: &'a str,
-    /// The text that moments are written by.
-    pub written: &'a str,
-}
-
 /// The warnings that are reported about the descriptions of a run.
 #[derive(Clone, Copy)]
 pub struct Warned {
@@ -41,21 +32,19 @@ pub struct Warned {
     pub written: Levels,
 }
 
-/// Shows people the warnings about both descriptions, which are these texts. An `Err` says that memory
-/// ran out.
+/// Shows people the warnings about both descriptions. An `Err` says that memory ran out.
 pub fn report_warnings<E: Write>(
     alloc: Global,
     is_colored: bool,
-    texts: Texts<'_>,
     warned: Warned,
     errors: &mut E,
 ) -> Result<Reported, AllocError>
-    ensures { IfOk result (spec.ReportsWarnings is_colored texts.entry warned (E.contents errors.old)
+    ensures { IfOk result (spec.ReportsWarnings is_colored warned (E.contents errors.old)
         (E.contents errors.new)) }
 {
     let read = named(READ);
     let written = named(WRITTEN);
-    let message = warned_text(alloc, is_colored, read, written, texts, warned)?;
+    let message = warned_text(alloc, is_colored, read, written, warned)?;
     let reported = report_drawn(alloc, is_colored, errors, &message)?;
     Ok(reported)
 }
@@ -74,18 +63,17 @@ fn warned_text(
     is_colored: bool,
     read: Origin<'_>,
     written: Origin<'_>,
-    texts: Texts<'_>,
     warned: Warned,
 ) -> Result<Vec<u8>, AllocError>
     ensures { IfOk result (λ reported. reported.items
-        ≡ spec.warned_text is_colored read.entry written.entry texts.entry warned) }
+        ≡ spec.warned_text is_colored read.entry written.entry warned) }
 {
     let style = Style {
         format: Format::Human,
         is_colored,
     };
-    let mut reported = messages(alloc, style, read, texts.read, warned.read)?;
-    let after = messages(alloc, style, written, texts.written, warned.written)?;
+    let mut reported = messages(alloc, style, read, warned.read)?;
+    let after = messages(alloc, style, written, warned.written)?;
     reported.extend_from_slice(&after)?;
     Ok(reported)
 }
