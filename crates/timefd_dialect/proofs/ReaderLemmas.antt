@@ -1,5 +1,5 @@
 -- The pieces that a format means, and which dialects read it.
-use Rattle.std.proofs.Common.{ℕ, zero, suc, ◌≡◌, ◌<◌, ◌==◌, cond, Bool, true, false, List, [], ◌∷◌, ◌++◌, append-nil, append_assoc, length, drop, Option, Some, None, refl, sym, ap, ◌∙◌, subst, arith, string_bytes}
+use Rattle.std.proofs.Common.{ℕ, zero, suc, ◌≡◌, ◌<◌, ◌≤◌, ◌==◌, cond, Bool, true, false, List, [], ◌∷◌, ◌++◌, append-nil, append_assoc, length, length-drop, drop, Option, Some, None, refl, sym, ap, ◌∙◌, subst, arith, string_bytes}
 use Rattle.std.specs.List.{filter}
 use Rattle.timefd_component.specs.Tree.{Text}
 use Rattle.timefd_dialect.specs.declared.dialect.Dialect.{Dialect}
@@ -113,3 +113,6 @@ component_after b bytes rest e f is =
 pub component_other : (b : ℕ) (bytes : Text) → (b == 91) ≡ false → (b == 92) ≡ false
     → has_component (b ∷ bytes) ≡ has_component bytes
 component_other b bytes e f = rw e (rw f refl)
+
+pub shorter_after : (bytes rest : Text) → rest ≡ drop 1 bytes → length rest ≤ length bytes
+shorter_after bytes rest is = omega (arith, ap length is, length-drop 1 bytes)

@@ -1,6 +1,6 @@
 //! Which dialects read a text as a format.
 
-ghost use Rattle.std.specs.Prelude.{◌≡◌, ◌==◌, ◌∷◌, ◌++◌, [], IfOk, OnOk, drop, false};
+ghost use Rattle.std.specs.Prelude.{◌≡◌, ◌==◌, ◌≤◌, ◌∷◌, ◌++◌, [], IfOk, OnOk, drop, false, length};
 ghost use Rattle.std.specs.List.{filter};
 ghost use Rattle.timefd_dialect.specs.Readers as spec;
 
@@ -83,10 +83,11 @@ fn has_component(text: &[u8]) -> bool
 }
 
 /// What follows a byte that is no `[`, and what it escapes.
-#[tactic(auto, using(crate::proofs::ReaderLemmas::component_after, crate::proofs::ReaderLemmas::component_other))]
+#[tactic(auto, using(crate::proofs::ReaderLemmas::component_after, crate::proofs::ReaderLemmas::component_other, crate::proofs::ReaderLemmas::shorter_after))]
 fn after_byte(byte: u8, after: &[u8]) -> &[u8]
     requires { (byte == 91) ≡ false }
-    ensures { spec.has_component (byte ∷ after.now) ≡ spec.has_component result.now }
+    ensures component { spec.has_component (byte ∷ after.now) ≡ spec.has_component result.now }
+    ensures shorter { length result.now ≤ length after.now }
 {
     if byte == b'\\' {
         return after_first(after);
