@@ -1,5 +1,5 @@
 -- Literals that a description asks for, so far and as a whole.
-use Rattle.std.proofs.Common.{ℕ, suc, ◌≡◌, ◌+◌, ◌<◌, ◌==◌, cond, Bool, true, false, List, [], ◌∷◌, ◌++◌, append-nil, append_assoc, take-append-drop, length, take, drop, refl, sym, ap, ◌∙◌, subst, arith, IsUtf8}
+use Rattle.std.proofs.Common.{ℕ, suc, ◌≡◌, ◌+◌, ◌<◌, ◌==◌, cond, Bool, true, false, List, [], ◌∷◌, ◌++◌, append-nil, append_assoc, take-append-drop, length, length-append, take, drop, refl, sym, ap, ◌∙◌, subst, arith, IsUtf8}
 use Rattle.std.specs.Borrow.{Bor}
 use Rattle.std.specs.List.{prefix_len, slice_index}
 use Rattle.std.proofs.lemmas.Bool.{and_parts}
@@ -183,15 +183,11 @@ escape_taken b text after old new rest whole e takes = record {
     utf8 = takes.utf8;
   };
   shorter = less (length text) (length after) (length takes.taken) (length rest.now)
-      (ap length whole) (ap length takes.whole ∙ lengths takes.taken rest.now);
+      (ap length whole) (ap length takes.whole ∙ length-append takes.taken rest.now);
 }
   where
     less : (n m k r : ℕ) → n ≡ 1 + m → m ≡ k + r → r < n
     less n m k r x y = omega (arith, x, y)
-
-    lengths : (a c : Text) → length (a ++ c) ≡ length a + length c
-    lengths [] c = refl
-    lengths (x ∷ a) c = omega (arith, lengths a c)
 
 -- A literal as a whole.
 
