@@ -186,7 +186,7 @@ escape_taken b text after old new rest whole e takes = record {
       (ap length whole) (ap length takes.whole ∙ length-append takes.taken rest.now);
 }
   where
-    less : (n m k r : ℕ) → n ≡ 1 + m → m ≡ k + r → r < n
+    less : (n m k r : ℕ) → n ≡ suc m → m ≡ k + r → r < n
     less n m k r x y = omega (arith, x, y)
 
 -- A literal as a whole.
