@@ -1,5 +1,5 @@
 -- Literals that a description asks for, so far and as a whole.
-use Rattle.std.proofs.Common.{ℕ, suc, ◌≡◌, ◌+◌, ◌<◌, ◌==◌, cond, Bool, true, false, List, [], ◌∷◌, ◌++◌, append-nil, append_assoc, take-append-drop, length, length-append, take, drop, refl, sym, ap, ◌∙◌, subst, arith, IsUtf8}
+use Rattle.std.proofs.Common.{ℕ, suc, ◌≡◌, ◌+◌, ◌<◌, ◌==◌, cond, Bool, true, false, List, [], ◌∷◌, ◌++◌, append_assoc, take-append-drop, length, length-append, take, drop, refl, sym, ap, ◌∙◌, subst, arith, IsUtf8}
 use Rattle.std.specs.Borrow.{Bor}
 use Rattle.std.specs.List.{prefix_len, slice_index}
 use Rattle.std.proofs.lemmas.Bool.{and_parts}
@@ -9,9 +9,8 @@ use Rattle.timefd_language.specs.Bytes.{left, backslash, ZeroOrMore}
 use Rattle.timefd_language.proofs.CutLemmas.{cut_at_prefix}
 use Rattle.timefd_dialect.specs.Asked.{Run, run, and_byte, run_of, escaped_run, doubled, ends_literal}
 use Rattle.timefd_dialect.specs.AskedSteps.{and_bytes, TakesBytes, TakesCharacter, TakesRun}
-use Rattle.timefd_dialect.specs.BackSteps.{IsAfter}
 use Rattle.timefd_dialect.specs.Quotes.{continues, char_len, IsCharacter}
-use Rattle.timefd_dialect.specs.QuoteSteps.{IsFirst, IsLess}
+use Rattle.timefd_dialect.specs.QuoteSteps.{IsFirst}
 
 pub between : (old a b c one two new : Text) → one ≡ old ++ a → two ≡ one ++ b → new ≡ two ++ c
     → new ≡ old ++ (a ++ (b ++ c))

@@ -1,5 +1,5 @@
 -- Steps over a description.
-use Rattle.std.proofs.Common.{ℕ, ◌≡◌, ◌<◌, ◌≤◌, nat_lt, true, List, [], ◌∷◌, ◌++◌, append_assoc, length, length-append, take, drop, take-append-drop, refl, sym, ap, ◌∙◌, arith, IsUtf8}
+use Rattle.std.proofs.Common.{ℕ, ◌≡◌, ◌<◌, ◌≤◌, nat_lt, true, List, ◌++◌, length, length-append, drop, refl, ap, arith, IsUtf8}
 use Rattle.std.specs.Borrow.{Bor}
 use Rattle.std.specs.Prelude.{◌&&◌, eqb}
 use Rattle.std.specs.List.{starts_with}
@@ -7,10 +7,7 @@ use Rattle.std.proofs.lemmas.Bool.{and_parts}
 use Rattle.std.proofs.lemmas.Bool.Decides.{nat_tests, Decides-eqb}
 use Rattle.std.proofs.lemmas.Slice.Eq.{starts_is}
 use Rattle.timefd_component.specs.Tree.{Text}
-use Rattle.timefd_dialect.specs.declared.dialect.Dialect.{Dialect}
 use Rattle.timefd_dialect.specs.BackSteps.{IsAfter}
-use Rattle.timefd_dialect.specs.Quotes.{char_len}
-use Rattle.timefd_dialect.specs.QuoteSteps.{IsFirst}
 
 -- what follows a text at the front
 pub written_after : (own text : Text) (rest : Bor (List ℕ))

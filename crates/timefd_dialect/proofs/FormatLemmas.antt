@@ -1,5 +1,5 @@
 -- The format that a description asks for, so far and as a whole; and that it asks for one at most.
-use Rattle.std.proofs.Common.{ℕ, ◌≡◌, ◌<◌, ◌+◌, ◌-◌, ◌==◌, Bool, true, false, List, [], ◌∷◌, ◌++◌, append-nil, append_assoc, length, Option, Some, refl, sym, ap, ◌∙◌, subst, arith, string_bytes}
+use Rattle.std.proofs.Common.{ℕ, ◌≡◌, ◌<◌, ◌-◌, Bool, true, false, List, [], ◌∷◌, ◌++◌, append-nil, append_assoc, length, Some, refl, sym, ap, ◌∙◌, subst, arith, string_bytes}
 use Rattle.std.specs.Borrow.{Bor}
 use Rattle.timefd_component.specs.Tree.{Text}
 use Rattle.timefd_dialect.specs.declared.dialect.Dialect.{Dialect}
@@ -14,7 +14,7 @@ use Rattle.timefd_dialect.specs.BackSteps.{IsAfter}
 use Rattle.timefd_dialect.specs.Best.{chosen, own_text, Lacks}
 use Rattle.timefd_dialect.specs.Laws.{OneFormat}
 use Rattle.timefd_dialect.specs.Reading.{RefusedAt, text_of}
-use Rattle.timefd_dialect.specs.Rows.{Entry, entry_of, found_entry, meaning_of}
+use Rattle.timefd_dialect.specs.Rows.{Entry, entry_of, meaning_of}
 use Rattle.timefd_dialect.proofs.BackLemmas.{rest_within}
 use Rattle.timefd_dialect.proofs.LawLemmas.{one_meaning_law, not_both_law}
 

@@ -1,5 +1,5 @@
 -- The longest row at a position is the first of those that a byte selects.
-use Rattle.std.proofs.Common.{ℕ, ◌≡◌, ◌<◌, ◌==◌, cond, nat_lt, Bool, true, false, List, [], ◌∷◌, ◌++◌, length, drop, Option, Some, None, refl, sym, ap, ◌∙◌, subst, inl, inr, arith}
+use Rattle.std.proofs.Common.{ℕ, ◌≡◌, ◌==◌, cond, nat_lt, Bool, true, false, List, [], ◌∷◌, ◌++◌, length, drop, Option, Some, None, refl, sym, ap, ◌∙◌, subst, inl, inr, arith}
 use Rattle.std.specs.Prelude.{◌&&◌, nat_le, not, ⊤}
 use Rattle.std.proofs.lemmas.Bool.{cases_Bool, and_parts}
 use Rattle.std.proofs.lemmas.Bool.Decides.{nat_tests}
@@ -8,7 +8,7 @@ use Rattle.timefd_dialect.specs.declared.dialect.Dialect.{Dialect}
 use Rattle.timefd_dialect.specs.declared.dialect.Dialect.TheVariants.{Python, C, Gnu, Chrono, Jiff, Ruby, Java, Go, Moment}
 use Rattle.timefd_dialect.specs.declared.dialect.Leading.{Leading}
 use Rattle.timefd_dialect.specs.declared.dialect.Leading.TheVariants.{Percent, Bare}
-use Rattle.timefd_dialect.specs.Dialects.{leading_of, first_byte, second_byte, key_of, unknown_rows}
+use Rattle.timefd_dialect.specs.Dialects.{leading_of, first_byte, key_of, unknown_rows}
 use Rattle.timefd_dialect.specs.Groups.{Group, all_rows, rows_at, rows_found, first_standing}
 use Rattle.timefd_dialect.specs.Rows.{Entry, stands, better, longest_from, longest}
 use Rattle.timefd_dialect.specs.Tables.{groups_of, rows_of}

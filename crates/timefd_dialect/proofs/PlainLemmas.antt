@@ -1,13 +1,13 @@
 -- A run of literal bytes.
-use Rattle.std.proofs.Common.{ℕ, zero, suc, ◌≡◌, ◌+◌, ◌<◌, ◌≤◌, ◌==◌, cond, Bool, true, false, List, [], ◌∷◌, ◌++◌, length, length-append, length-drop, take, drop, take-append-drop, Option, Some, None, refl, sym, ap, ◌∙◌, subst, inl, inr, arith, IsUtf8}
-use Rattle.std.specs.Prelude.{◌&&◌, not, ⊤}
+use Rattle.std.proofs.Common.{ℕ, zero, suc, ◌≡◌, ◌+◌, ◌<◌, ◌≤◌, ◌==◌, cond, Bool, true, false, List, [], ◌∷◌, ◌++◌, length, length-append, length-drop, take, drop, take-append-drop, None, refl, sym, ap, ◌∙◌, subst, inl, inr, arith, IsUtf8}
+use Rattle.std.specs.Prelude.{◌&&◌, not}
 use Rattle.std.specs.List.{prefix_len}
 use Rattle.std.specs.Str.{IsCharBoundary}
 use Rattle.std.proofs.lemmas.Bool.{cases_Bool, cases_lt, and_parts}
 use Rattle.std.proofs.lemmas.Bool.Decides.{nat_tests}
 use Rattle.std.proofs.lemmas.List.{take-append-le, drop-append-le}
 use Rattle.std.proofs.lemmas.List.Sums.{prefix_len-le-length, prefix_len_stops}
-use Rattle.std.proofs.lemmas.Str.{IsUtf8-drop, IsCharBoundary-end}
+use Rattle.std.proofs.lemmas.Str.{IsUtf8-drop}
 use Rattle.timefd_component.specs.Tree.{Text}
 use Rattle.timefd_language.specs.Bytes.{is_special, left, ZeroOrMore, StopsBefore}
 use Rattle.timefd_dialect.specs.declared.dialect.Dialect.{Dialect}
@@ -19,9 +19,8 @@ use Rattle.timefd_dialect.specs.Dialects.{quoting_of}
 use Rattle.timefd_dialect.specs.Limits.{narrowed, limits_from}
 use Rattle.timefd_dialect.specs.Plain.{is_plain}
 use Rattle.timefd_dialect.specs.Quotes.{escaped, continues, char_len, apostrophe}
-use Rattle.timefd_dialect.specs.QuoteSteps.{IsLess}
 use Rattle.timefd_dialect.specs.Reading.{Piece, Front, piece, literal, front_quote, front_row, front_of, Leads, text_of}
-use Rattle.timefd_dialect.specs.Rows.{Entry, stands, longest, longest_from}
+use Rattle.timefd_dialect.specs.Rows.{Entry, stands, longest}
 use Rattle.timefd_dialect.specs.Steps.{TakesAll}
 use Rattle.timefd_dialect.specs.Tables.{rows_of}
 use Rattle.timefd_dialect.specs.Python.{python_groups}

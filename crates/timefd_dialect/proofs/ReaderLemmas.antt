@@ -1,5 +1,5 @@
 -- The pieces that a format means, and which dialects read it.
-use Rattle.std.proofs.Common.{ℕ, zero, suc, ◌≡◌, ◌<◌, ◌≤◌, ◌==◌, cond, Bool, true, false, List, [], ◌∷◌, ◌++◌, append-nil, append_assoc, length, length-drop, drop, Option, Some, None, refl, sym, ap, ◌∙◌, subst, arith, string_bytes}
+use Rattle.std.proofs.Common.{ℕ, zero, suc, ◌≡◌, ◌<◌, ◌≤◌, ◌==◌, cond, Bool, true, false, List, [], ◌∷◌, ◌++◌, append-nil, append_assoc, length, length-drop, drop, Some, None, refl, sym, ap, ◌∙◌, subst, arith, string_bytes}
 use Rattle.std.specs.List.{filter}
 use Rattle.timefd_component.specs.Tree.{Text}
 use Rattle.timefd_dialect.specs.declared.dialect.Dialect.{Dialect}
@@ -8,8 +8,8 @@ use Rattle.timefd_dialect.specs.declared.reading.Converted.{Converted}
 use Rattle.timefd_dialect.specs.declared.reason.Reason.{Reason}
 use Rattle.timefd_dialect.specs.Answers.{IsConverted}
 use Rattle.timefd_dialect.specs.Laws.{OneListOfPieces}
-use Rattle.timefd_dialect.specs.Reading.{Piece, Front, piece, refused_for, front_of, text_of, Leads, Means, RefusedAt}
-use Rattle.timefd_dialect.specs.Readers.{has_component, has_component_after, and_more, pieces_from, pieces_below, pieces_of, some_component, reads}
+use Rattle.timefd_dialect.specs.Reading.{Piece, piece, refused_for, front_of, Leads, Means, RefusedAt}
+use Rattle.timefd_dialect.specs.Readers.{has_component, has_component_after, and_more, pieces_from, pieces_below, some_component, reads}
 use Rattle.timefd_dialect.proofs.ExistsLemmas.{IsStep, step_front}
 
 -- A piece has bytes in the format.
