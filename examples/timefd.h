@@ -287,7 +287,7 @@ timefd_answer timefd_convert(uint32_t from, uint32_t to, const uint8_t *text, si
 #define TIMEFD_REASON_VARIABLE_OFFSET 30u   /* it writes as much of an offset as there is */
 #define TIMEFD_REASON_VARIABLE_WIDTH 31u    /* its width depends on the value */
 #define TIMEFD_REASON_WEEK_OF_MONTH 32u     /* it counts weeks or weekdays within the month */
-#define TIMEFD_REASON_WIDTH 33u             /* the directive has a width */
+#define TIMEFD_REASON_WIDTH 33u             /* no component of version 3 has this width */
 #define TIMEFD_REASON_Z_FOR_UTC 34u         /* it writes `Z` for an offset of zero */
 #define TIMEFD_REASON_ZONE_NAME 35u         /* it writes the name of a time zone */
 

@@ -186,7 +186,7 @@ static inline const char *timefd_reason_sentence(uint32_t reason) {
     case TIMEFD_REASON_VARIABLE_OFFSET: return "it writes as much of an offset as there is";
     case TIMEFD_REASON_VARIABLE_WIDTH: return "its width depends on the value";
     case TIMEFD_REASON_WEEK_OF_MONTH: return "it counts weeks or weekdays within the month";
-    case TIMEFD_REASON_WIDTH: return "the directive has a width";
+    case TIMEFD_REASON_WIDTH: return "no component of version 3 has this width";
     case TIMEFD_REASON_Z_FOR_UTC: return "it writes `Z` for an offset of zero";
     case TIMEFD_REASON_ZONE_NAME: return "it writes the name of a time zone";
     }

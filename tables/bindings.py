@@ -2,7 +2,7 @@
 import json
 
 from component import BY_NUMBER, FIELDS, MODERN
-from dialects import reasons
+from reasons import reasons
 from layout import arm_of_many, arm_of_rust
 from place import Between, Table, each
 from rattle import grouped

@@ -2,6 +2,7 @@
 import pathlib
 import tomllib
 
+import dialect_tables
 import dialects
 
 FILE = pathlib.Path(__file__).resolve().parent / "guesses.toml"
@@ -19,20 +20,20 @@ def long_literal(text):
         if len(lines[-1]) + len(word) > 85:
             lines.append("")
         lines[-1] += word + " "
-    return '"\\\n        ' + " \\\n        ".join(dialects.quoted(part[:-1])[1:-1] for part in lines) + '"'
+    return '"\\\n        ' + " \\\n        ".join(dialect_tables.quoted(part[:-1])[1:-1] for part in lines) + '"'
 
 
 def code_row(row):
     if "swapped" in row:
-        line = f"    candidate!({dialects.quoted(row['text'])}, swapped {dialects.quoted(row['swapped'])}),"
+        line = f"    candidate!({dialect_tables.quoted(row['text'])}, swapped {dialect_tables.quoted(row['swapped'])}),"
         if len(line) <= 100:
             return line
-        return (f"    candidate!(\n        {dialects.quoted(row['text'])},\n"
-                f"        swapped {dialects.quoted(row['swapped'])}\n    ),")
-    line = f"    candidate!({dialects.quoted(row['text'])}),"
+        return (f"    candidate!(\n        {dialect_tables.quoted(row['text'])},\n"
+                f"        swapped {dialect_tables.quoted(row['swapped'])}\n    ),")
+    line = f"    candidate!({dialect_tables.quoted(row['text'])}),"
     if len(line) <= 100:
         return line
-    quoted = dialects.quoted(row["text"])
+    quoted = dialect_tables.quoted(row["text"])
     return f"    candidate!(\n        {quoted if len(quoted) <= 90 else long_literal(row['text'])}\n    ),"
 
 
@@ -71,10 +72,10 @@ def code():
 
 def specified_row(row):
     if "swapped" in row:
-        text, swapped = dialects.codes(row["text"]), dialects.codes(row["swapped"])
+        text, swapped = dialect_tables.codes(row["text"]), dialect_tables.codes(row["swapped"])
         line = f"{text} swaps_to {swapped}"
         return line if len(line) <= 150 else f"{text}\n    swaps_to {swapped}"
-    return f"alone ({dialects.codes(row['text'])})"
+    return f"alone ({dialect_tables.codes(row['text'])})"
 
 
 def specification():

@@ -1,6 +1,7 @@
 """What the texts of the dialects' rows are read by, from `dialects/`: `read` of the row that most formats use, where it reads all that
 the row writes, and reads no text as another value. A year of two digits is refused: each dialect gives it a century, and version 3 none.
 """
+import dialect_tables
 import dialects
 
 CRATE = dialects.CRATE
@@ -48,8 +49,8 @@ def code():
 
 def rust_row(text, row):
     """A row; a long text goes on in lines of its own."""
-    back = f"refused {dialects.camel(row['why'])}" if "why" in row else f"=> {dialects.quoted(row['v3'])}"
-    line = f"    row!({dialects.quoted(text)} {back}),"
+    back = f"refused {dialects.camel(row['why'])}" if "why" in row else f"=> {dialect_tables.quoted(row['v3'])}"
+    line = f"    row!({dialect_tables.quoted(text)} {back}),"
     if len(line) <= 100:
         return line
     words, lines = row["v3"].split(" "), [""]
@@ -57,8 +58,8 @@ def rust_row(text, row):
         if len(lines[-1]) + len(word) > 85:
             lines.append("")
         lines[-1] += word + " "
-    back = " \\\n        ".join(dialects.quoted(part[:-1])[1:-1] for part in lines)
-    return f"    row!({dialects.quoted(text)} => \"\\\n        {back}\"),"
+    back = " \\\n        ".join(dialect_tables.quoted(part[:-1])[1:-1] for part in lines)
+    return f"    row!({dialect_tables.quoted(text)} => \"\\\n        {back}\"),"
 
 
 def specification():
@@ -68,7 +69,7 @@ def specification():
             "use Rattle.timefd_dialect.specs.declared.reason.Reason.TheVariants.{TwoDigitYear}\n"
             "use Rattle.timefd_dialect.specs.Rows.{Entry, ◌means◌, ◌refused_for◌}\n")
     for name in dialects.NAMES:
-        listed = "\n    ∷ ".join([dialects.specified_row(*row) for row in of_dialect(name).items()] + ["[]"])
+        listed = "\n    ∷ ".join([dialect_tables.specified_row(*row) for row in of_dialect(name).items()] + ["[]"])
         text += f"\nunfoldable pub {name}_readings : List Entry\n{name}_readings =\n    {listed}\n"
     return text + "\nabbrev pub readings_of : Dialect → List Entry\n" + "".join(
         f"readings_of {dialects.camel(name)} = {name}_readings\n" for name in dialects.NAMES)

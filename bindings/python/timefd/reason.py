@@ -193,7 +193,7 @@ class Reason(enum.IntEnum):
     )
     WIDTH = (
         33,
-        "the directive has a width",
+        "no component of version 3 has this width",
         "Leave the width out, and write what it fills as a literal, like `0[day]` for `%3d`.",
     )
     Z_FOR_UTC = (

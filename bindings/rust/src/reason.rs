@@ -70,7 +70,7 @@ pub enum Reason {
     VariableWidth,
     /// It counts weeks or weekdays within the month.
     WeekOfMonth,
-    /// The directive has a width.
+    /// No component of version 3 has this width.
     Width,
     /// It writes `Z` for an offset of zero.
     ZForUtc,
@@ -204,7 +204,7 @@ impl Reason {
             Self::VariableOffset => "it writes as much of an offset as there is",
             Self::VariableWidth => "its width depends on the value",
             Self::WeekOfMonth => "it counts weeks or weekdays within the month",
-            Self::Width => "the directive has a width",
+            Self::Width => "no component of version 3 has this width",
             Self::ZForUtc => "it writes `Z` for an offset of zero",
             Self::ZoneName => "it writes the name of a time zone",
         }

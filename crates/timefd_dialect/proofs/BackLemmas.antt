@@ -1,5 +1,5 @@
 -- Steps over a description.
-use Rattle.std.proofs.Common.{ℕ, ◌≡◌, ◌<◌, ◌≤◌, nat_lt, true, List, [], ◌∷◌, ◌++◌, append_assoc, length, length-append, take, drop, take-append-drop, refl, sym, ap, ◌∙◌, arith, IsUtf8}
+use Rattle.std.proofs.Common.{ℕ, ◌≡◌, ◌<◌, ◌≤◌, nat_lt, true, List, ◌++◌, length, length-append, drop, refl, ap, arith, IsUtf8}
 use Rattle.std.specs.Borrow.{Bor}
 use Rattle.std.specs.Prelude.{◌&&◌, eqb}
 use Rattle.std.specs.List.{starts_with}
@@ -7,34 +7,7 @@ use Rattle.std.proofs.lemmas.Bool.{and_parts}
 use Rattle.std.proofs.lemmas.Bool.Decides.{nat_tests, Decides-eqb}
 use Rattle.std.proofs.lemmas.Slice.Eq.{starts_is}
 use Rattle.timefd_component.specs.Tree.{Text}
-use Rattle.timefd_dialect.specs.declared.dialect.Dialect.{Dialect}
-use Rattle.timefd_dialect.specs.Back.{Lacks, LacksAt}
 use Rattle.timefd_dialect.specs.BackSteps.{IsAfter}
-use Rattle.timefd_dialect.specs.Quotes.{char_len}
-use Rattle.timefd_dialect.specs.QuoteSteps.{IsFirst}
-
-first_whole : (text front rest : Text) → IsFirst text front rest → text ≡ front ++ rest
-first_whole text front rest f =
-    sym (take-append-drop (char_len text) text)
-    ∙ ap (λ x. x ++ drop (char_len text) text) (sym f.front_is)
-    ∙ ap (λ x. front ++ x) (sym f.rest_is)
-
-pub first_after : (text front : Text) (rest : Bor (List ℕ)) → IsFirst text front rest.now
-    → IsAfter text rest
-first_after text front rest f =
-    record { taken = front; whole = first_whole text front rest.now f; left = f.left }
-
--- an escape and the character that it means
-pub escaped_after : (b : ℕ) (text after front : Text) (rest : Bor (List ℕ)) → text ≡ b ∷ after
-    → IsFirst after front rest.now → IsAfter text rest
-escaped_after b text after front rest e f = record {
-  taken = b ∷ front;
-  whole = e ∙ ap (λ x. b ∷ x) (first_whole after front rest.now f);
-  left = record {
-    shorter = omega (arith, ap length e, f.left.shorter);
-    utf8 = f.left.utf8;
-  };
-}
 
 -- what follows a text at the front
 pub written_after : (own text : Text) (rest : Bor (List ℕ))
@@ -64,12 +37,6 @@ pub written_there : (own text : Text)
 written_there own text is never =
     never (drop (length own) text)
     ((starts_is Decides-eqb text own _ refl).0 (and_parts (nat_lt 0 (length own)) _ is).1)
-
--- one more step from the front of a description
-pub after_more : (whole front text : Text) (rest : Bor (List ℕ)) → whole ≡ front ++ text
-    → (after : IsAfter text rest) → whole ≡ (front ++ after.taken) ++ rest.now
-after_more whole front text rest e after =
-    e ∙ ap (λ x. front ++ x) after.whole ∙ sym (append_assoc front after.taken rest.now)
 
 -- the front is no longer than the whole
 pub rest_within : (whole front rest : Text) → whole ≡ front ++ rest → length rest ≤ length whole

@@ -1,9 +1,8 @@
 -- A byte that selects no rows.
-use Rattle.std.proofs.Common.{ℕ, ◌≡◌, ◌==◌, cond, Bool, true, false, [], ◌∷◌, List, refl, inl, inr}
+use Rattle.std.proofs.Common.{ℕ, ◌≡◌, ◌==◌, cond, Bool, true, false, [], ◌∷◌, List, refl}
 use Rattle.std.specs.Prelude.{◌&&◌, not}
 use Rattle.std.proofs.lemmas.Bool.{and_parts}
 use Rattle.timefd_dialect.specs.Groups.{Group, rows_at}
-use Rattle.timefd_dialect.specs.Rows.{Entry}
 
 -- the byte selects no group
 abbrev pub is_apart : ℕ → List Group → Bool

@@ -17,7 +17,7 @@ use Rattle.timefd_dialect.proofs.RowLemmas.{IsFit, has_bytes, all_have_bytes, lo
 use Rattle.timefd_language.specs.Bytes.{left}
 
 -- the front is a piece that fewer than `n` bytes follow, or is refused
-abbrev IsStep : ℕ → Front → Type 0
+abbrev pub IsStep : ℕ → Front → Type 0
 IsStep n ended = ⊥
 IsStep n (piece p rest) = length rest < n
 IsStep n (refused_for reason) = ⊤
@@ -104,7 +104,7 @@ step_quote Brackets b rest other good =
     either (suc (length rest)) (b == left) (front_closing (closing rest) rest other) other
     (step_closing (closing rest) rest other good) good
 
-step_front : (dialect : Dialect) (b : ℕ) (rest : Text)
+pub step_front : (dialect : Dialect) (b : ℕ) (rest : Text)
     → IsStep (suc (length rest)) (front_of dialect (b ∷ rest))
 step_front dialect b rest =
     step_quote (quoting_of dialect) b rest _

@@ -1,5 +1,5 @@
 -- The longest row at a position is the first of those that a byte selects.
-use Rattle.std.proofs.Common.{ℕ, ◌≡◌, ◌<◌, ◌==◌, cond, nat_lt, Bool, true, false, List, [], ◌∷◌, ◌++◌, length, drop, Option, Some, None, refl, sym, ap, ◌∙◌, subst, inl, inr, arith}
+use Rattle.std.proofs.Common.{ℕ, ◌≡◌, ◌==◌, cond, nat_lt, Bool, true, false, List, [], ◌∷◌, ◌++◌, length, drop, Option, Some, None, refl, sym, ap, ◌∙◌, subst, inl, inr, arith}
 use Rattle.std.specs.Prelude.{◌&&◌, nat_le, not, ⊤}
 use Rattle.std.proofs.lemmas.Bool.{cases_Bool, and_parts}
 use Rattle.std.proofs.lemmas.Bool.Decides.{nat_tests}
@@ -8,19 +8,29 @@ use Rattle.timefd_dialect.specs.declared.dialect.Dialect.{Dialect}
 use Rattle.timefd_dialect.specs.declared.dialect.Dialect.TheVariants.{Python, C, Gnu, Chrono, Jiff, Ruby, Java, Go, Moment}
 use Rattle.timefd_dialect.specs.declared.dialect.Leading.{Leading}
 use Rattle.timefd_dialect.specs.declared.dialect.Leading.TheVariants.{Percent, Bare}
-use Rattle.timefd_dialect.specs.Dialects.{leading_of, first_byte, second_byte, key_of, unknown_rows}
+use Rattle.timefd_dialect.specs.Dialects.{leading_of, first_byte, key_of, unknown_rows}
 use Rattle.timefd_dialect.specs.Groups.{Group, all_rows, rows_at, rows_found, first_standing}
 use Rattle.timefd_dialect.specs.Rows.{Entry, stands, better, longest_from, longest}
 use Rattle.timefd_dialect.specs.Tables.{groups_of, rows_of}
 use Rattle.timefd_dialect.specs.Python.{python_groups}
-use Rattle.timefd_dialect.specs.C.{c_groups, c_marked}
-use Rattle.timefd_dialect.specs.Gnu.{gnu_groups, gnu_marked}
+use Rattle.timefd_dialect.specs.C.{c_groups}
+use Rattle.timefd_dialect.specs.CPadded.{c_padded}
+use Rattle.timefd_dialect.specs.CMarked.{c_marked}
+use Rattle.timefd_dialect.specs.Gnu.{gnu_groups}
+use Rattle.timefd_dialect.specs.GnuPadded.{gnu_padded}
+use Rattle.timefd_dialect.specs.GnuMarked.{gnu_marked}
 use Rattle.timefd_dialect.specs.Chrono.{chrono_groups}
-use Rattle.timefd_dialect.specs.Jiff.{jiff_groups, jiff_marked}
-use Rattle.timefd_dialect.specs.Ruby.{ruby_groups, ruby_marked}
+use Rattle.timefd_dialect.specs.Jiff.{jiff_groups}
+use Rattle.timefd_dialect.specs.JiffPadded.{jiff_padded}
+use Rattle.timefd_dialect.specs.JiffMarked.{jiff_marked}
+use Rattle.timefd_dialect.specs.Ruby.{ruby_groups}
+use Rattle.timefd_dialect.specs.RubyPadded.{ruby_padded}
+use Rattle.timefd_dialect.specs.RubyMarked.{ruby_marked}
 use Rattle.timefd_dialect.specs.Java.{java_groups}
+use Rattle.timefd_dialect.specs.JavaRefused.{java_refused}
 use Rattle.timefd_dialect.specs.Go.{go_groups}
 use Rattle.timefd_dialect.specs.Moment.{moment_groups}
+use Rattle.timefd_dialect.specs.MomentEscaped.{moment_escaped}
 use Rattle.timefd_dialect.proofs.ByteLemmas.{is_apart}
 use Rattle.timefd_dialect.proofs.RowLemmas.{all_pass, row_stands}
 
@@ -243,8 +253,9 @@ first_of_both (row ∷ a) b text = elim (cases_Bool (stands row text)) [
 -- Each table has the form that the search needs.
 
 pub all_keyed : (dialect : Dialect) → are_keyed (leading_of dialect) (groups_of dialect) ≡ true
-unfolding python_groups c_groups c_marked gnu_groups gnu_marked chrono_groups jiff_groups jiff_marked
-    ruby_groups ruby_marked java_groups go_groups moment_groups
+unfolding python_groups c_groups c_padded c_marked gnu_groups gnu_padded gnu_marked chrono_groups
+    jiff_groups jiff_padded jiff_marked ruby_groups ruby_padded ruby_marked java_groups java_refused
+    go_groups moment_groups moment_escaped
 all_keyed Python = refl
 all_keyed C = refl
 all_keyed Gnu = refl
@@ -257,8 +268,9 @@ all_keyed Moment = refl
 
 tables_descend : (dialect : Dialect)
     → all_descend (unknown_rows (leading_of dialect)) (groups_of dialect) ≡ true
-unfolding python_groups c_groups c_marked gnu_groups gnu_marked chrono_groups jiff_groups jiff_marked
-    ruby_groups ruby_marked java_groups go_groups moment_groups
+unfolding python_groups c_groups c_padded c_marked gnu_groups gnu_padded gnu_marked chrono_groups
+    jiff_groups jiff_padded jiff_marked ruby_groups ruby_padded ruby_marked java_groups java_refused
+    go_groups moment_groups moment_escaped
 tables_descend Python = refl
 tables_descend C = refl
 tables_descend Gnu = refl

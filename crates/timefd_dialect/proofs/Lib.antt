@@ -9,7 +9,10 @@ pub mod ItemLemmas
 pub mod LawLemmas
 pub mod AnswerLemmas
 pub mod ExistsLemmas
+pub mod ReaderLemmas
 pub mod SpotLemmas
 pub mod BackLemmas
+pub mod AskedLemmas
+pub mod FormatLemmas
 pub mod WritingLemmas
 pub mod ToReadLemmas

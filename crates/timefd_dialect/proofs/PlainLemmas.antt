@@ -1,13 +1,13 @@
 -- A run of literal bytes.
-use Rattle.std.proofs.Common.{ℕ, zero, suc, ◌≡◌, ◌+◌, ◌<◌, ◌≤◌, ◌==◌, cond, Bool, true, false, List, [], ◌∷◌, ◌++◌, length, length-append, length-drop, take, drop, take-append-drop, Option, Some, None, refl, sym, ap, ◌∙◌, subst, inl, inr, arith, IsUtf8}
-use Rattle.std.specs.Prelude.{◌&&◌, not, ⊤}
+use Rattle.std.proofs.Common.{ℕ, zero, suc, ◌≡◌, ◌+◌, ◌<◌, ◌≤◌, ◌==◌, cond, Bool, true, false, List, [], ◌∷◌, ◌++◌, length, length-append, length-drop, take, drop, take-append-drop, None, refl, sym, ap, ◌∙◌, subst, inl, inr, arith, IsUtf8}
+use Rattle.std.specs.Prelude.{◌&&◌, not}
 use Rattle.std.specs.List.{prefix_len}
 use Rattle.std.specs.Str.{IsCharBoundary}
 use Rattle.std.proofs.lemmas.Bool.{cases_Bool, cases_lt, and_parts}
 use Rattle.std.proofs.lemmas.Bool.Decides.{nat_tests}
 use Rattle.std.proofs.lemmas.List.{take-append-le, drop-append-le}
 use Rattle.std.proofs.lemmas.List.Sums.{prefix_len-le-length, prefix_len_stops}
-use Rattle.std.proofs.lemmas.Str.{IsUtf8-drop, IsCharBoundary-end}
+use Rattle.std.proofs.lemmas.Str.{IsUtf8-drop}
 use Rattle.timefd_component.specs.Tree.{Text}
 use Rattle.timefd_language.specs.Bytes.{is_special, left, ZeroOrMore, StopsBefore}
 use Rattle.timefd_dialect.specs.declared.dialect.Dialect.{Dialect}
@@ -19,20 +19,29 @@ use Rattle.timefd_dialect.specs.Dialects.{quoting_of}
 use Rattle.timefd_dialect.specs.Limits.{narrowed, limits_from}
 use Rattle.timefd_dialect.specs.Plain.{is_plain}
 use Rattle.timefd_dialect.specs.Quotes.{escaped, continues, char_len, apostrophe}
-use Rattle.timefd_dialect.specs.QuoteSteps.{IsLess}
 use Rattle.timefd_dialect.specs.Reading.{Piece, Front, piece, literal, front_quote, front_row, front_of, Leads, text_of}
-use Rattle.timefd_dialect.specs.Rows.{Entry, stands, longest, longest_from}
+use Rattle.timefd_dialect.specs.Rows.{Entry, stands, longest}
 use Rattle.timefd_dialect.specs.Steps.{TakesAll}
 use Rattle.timefd_dialect.specs.Tables.{rows_of}
 use Rattle.timefd_dialect.specs.Python.{python_groups}
-use Rattle.timefd_dialect.specs.C.{c_groups, c_marked}
-use Rattle.timefd_dialect.specs.Gnu.{gnu_groups, gnu_marked}
+use Rattle.timefd_dialect.specs.C.{c_groups}
+use Rattle.timefd_dialect.specs.CPadded.{c_padded}
+use Rattle.timefd_dialect.specs.CMarked.{c_marked}
+use Rattle.timefd_dialect.specs.Gnu.{gnu_groups}
+use Rattle.timefd_dialect.specs.GnuPadded.{gnu_padded}
+use Rattle.timefd_dialect.specs.GnuMarked.{gnu_marked}
 use Rattle.timefd_dialect.specs.Chrono.{chrono_groups}
-use Rattle.timefd_dialect.specs.Jiff.{jiff_groups, jiff_marked}
-use Rattle.timefd_dialect.specs.Ruby.{ruby_groups, ruby_marked}
+use Rattle.timefd_dialect.specs.Jiff.{jiff_groups}
+use Rattle.timefd_dialect.specs.JiffPadded.{jiff_padded}
+use Rattle.timefd_dialect.specs.JiffMarked.{jiff_marked}
+use Rattle.timefd_dialect.specs.Ruby.{ruby_groups}
+use Rattle.timefd_dialect.specs.RubyPadded.{ruby_padded}
+use Rattle.timefd_dialect.specs.RubyMarked.{ruby_marked}
 use Rattle.timefd_dialect.specs.Java.{java_groups}
+use Rattle.timefd_dialect.specs.JavaRefused.{java_refused}
 use Rattle.timefd_dialect.specs.Go.{go_groups}
 use Rattle.timefd_dialect.specs.Moment.{moment_groups}
+use Rattle.timefd_dialect.specs.MomentEscaped.{moment_escaped}
 use Rattle.timefd_dialect.proofs.RowLemmas.{all_pass, row_stands}
 
 -- No row begins with a literal byte.
@@ -45,8 +54,9 @@ abbrev is_marked : Dialect → Entry → Bool
 is_marked dialect row = not (begins_plain (is_plain dialect) row.text)
 
 all_marked : (dialect : Dialect) → all_pass (is_marked dialect) (rows_of dialect) ≡ true
-unfolding python_groups c_groups c_marked gnu_groups gnu_marked chrono_groups jiff_groups jiff_marked
-    ruby_groups ruby_marked java_groups go_groups moment_groups
+unfolding python_groups c_groups c_padded c_marked gnu_groups gnu_padded gnu_marked chrono_groups
+    jiff_groups jiff_padded jiff_marked ruby_groups ruby_padded ruby_marked java_groups java_refused
+    go_groups moment_groups moment_escaped
 all_marked Python = refl
 all_marked C = refl
 all_marked Gnu = refl

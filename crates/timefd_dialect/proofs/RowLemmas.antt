@@ -1,5 +1,5 @@
 -- What holds for the rows of each table, and so for the longest one at a position.
-use Rattle.std.proofs.Common.{ℕ, ◌≡◌, ◌<◌, cond, nat_lt, Bool, true, false, List, [], ◌∷◌, ◌++◌, length, drop, Option, Some, None, refl, sym, ap, ◌∙◌, subst, inl, inr, arith}
+use Rattle.std.proofs.Common.{ℕ, ◌≡◌, ◌<◌, cond, nat_lt, Bool, true, false, List, [], ◌∷◌, ◌++◌, length, drop, Option, Some, None, refl, sym, subst, inl, inr, arith}
 use Rattle.std.specs.Borrow.{Bor}
 use Rattle.std.specs.Prelude.{◌&&◌, IfSome}
 use Rattle.std.proofs.lemmas.Bool.{cases_Bool, and_parts}
@@ -12,14 +12,24 @@ use Rattle.timefd_dialect.specs.declared.row.Row.{Row}
 use Rattle.timefd_dialect.specs.Rows.{Entry, entry_of, found_entry, stands, longer, better, longest_from, longest}
 use Rattle.timefd_dialect.specs.Tables.{rows_of}
 use Rattle.timefd_dialect.specs.Python.{python_groups}
-use Rattle.timefd_dialect.specs.C.{c_groups, c_marked}
-use Rattle.timefd_dialect.specs.Gnu.{gnu_groups, gnu_marked}
+use Rattle.timefd_dialect.specs.C.{c_groups}
+use Rattle.timefd_dialect.specs.CPadded.{c_padded}
+use Rattle.timefd_dialect.specs.CMarked.{c_marked}
+use Rattle.timefd_dialect.specs.Gnu.{gnu_groups}
+use Rattle.timefd_dialect.specs.GnuPadded.{gnu_padded}
+use Rattle.timefd_dialect.specs.GnuMarked.{gnu_marked}
 use Rattle.timefd_dialect.specs.Chrono.{chrono_groups}
-use Rattle.timefd_dialect.specs.Jiff.{jiff_groups, jiff_marked}
-use Rattle.timefd_dialect.specs.Ruby.{ruby_groups, ruby_marked}
+use Rattle.timefd_dialect.specs.Jiff.{jiff_groups}
+use Rattle.timefd_dialect.specs.JiffPadded.{jiff_padded}
+use Rattle.timefd_dialect.specs.JiffMarked.{jiff_marked}
+use Rattle.timefd_dialect.specs.Ruby.{ruby_groups}
+use Rattle.timefd_dialect.specs.RubyPadded.{ruby_padded}
+use Rattle.timefd_dialect.specs.RubyMarked.{ruby_marked}
 use Rattle.timefd_dialect.specs.Java.{java_groups}
+use Rattle.timefd_dialect.specs.JavaRefused.{java_refused}
 use Rattle.timefd_dialect.specs.Go.{go_groups}
 use Rattle.timefd_dialect.specs.Moment.{moment_groups}
+use Rattle.timefd_dialect.specs.MomentEscaped.{moment_escaped}
 
 -- the text begins with the text of a row that is there
 pub row_stands : (row : Entry) (text : Text) → stands row text ≡ true
@@ -73,8 +83,9 @@ abbrev pub has_bytes : Entry → Bool
 has_bytes row = nat_lt 0 (length row.text)
 
 pub all_have_bytes : (dialect : Dialect) → all_pass has_bytes (rows_of dialect) ≡ true
-unfolding python_groups c_groups c_marked gnu_groups gnu_marked chrono_groups jiff_groups jiff_marked
-    ruby_groups ruby_marked java_groups go_groups moment_groups
+unfolding python_groups c_groups c_padded c_marked gnu_groups gnu_padded gnu_marked chrono_groups
+    jiff_groups jiff_padded jiff_marked ruby_groups ruby_padded ruby_marked java_groups java_refused
+    go_groups moment_groups moment_escaped
 all_have_bytes Python = refl
 all_have_bytes C = refl
 all_have_bytes Gnu = refl

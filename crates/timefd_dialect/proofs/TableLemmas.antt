@@ -7,14 +7,24 @@ use Rattle.timefd_dialect.specs.declared.dialect.Dialect.TheVariants.{Python, C,
 use Rattle.timefd_dialect.specs.Rows.{Entry, Meaning, written, refused}
 use Rattle.timefd_dialect.specs.Tables.{rows_of}
 use Rattle.timefd_dialect.specs.Python.{python_groups}
-use Rattle.timefd_dialect.specs.C.{c_groups, c_marked}
-use Rattle.timefd_dialect.specs.Gnu.{gnu_groups, gnu_marked}
+use Rattle.timefd_dialect.specs.C.{c_groups}
+use Rattle.timefd_dialect.specs.CPadded.{c_padded}
+use Rattle.timefd_dialect.specs.CMarked.{c_marked}
+use Rattle.timefd_dialect.specs.Gnu.{gnu_groups}
+use Rattle.timefd_dialect.specs.GnuPadded.{gnu_padded}
+use Rattle.timefd_dialect.specs.GnuMarked.{gnu_marked}
 use Rattle.timefd_dialect.specs.Chrono.{chrono_groups}
-use Rattle.timefd_dialect.specs.Jiff.{jiff_groups, jiff_marked}
-use Rattle.timefd_dialect.specs.Ruby.{ruby_groups, ruby_marked}
+use Rattle.timefd_dialect.specs.Jiff.{jiff_groups}
+use Rattle.timefd_dialect.specs.JiffPadded.{jiff_padded}
+use Rattle.timefd_dialect.specs.JiffMarked.{jiff_marked}
+use Rattle.timefd_dialect.specs.Ruby.{ruby_groups}
+use Rattle.timefd_dialect.specs.RubyPadded.{ruby_padded}
+use Rattle.timefd_dialect.specs.RubyMarked.{ruby_marked}
 use Rattle.timefd_dialect.specs.Java.{java_groups}
+use Rattle.timefd_dialect.specs.JavaRefused.{java_refused}
 use Rattle.timefd_dialect.specs.Go.{go_groups}
 use Rattle.timefd_dialect.specs.Moment.{moment_groups}
+use Rattle.timefd_dialect.specs.MomentEscaped.{moment_escaped}
 use Rattle.timefd_dialect.proofs.RowLemmas.{all_pass}
 use Rattle.timefd_language.specs.declared.description_version.DescriptionVersion.TheVariants.{Three}
 use Rattle.timefd_language.specs.Grammar.{nesting_limit}
@@ -32,8 +42,9 @@ abbrev pub reads : Entry → Bool
 reads row = meaning_reads row.meaning
 
 pub all_read : (dialect : Dialect) → all_pass reads (rows_of dialect) ≡ true
-unfolding python_groups c_groups c_marked gnu_groups gnu_marked chrono_groups jiff_groups jiff_marked
-    ruby_groups ruby_marked java_groups go_groups moment_groups answer_of
+unfolding python_groups c_groups c_padded c_marked gnu_groups gnu_padded gnu_marked chrono_groups
+    jiff_groups jiff_padded jiff_marked ruby_groups ruby_padded ruby_marked java_groups java_refused
+    go_groups moment_groups moment_escaped answer_of
 all_read Python = refl
 all_read C = refl
 all_read Gnu = refl

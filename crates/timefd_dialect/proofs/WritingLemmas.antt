@@ -1,7 +1,7 @@
 -- The row whose text of version 3 a description begins with.
-use Rattle.std.proofs.Common.{ℕ, ◌≡◌, ◌==◌, cond, Bool, true, false, List, [], ◌∷◌, ◌++◌, Option, Some, None, refl, sym, ap, ◌∙◌, subst, inl, inr, arith}
+use Rattle.std.proofs.Common.{ℕ, ◌≡◌, ◌==◌, cond, Bool, true, false, List, [], ◌∷◌, ◌++◌, Option, Some, None, refl, sym, subst, inl, inr, arith}
 use Rattle.std.specs.Borrow.{Bor}
-use Rattle.std.specs.Prelude.{◌&&◌, not, IfSome, MatchOption, ⊤}
+use Rattle.std.specs.Prelude.{not, IfSome, MatchOption, ⊤}
 use Rattle.std.proofs.lemmas.Bool.{cases_Bool, and_parts, and_from}
 use Rattle.std.proofs.lemmas.Bool.Decides.{nat_tests}
 use Rattle.timefd_component.specs.Tree.{Text}
@@ -9,7 +9,7 @@ use Rattle.timefd_dialect.specs.declared.dialect.Dialect.{Dialect}
 use Rattle.timefd_dialect.specs.declared.dialect.Leading.{Leading}
 use Rattle.timefd_dialect.specs.declared.dialect.Leading.TheVariants.{Percent, Bare}
 use Rattle.timefd_dialect.specs.declared.row.Row.{Row}
-use Rattle.timefd_dialect.specs.Back.{writes, none_writes, is_better, best_of, best_with, best_from, best_at, Lacks}
+use Rattle.timefd_dialect.specs.Best.{writes, none_writes, is_better, best_of, best_with, best_from, best_at, Lacks}
 use Rattle.timefd_dialect.specs.Dialects.{leading_of, unknown_rows}
 use Rattle.timefd_dialect.specs.Groups.{Group, all_rows, keys_of, rows_at}
 use Rattle.timefd_dialect.specs.Rows.{Entry, entry_of, found_entry}

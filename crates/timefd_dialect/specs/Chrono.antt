@@ -1,50 +1,51 @@
 -- The rows of chrono, by the byte that selects them, the longest first.
 use Rattle.std.specs.Prelude.{codes, List, [], ◌∷◌}
-use Rattle.timefd_dialect.specs.declared.reason.Reason.TheVariants.{Flag, ReadingOnly, VariableFraction, VariableWidth, ZoneName}
+use Rattle.timefd_dialect.specs.declared.reason.Reason.TheVariants.{Flag, ReadingOnly, VariableFraction, VariableWidth}
 use Rattle.timefd_dialect.specs.declared.row.Range.TheVariants.{WholeMinutes, YearsFrom1}
 use Rattle.timefd_dialect.specs.Groups.{Group, under}
 use Rattle.timefd_dialect.specs.Rows.{◌means◌, ◌refused_for◌, within}
+use Rattle.timefd_dialect.specs.Strftime.{capital_a, capital_b, capital_c, capital_d, capital_f, capital_g, capital_h, capital_i, capital_m, capital_p, capital_r, capital_s, capital_t, capital_u, capital_v, capital_w, capital_x, capital_y, capital_z, percent_sign, small_a, small_b, small_d, small_e, small_g, small_h, small_j, small_k, small_l, small_m, small_n, small_p, small_r, small_s, small_t, small_u, small_w, small_x, small_y, small_z}
 
 unfoldable pub chrono_groups : List Group
 chrono_groups =
-    under 100 (codes "%d" means codes "[day]" ∷ [])
-    ∷ under 101 (codes "%e" means codes "[day padding:space]" ∷ [])
-    ∷ under 72 (codes "%H" means codes "[hour]" ∷ [])
-    ∷ under 107 (codes "%k" means codes "[hour padding:space]" ∷ [])
-    ∷ under 73 (codes "%I" means codes "[hour repr:12]" ∷ [])
-    ∷ under 108 (codes "%l" means codes "[hour repr:12 padding:space]" ∷ [])
-    ∷ under 106 (codes "%j" means codes "[ordinal]" ∷ [])
-    ∷ under 109 (codes "%m" means codes "[month]" ∷ [])
-    ∷ under 77 (codes "%M" means codes "[minute]" ∷ [])
-    ∷ under 83 (codes "%S" means codes "[second]" ∷ [])
-    ∷ under 85 (codes "%U" means codes "[week_number repr:sunday]" ∷ [])
-    ∷ under 86 (codes "%V" means codes "[week_number]" ∷ [])
-    ∷ under 87 (codes "%W" means codes "[week_number repr:monday]" ∷ [])
-    ∷ under 121 (codes "%y" means codes "[year repr:last_two]" ∷ [])
-    ∷ under 103 (within YearsFrom1 (codes "%g") (codes "[year repr:last_two base:iso_week]") ∷ [])
-    ∷ under 67 (codes "%C" means codes "[year repr:century]" ∷ [])
-    ∷ under 89 (codes "%Y" means codes "[year]" ∷ [])
-    ∷ under 71 (within YearsFrom1 (codes "%G") (codes "[year base:iso_week]") ∷ [])
-    ∷ under 117 (codes "%u" means codes "[weekday repr:monday]" ∷ [])
-    ∷ under 119 (codes "%w" means codes "[weekday repr:sunday one_indexed:false]" ∷ [])
-    ∷ under 97 (codes "%a" means codes "[weekday repr:short]" ∷ [])
-    ∷ under 65 (codes "%A" means codes "[weekday]" ∷ [])
-    ∷ under 98 (codes "%b" means codes "[month repr:short]" ∷ [])
-    ∷ under 66 (codes "%B" means codes "[month repr:long]" ∷ [])
-    ∷ under 104 (codes "%h" means codes "[month repr:short]" ∷ [])
-    ∷ under 112 (codes "%p" means codes "[period]" ∷ [])
-    ∷ under 80 (codes "%P" means codes "[period case:lower]" ∷ [])
-    ∷ under 68 (codes "%D" means codes "[month]/[day]/[year repr:last_two]" ∷ [])
-    ∷ under 70 (codes "%F" means codes "[year]-[month]-[day]" ∷ [])
-    ∷ under 114 (codes "%r" means codes "[hour repr:12]:[minute]:[second] [period]" ∷ [])
-    ∷ under 82 (codes "%R" means codes "[hour]:[minute]" ∷ [])
-    ∷ under 84 (codes "%T" means codes "[hour]:[minute]:[second]" ∷ [])
-    ∷ under 37 (codes "%%" means codes "%" ∷ [])
-    ∷ under 110 (codes "%n" means (10 ∷ []) ∷ [])
-    ∷ under 116 (codes "%t" means (9 ∷ []) ∷ [])
+    under 100 small_d
+    ∷ under 101 small_e
+    ∷ under 72 capital_h
+    ∷ under 107 small_k
+    ∷ under 73 capital_i
+    ∷ under 108 small_l
+    ∷ under 106 small_j
+    ∷ under 109 small_m
+    ∷ under 77 capital_m
+    ∷ under 83 capital_s
+    ∷ under 85 capital_u
+    ∷ under 86 capital_v
+    ∷ under 87 capital_w
+    ∷ under 121 small_y
+    ∷ under 103 small_g
+    ∷ under 67 capital_c
+    ∷ under 89 capital_y
+    ∷ under 71 capital_g
+    ∷ under 117 small_u
+    ∷ under 119 small_w
+    ∷ under 97 small_a
+    ∷ under 65 capital_a
+    ∷ under 98 small_b
+    ∷ under 66 capital_b
+    ∷ under 104 small_h
+    ∷ under 112 small_p
+    ∷ under 80 capital_p
+    ∷ under 68 capital_d
+    ∷ under 70 capital_f
+    ∷ under 114 small_r
+    ∷ under 82 capital_r
+    ∷ under 84 capital_t
+    ∷ under 37 percent_sign
+    ∷ under 110 small_n
+    ∷ under 116 small_t
     ∷ under 102 (codes "%f" means codes "[subsecond digits:9]" ∷ [])
     ∷ under 118 (codes "%v" means codes "[day padding:space]-[month repr:short]-[year]" ∷ [])
-    ∷ under 115 (codes "%s" means codes "[unix_timestamp]" ∷ [])
+    ∷ under 115 small_s
     ∷ under 45 (codes "%-s" means codes "[unix_timestamp]"
     ∷ codes "%-f" refused_for VariableWidth
     ∷ codes "%-d" means codes "[day padding:none]"
@@ -101,7 +102,7 @@ chrono_groups =
     ∷ codes "%0w" means codes "[weekday repr:sunday one_indexed:false]"
     ∷ codes "%0" refused_for Flag
     ∷ [])
-    ∷ under 122 (within WholeMinutes (codes "%z") (codes "[offset_hour sign:mandatory][offset_minute]") ∷ [])
+    ∷ under 122 small_z
     ∷ under 58 (codes "%:::z" means codes "[offset_hour sign:mandatory]"
     ∷ codes "%::z" means codes "[offset_hour sign:mandatory]:[offset_minute]:[offset_second]"
     ∷ within WholeMinutes (codes "%:z") (codes "[offset_hour sign:mandatory]:[offset_minute]")
@@ -131,9 +132,9 @@ chrono_groups =
     ∷ codes "%_w" means codes "[weekday repr:sunday one_indexed:false]"
     ∷ codes "%_" refused_for Flag
     ∷ [])
-    ∷ under 90 (codes "%Z" refused_for ZoneName ∷ [])
+    ∷ under 90 capital_z
     ∷ under 35 (codes "%#z" refused_for ReadingOnly ∷ [])
     ∷ under 99 (codes "%c" means codes "[weekday repr:short] [month repr:short] [day padding:space] [hour]:[minute]:[second] [year]" ∷ [])
-    ∷ under 120 (codes "%x" means codes "[month]/[day]/[year repr:last_two]" ∷ [])
-    ∷ under 88 (codes "%X" means codes "[hour]:[minute]:[second]" ∷ [])
+    ∷ under 120 small_x
+    ∷ under 88 capital_x
     ∷ []

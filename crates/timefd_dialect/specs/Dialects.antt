@@ -22,6 +22,11 @@ name_of Java = codes "java"
 name_of Go = codes "go"
 name_of Moment = codes "moment"
 
+-- all dialects, in the order in which they are named
+abbrev pub all : List Dialect
+all =
+    Python ∷ C ∷ Gnu ∷ Chrono ∷ Jiff ∷ Ruby ∷ Java ∷ Go ∷ Moment ∷ []
+
 -- the dialect with this name
 abbrev pub named : Text → Option Dialect
 named name =

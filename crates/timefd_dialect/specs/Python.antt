@@ -1,51 +1,52 @@
 -- The rows of Python, by the byte that selects them, the longest first.
 use Rattle.std.specs.Prelude.{codes, List, [], ◌∷◌}
-use Rattle.timefd_dialect.specs.declared.reason.Reason.TheVariants.{Capitals, LocalTime, Platform, ZoneName}
+use Rattle.timefd_dialect.specs.declared.reason.Reason.TheVariants.{Capitals, LocalTime, Platform}
 use Rattle.timefd_dialect.specs.declared.row.Range.TheVariants.{WholeMinutes, YearsFrom1000}
 use Rattle.timefd_dialect.specs.Groups.{Group, under}
 use Rattle.timefd_dialect.specs.Rows.{◌means◌, ◌refused_for◌, within}
+use Rattle.timefd_dialect.specs.Strftime.{capital_a, capital_b, capital_d, capital_e, capital_h, capital_i, capital_m, capital_p, capital_r, capital_s, capital_t, capital_u, capital_v, capital_w, capital_x, capital_z, percent_sign, small_a, small_b, small_c, small_d, small_e, small_h, small_j, small_k, small_l, small_m, small_n, small_p, small_r, small_t, small_u, small_w, small_x, small_y, small_z}
 
 unfoldable pub python_groups : List Group
 python_groups =
-    under 100 (codes "%d" means codes "[day]" ∷ [])
-    ∷ under 72 (codes "%H" means codes "[hour]" ∷ [])
-    ∷ under 73 (codes "%I" means codes "[hour repr:12]" ∷ [])
-    ∷ under 106 (codes "%j" means codes "[ordinal]" ∷ [])
-    ∷ under 109 (codes "%m" means codes "[month]" ∷ [])
-    ∷ under 77 (codes "%M" means codes "[minute]" ∷ [])
-    ∷ under 83 (codes "%S" means codes "[second]" ∷ [])
-    ∷ under 85 (codes "%U" means codes "[week_number repr:sunday]" ∷ [])
-    ∷ under 86 (codes "%V" means codes "[week_number]" ∷ [])
-    ∷ under 87 (codes "%W" means codes "[week_number repr:monday]" ∷ [])
-    ∷ under 121 (codes "%y" means codes "[year repr:last_two]" ∷ [])
+    under 100 small_d
+    ∷ under 72 capital_h
+    ∷ under 73 capital_i
+    ∷ under 106 small_j
+    ∷ under 109 small_m
+    ∷ under 77 capital_m
+    ∷ under 83 capital_s
+    ∷ under 85 capital_u
+    ∷ under 86 capital_v
+    ∷ under 87 capital_w
+    ∷ under 121 small_y
     ∷ under 89 (within YearsFrom1000 (codes "%Y") (codes "[year]") ∷ [])
     ∷ under 71 (within YearsFrom1000 (codes "%G") (codes "[year base:iso_week]") ∷ [])
-    ∷ under 117 (codes "%u" means codes "[weekday repr:monday]" ∷ [])
-    ∷ under 119 (codes "%w" means codes "[weekday repr:sunday one_indexed:false]" ∷ [])
-    ∷ under 97 (codes "%a" means codes "[weekday repr:short]" ∷ [])
-    ∷ under 65 (codes "%A" means codes "[weekday]" ∷ [])
-    ∷ under 98 (codes "%b" means codes "[month repr:short]" ∷ [])
-    ∷ under 66 (codes "%B" means codes "[month repr:long]" ∷ [])
-    ∷ under 112 (codes "%p" means codes "[period]" ∷ [])
-    ∷ under 37 (codes "%%" means codes "%" ∷ [])
+    ∷ under 117 small_u
+    ∷ under 119 small_w
+    ∷ under 97 small_a
+    ∷ under 65 capital_a
+    ∷ under 98 small_b
+    ∷ under 66 capital_b
+    ∷ under 112 small_p
+    ∷ under 37 percent_sign
     ∷ under 102 (codes "%f" means codes "[subsecond digits:6]" ∷ [])
-    ∷ under 122 (within WholeMinutes (codes "%z") (codes "[offset_hour sign:mandatory][offset_minute]") ∷ [])
+    ∷ under 122 small_z
     ∷ under 58 (within WholeMinutes (codes "%:z") (codes "[offset_hour sign:mandatory]:[offset_minute]") ∷ [])
-    ∷ under 90 (codes "%Z" refused_for ZoneName ∷ [])
-    ∷ under 101 (codes "%e" means codes "[day padding:space]" ∷ [])
-    ∷ under 107 (codes "%k" means codes "[hour padding:space]" ∷ [])
-    ∷ under 108 (codes "%l" means codes "[hour repr:12 padding:space]" ∷ [])
+    ∷ under 90 capital_z
+    ∷ under 101 small_e
+    ∷ under 107 small_k
+    ∷ under 108 small_l
     ∷ under 103 (codes "%g" means codes "[year repr:last_two base:iso_week]" ∷ [])
     ∷ under 67 (within YearsFrom1000 (codes "%C") (codes "[year repr:century]") ∷ [])
-    ∷ under 104 (codes "%h" means codes "[month repr:short]" ∷ [])
-    ∷ under 80 (codes "%P" means codes "[period case:lower]" ∷ [])
-    ∷ under 68 (codes "%D" means codes "[month]/[day]/[year repr:last_two]" ∷ [])
+    ∷ under 104 small_h
+    ∷ under 80 capital_p
+    ∷ under 68 capital_d
     ∷ under 70 (within YearsFrom1000 (codes "%F") (codes "[year]-[month]-[day]") ∷ [])
-    ∷ under 114 (codes "%r" means codes "[hour repr:12]:[minute]:[second] [period]" ∷ [])
-    ∷ under 82 (codes "%R" means codes "[hour]:[minute]" ∷ [])
-    ∷ under 84 (codes "%T" means codes "[hour]:[minute]:[second]" ∷ [])
-    ∷ under 110 (codes "%n" means (10 ∷ []) ∷ [])
-    ∷ under 116 (codes "%t" means (9 ∷ []) ∷ [])
+    ∷ under 114 small_r
+    ∷ under 82 capital_r
+    ∷ under 84 capital_t
+    ∷ under 110 small_n
+    ∷ under 116 small_t
     ∷ under 45 (codes "%-d" means codes "[day padding:none]"
     ∷ codes "%-e" means codes "[day padding:none]"
     ∷ codes "%-H" means codes "[hour padding:none]"
@@ -120,13 +121,7 @@ python_groups =
     ∷ codes "%#c" refused_for Platform
     ∷ codes "%#x" refused_for Platform
     ∷ [])
-    ∷ under 69 (within YearsFrom1000 (codes "%Ec") (codes "[weekday repr:short] [month repr:short] [day padding:space] [hour]:[minute]:[second] [year]")
-    ∷ within YearsFrom1000 (codes "%EC") (codes "[year repr:century]")
-    ∷ codes "%Ex" means codes "[month]/[day]/[year repr:last_two]"
-    ∷ codes "%EX" means codes "[hour]:[minute]:[second]"
-    ∷ codes "%Ey" means codes "[year repr:last_two]"
-    ∷ within YearsFrom1000 (codes "%EY") (codes "[year]")
-    ∷ [])
+    ∷ under 69 capital_e
     ∷ under 79 (codes "%Od" means codes "[day]"
     ∷ codes "%Oe" means codes "[day padding:space]"
     ∷ codes "%OH" means codes "[hour]"
@@ -141,7 +136,7 @@ python_groups =
     ∷ codes "%OW" means codes "[week_number repr:monday]"
     ∷ codes "%Oy" means codes "[year repr:last_two]"
     ∷ [])
-    ∷ under 99 (within YearsFrom1000 (codes "%c") (codes "[weekday repr:short] [month repr:short] [day padding:space] [hour]:[minute]:[second] [year]") ∷ [])
-    ∷ under 120 (codes "%x" means codes "[month]/[day]/[year repr:last_two]" ∷ [])
-    ∷ under 88 (codes "%X" means codes "[hour]:[minute]:[second]" ∷ [])
+    ∷ under 99 small_c
+    ∷ under 120 small_x
+    ∷ under 88 capital_x
     ∷ []

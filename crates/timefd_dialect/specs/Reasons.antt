@@ -76,7 +76,7 @@ sentence VariableFraction = codes "it writes as many digits of a fraction as it 
 sentence VariableOffset = codes "it writes as much of an offset as there is"
 sentence VariableWidth = codes "its width depends on the value"
 sentence WeekOfMonth = codes "it counts weeks or weekdays within the month"
-sentence Width = codes "the directive has a width"
+sentence Width = codes "no component of version 3 has this width"
 sentence ZForUtc = codes "it writes `Z` for an offset of zero"
 sentence ZoneName = codes "it writes the name of a time zone"
 

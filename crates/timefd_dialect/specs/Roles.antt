@@ -1,5 +1,5 @@
 -- What a directive says of a moment, as far as traps depend on it.
-use Rattle.std.specs.Prelude.{ℕ, ◌==◌, ◌-◌, ◌||◌, Bool, true, false, nat_lt, codes, if◌then◌else◌, length}
+use Rattle.std.specs.Prelude.{ℕ, ◌==◌, ◌-◌, ◌||◌, Bool, false, nat_lt, codes, if◌then◌else◌, length}
 use Rattle.std.specs.List.{slice_index}
 use Rattle.std.specs.Str.{bytes_eq}
 use Rattle.timefd_component.specs.Tree.{Text}

@@ -2,6 +2,7 @@
 
 ghost use Rattle.std.specs.Prelude.{◌≡◌, IfOk, string_bytes};
 ghost use Rattle.std.specs.Result.{IfErr};
+ghost use Rattle.timefd_dialect.specs.Asked.{AsksFor};
 ghost use Rattle.timefd_dialect.specs.Back as spec;
 ghost use Rattle.timefd_dialect.specs.Items.{IsSpelledBy};
 
@@ -39,6 +40,7 @@ impl From<AllocError> for FormatError {
 /// The error is `Lacking` with the index of the first bracket, from the left, that the dialect has
 /// no directive for; `Merged` where neighbours run together, so that the dialect would read them
 /// otherwise; or `Memory`.
+#[tactic(auto, using(crate::proofs::FormatLemmas::refused_merged, crate::proofs::FormatLemmas::other_merged))]
 pub fn from_version_three(
     alloc: Global,
     dialect: Dialect,
@@ -49,7 +51,12 @@ pub fn from_version_three(
     ensures same_items { IfOk result (λ answer. IsSpelledBy dialect (string_bytes answer.text)
         description.now) }
 
-    // No row has a text that begins where the bracket begins.
+    // It is the one that the text asks for: the best row for each bracket, and literals quoted.
+    ensures asked { IfOk result (λ answer. AsksFor dialect description.now
+        (string_bytes answer.text)) }
+
+    // Either a bracket has no row, and it is the first of those; or the format that the text asks for
+    // doesn't mean the text.
     ensures fault { IfErr result (spec.IsLackIn dialect description.now) }
 {
     let format = format_of(alloc, dialect, description)?;

@@ -68,6 +68,23 @@ impl Dialect {
         }
     }
 
+    /// All dialects, in the order in which they are named.
+    pub fn all() -> &'static [Dialect]
+        ensures { result.now ≡ spec.all }
+    {
+        &[
+            Dialect::Python,
+            Dialect::C,
+            Dialect::Gnu,
+            Dialect::Chrono,
+            Dialect::Jiff,
+            Dialect::Ruby,
+            Dialect::Java,
+            Dialect::Go,
+            Dialect::Moment,
+        ]
+    }
+
     /// The dialect with this name.
     pub fn named(name: &str) -> Option<Self>
         ensures { result ≡ spec.named name.now }

@@ -3,6 +3,7 @@
 ghost use Rattle.std.specs.Prelude.{◌≡◌, ◌≤◌, length};
 ghost use Rattle.std.specs.List.{prefix_len};
 ghost use Rattle.std.specs.Str.{IsUtf8};
+ghost use Rattle.timefd_dialect.specs.Asked.{are_plain};
 ghost use Rattle.timefd_dialect.specs.Plain as spec;
 ghost use Rattle.timefd_language.specs.Bytes.{is_special};
 ghost use Rattle.timefd_language.specs.Cut.{IsCut};
@@ -28,6 +29,20 @@ fn plain_len(dialect: Dialect, bytes: &[u8]) -> usize
         }
     }
     bytes.len()
+}
+
+/// Whether each byte is literal wherever it occurs.
+pub fn are_plain(dialect: Dialect, bytes: &[u8]) -> bool
+    ensures { result ≡ are_plain dialect bytes.now }
+{
+    let mut rest = bytes;
+    'bytes: while let [byte, after @ ..] = rest {
+        if !is_plain(dialect, *byte) {
+            return false;
+        }
+        rest = after;
+    }
+    true
 }
 
 fn is_plain(dialect: Dialect, byte: u8) -> bool

@@ -72,7 +72,7 @@ pub enum Reason {
     VariableWidth,
     /// It counts weeks or weekdays within the month.
     WeekOfMonth,
-    /// The directive has a width.
+    /// No component of version 3 has this width.
     Width,
     /// It writes `Z` for an offset of zero.
     ZForUtc,
@@ -164,7 +164,7 @@ impl Reason {
             Reason::VariableOffset => "it writes as much of an offset as there is",
             Reason::VariableWidth => "its width depends on the value",
             Reason::WeekOfMonth => "it counts weeks or weekdays within the month",
-            Reason::Width => "the directive has a width",
+            Reason::Width => "no component of version 3 has this width",
             Reason::ZForUtc => "it writes `Z` for an offset of zero",
             Reason::ZoneName => "it writes the name of a time zone",
         }

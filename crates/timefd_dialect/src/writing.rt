@@ -1,17 +1,18 @@
 //! The row whose text of version 3 a description begins with.
 
 ghost use Rattle.std.specs.Prelude.{◌≡◌, MatchOption, None, true};
-ghost use Rattle.timefd_dialect.specs.Back as spec;
+ghost use Rattle.timefd_dialect.specs.Best as spec;
 ghost use Rattle.timefd_dialect.specs.Rows.{entries, entry_of, found_entry, meaning_of};
 ghost use Rattle.timefd_dialect.specs.Tables.{groups_of};
 
 use crate::dialect::Dialect;
 use crate::row::{Row, Verdict};
 
-/// The row with the longest text that the description begins with; the first one, if several are as
-/// long.
+/// The row with the longest text that the description begins with. Of several rows with this text it
+/// is the one with the shortest directive after a `%`, or else the first.
 pub fn row_writing(dialect: Dialect, text: &str) -> Option<&'static Row>
-    ensures { MatchOption result (spec.Lacks dialect text.now)
+    ensures chosen { found_entry result ≡ spec.chosen dialect text.now }
+    ensures there { MatchOption result (spec.Lacks dialect text.now)
         (λ row. spec.writes (entry_of row.now) text.now ≡ true) }
 {
     best_at(dialect, dialect.keys(), text)
@@ -57,11 +58,23 @@ fn best_with(best: Option<&'static Row>, row: &'static Row, text: &str) -> Optio
     }
 }
 
-/// Whether the row's text is longer.
+/// Whether the row's text of version 3 is longer, or is as long and has a shorter directive.
 fn is_better(row: &Row, best: &Row) -> bool
     ensures { result ≡ spec.is_better (entry_of row.now) (entry_of best.now) }
 {
-    written_of(best.verdict).len() < written_of(row.verdict).len()
+    let own = written_of(row.verdict).len();
+    let other = written_of(best.verdict).len();
+    other < own || other == own && is_shorter(row.text.as_bytes(), best.text.as_bytes())
+}
+
+/// Whether a directive begins with a `%`, and is shorter than the other.
+fn is_shorter(directive: &[u8], other: &[u8]) -> bool
+    ensures { result ≡ spec.is_shorter directive.now other.now }
+{
+    match directive {
+        [b'%', ..] => directive.len() < other.len(),
+        _ => false,
+    }
 }
 
 /// The text of version 3 of a row, or nothing if the row is refused.

@@ -6,7 +6,7 @@ use Rattle.std.specs.declared.alloc.Global.{Global}
 use Rattle.std.specs.declared.vec.Vec.{Vec}
 use Rattle.timefd_component.specs.Tree.{Text}
 use Rattle.timefd_dialect.specs.Answers.{IsConverted}
-use Rattle.timefd_dialect.specs.Back.{IsFormatOf, LacksAt}
+use Rattle.timefd_dialect.specs.Back.{IsFormatOf, IsMerged, LacksAt}
 use Rattle.timefd_dialect.specs.Items.{IsSpelledBy}
 use Rattle.timefd_dialect.specs.Reading.{RefusedAt}
 use Rattle.timefd_dialect.specs.Traps.{AreTraps}
@@ -66,11 +66,11 @@ module _ (dialect : Dialect) (text : Text) (r : Result (Vec ℕ Global) AllocErr
         said = said;
       }) is
 
-  pub merged_said : IfOk r (λ object. object.items ≡ merged_object)
+  pub merged_said : IsMerged dialect text → IfOk r (λ object. object.items ≡ merged_object)
       → IfOk r (λ object. Formats dialect text object.items)
-  merged_said is =
+  merged_said merged is =
       IfOk-weaker r _ _ (λ object said. record {
         answer = Err lacks.Merged;
-        is_format = tt;
+        is_format = merged;
         said = said;
       }) is

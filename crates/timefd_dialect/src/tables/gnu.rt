@@ -2,17 +2,17 @@
 
 ghost use Rattle.std.specs.Prelude.{◌≡◌};
 ghost use Rattle.timefd_dialect.specs.Groups.{keys_of, rows_at};
-ghost use Rattle.timefd_dialect.specs.Gnu.{gnu_groups, gnu_marked};
+ghost use Rattle.timefd_dialect.specs.Gnu.{gnu_groups};
 ghost use Rattle.timefd_dialect.specs.Rows.{entries};
 
-use crate::reason::Reason;
 use crate::row::{NotBefore, Range, Row, Verdict, row};
+use crate::tables::gnu_padded::gnu_padded_rows;
 use crate::tables::strftime::{
     CAPITAL_A, CAPITAL_B, CAPITAL_C, CAPITAL_D, CAPITAL_E, CAPITAL_F, CAPITAL_G, CAPITAL_H,
     CAPITAL_I, CAPITAL_M, CAPITAL_N, CAPITAL_O, CAPITAL_P, CAPITAL_R, CAPITAL_S, CAPITAL_T,
-    CAPITAL_U, CAPITAL_V, CAPITAL_W, CAPITAL_X, CAPITAL_Y, CAPITAL_Z, COLON, PERCENT_SIGN, SMALL_A,
-    SMALL_B, SMALL_C, SMALL_D, SMALL_E, SMALL_H, SMALL_J, SMALL_K, SMALL_L, SMALL_M, SMALL_N,
-    SMALL_P, SMALL_Q, SMALL_R, SMALL_S, SMALL_T, SMALL_U, SMALL_W, SMALL_X, SMALL_Y,
+    CAPITAL_U, CAPITAL_V, CAPITAL_W, CAPITAL_X, CAPITAL_Y, CAPITAL_Z, SMALL_A, SMALL_B, SMALL_C,
+    SMALL_D, SMALL_E, SMALL_H, SMALL_J, SMALL_K, SMALL_L, SMALL_M, SMALL_N, SMALL_P, SMALL_Q,
+    SMALL_R, SMALL_S, SMALL_T, SMALL_U, SMALL_W, SMALL_X, SMALL_Y,
 };
 
 /// The rows of the directives with this byte after the `%`, the longest first.
@@ -65,270 +65,20 @@ pub fn gnu_rows(byte: u8) -> &'static [Row]
         b'c' => SMALL_C,
         b'x' => SMALL_X,
         b'X' => CAPITAL_X,
-        _ => marked_rows(byte),
-    }
-}
-
-/// The rows of directives with a flag, a digit or another mark after the `%`, the longest first.
-#[tactic(auto, unfolding(crate::specs::Gnu::gnu_marked))]
-fn marked_rows(byte: u8) -> &'static [Row]
-    ensures { entries result.now ≡ rows_at byte gnu_marked }
-{
-    match byte {
-        b'%' => PERCENT_SIGN,
-        b':' => COLON,
-        b'-' => HYPHEN,
-        b'0' => DIGIT_ZERO,
-        b'1' => DIGIT_ONE,
-        b'2' => DIGIT_TWO,
-        b'3' => DIGIT_THREE,
-        b'4' => DIGIT_FOUR,
-        b'5' => DIGIT_FIVE,
-        b'6' => DIGIT_SIX,
-        b'7' => DIGIT_SEVEN,
-        b'8' => DIGIT_EIGHT,
-        b'9' => DIGIT_NINE,
-        b'_' => UNDERSCORE,
-        b'^' => CARET,
-        b'#' => HASH,
-        _ => &[],
+        _ => gnu_padded_rows(byte),
     }
 }
 
 /// The bytes that select rows.
-#[tactic(auto, unfolding(crate::specs::Gnu::gnu_groups, crate::specs::Gnu::gnu_marked))]
+#[tactic(auto, unfolding(crate::specs::Gnu::gnu_groups, crate::specs::GnuPadded::gnu_padded, crate::specs::GnuMarked::gnu_marked))]
 pub fn gnu_keys() -> &'static [u8]
     ensures { result.now ≡ keys_of gnu_groups }
 {
     KEYS
 }
 
-const KEYS: &[u8] = b"deHkIljmMSUVWygCYGuwaAbBhpPDFrRTntzsNZqEOcxX%:-0123456789_^#";
+const KEYS: &[u8] = b"deHkIljmMSUVWygCYGuwaAbBhpPDFrRTntzsNZqEOcxX-0_%:123456789^#";
 
 const SMALL_G: &[Row] = &[row!("%g" => "[year repr:last_two base:iso_week]")];
 
 const SMALL_Z: &[Row] = &[row!("%z" => "[offset_hour sign:mandatory][offset_minute]")];
-
-const HYPHEN: &[Row] = &[
-    row!("%-:z" => "[offset_hour padding:none sign:mandatory]:[offset_minute]"),
-    row!("%-N" => "[subsecond digits:9]"),
-    row!("%-z" refused VariableWidth),
-    row!("%-d" => "[day padding:none]"),
-    row!("%-e" => "[day padding:none]"),
-    row!("%-H" => "[hour padding:none]"),
-    row!("%-k" => "[hour padding:none]"),
-    row!("%-I" => "[hour repr:12 padding:none]"),
-    row!("%-l" => "[hour repr:12 padding:none]"),
-    row!("%-j" => "[ordinal padding:none]"),
-    row!("%-m" => "[month padding:none]"),
-    row!("%-M" => "[minute padding:none]"),
-    row!("%-S" => "[second padding:none]"),
-    row!("%-U" => "[week_number repr:sunday padding:none]"),
-    row!("%-V" => "[week_number padding:none]"),
-    row!("%-W" => "[week_number repr:monday padding:none]"),
-    row!("%-y" => "[year repr:last_two padding:none]"),
-    row!("%-g" => "[year repr:last_two base:iso_week padding:none]"),
-    row!("%-C" => "[year repr:century padding:none]"),
-    row!("%-Y" => "[year padding:none]"),
-    row!("%-G" => "[year base:iso_week padding:none]" within YearsFrom1),
-    row!("%-u" => "[weekday repr:monday]"),
-    row!("%-w" => "[weekday repr:sunday one_indexed:false]"),
-    row!("%-a" => "[weekday repr:short]"),
-    row!("%-A" => "[weekday]"),
-    row!("%-b" => "[month repr:short]"),
-    row!("%-B" => "[month repr:long]"),
-    row!("%-h" => "[month repr:short]"),
-    row!("%-p" => "[period]"),
-    row!("%-P" => "[period case:lower]"),
-    row!("%-n" => "\n"),
-    row!("%-t" => "\t"),
-    row!("%-s" => "[unix_timestamp]"),
-    row!("%-" refused Flag),
-];
-
-const DIGIT_ZERO: &[Row] = &[
-    row!("%0:z" => "[offset_hour sign:mandatory]:[offset_minute]"),
-    row!("%0N" => "[subsecond digits:9]"),
-    row!("%0z" => "[offset_hour sign:mandatory][offset_minute]"),
-    row!("%0d" => "[day]"),
-    row!("%0e" => "[day]"),
-    row!("%0H" => "[hour]"),
-    row!("%0k" => "[hour]"),
-    row!("%0I" => "[hour repr:12]"),
-    row!("%0l" => "[hour repr:12]"),
-    row!("%0j" => "[ordinal]"),
-    row!("%0m" => "[month]"),
-    row!("%0M" => "[minute]"),
-    row!("%0S" => "[second]"),
-    row!("%0U" => "[week_number repr:sunday]"),
-    row!("%0V" => "[week_number]"),
-    row!("%0W" => "[week_number repr:monday]"),
-    row!("%0y" => "[year repr:last_two]"),
-    row!("%0g" => "[year repr:last_two base:iso_week]"),
-    row!("%0C" => "[year repr:century]"),
-    row!("%0Y" => "[year]"),
-    row!("%0G" => "[year base:iso_week]" within YearsFrom1),
-    row!("%0u" => "[weekday repr:monday]"),
-    row!("%0w" => "[weekday repr:sunday one_indexed:false]"),
-    row!("%0a" => "[weekday repr:short]"),
-    row!("%0A" => "[weekday]"),
-    row!("%0b" => "[month repr:short]"),
-    row!("%0B" => "[month repr:long]"),
-    row!("%0h" => "[month repr:short]"),
-    row!("%0p" => "[period]"),
-    row!("%0P" => "[period case:lower]"),
-    row!("%0n" => "\n"),
-    row!("%0t" => "\t"),
-    row!("%0s" => "[unix_timestamp]"),
-    row!("%0" refused Flag),
-];
-
-const DIGIT_ONE: &[Row] = &[
-    row!("%1N" => "[subsecond digits:1]"),
-    row!("%1" refused Width),
-];
-
-const DIGIT_TWO: &[Row] = &[
-    row!("%2N" => "[subsecond digits:2]"),
-    row!("%2" refused Width),
-];
-
-const DIGIT_THREE: &[Row] = &[
-    row!("%3N" => "[subsecond digits:3]"),
-    row!("%3" refused Width),
-];
-
-const DIGIT_FOUR: &[Row] = &[
-    row!("%4N" => "[subsecond digits:4]"),
-    row!("%4" refused Width),
-];
-
-const DIGIT_FIVE: &[Row] = &[
-    row!("%5N" => "[subsecond digits:5]"),
-    row!("%5" refused Width),
-];
-
-const DIGIT_SIX: &[Row] = &[
-    row!("%6N" => "[subsecond digits:6]"),
-    row!("%6" refused Width),
-];
-
-const DIGIT_SEVEN: &[Row] = &[
-    row!("%7N" => "[subsecond digits:7]"),
-    row!("%7" refused Width),
-];
-
-const DIGIT_EIGHT: &[Row] = &[
-    row!("%8N" => "[subsecond digits:8]"),
-    row!("%8" refused Width),
-];
-
-const DIGIT_NINE: &[Row] = &[
-    row!("%9N" => "[subsecond digits:9]"),
-    row!("%9" refused Width),
-];
-
-const UNDERSCORE: &[Row] = &[
-    row!("%_:z" refused VariableWidth),
-    row!("%_N" refused VariableWidth),
-    row!("%_z" refused VariableWidth),
-    row!("%_d" => "[day padding:space]"),
-    row!("%_e" => "[day padding:space]"),
-    row!("%_H" => "[hour padding:space]"),
-    row!("%_k" => "[hour padding:space]"),
-    row!("%_I" => "[hour repr:12 padding:space]"),
-    row!("%_l" => "[hour repr:12 padding:space]"),
-    row!("%_j" => "[ordinal padding:space]"),
-    row!("%_m" => "[month padding:space]"),
-    row!("%_M" => "[minute padding:space]"),
-    row!("%_S" => "[second padding:space]"),
-    row!("%_U" => "[week_number repr:sunday padding:space]"),
-    row!("%_V" => "[week_number padding:space]"),
-    row!("%_W" => "[week_number repr:monday padding:space]"),
-    row!("%_y" => "[year repr:last_two padding:space]"),
-    row!("%_g" => "[year repr:last_two base:iso_week padding:space]"),
-    row!("%_C" => "[year repr:century padding:space]"),
-    row!("%_Y" => "[year padding:space]"),
-    row!("%_G" => "[year base:iso_week padding:space]" within YearsFrom1),
-    row!("%_u" => "[weekday repr:monday]"),
-    row!("%_w" => "[weekday repr:sunday one_indexed:false]"),
-    row!("%_a" => "[weekday repr:short]"),
-    row!("%_A" => "[weekday]"),
-    row!("%_b" => "[month repr:short]"),
-    row!("%_B" => "[month repr:long]"),
-    row!("%_h" => "[month repr:short]"),
-    row!("%_p" => "[period]"),
-    row!("%_P" => "[period case:lower]"),
-    row!("%_n" => "\n"),
-    row!("%_t" => "\t"),
-    row!("%_s" => "[unix_timestamp]"),
-    row!("%_" refused Flag),
-];
-
-const CARET: &[Row] = &[
-    row!("%^a" refused Capitals),
-    row!("%^A" refused Capitals),
-    row!("%^b" refused Capitals),
-    row!("%^B" refused Capitals),
-    row!("%^h" refused Capitals),
-    row!("%^d" => "[day]"),
-    row!("%^e" => "[day padding:space]"),
-    row!("%^H" => "[hour]"),
-    row!("%^k" => "[hour padding:space]"),
-    row!("%^I" => "[hour repr:12]"),
-    row!("%^l" => "[hour repr:12 padding:space]"),
-    row!("%^j" => "[ordinal]"),
-    row!("%^m" => "[month]"),
-    row!("%^M" => "[minute]"),
-    row!("%^S" => "[second]"),
-    row!("%^U" => "[week_number repr:sunday]"),
-    row!("%^V" => "[week_number]"),
-    row!("%^W" => "[week_number repr:monday]"),
-    row!("%^y" => "[year repr:last_two]"),
-    row!("%^g" => "[year repr:last_two base:iso_week]"),
-    row!("%^C" => "[year repr:century]"),
-    row!("%^Y" => "[year]"),
-    row!("%^G" => "[year base:iso_week]" within YearsFrom1),
-    row!("%^u" => "[weekday repr:monday]"),
-    row!("%^w" => "[weekday repr:sunday one_indexed:false]"),
-    row!("%^p" => "[period]"),
-    row!("%^P" => "[period case:lower]"),
-    row!("%^n" => "\n"),
-    row!("%^t" => "\t"),
-    row!("%^s" => "[unix_timestamp]"),
-    row!("%^" refused Flag),
-];
-
-const HASH: &[Row] = &[
-    row!("%#a" refused Capitals),
-    row!("%#A" refused Capitals),
-    row!("%#b" refused Capitals),
-    row!("%#B" refused Capitals),
-    row!("%#h" refused Capitals),
-    row!("%#p" => "[period case:lower]"),
-    row!("%#d" => "[day]"),
-    row!("%#e" => "[day padding:space]"),
-    row!("%#H" => "[hour]"),
-    row!("%#k" => "[hour padding:space]"),
-    row!("%#I" => "[hour repr:12]"),
-    row!("%#l" => "[hour repr:12 padding:space]"),
-    row!("%#j" => "[ordinal]"),
-    row!("%#m" => "[month]"),
-    row!("%#M" => "[minute]"),
-    row!("%#S" => "[second]"),
-    row!("%#U" => "[week_number repr:sunday]"),
-    row!("%#V" => "[week_number]"),
-    row!("%#W" => "[week_number repr:monday]"),
-    row!("%#y" => "[year repr:last_two]"),
-    row!("%#g" => "[year repr:last_two base:iso_week]"),
-    row!("%#C" => "[year repr:century]"),
-    row!("%#Y" => "[year]"),
-    row!("%#G" => "[year base:iso_week]" within YearsFrom1),
-    row!("%#u" => "[weekday repr:monday]"),
-    row!("%#w" => "[weekday repr:sunday one_indexed:false]"),
-    row!("%#P" => "[period case:lower]"),
-    row!("%#n" => "\n"),
-    row!("%#t" => "\t"),
-    row!("%#s" => "[unix_timestamp]"),
-    row!("%#" refused Flag),
-];

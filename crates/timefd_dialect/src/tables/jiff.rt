@@ -2,17 +2,18 @@
 
 ghost use Rattle.std.specs.Prelude.{◌≡◌};
 ghost use Rattle.timefd_dialect.specs.Groups.{keys_of, rows_at};
-ghost use Rattle.timefd_dialect.specs.Jiff.{jiff_groups, jiff_marked};
+ghost use Rattle.timefd_dialect.specs.Jiff.{jiff_groups};
 ghost use Rattle.timefd_dialect.specs.Rows.{entries};
 
 use crate::reason::Reason;
 use crate::row::{NotBefore, Range, Row, Verdict, row};
+use crate::tables::jiff_padded::jiff_padded_rows;
 use crate::tables::strftime::{
     CAPITAL_A, CAPITAL_B, CAPITAL_D, CAPITAL_F, CAPITAL_G, CAPITAL_H, CAPITAL_I, CAPITAL_M,
     CAPITAL_N, CAPITAL_P, CAPITAL_R, CAPITAL_S, CAPITAL_T, CAPITAL_U, CAPITAL_V, CAPITAL_W,
-    CAPITAL_X, CAPITAL_Y, CAPITAL_Z, PERCENT_SIGN, SMALL_A, SMALL_B, SMALL_D, SMALL_E, SMALL_G,
-    SMALL_H, SMALL_J, SMALL_K, SMALL_L, SMALL_M, SMALL_N, SMALL_P, SMALL_Q, SMALL_T, SMALL_U,
-    SMALL_W, SMALL_Y, SMALL_Z,
+    CAPITAL_X, CAPITAL_Y, CAPITAL_Z, SMALL_A, SMALL_B, SMALL_D, SMALL_E, SMALL_G, SMALL_H, SMALL_J,
+    SMALL_K, SMALL_L, SMALL_M, SMALL_N, SMALL_P, SMALL_Q, SMALL_T, SMALL_U, SMALL_W, SMALL_Y,
+    SMALL_Z,
 };
 
 /// The rows of the directives with this byte after the `%`, the longest first.
@@ -65,367 +66,29 @@ pub fn jiff_rows(byte: u8) -> &'static [Row]
         b'c' => SMALL_C,
         b'x' => SMALL_X,
         b'X' => CAPITAL_X,
-        _ => marked_rows(byte),
-    }
-}
-
-/// The rows of directives with a flag, a digit or another mark after the `%`, the longest first.
-#[tactic(auto, unfolding(crate::specs::Jiff::jiff_marked))]
-fn marked_rows(byte: u8) -> &'static [Row]
-    ensures { entries result.now ≡ rows_at byte jiff_marked }
-{
-    match byte {
-        b'%' => PERCENT_SIGN,
-        b'1' => DIGIT_ONE,
-        b'2' => DIGIT_TWO,
-        b'3' => DIGIT_THREE,
-        b'4' => DIGIT_FOUR,
-        b'5' => DIGIT_FIVE,
-        b'6' => DIGIT_SIX,
-        b'7' => DIGIT_SEVEN,
-        b'8' => DIGIT_EIGHT,
-        b'9' => DIGIT_NINE,
-        b'.' => DOT,
-        b':' => COLON,
-        b'^' => CARET,
-        b'#' => HASH,
-        b'-' => HYPHEN,
-        b'_' => UNDERSCORE,
-        b'0' => DIGIT_ZERO,
-        _ => &[],
+        _ => jiff_padded_rows(byte),
     }
 }
 
 /// The bytes that select rows.
-#[tactic(auto, unfolding(crate::specs::Jiff::jiff_groups, crate::specs::Jiff::jiff_marked))]
+#[tactic(auto, unfolding(crate::specs::Jiff::jiff_groups, crate::specs::JiffPadded::jiff_padded, crate::specs::JiffMarked::jiff_marked))]
 pub fn jiff_keys() -> &'static [u8]
     ensures { result.now ≡ keys_of jiff_groups }
 {
     KEYS
 }
 
-const KEYS: &[u8] = b"deHkIljmMSUVWygCYGuwaAbBhpPDFRTntfrNszZQqcxX%123456789.:^#-_0";
+const KEYS: &[u8] = b"deHkIljmMSUVWygCYGuwaAbBhpPDFRTntfrNszZQqcxX-_0%123456789.:^#";
 
 const CAPITAL_C: &[Row] = &[row!("%C" => "[year repr:century padding:none]")];
 
 const SMALL_F: &[Row] = &[row!("%f" => "[subsecond]")];
 
-const DIGIT_ONE: &[Row] = &[
-    row!("%1f" => "[subsecond digits:1]"),
-    row!("%1N" => "[subsecond digits:1]"),
-    row!("%1" refused Width),
-];
-
-const DIGIT_TWO: &[Row] = &[
-    row!("%2f" => "[subsecond digits:2]"),
-    row!("%2N" => "[subsecond digits:2]"),
-    row!("%2" refused Width),
-];
-
-const DIGIT_THREE: &[Row] = &[
-    row!("%3f" => "[subsecond digits:3]"),
-    row!("%3N" => "[subsecond digits:3]"),
-    row!("%3" refused Width),
-];
-
-const DIGIT_FOUR: &[Row] = &[
-    row!("%4f" => "[subsecond digits:4]"),
-    row!("%4N" => "[subsecond digits:4]"),
-    row!("%4" refused Width),
-];
-
-const DIGIT_FIVE: &[Row] = &[
-    row!("%5f" => "[subsecond digits:5]"),
-    row!("%5N" => "[subsecond digits:5]"),
-    row!("%5" refused Width),
-];
-
-const DIGIT_SIX: &[Row] = &[
-    row!("%6f" => "[subsecond digits:6]"),
-    row!("%6N" => "[subsecond digits:6]"),
-    row!("%6" refused Width),
-];
-
-const DIGIT_SEVEN: &[Row] = &[
-    row!("%7f" => "[subsecond digits:7]"),
-    row!("%7N" => "[subsecond digits:7]"),
-    row!("%7" refused Width),
-];
-
-const DIGIT_EIGHT: &[Row] = &[
-    row!("%8f" => "[subsecond digits:8]"),
-    row!("%8N" => "[subsecond digits:8]"),
-    row!("%8" refused Width),
-];
-
-const DIGIT_NINE: &[Row] = &[
-    row!("%9f" => "[subsecond digits:9]"),
-    row!("%9N" => "[subsecond digits:9]"),
-    row!("%9" refused Width),
-];
-
-const DOT: &[Row] = &[
-    row!("%.1f" => ".[subsecond digits:1]"),
-    row!("%.2f" => ".[subsecond digits:2]"),
-    row!("%.3f" => ".[subsecond digits:3]"),
-    row!("%.4f" => ".[subsecond digits:4]"),
-    row!("%.5f" => ".[subsecond digits:5]"),
-    row!("%.6f" => ".[subsecond digits:6]"),
-    row!("%.7f" => ".[subsecond digits:7]"),
-    row!("%.8f" => ".[subsecond digits:8]"),
-    row!("%.9f" => ".[subsecond digits:9]"),
-    row!("%.f" refused VariableFraction),
-];
-
 const SMALL_R: &[Row] = &[row!("%r" => "[hour repr:12 padding:none]:[minute]:[second] [period]")];
-
-const COLON: &[Row] = &[
-    row!("%:::z" refused VariableOffset),
-    row!("%::z" => "[offset_hour sign:mandatory]:[offset_minute]:[offset_second]"),
-    row!("%:z" => "[offset_hour \
-        sign:mandatory]:[offset_minute]" within WholeMinutes),
-    row!("%:Q" refused ZoneName),
-];
 
 const SMALL_S: &[Row] = &[row!("%s" => "[unix_timestamp]" within From1970)];
 
 const CAPITAL_Q: &[Row] = &[row!("%Q" refused ZoneName)];
-
-const CARET: &[Row] = &[
-    row!("%^:z" => "[offset_hour \
-        sign:mandatory]:[offset_minute]" within WholeMinutes),
-    row!("%^c" refused Capitals),
-    row!("%^a" refused Capitals),
-    row!("%^A" refused Capitals),
-    row!("%^b" refused Capitals),
-    row!("%^B" refused Capitals),
-    row!("%^h" refused Capitals),
-    row!("%^P" => "[period]"),
-    row!("%^d" => "[day]"),
-    row!("%^e" => "[day padding:space]"),
-    row!("%^H" => "[hour]"),
-    row!("%^k" => "[hour padding:space]"),
-    row!("%^I" => "[hour repr:12]"),
-    row!("%^l" => "[hour repr:12 padding:space]"),
-    row!("%^j" => "[ordinal]"),
-    row!("%^m" => "[month]"),
-    row!("%^M" => "[minute]"),
-    row!("%^S" => "[second]"),
-    row!("%^U" => "[week_number repr:sunday]"),
-    row!("%^V" => "[week_number]"),
-    row!("%^W" => "[week_number repr:monday]"),
-    row!("%^y" => "[year repr:last_two]"),
-    row!("%^g" => "[year repr:last_two base:iso_week]" within YearsFrom1),
-    row!("%^C" => "[year repr:century padding:none]"),
-    row!("%^Y" => "[year]"),
-    row!("%^G" => "[year base:iso_week]" within YearsFrom1),
-    row!("%^u" => "[weekday repr:monday]"),
-    row!("%^w" => "[weekday repr:sunday one_indexed:false]"),
-    row!("%^p" => "[period]"),
-    row!("%^D" => "[month]/[day]/[year repr:last_two]"),
-    row!("%^F" => "[year]-[month]-[day]"),
-    row!("%^R" => "[hour]:[minute]"),
-    row!("%^T" => "[hour]:[minute]:[second]"),
-    row!("%^%" => "%"),
-    row!("%^n" => "\n"),
-    row!("%^t" => "\t"),
-    row!("%^r" => "[hour repr:12 padding:none]:[minute]:[second] [period]"),
-    row!("%^x" => "[year] M[month] [day padding:none]"),
-    row!("%^X" => "[hour]:[minute]:[second]"),
-    row!("%^s" => "[unix_timestamp]" within From1970),
-    row!("%^z" => "[offset_hour sign:mandatory][offset_minute]" within WholeMinutes),
-    row!("%^" refused Flag),
-];
-
-const HASH: &[Row] = &[
-    row!("%#:z" => "[offset_hour \
-        sign:mandatory]:[offset_minute]" within WholeMinutes),
-    row!("%#p" => "[period case:lower]"),
-    row!("%#d" => "[day]"),
-    row!("%#e" => "[day padding:space]"),
-    row!("%#H" => "[hour]"),
-    row!("%#k" => "[hour padding:space]"),
-    row!("%#I" => "[hour repr:12]"),
-    row!("%#l" => "[hour repr:12 padding:space]"),
-    row!("%#j" => "[ordinal]"),
-    row!("%#m" => "[month]"),
-    row!("%#M" => "[minute]"),
-    row!("%#S" => "[second]"),
-    row!("%#U" => "[week_number repr:sunday]"),
-    row!("%#V" => "[week_number]"),
-    row!("%#W" => "[week_number repr:monday]"),
-    row!("%#y" => "[year repr:last_two]"),
-    row!("%#g" => "[year repr:last_two base:iso_week]" within YearsFrom1),
-    row!("%#C" => "[year repr:century padding:none]"),
-    row!("%#Y" => "[year]"),
-    row!("%#G" => "[year base:iso_week]" within YearsFrom1),
-    row!("%#u" => "[weekday repr:monday]"),
-    row!("%#w" => "[weekday repr:sunday one_indexed:false]"),
-    row!("%#a" => "[weekday repr:short]"),
-    row!("%#A" => "[weekday]"),
-    row!("%#b" => "[month repr:short]"),
-    row!("%#B" => "[month repr:long]"),
-    row!("%#h" => "[month repr:short]"),
-    row!("%#P" => "[period case:lower]"),
-    row!("%#D" => "[month]/[day]/[year repr:last_two]"),
-    row!("%#F" => "[year]-[month]-[day]"),
-    row!("%#R" => "[hour]:[minute]"),
-    row!("%#T" => "[hour]:[minute]:[second]"),
-    row!("%#%" => "%"),
-    row!("%#n" => "\n"),
-    row!("%#t" => "\t"),
-    row!("%#c" => "[year] M[month] [day padding:none], [weekday repr:short] \
-        [hour]:[minute]:[second]"),
-    row!("%#r" => "[hour repr:12 padding:none]:[minute]:[second] [period]"),
-    row!("%#x" => "[year] M[month] [day padding:none]"),
-    row!("%#X" => "[hour]:[minute]:[second]"),
-    row!("%#s" => "[unix_timestamp]" within From1970),
-    row!("%#z" => "[offset_hour sign:mandatory][offset_minute]" within WholeMinutes),
-    row!("%#" refused Flag),
-];
-
-const HYPHEN: &[Row] = &[
-    row!("%-:z" => "[offset_hour \
-        sign:mandatory]:[offset_minute]" within WholeMinutes),
-    row!("%-F" => "[year]-[month]-[day]"),
-    row!("%-R" => "[hour]:[minute]"),
-    row!("%-T" => "[hour]:[minute]:[second]"),
-    row!("%-D" => "[month]/[day]/[year repr:last_two]"),
-    row!("%-d" => "[day padding:none]"),
-    row!("%-e" => "[day padding:none]"),
-    row!("%-H" => "[hour padding:none]"),
-    row!("%-k" => "[hour padding:none]"),
-    row!("%-I" => "[hour repr:12 padding:none]"),
-    row!("%-l" => "[hour repr:12 padding:none]"),
-    row!("%-j" => "[ordinal padding:none]"),
-    row!("%-m" => "[month padding:none]"),
-    row!("%-M" => "[minute padding:none]"),
-    row!("%-S" => "[second padding:none]"),
-    row!("%-U" => "[week_number repr:sunday padding:none]"),
-    row!("%-V" => "[week_number padding:none]"),
-    row!("%-W" => "[week_number repr:monday padding:none]"),
-    row!("%-y" => "[year repr:last_two padding:none]"),
-    row!("%-g" => "[year repr:last_two base:iso_week \
-        padding:none]" within YearsFrom1),
-    row!("%-C" => "[year repr:century padding:none]"),
-    row!("%-Y" => "[year padding:none]"),
-    row!("%-G" => "[year base:iso_week padding:none]" within YearsFrom1),
-    row!("%-u" => "[weekday repr:monday]"),
-    row!("%-w" => "[weekday repr:sunday one_indexed:false]"),
-    row!("%-a" => "[weekday repr:short]"),
-    row!("%-A" => "[weekday]"),
-    row!("%-b" => "[month repr:short]"),
-    row!("%-B" => "[month repr:long]"),
-    row!("%-h" => "[month repr:short]"),
-    row!("%-p" => "[period]"),
-    row!("%-P" => "[period case:lower]"),
-    row!("%-%" => "%"),
-    row!("%-n" => "\n"),
-    row!("%-t" => "\t"),
-    row!("%-c" => "[year] M[month] [day padding:none], [weekday repr:short] \
-        [hour]:[minute]:[second]"),
-    row!("%-r" => "[hour repr:12 padding:none]:[minute]:[second] [period]"),
-    row!("%-x" => "[year] M[month] [day padding:none]"),
-    row!("%-X" => "[hour]:[minute]:[second]"),
-    row!("%-s" => "[unix_timestamp]" within From1970),
-    row!("%-z" => "[offset_hour sign:mandatory][offset_minute]" within WholeMinutes),
-    row!("%-" refused Flag),
-];
-
-const UNDERSCORE: &[Row] = &[
-    row!("%_:z" => "[offset_hour \
-        sign:mandatory]:[offset_minute]" within WholeMinutes),
-    row!("%_F" => "[year]-[month]-[day]"),
-    row!("%_R" => "[hour]:[minute]"),
-    row!("%_T" => "[hour]:[minute]:[second]"),
-    row!("%_D" => "[month]/[day]/[year repr:last_two]"),
-    row!("%_d" => "[day padding:space]"),
-    row!("%_e" => "[day padding:space]"),
-    row!("%_H" => "[hour padding:space]"),
-    row!("%_k" => "[hour padding:space]"),
-    row!("%_I" => "[hour repr:12 padding:space]"),
-    row!("%_l" => "[hour repr:12 padding:space]"),
-    row!("%_j" => "[ordinal padding:space]"),
-    row!("%_m" => "[month padding:space]"),
-    row!("%_M" => "[minute padding:space]"),
-    row!("%_S" => "[second padding:space]"),
-    row!("%_U" => "[week_number repr:sunday padding:space]"),
-    row!("%_V" => "[week_number padding:space]"),
-    row!("%_W" => "[week_number repr:monday padding:space]"),
-    row!("%_y" => "[year repr:last_two padding:space]"),
-    row!("%_g" => "[year repr:last_two base:iso_week \
-        padding:space]" within YearsFrom1),
-    row!("%_C" => "[year repr:century padding:none]"),
-    row!("%_Y" => "[year padding:space]"),
-    row!("%_G" => "[year base:iso_week padding:space]" within YearsFrom1),
-    row!("%_u" => "[weekday repr:monday]"),
-    row!("%_w" => "[weekday repr:sunday one_indexed:false]"),
-    row!("%_a" => "[weekday repr:short]"),
-    row!("%_A" => "[weekday]"),
-    row!("%_b" => "[month repr:short]"),
-    row!("%_B" => "[month repr:long]"),
-    row!("%_h" => "[month repr:short]"),
-    row!("%_p" => "[period]"),
-    row!("%_P" => "[period case:lower]"),
-    row!("%_%" => "%"),
-    row!("%_n" => "\n"),
-    row!("%_t" => "\t"),
-    row!("%_c" => "[year] M[month] [day padding:none], [weekday repr:short] \
-        [hour]:[minute]:[second]"),
-    row!("%_r" => "[hour repr:12 padding:none]:[minute]:[second] [period]"),
-    row!("%_x" => "[year] M[month] [day padding:none]"),
-    row!("%_X" => "[hour]:[minute]:[second]"),
-    row!("%_s" => "[unix_timestamp]" within From1970),
-    row!("%_z" => "[offset_hour sign:mandatory][offset_minute]" within WholeMinutes),
-    row!("%_" refused Flag),
-];
-
-const DIGIT_ZERO: &[Row] = &[
-    row!("%0:z" => "[offset_hour \
-        sign:mandatory]:[offset_minute]" within WholeMinutes),
-    row!("%0d" => "[day]"),
-    row!("%0e" => "[day]"),
-    row!("%0H" => "[hour]"),
-    row!("%0k" => "[hour]"),
-    row!("%0I" => "[hour repr:12]"),
-    row!("%0l" => "[hour repr:12]"),
-    row!("%0j" => "[ordinal]"),
-    row!("%0m" => "[month]"),
-    row!("%0M" => "[minute]"),
-    row!("%0S" => "[second]"),
-    row!("%0U" => "[week_number repr:sunday]"),
-    row!("%0V" => "[week_number]"),
-    row!("%0W" => "[week_number repr:monday]"),
-    row!("%0y" => "[year repr:last_two]"),
-    row!("%0g" => "[year repr:last_two base:iso_week]" within YearsFrom1),
-    row!("%0C" => "[year repr:century padding:none]"),
-    row!("%0Y" => "[year]"),
-    row!("%0G" => "[year base:iso_week]" within YearsFrom1),
-    row!("%0u" => "[weekday repr:monday]"),
-    row!("%0w" => "[weekday repr:sunday one_indexed:false]"),
-    row!("%0a" => "[weekday repr:short]"),
-    row!("%0A" => "[weekday]"),
-    row!("%0b" => "[month repr:short]"),
-    row!("%0B" => "[month repr:long]"),
-    row!("%0h" => "[month repr:short]"),
-    row!("%0p" => "[period]"),
-    row!("%0P" => "[period case:lower]"),
-    row!("%0D" => "[month]/[day]/[year repr:last_two]"),
-    row!("%0F" => "[year]-[month]-[day]"),
-    row!("%0R" => "[hour]:[minute]"),
-    row!("%0T" => "[hour]:[minute]:[second]"),
-    row!("%0%" => "%"),
-    row!("%0n" => "\n"),
-    row!("%0t" => "\t"),
-    row!("%0c" => "[year] M[month] [day padding:none], [weekday repr:short] \
-        [hour]:[minute]:[second]"),
-    row!("%0r" => "[hour repr:12 padding:none]:[minute]:[second] [period]"),
-    row!("%0x" => "[year] M[month] [day padding:none]"),
-    row!("%0X" => "[hour]:[minute]:[second]"),
-    row!("%0s" => "[unix_timestamp]" within From1970),
-    row!("%0z" => "[offset_hour sign:mandatory][offset_minute]" within WholeMinutes),
-    row!("%0" refused Flag),
-];
 
 const SMALL_C: &[Row] = &[
     row!("%c" => "[year] M[month] [day padding:none], [weekday repr:short] \

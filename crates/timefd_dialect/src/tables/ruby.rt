@@ -2,17 +2,18 @@
 
 ghost use Rattle.std.specs.Prelude.{◌≡◌};
 ghost use Rattle.timefd_dialect.specs.Groups.{keys_of, rows_at};
-ghost use Rattle.timefd_dialect.specs.Ruby.{ruby_groups, ruby_marked};
+ghost use Rattle.timefd_dialect.specs.Ruby.{ruby_groups};
 ghost use Rattle.timefd_dialect.specs.Rows.{entries};
 
 use crate::reason::Reason;
 use crate::row::{NotBefore, Range, Row, Verdict, row};
+use crate::tables::ruby_padded::ruby_padded_rows;
 use crate::tables::strftime::{
     CAPITAL_A, CAPITAL_B, CAPITAL_C, CAPITAL_D, CAPITAL_F, CAPITAL_G, CAPITAL_H, CAPITAL_I,
     CAPITAL_M, CAPITAL_N, CAPITAL_O, CAPITAL_P, CAPITAL_R, CAPITAL_S, CAPITAL_T, CAPITAL_U,
-    CAPITAL_V, CAPITAL_W, CAPITAL_X, CAPITAL_Y, CAPITAL_Z, COLON, PERCENT_SIGN, SMALL_A, SMALL_B,
-    SMALL_D, SMALL_E, SMALL_G, SMALL_H, SMALL_J, SMALL_K, SMALL_L, SMALL_M, SMALL_N, SMALL_P,
-    SMALL_R, SMALL_S, SMALL_T, SMALL_U, SMALL_W, SMALL_X, SMALL_Y,
+    CAPITAL_V, CAPITAL_W, CAPITAL_X, CAPITAL_Y, CAPITAL_Z, SMALL_A, SMALL_B, SMALL_D, SMALL_E,
+    SMALL_G, SMALL_H, SMALL_J, SMALL_K, SMALL_L, SMALL_M, SMALL_N, SMALL_P, SMALL_R, SMALL_S,
+    SMALL_T, SMALL_U, SMALL_W, SMALL_X, SMALL_Y,
 };
 
 /// The rows of the directives with this byte after the `%`, the longest first.
@@ -67,335 +68,25 @@ pub fn ruby_rows(byte: u8) -> &'static [Row]
         b'c' => SMALL_C,
         b'x' => SMALL_X,
         b'X' => CAPITAL_X,
-        _ => marked_rows(byte),
-    }
-}
-
-/// The rows of directives with a flag, a digit or another mark after the `%`, the longest first.
-#[tactic(auto, unfolding(crate::specs::Ruby::ruby_marked))]
-fn marked_rows(byte: u8) -> &'static [Row]
-    ensures { entries result.now ≡ rows_at byte ruby_marked }
-{
-    match byte {
-        b'%' => PERCENT_SIGN,
-        b':' => COLON,
-        b'1' => DIGIT_ONE,
-        b'2' => DIGIT_TWO,
-        b'3' => DIGIT_THREE,
-        b'4' => DIGIT_FOUR,
-        b'5' => DIGIT_FIVE,
-        b'6' => DIGIT_SIX,
-        b'7' => DIGIT_SEVEN,
-        b'8' => DIGIT_EIGHT,
-        b'9' => DIGIT_NINE,
-        b'0' => DIGIT_ZERO,
-        b'-' => HYPHEN,
-        b'_' => UNDERSCORE,
-        b'^' => CARET,
-        b'#' => HASH,
-        b'+' => PLUS_SIGN,
-        _ => &[],
+        _ => ruby_padded_rows(byte),
     }
 }
 
 /// The bytes that select rows.
-#[tactic(auto, unfolding(crate::specs::Ruby::ruby_groups, crate::specs::Ruby::ruby_marked))]
+#[tactic(auto, unfolding(crate::specs::Ruby::ruby_groups, crate::specs::RubyPadded::ruby_padded, crate::specs::RubyMarked::ruby_marked))]
 pub fn ruby_keys() -> &'static [u8]
     ensures { result.now ≡ keys_of ruby_groups }
 {
     KEYS
 }
 
-const KEYS: &[u8] = b"deHkIljmMSUVWygCYGuwaAbBhpPDFrRTntzsLNZvQEOcxX%:1234567890-_^#+";
+const KEYS: &[u8] = b"deHkIljmMSUVWygCYGuwaAbBhpPDFrRTntzsLNZvQEOcxX0-_%:123456789^#+";
 
 const SMALL_Z: &[Row] = &[row!("%z" => "[offset_hour sign:mandatory][offset_minute]")];
 
 const CAPITAL_L: &[Row] = &[row!("%L" => "[subsecond digits:3]")];
 
-const DIGIT_ONE: &[Row] = &[
-    row!("%1L" => "[subsecond digits:1]"),
-    row!("%1N" => "[subsecond digits:1]"),
-    row!("%1" refused Width),
-];
-
-const DIGIT_TWO: &[Row] = &[
-    row!("%2L" => "[subsecond digits:2]"),
-    row!("%2N" => "[subsecond digits:2]"),
-    row!("%2" refused Width),
-];
-
-const DIGIT_THREE: &[Row] = &[
-    row!("%3L" => "[subsecond digits:3]"),
-    row!("%3N" => "[subsecond digits:3]"),
-    row!("%3" refused Width),
-];
-
-const DIGIT_FOUR: &[Row] = &[
-    row!("%4L" => "[subsecond digits:4]"),
-    row!("%4N" => "[subsecond digits:4]"),
-    row!("%4" refused Width),
-];
-
-const DIGIT_FIVE: &[Row] = &[
-    row!("%5L" => "[subsecond digits:5]"),
-    row!("%5N" => "[subsecond digits:5]"),
-    row!("%5" refused Width),
-];
-
-const DIGIT_SIX: &[Row] = &[
-    row!("%6L" => "[subsecond digits:6]"),
-    row!("%6N" => "[subsecond digits:6]"),
-    row!("%6" refused Width),
-];
-
-const DIGIT_SEVEN: &[Row] = &[
-    row!("%7L" => "[subsecond digits:7]"),
-    row!("%7N" => "[subsecond digits:7]"),
-    row!("%7" refused Width),
-];
-
-const DIGIT_EIGHT: &[Row] = &[
-    row!("%8L" => "[subsecond digits:8]"),
-    row!("%8N" => "[subsecond digits:8]"),
-    row!("%8" refused Width),
-];
-
-const DIGIT_NINE: &[Row] = &[
-    row!("%9L" => "[subsecond digits:9]"),
-    row!("%9N" => "[subsecond digits:9]"),
-    row!("%9" refused Width),
-];
-
-const DIGIT_ZERO: &[Row] = &[
-    row!("%0:z" => "[offset_hour sign:mandatory]:[offset_minute]"),
-    row!("%0z" => "[offset_hour sign:mandatory][offset_minute]"),
-    row!("%0d" => "[day]"),
-    row!("%0e" => "[day]"),
-    row!("%0H" => "[hour]"),
-    row!("%0k" => "[hour]"),
-    row!("%0I" => "[hour repr:12]"),
-    row!("%0l" => "[hour repr:12]"),
-    row!("%0j" => "[ordinal]"),
-    row!("%0m" => "[month]"),
-    row!("%0M" => "[minute]"),
-    row!("%0S" => "[second]"),
-    row!("%0U" => "[week_number repr:sunday]"),
-    row!("%0V" => "[week_number]"),
-    row!("%0W" => "[week_number repr:monday]"),
-    row!("%0y" => "[year repr:last_two]"),
-    row!("%0g" => "[year repr:last_two base:iso_week]" within YearsFrom1),
-    row!("%0C" => "[year repr:century]"),
-    row!("%0Y" => "[year]"),
-    row!("%0G" => "[year base:iso_week]" within YearsFrom1),
-    row!("%0u" => "[weekday repr:monday]"),
-    row!("%0w" => "[weekday repr:sunday one_indexed:false]"),
-    row!("%0a" => "[weekday repr:short]"),
-    row!("%0A" => "[weekday]"),
-    row!("%0b" => "[month repr:short]"),
-    row!("%0B" => "[month repr:long]"),
-    row!("%0h" => "[month repr:short]"),
-    row!("%0p" => "[period]"),
-    row!("%0P" => "[period case:lower]"),
-    row!("%0c" => "[weekday repr:short] [month repr:short] [day padding:space] \
-        [hour]:[minute]:[second] [year]"),
-    row!("%0D" => "[month]/[day]/[year repr:last_two]"),
-    row!("%0F" => "[year]-[month]-[day]"),
-    row!("%0r" => "[hour repr:12]:[minute]:[second] [period]"),
-    row!("%0R" => "[hour]:[minute]"),
-    row!("%0T" => "[hour]:[minute]:[second]"),
-    row!("%0x" => "[month]/[day]/[year repr:last_two]"),
-    row!("%0X" => "[hour]:[minute]:[second]"),
-    row!("%0%" => "%"),
-    row!("%0n" => "\n"),
-    row!("%0t" => "\t"),
-    row!("%0s" => "[unix_timestamp]"),
-    row!("%0" refused Flag),
-];
-
-const HYPHEN: &[Row] = &[
-    row!("%-:z" refused Flag),
-    row!("%-z" refused Flag),
-    row!("%-d" => "[day padding:none]"),
-    row!("%-e" => "[day padding:none]"),
-    row!("%-H" => "[hour padding:none]"),
-    row!("%-k" => "[hour padding:none]"),
-    row!("%-I" => "[hour repr:12 padding:none]"),
-    row!("%-l" => "[hour repr:12 padding:none]"),
-    row!("%-j" => "[ordinal padding:none]"),
-    row!("%-m" => "[month padding:none]"),
-    row!("%-M" => "[minute padding:none]"),
-    row!("%-S" => "[second padding:none]"),
-    row!("%-U" => "[week_number repr:sunday padding:none]"),
-    row!("%-V" => "[week_number padding:none]"),
-    row!("%-W" => "[week_number repr:monday padding:none]"),
-    row!("%-y" => "[year repr:last_two padding:none]"),
-    row!("%-g" => "[year repr:last_two base:iso_week \
-        padding:none]" within YearsFrom1),
-    row!("%-C" => "[year repr:century padding:none]"),
-    row!("%-Y" => "[year padding:none]"),
-    row!("%-G" => "[year base:iso_week padding:none]" within YearsFrom1),
-    row!("%-u" => "[weekday repr:monday]"),
-    row!("%-w" => "[weekday repr:sunday one_indexed:false]"),
-    row!("%-a" => "[weekday repr:short]"),
-    row!("%-A" => "[weekday]"),
-    row!("%-b" => "[month repr:short]"),
-    row!("%-B" => "[month repr:long]"),
-    row!("%-h" => "[month repr:short]"),
-    row!("%-p" => "[period]"),
-    row!("%-P" => "[period case:lower]"),
-    row!("%-c" => "[weekday repr:short] [month repr:short] [day padding:space] \
-        [hour]:[minute]:[second] [year]"),
-    row!("%-D" => "[month]/[day]/[year repr:last_two]"),
-    row!("%-F" => "[year]-[month]-[day]"),
-    row!("%-r" => "[hour repr:12]:[minute]:[second] [period]"),
-    row!("%-R" => "[hour]:[minute]"),
-    row!("%-T" => "[hour]:[minute]:[second]"),
-    row!("%-x" => "[month]/[day]/[year repr:last_two]"),
-    row!("%-X" => "[hour]:[minute]:[second]"),
-    row!("%-%" => "%"),
-    row!("%-n" => "\n"),
-    row!("%-t" => "\t"),
-    row!("%-s" => "[unix_timestamp]"),
-    row!("%-" refused Flag),
-];
-
-const UNDERSCORE: &[Row] = &[
-    row!("%_:z" refused Flag),
-    row!("%_z" refused Flag),
-    row!("%_d" => "[day padding:space]"),
-    row!("%_e" => "[day padding:space]"),
-    row!("%_H" => "[hour padding:space]"),
-    row!("%_k" => "[hour padding:space]"),
-    row!("%_I" => "[hour repr:12 padding:space]"),
-    row!("%_l" => "[hour repr:12 padding:space]"),
-    row!("%_j" => "[ordinal padding:space]"),
-    row!("%_m" => "[month padding:space]"),
-    row!("%_M" => "[minute padding:space]"),
-    row!("%_S" => "[second padding:space]"),
-    row!("%_U" => "[week_number repr:sunday padding:space]"),
-    row!("%_V" => "[week_number padding:space]"),
-    row!("%_W" => "[week_number repr:monday padding:space]"),
-    row!("%_y" => "[year repr:last_two padding:space]"),
-    row!("%_g" => "[year repr:last_two base:iso_week \
-        padding:space]" within YearsFrom1),
-    row!("%_C" => "[year repr:century padding:space]"),
-    row!("%_Y" => "[year padding:space]"),
-    row!("%_G" => "[year base:iso_week padding:space]" within YearsFrom1),
-    row!("%_u" => "[weekday repr:monday]"),
-    row!("%_w" => "[weekday repr:sunday one_indexed:false]"),
-    row!("%_a" => "[weekday repr:short]"),
-    row!("%_A" => "[weekday]"),
-    row!("%_b" => "[month repr:short]"),
-    row!("%_B" => "[month repr:long]"),
-    row!("%_h" => "[month repr:short]"),
-    row!("%_p" => "[period]"),
-    row!("%_P" => "[period case:lower]"),
-    row!("%_c" => "[weekday repr:short] [month repr:short] [day padding:space] \
-        [hour]:[minute]:[second] [year]"),
-    row!("%_D" => "[month]/[day]/[year repr:last_two]"),
-    row!("%_F" => "[year]-[month]-[day]"),
-    row!("%_r" => "[hour repr:12]:[minute]:[second] [period]"),
-    row!("%_R" => "[hour]:[minute]"),
-    row!("%_T" => "[hour]:[minute]:[second]"),
-    row!("%_x" => "[month]/[day]/[year repr:last_two]"),
-    row!("%_X" => "[hour]:[minute]:[second]"),
-    row!("%_%" => "%"),
-    row!("%_n" => "\n"),
-    row!("%_t" => "\t"),
-    row!("%_s" => "[unix_timestamp]"),
-    row!("%_" refused Flag),
-];
-
 const SMALL_V: &[Row] = &[row!("%v" refused Capitals)];
-
-const CARET: &[Row] = &[
-    row!("%^c" refused Capitals),
-    row!("%^a" refused Capitals),
-    row!("%^A" refused Capitals),
-    row!("%^b" refused Capitals),
-    row!("%^B" refused Capitals),
-    row!("%^h" refused Capitals),
-    row!("%^P" => "[period]"),
-    row!("%^d" => "[day]"),
-    row!("%^e" => "[day padding:space]"),
-    row!("%^H" => "[hour]"),
-    row!("%^k" => "[hour padding:space]"),
-    row!("%^I" => "[hour repr:12]"),
-    row!("%^l" => "[hour repr:12 padding:space]"),
-    row!("%^j" => "[ordinal]"),
-    row!("%^m" => "[month]"),
-    row!("%^M" => "[minute]"),
-    row!("%^S" => "[second]"),
-    row!("%^U" => "[week_number repr:sunday]"),
-    row!("%^V" => "[week_number]"),
-    row!("%^W" => "[week_number repr:monday]"),
-    row!("%^y" => "[year repr:last_two]"),
-    row!("%^g" => "[year repr:last_two base:iso_week]" within YearsFrom1),
-    row!("%^C" => "[year repr:century]"),
-    row!("%^Y" => "[year]"),
-    row!("%^G" => "[year base:iso_week]" within YearsFrom1),
-    row!("%^u" => "[weekday repr:monday]"),
-    row!("%^w" => "[weekday repr:sunday one_indexed:false]"),
-    row!("%^p" => "[period]"),
-    row!("%^D" => "[month]/[day]/[year repr:last_two]"),
-    row!("%^F" => "[year]-[month]-[day]"),
-    row!("%^r" => "[hour repr:12]:[minute]:[second] [period]"),
-    row!("%^R" => "[hour]:[minute]"),
-    row!("%^T" => "[hour]:[minute]:[second]"),
-    row!("%^x" => "[month]/[day]/[year repr:last_two]"),
-    row!("%^X" => "[hour]:[minute]:[second]"),
-    row!("%^%" => "%"),
-    row!("%^n" => "\n"),
-    row!("%^t" => "\t"),
-    row!("%^s" => "[unix_timestamp]"),
-    row!("%^" refused Flag),
-];
-
-const HASH: &[Row] = &[
-    row!("%#a" refused Capitals),
-    row!("%#A" refused Capitals),
-    row!("%#b" refused Capitals),
-    row!("%#B" refused Capitals),
-    row!("%#h" refused Capitals),
-    row!("%#p" => "[period case:lower]"),
-    row!("%#P" => "[period]"),
-    row!("%#d" => "[day]"),
-    row!("%#e" => "[day padding:space]"),
-    row!("%#H" => "[hour]"),
-    row!("%#k" => "[hour padding:space]"),
-    row!("%#I" => "[hour repr:12]"),
-    row!("%#l" => "[hour repr:12 padding:space]"),
-    row!("%#j" => "[ordinal]"),
-    row!("%#m" => "[month]"),
-    row!("%#M" => "[minute]"),
-    row!("%#S" => "[second]"),
-    row!("%#U" => "[week_number repr:sunday]"),
-    row!("%#V" => "[week_number]"),
-    row!("%#W" => "[week_number repr:monday]"),
-    row!("%#y" => "[year repr:last_two]"),
-    row!("%#g" => "[year repr:last_two base:iso_week]" within YearsFrom1),
-    row!("%#C" => "[year repr:century]"),
-    row!("%#Y" => "[year]"),
-    row!("%#G" => "[year base:iso_week]" within YearsFrom1),
-    row!("%#u" => "[weekday repr:monday]"),
-    row!("%#w" => "[weekday repr:sunday one_indexed:false]"),
-    row!("%#c" => "[weekday repr:short] [month repr:short] [day padding:space] \
-        [hour]:[minute]:[second] [year]"),
-    row!("%#D" => "[month]/[day]/[year repr:last_two]"),
-    row!("%#F" => "[year]-[month]-[day]"),
-    row!("%#r" => "[hour repr:12]:[minute]:[second] [period]"),
-    row!("%#R" => "[hour]:[minute]"),
-    row!("%#T" => "[hour]:[minute]:[second]"),
-    row!("%#x" => "[month]/[day]/[year repr:last_two]"),
-    row!("%#X" => "[hour]:[minute]:[second]"),
-    row!("%#%" => "%"),
-    row!("%#n" => "\n"),
-    row!("%#t" => "\t"),
-    row!("%#s" => "[unix_timestamp]"),
-    row!("%#" refused Flag),
-];
-
-const PLUS_SIGN: &[Row] = &[row!("%+" refused DatetimeOnly)];
 
 const CAPITAL_Q: &[Row] = &[row!("%Q" => "[unix_timestamp precision:millisecond]" within From1970)];
 

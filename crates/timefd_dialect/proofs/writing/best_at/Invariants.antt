@@ -1,5 +1,5 @@
 use Rattle.std.proofs.Common.{◌≡◌, None, drop}
-use Rattle.timefd_dialect.specs.Back.{best_at}
+use Rattle.timefd_dialect.specs.Best.{best_at}
 use Rattle.timefd_dialect.specs.Rows.{found_entry}
 use Rattle.timefd_dialect.specs.Tables.{groups_of}
 use Rattle.timefd_dialect.proofs.writing.best_at.Given as goal

@@ -1,5 +1,5 @@
 use Rattle.std.proofs.Common.{◌≡◌, drop}
-use Rattle.timefd_dialect.specs.Back.{best_from}
+use Rattle.timefd_dialect.specs.Best.{best_from}
 use Rattle.timefd_dialect.specs.Rows.{entries, found_entry}
 use Rattle.timefd_dialect.proofs.writing.best_from.Given as goal
 
