@@ -77,6 +77,11 @@ IsWritten e (b ∷ text) body = (piece : Text) × (rest : Text)
 abbrev pub AddsPiece : Encoding → ℕ → Text → Text → Type 0
 AddsPiece e b body more = (piece : Text) × Writes e b piece × (more ≡ body ++ piece)
 
+-- One more byte in a literal of this kind: in a raw one as it is, else as a piece that denotes it.
+abbrev pub AddsByte : Kind → ℕ → Text → Text → Type 0
+AddsByte (Escaped e) b body more = AddsPiece e b body more
+AddsByte (Raw e n) b body more = more ≡ body ++ b ∷ []
+
 -- whether a byte that has no letter is written as it is
 abbrev pub is_shown : Encoding → ℕ → Bool
 is_shown Str b = nat_le 32 b && not (b == 0x7F)

@@ -5,7 +5,7 @@ ghost use Rattle.std.specs.List.{list_all};
 ghost use Rattle.timefd_sources.specs.declared.token.Kind.TheVariants as kinds;
 ghost use Rattle.timefd_sources.specs.Escapes.{hex_digit, is_of_bytes, letter};
 ghost use Rattle.timefd_sources.specs.Written as spec;
-ghost use Rattle.timefd_sources.specs.Written.{AddsPiece, IsBodyFor, IsWritten, has_body, is_plain};
+ghost use Rattle.timefd_sources.specs.Written.{AddsByte, AddsPiece, IsBodyFor, IsWritten, has_body, is_plain};
 
 use crate::string::hashes;
 use crate::token::{Encoding, Kind};
@@ -99,7 +99,9 @@ pub fn closes_nowhere(hash_count: usize, text: &[u8]) -> bool
 }
 
 /// Adds a byte as a literal of this kind spells it: with an escape if it needs one and can have one.
-pub fn push_byte(body: &mut Vec<u8>, kind: Kind, byte: u8) -> Result<(), AllocError> {
+pub fn push_byte(body: &mut Vec<u8>, kind: Kind, byte: u8) -> Result<(), AllocError>
+    ensures { OnOk result (AddsByte kind byte body.old.items body.new.items) }
+{
     match kind {
         Kind::Escaped(encoding) => push_escaped(body, encoding, byte),
         Kind::Raw(_, _) => body.extend_from_slice(&[byte]),
