@@ -14,12 +14,12 @@ use Rattle.timefd_moment.specs.declared.moment.Moment.{Moment}
 pub read_at_once : (nodes : List Node) (literals date : Text) (m : Moment) (answer : DateAnswer)
     → IsShown nodes literals date m → IsRead m answer → ReadsNodes nodes literals date answer
 read_at_once nodes literals date m answer shown read =
-    let as : Result Moment ReadTextError = Ok m in
-    let is : IsReadAs (fields_in (node_trees literals nodes) date) as =
-    subst (λ r. IsReadAs r as) (sym shown.are.shown) shown.moment in
+    let answered : Result Moment ReadTextError = Ok m in
+    let is : IsReadAs (fields_in (node_trees literals nodes) date) answered =
+    subst (λ r. IsReadAs r answered) (sym shown.are.shown) shown.moment in
     record {
       no_description = λ at e. absurd (cc (e, shown.are.sound));
       not_utf8 = λ sound e. absurd (cc (e, shown.are.texts));
       date_not_utf8 = λ sound texts no. absurd (no shown.utf8);
-      reads = λ sound texts utf8. (as, is, read);
+      reads = λ sound texts utf8. (answered, is, read);
     }

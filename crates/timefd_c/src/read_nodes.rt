@@ -28,8 +28,8 @@ use timefd_read_moment::moment;
 
 /// Reads a date by nodes, as `timefd_read` writes them, and the bytes of their literals, and
 /// returns the moment that the date shows.
-#[unsafe(no_mangle)]
 #[tactic(auto, using(crate::proofs::NodeDateLemmas::read_at_once))]
+#[unsafe(no_mangle)]
 pub extern "C" fn timefd_read_nodes(
     alloc: Global,
     nodes: &[Node],
@@ -39,10 +39,10 @@ pub extern "C" fn timefd_read_nodes(
     ensures reads { ReadsNodes nodes.now literals.now date.now result }
 {
     // Most nodes are numbers of two and four digits, and literal texts.
-    match moment_shown(nodes, literals, date) {
-        Some(moment) => DateAnswer::read(moment),
-        None => read_exactly(alloc, nodes, literals, date),
+    if let Some(moment) = moment_shown(nodes, literals, date) {
+        return DateAnswer::read(moment);
     }
+    read_exactly(alloc, nodes, literals, date)
 }
 
 /// Reads a date by any nodes. It isn't inlined, because it has room for all fields.

@@ -2,6 +2,7 @@
 
 ghost use Rattle.std.specs.Prelude.{◌≡◌, IfSome, Some};
 ghost use Rattle.timefd_c_nodes.specs.Decoding as decoded;
+ghost use Rattle.timefd_component.specs.Modern.{modern};
 
 use timefd_c_nodes::Node;
 use timefd_component::Component;
@@ -19,7 +20,8 @@ const NO: u8 = 1;
 /// The component of a node, if it is a number of two digits, or a year of four without a sign.
 #[inline(always)]
 pub fn number_of(node: &Node) -> Option<Component>
-    ensures { IfSome result (λ component. decoded.component_of node.now ≡ Some component) }
+    ensures is { IfSome result (λ component. decoded.component_of node.now ≡ Some component) }
+    ensures modern { IfSome result (λ component. modern component ≡ component) }
 {
     if node.padding != ZERO {
         return None;
@@ -49,24 +51,21 @@ pub fn number_of(node: &Node) -> Option<Component>
 #[inline(always)]
 fn year_of(node: &Node) -> Option<Component>
     requires { node.now.padding ≡ 2 }
-    ensures { IfSome result (λ component. decoded.component_of node.now ≡ Some component) }
+    ensures is { IfSome result (λ component. decoded.component_of node.now ≡ Some component) }
+    ensures modern { IfSome result (λ component. modern component ≡ component) }
 {
     if node.sign_is_mandatory != NO {
         return None;
     }
     match node.component {
-        13 => Some(Component::CalendarYearFullExtendedRange(
-            CalendarYearFullExtendedRange {
-                padding: Padding::Zero,
-                sign_is_mandatory: false,
-            },
-        )),
-        14 => Some(Component::CalendarYearFullStandardRange(
-            CalendarYearFullStandardRange {
-                padding: Padding::Zero,
-                sign_is_mandatory: false,
-            },
-        )),
+        13 => Some(Component::CalendarYearFullExtendedRange(CalendarYearFullExtendedRange {
+            padding: Padding::Zero,
+            sign_is_mandatory: false,
+        })),
+        14 => Some(Component::CalendarYearFullStandardRange(CalendarYearFullStandardRange {
+            padding: Padding::Zero,
+            sign_is_mandatory: false,
+        })),
         _ => None,
     }
 }

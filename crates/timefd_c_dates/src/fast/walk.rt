@@ -22,6 +22,7 @@ const COMPONENT: u8 = 2;
 /// The moment that a date shows by nodes, if each of them is a number or a literal text. `None` says
 /// nothing about the nodes and the date.
 #[inline(always)]
+#[tactic(auto, using(crate::proofs::WalkLemmas::moment_read))]
 pub fn moment_shown(nodes: &[Node], literals: &[u8], date: &[u8]) -> Option<Moment>
     ensures { IfSome result (IsShown nodes.now literals.now date.now) }
 {
@@ -34,6 +35,7 @@ pub fn moment_shown(nodes: &[Node], literals: &[u8], date: &[u8]) -> Option<Mome
 
 /// The numbers that a date shows by nodes.
 #[inline(always)]
+#[tactic(auto, using(crate::proofs::WalkLemmas::none_read, crate::proofs::WalkLemmas::one_read, crate::proofs::WalkLemmas::all_read))]
 fn numbers_shown(nodes: &[Node], literals: &[u8], date: &[u8]) -> Option<Numbers>
     requires { IsAscii date.now }
     ensures { IfSome result (AreShown nodes.now literals.now date.now) }
@@ -50,6 +52,7 @@ fn numbers_shown(nodes: &[Node], literals: &[u8], date: &[u8]) -> Option<Numbers
 
 /// How many bytes a node takes at the start, and the numbers with what it reads.
 #[inline(always)]
+#[tactic(auto, using(crate::proofs::StepLemmas::component_taken, crate::proofs::StepLemmas::literal_taken))]
 fn take_node(
     node: &Node,
     literals: &[u8],
