@@ -19,7 +19,7 @@ use Rattle.timefd_c_dates.specs.Shown.{AreShown, IsShown}
 use Rattle.timefd_c_dates.specs.Taken.{IsTaken}
 
 -- the value, or another one
-ok_or : {A B : Type 0} → A → Result A B → A
+abbrev ok_or : {A B : Type 0} → A → Result A B → A
 ok_or d (Ok a) = a
 ok_or d (Err e) = d
 
