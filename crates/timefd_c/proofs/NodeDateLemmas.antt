@@ -1,5 +1,5 @@
 -- Dates that are read by nodes at once.
-use Rattle.std.proofs.Common.{◌≡◌, ◌∙◌, List, Result, Ok, refl, sym, subst}
+use Rattle.std.proofs.Common.{List, Result, Ok, sym, subst}
 use Rattle.timefd_c.specs.Dates.{IsRead}
 use Rattle.timefd_c.specs.NodeDates.{ReadsNodes}
 use Rattle.timefd_c.specs.declared.date_answer.DateAnswer.{DateAnswer}

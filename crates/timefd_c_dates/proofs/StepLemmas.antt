@@ -1,5 +1,5 @@
 -- What one node reads.
-use Rattle.std.proofs.Common.{ℕ, ◌≡◌, ◌∙◌, ◌≤◌, ◌+◌, ◌-◌, true, ◌++◌, Option, Some, None, Ok, length, drop, take, refl, sym, ap, subst, arith, length-append}
+use Rattle.std.proofs.Common.{ℕ, ◌≡◌, ◌∙◌, ◌≤◌, ◌+◌, ◌-◌, true, ◌++◌, Option, Some, None, Ok, length, drop, take, refl, ap, subst, arith, length-append}
 use Rattle.std.proofs.Math.Seq.{take-append_seam}
 use Rattle.std.proofs.lemmas.Slice.Eq.{starts_is}
 use Rattle.std.proofs.lemmas.Str.{IsAscii-take, IsUtf8-from_ascii, is_utf8-from_IsUtf8}
