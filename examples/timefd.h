@@ -590,8 +590,8 @@ timefd_date_answer timefd_read_date(uint32_t kind, const uint8_t *text, size_t l
    TIMEFD_DATE_NOT_UTF8, and TIMEFD_NOT_UTF8 if a literal isn't UTF-8 by itself.
 
    Of a node with members it looks at `count`, which is 1 for an optional, and neither at `start` nor at `bytes`; nor does it look at a
-   number that the node's component doesn't have. It takes memory for a list of the nodes, and 2 KiB of stack for each level of
-   nesting. */
+   number that the node's component doesn't have. If a date is read by literals and by numbers of two digits, and of four for a year,
+   it takes no memory. Else it takes memory for a list of the nodes, and 2 KiB of stack for each level of nesting. */
 timefd_date_answer timefd_read_nodes(const timefd_node *nodes, size_t node_count, const uint8_t *literals, size_t literal_count,
                                      const uint8_t *date, size_t date_len);
 

@@ -387,6 +387,20 @@ static bool reads_texts_alone(void) {
            timefd_read_nodes(NULL, 0, NULL, 0, NULL, 0).status == TIMEFD_ACCEPTED;
 }
 
+/* A date of short numbers and literals takes no memory. */
+static bool reads_short_numbers_at_once(void) {
+    static const char TEXT[] = "[day] of [month]/[year]", OF_NODES[] = "23 of 11/2026";
+    timefd_node nodes[8];
+    uint8_t literals[8] = {0};
+    memset(nodes, 0, sizeof nodes);
+    timefd_read_answer read = timefd_read(TIMEFD_VERSION_3, (const uint8_t *)TEXT, strlen(TEXT), nodes, 8, literals, 8);
+    asked = 0;
+    timefd_date_answer date =
+        timefd_read_nodes(nodes, read.nodes, literals, read.literals, (const uint8_t *)OF_NODES, strlen(OF_NODES));
+    return read.written && asked == 0 && date.status == TIMEFD_ACCEPTED && date.moment.known == TIMEFD_HAS_DATE &&
+           date.moment.year == 2026 && date.moment.month == 11 && date.moment.day == 23;
+}
+
 /* Texts of strftime, with each composite letter and none. */
 static const char *const COMPOSED[] = {"", "%c", "%D%F", "at %r, %R or %T%z", "%x %X", "%Y-%m-%d", "100%% %n%c%t%D", "%c %Q"};
 
@@ -630,6 +644,10 @@ int main(void) {
     if (!reads_texts_alone()) {
         failed++;
         fprintf(stderr, "gate/library: nodes whose literals are no texts\n");
+    }
+    if (!reads_short_numbers_at_once()) {
+        failed++;
+        fprintf(stderr, "gate/library: a date of short numbers\n");
     }
     for (size_t i = 0; i < sizeof LAYOUTS / sizeof LAYOUTS[0]; i++) {
         if (!is_laid_out(&LAYOUTS[i])) {

@@ -7,3 +7,4 @@ pub mod ReadingLemmas
 pub mod CompositeLemmas
 pub mod MomentLemmas
 pub mod WarningLemmas
+pub mod NodeDateLemmas

@@ -79,7 +79,8 @@ impl DateAnswer {
         }
     }
 
-    fn read(moment: Moment) -> DateAnswer
+    /// The answer for a date that was read.
+    pub(crate) fn read(moment: Moment) -> DateAnswer
         ensures { IsRead moment result }
     {
         DateAnswer {

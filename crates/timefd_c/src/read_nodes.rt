@@ -16,6 +16,7 @@ use crate::answer::NOT_UTF8;
 use crate::date_answer::{DATE_NOT_UTF8, DateAnswer};
 use crate::format_answer::NO_DESCRIPTION;
 use std::alloc::Global;
+use timefd_c_dates::moment_shown;
 use timefd_c_format::{are_texts, leaves_of, listed, node_fault};
 use timefd_c_nodes::Node;
 use timefd_c_read::text_of;
@@ -27,6 +28,7 @@ use timefd_read_moment::moment;
 
 /// Reads a date by nodes, as `timefd_read` writes them, and the bytes of their literals, and
 /// returns the moment that the date shows.
+#[tactic(auto, using(crate::proofs::NodeDateLemmas::read_at_once))]
 #[unsafe(no_mangle)]
 pub extern "C" fn timefd_read_nodes(
     alloc: Global,
@@ -34,6 +36,18 @@ pub extern "C" fn timefd_read_nodes(
     literals: &[u8],
     date: &[u8],
 ) -> DateAnswer
+    ensures reads { ReadsNodes nodes.now literals.now date.now result }
+{
+    // Most nodes are numbers of two and four digits, and literal texts.
+    if let Some(moment) = moment_shown(nodes, literals, date) {
+        return DateAnswer::read(moment);
+    }
+    read_exactly(alloc, nodes, literals, date)
+}
+
+/// Reads a date by any nodes. It isn't inlined, because it has room for all fields.
+#[inline(never)]
+fn read_exactly(alloc: Global, nodes: &[Node], literals: &[u8], date: &[u8]) -> DateAnswer
     ensures reads { ReadsNodes nodes.now literals.now date.now result }
 {
     // Most nodes have no members. Then the leaves are enough to read by.

@@ -1,0 +1,25 @@
+-- Dates that are read by nodes at once.
+use Rattle.std.proofs.Common.{List, Result, Ok, sym, subst}
+use Rattle.timefd_c.specs.Dates.{IsRead}
+use Rattle.timefd_c.specs.NodeDates.{ReadsNodes}
+use Rattle.timefd_c.specs.declared.date_answer.DateAnswer.{DateAnswer}
+use Rattle.timefd_c_dates.specs.Shown.{IsShown}
+use Rattle.timefd_c_format.specs.Nodes.{node_trees}
+use Rattle.timefd_c_nodes.specs.declared.node.Node.{Node}
+use Rattle.timefd_component.specs.Tree.{Text}
+use Rattle.timefd_description.specs.ReadAnswers.{IsReadAs, fields_in}
+use Rattle.timefd_description.specs.declared.read_error.ReadTextError.{ReadTextError}
+use Rattle.timefd_moment.specs.declared.moment.Moment.{Moment}
+
+pub read_at_once : (nodes : List Node) (literals date : Text) (m : Moment) (answer : DateAnswer)
+    → IsShown nodes literals date m → IsRead m answer → ReadsNodes nodes literals date answer
+read_at_once nodes literals date m answer shown read =
+    let answered : Result Moment ReadTextError = Ok m in
+    let is : IsReadAs (fields_in (node_trees literals nodes) date) answered =
+    subst (λ r. IsReadAs r answered) (sym shown.are.shown) shown.moment in
+    record {
+      no_description = λ at e. absurd (cc (e, shown.are.sound));
+      not_utf8 = λ sound e. absurd (cc (e, shown.are.texts));
+      date_not_utf8 = λ sound texts no. absurd (no shown.utf8);
+      reads = λ sound texts utf8. (answered, is, read);
+    }
