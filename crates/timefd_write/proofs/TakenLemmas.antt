@@ -1,0 +1,194 @@
+-- Batches that are taken from a reader.
+use Rattle.std.proofs.Common.{ℕ, zero, suc, ◌≡◌, ◌∙◌, ◌++◌, ◌≤◌, [], ◌∷◌, length, take, drop, cond, Option, Some, None, Result, Ok, Err, IfOk, refl, sym, ap, subst, arith, append_assoc, eq-eqb, length-append, true, false, Bool, List}
+use Rattle.std.proofs.BufReadLemmas.{take_through-append, drop_through-append}
+use Rattle.std.proofs.KnownBytes.{Appends-nil, Consumes-kept, Consumes-nil}
+use Rattle.std.specs.Io.BufRead.{take_through, drop_through}
+use Rattle.std.specs.Io.KnownBytes.{Appends, Consumes, IsAtEnd, Keeps}
+use Rattle.timefd_component.specs.Tree.{Text}
+use Rattle.timefd_format.specs.declared.unshown.Unshown.{Unshown}
+use Rattle.timefd_parse.specs.declared.parsing.BorrowedOutput.{BorrowedOutput}
+use Rattle.timefd_rewrite.specs.Lines.{AreLinesOf, IsNextLine, without_newline}
+use Rattle.timefd_write.specs.declared.fast.take.Taken.{Taken}
+use Rattle.timefd_write.specs.declared.fast.take.Taken.TheVariants as takes
+use Rattle.timefd_write.specs.declared.frame.Frame.TheVariants as frames
+use Rattle.timefd_write.specs.declared.lines.LineRead.TheVariants as reads
+use Rattle.timefd_write.specs.declared.lines.Next.{Next}
+use Rattle.timefd_write.specs.declared.lines.Next.TheVariants as nexts
+use Rattle.timefd_write.specs.declared.otherwise.Otherwise.{Otherwise}
+use Rattle.timefd_write.specs.declared.outcome.Outcome.TheVariants as came
+use Rattle.timefd_write.specs.declared.outcome.RunError.{RunError}
+use Rattle.timefd_write.specs.declared.outcome.Tally.{Tally}
+use Rattle.timefd_write.specs.declared.source.Source.{Source}
+use Rattle.timefd_write.specs.Batches.{AreLinesShown, IsNext, IsShownAs, IsTaken, IsUnread, IsWholeLine, with_newline}
+use Rattle.timefd_write.specs.Tallies.{at_end, both, tally_of}
+use Rattle.timefd_write.specs.Written.{AppendsIn, RunsOn, RunsOver, written_of}
+use Rattle.timefd_write.proofs.RunLemmas.{CompletesLines, line_more, lines_fail, no_line_left, none_more}
+
+-- A line at the front of what a reader has left.
+
+first_through : (y : Text) → take_through 10 (10 ∷ y) ≡ 10 ∷ []
+first_through y = ap (λ b. cond b (10 ∷ []) (10 ∷ take_through 10 y)) (eq-eqb 10 10 refl)
+
+first_dropped : (y : Text) → drop_through 10 (10 ∷ y) ≡ y
+first_dropped y = ap (λ b. cond b y (drop_through 10 y)) (eq-eqb 10 10 refl)
+
+next_line : (left rest : Option Text) (line : Text) → IsWholeLine line → Consumes left rest line
+    → IsNextLine left line rest
+next_line None rest line whole consumed = tt
+next_line (Some x) None line whole consumed = absurd consumed
+next_line (Some x) (Some y) line whole consumed =
+    let joined : x ≡ whole.0 ++ 10 ∷ y =
+    consumed ∙ ap (λ l. l ++ y) whole.2 ∙ append_assoc whole.0 (10 ∷ []) y in (
+      λ empty. absurd (omega (arith, ap length empty, ap length whole.2, length-append whole.0 (10 ∷ []))),
+      whole.2 ∙ sym (ap (take_through 10) joined ∙ take_through-append 10 whole.0 (10 ∷ y) whole.1
+          ∙ ap (λ t. whole.0 ++ t) (first_through y)),
+      ap Some (sym (ap (drop_through 10) joined ∙ drop_through-append 10 whole.0 (10 ∷ y) whole.1
+          ∙ first_dropped y)),
+    )
+
+-- What is between two parts that are consumed, or appended.
+
+between_consumed : (old new : Option Text) (a b : Text) → Consumes old new (a ++ b)
+    → (mid : Option Text) × Consumes old mid a × Consumes mid new b
+between_consumed None new a b all = (None, tt, tt)
+between_consumed (Some x) None a b all = absurd all
+between_consumed (Some x) (Some y) a b all = (Some (b ++ y), all ∙ append_assoc a b y, refl)
+
+between_appended : (old new : Option Text) (a b : Text) → Appends old new (a ++ b)
+    → (mid : Option Text) × Appends old mid a × Appends mid new b
+between_appended None new a b all = (None, tt, tt)
+between_appended (Some x) None a b all = absurd all
+between_appended (Some x) (Some y) a b all = (Some (x ++ a), refl, all ∙ sym (append_assoc x a b))
+
+-- One line of a batch.
+
+abbrev pub AppendsOk : Result Text Unshown → Option Text → Option Text → Type 0
+AppendsOk (Ok text) before after = Appends before after text
+AppendsOk (Err u) before after = ⊥
+
+line_in_frame : (x : Result Text Unshown) (before after : Option Text) → AppendsOk (with_newline x) before after
+    → AppendsIn frames.Line x before after
+line_in_frame (Ok text) before after sent = sent
+line_in_frame (Err u) before after sent = absurd sent
+
+shown_more : (otherwise : Otherwise) (source : Source) (o : BorrowedOutput) (bytes left rest : Option Text)
+    (line shown : Text) (before between next : Option Text) (tally : Tally)
+    → CompletesLines otherwise source o bytes left before between tally → IsWholeLine line
+    → IsShownAs source o (without_newline line) shown → Consumes left rest line → Appends between next shown
+    → CompletesLines otherwise source o bytes rest before next tally
+shown_more otherwise source o bytes left rest line shown before between next tally so_far whole is consumed sent =
+    let outcome = came.Written is.0 in
+    let framed : AppendsIn frames.Line (written_of is.0 o) between next =
+    line_in_frame (written_of is.0 o) between next
+    (subst (λ x. AppendsOk x between next) (sym is.2) sent) in
+    subst (λ t. CompletesLines otherwise source o bytes rest before next t) (none_more tally)
+    (line_more otherwise source o bytes left rest line (without_newline line) before between next tally
+    (tally_of outcome) (both tally (tally_of outcome)) outcome reads.Line refl so_far
+    (next_line left rest line whole consumed) refl (is.1, framed) refl refl)
+
+-- A batch of one line, and of more.
+lines_more : (otherwise : Otherwise) (source : Source) (o : BorrowedOutput) (n : ℕ) (read written : Text)
+    (bytes left rest before between next : Option Text) (tally : Tally)
+    → CompletesLines otherwise source o bytes left before between tally
+    → AreLinesShown source o (suc n) read written → Consumes left rest read → Appends between next written
+    → CompletesLines otherwise source o bytes rest before next tally
+lines_more otherwise source o zero read written bytes left rest before between next tally so_far are consumed sent =
+    shown_more otherwise source o bytes left rest are.1 are.3 before between next tally so_far are.5 are.6
+    (subst (Consumes left rest) (are.7 ∙ ap (λ front. front ++ are.1) are.4.0) consumed)
+    (subst (Appends between next) (are.8 ∙ ap (λ done. done ++ are.3) are.4.1) sent)
+lines_more otherwise source o (suc n) read written bytes left rest before between next tally so_far are consumed sent =
+    let mid = between_consumed left rest are.0 are.1 (subst (Consumes left rest) are.7 consumed) in
+    let then = between_appended between next are.2 are.3 (subst (Appends between next) are.8 sent) in
+    shown_more otherwise source o bytes mid.0 rest are.1 are.3 before then.0 next tally
+    (lines_more otherwise source o n are.0 are.2 bytes left mid.0 before between then.0 tally so_far are.4 mid.1 then.1)
+    are.5 are.6 mid.2 then.2
+
+some_more : (otherwise : Otherwise) (source : Source) (o : BorrowedOutput) (n : ℕ) (read written : Text)
+    (bytes left rest before between next : Option Text) (tally : Tally) → 1 ≤ n
+    → CompletesLines otherwise source o bytes left before between tally
+    → AreLinesShown source o n read written → Consumes left rest read → Appends between next written
+    → CompletesLines otherwise source o bytes rest before next tally
+some_more otherwise source o zero read written bytes left rest before between next tally some so_far are consumed
+    sent = absurd (omega (arith, some))
+some_more otherwise source o (suc n) read written bytes left rest before between next tally some so_far are consumed
+    sent =
+    lines_more otherwise source o n read written bytes left rest before between next tally so_far are consumed sent
+
+pub taken_more : (otherwise : Otherwise) (source : Source) (o : BorrowedOutput)
+    (bytes left rest before between next : Option Text) (tally : Tally) (n : ℕ) (t : Taken) → t ≡ takes.Lines n
+    → CompletesLines otherwise source o bytes left before between tally
+    → IsTaken source o left rest between next t
+    → CompletesLines otherwise source o bytes rest before next tally
+taken_more otherwise source o bytes left rest before between next tally n t is so_far taken =
+    let lines = subst (λ x. IsTaken source o left rest between next x) is taken in
+    some_more otherwise source o n lines.0 lines.1 bytes left rest before between next tally lines.2 so_far lines.3
+    lines.4 lines.5
+
+-- What is left stays the same.
+
+kept_lines : (left rest : Option Text) (lines : List Text) (failed : Bool) → Keeps left rest
+    → AreLinesOf rest lines failed → AreLinesOf left lines failed
+kept_lines None rest lines failed same are = tt
+kept_lines (Some x) None lines failed same are = absurd same
+kept_lines (Some x) (Some y) lines failed same are =
+    subst (λ z. AreLinesOf (Some z) lines failed) same are
+
+kept_left : (otherwise : Otherwise) (source : Source) (o : BorrowedOutput)
+    (bytes left rest before between : Option Text) (tally : Tally)
+    → CompletesLines otherwise source o bytes left before between tally → Keeps left rest
+    → CompletesLines otherwise source o bytes rest before between tally
+kept_left otherwise source o bytes left rest before between tally so_far same failed after more runs =
+    so_far failed after more (runs.0, kept_lines left rest runs.0 failed same runs.1, runs.2)
+
+pub nothing_taken : (otherwise : Otherwise) (source : Source) (o : BorrowedOutput)
+    (bytes left rest before between next : Option Text) (tally : Tally) (t : Taken) → t ≡ takes.Nothing
+    → CompletesLines otherwise source o bytes left before between tally
+    → IsTaken source o left rest between next t
+    → CompletesLines otherwise source o bytes rest before next tally
+nothing_taken otherwise source o bytes left rest before between next tally t is so_far taken =
+    let nothing = subst (λ x. IsTaken source o left rest between next x) is taken in
+    subst (λ b. CompletesLines otherwise source o bytes rest before b tally) (sym nothing.0)
+    (kept_left otherwise source o bytes left rest before between tally so_far nothing.1)
+
+-- A line that is looked at by itself.
+pub next_more : (otherwise : Otherwise) (source : Source) (o : BorrowedOutput)
+    (bytes left rest before between next : Option Text) (tally one sum : Tally) (n : Next) → n ≡ nexts.Line one
+    → CompletesLines otherwise source o bytes left before between tally
+    → IsNext otherwise source o left rest between next n → sum ≡ both tally one
+    → CompletesLines otherwise source o bytes rest before next sum
+next_more otherwise source o bytes left rest before between next tally one sum n is so_far looked is_sum =
+    let line = subst (λ x. IsNext otherwise source o left rest between next x) is looked in
+    line_more otherwise source o bytes left rest line.0 (without_newline line.0) before between next tally one sum
+    line.1.0 reads.Line refl so_far line.2 refl line.1.1 line.1.2 is_sum
+
+-- The end of the input, and a read that failed.
+
+pub run_ends : (otherwise : Otherwise) (source : Source) (o : BorrowedOutput)
+    (bytes left before between after : Option Text) (tally : Tally)
+    → CompletesLines otherwise source o bytes left before between tally → (after ≡ between) × IsAtEnd left
+    → RunsOver otherwise source o bytes before after tally
+run_ends otherwise source o bytes left before between after tally so_far end = (
+  false,
+  subst (λ t. RunsOn false otherwise source o bytes before after t) (none_more tally)
+      (so_far false after (at_end false) ([], no_line_left left end.1, (end.0, refl))),
+)
+
+pub run_fails : (otherwise : Otherwise) (source : Source) (o : BorrowedOutput)
+    (bytes left before between after : Option Text) (tally failing sum : Tally)
+    → CompletesLines otherwise source o bytes left before between tally → after ≡ between
+    → failing ≡ at_end true → sum ≡ both tally failing
+    → RunsOver otherwise source o bytes before after sum
+run_fails otherwise source o bytes left before between after tally failing sum so_far same is is_sum =
+    subst (λ a. RunsOver otherwise source o bytes before a sum) (sym same)
+    (lines_fail otherwise source o bytes left before between tally failing sum so_far is is_sum)
+
+-- What `fill_buf`, a write and `consume` do together.
+
+pub unread_taken : (source : Source) (o : BorrowedOutput) (old new before after : Option Text)
+    (r : Result Taken RunError) → IfOk r IsUnread → Keeps old new → after ≡ before
+    → IfOk r (IsTaken source o old new before after)
+unread_taken source o old new before after (Err e) unread kept same = tt
+unread_taken source o old new before after (Ok (takes.Lines n)) unread kept same = absurd unread
+unread_taken source o old new before after (Ok takes.Nothing) unread kept same = (same, kept)
+unread_taken source o old new before after (Ok takes.End) unread kept same = absurd unread
+unread_taken source o old new before after (Ok takes.Failed) unread kept same = same
