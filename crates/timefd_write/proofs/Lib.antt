@@ -19,3 +19,4 @@ pub mod GuessRunLemmas
 pub mod ExpectedLemmas
 pub mod MomentLemmas
 pub mod MessageLemmas
+pub mod PlainLemmas
