@@ -1,6 +1,6 @@
 -- Bytes without a quote, outside of quotes.
-use Rattle.std.proofs.Common.{ℕ, zero, suc, ◌≡◌, ◌≢◌, ◌∙◌, ◌+◌, ◌<◌, ◌≤◌, ◌++◌, Bool, true, false, if◌then◌else◌, List, append-nil, [], ◌∷◌, All, Option, Some, None, length, take, drop, get_or, nat_eq, refl, sym, ap, subst, arith, eq-eqb, get_or-take, zero-le, length-take}
-use Rattle.std.proofs.lemmas.List.{append_assoc, take_more, take-append-drop}
+use Rattle.std.proofs.Common.{ℕ, zero, suc, ◌≡◌, ◌≢◌, ◌∙◌, ◌+◌, ◌-◌, ◌<◌, ◌≤◌, ◌++◌, Bool, true, false, if◌then◌else◌, List, append-nil, [], ◌∷◌, All, Option, Some, None, length, take, drop, get_or, nat_eq, refl, sym, ap, subst, arith, eq-eqb, get_or-take, zero-le, length-take}
+use Rattle.std.proofs.lemmas.List.{append_assoc, take_all, take_more, take-append-drop}
 use Rattle.std.proofs.lemmas.List.Elements.{All-from_get_or, All-head, All-tail}
 use Rattle.std.proofs.lemmas.Bool.Decides.{nat_tests}
 use Rattle.memchr.specs.Find.{IsFirstByte, Passes, is_byte, is_byte2}
@@ -142,3 +142,35 @@ first_field row field more at found comma is_field is_more =
       rw (is_field, is_more) first,
       rw (is_field, is_more) split,
     )
+
+pub text_copied : (field old new : Text) → old ≡ [] → new ≡ old ++ field → All (λ b. b ≢ 34) field
+    → new ≡ text_of field
+text_copied field old new none is plain =
+    is ∙ ap (λ o. o ++ field) none ∙ sym (text_plain field plain)
+
+last_is : (bytes : Text) → 1 ≤ length bytes
+    → bytes ≡ take (length bytes - 1) bytes ++ get_or bytes (length bytes - 1) 0 ∷ []
+last_is bytes some =
+    sym (take_all (length bytes - 1 + 1) bytes (omega (arith, some)))
+    ∙ take_more bytes (length bytes - 1) 0 (omega (arith, some))
+
+after_outer : (q : Quoting) (bytes : Text) (last : ℕ) (r : Quoting) → IsOutside q → 1 ≤ length bytes
+    → All (λ b. b ≢ 34) bytes → last ≡ get_or bytes (length bytes - 1) 0 → r ≡ bare_after last
+    → r ≡ after_all q bytes
+after_outer q bytes last r out some plain is_last is =
+    let split : bytes ≡ take (length bytes - 1) bytes ++ last ∷ [] =
+    last_is bytes some ∙ ap (λ b. take (length bytes - 1) bytes ++ b ∷ []) (sym is_last) in
+    is ∙ sym (after_last q (take (length bytes - 1) bytes) last out (subst (All (λ b. b ≢ 34)) split plain))
+    ∙ sym (ap (after_all q) split)
+
+pub after_start : (q : Quoting) (bytes : Text) (last : ℕ) (r : Quoting) → q ≡ Start → 1 ≤ length bytes
+    → All (λ b. b ≢ 34) bytes → last ≡ get_or bytes (length bytes - 1) 0 → r ≡ bare_after last
+    → r ≡ after_all q bytes
+after_start q bytes last r begins some plain is_last is =
+    after_outer q bytes last r (subst IsOutside (sym begins) tt) some plain is_last is
+
+pub after_bare : (q : Quoting) (bytes : Text) (last : ℕ) (r : Quoting) → q ≡ Bare → 1 ≤ length bytes
+    → All (λ b. b ≢ 34) bytes → last ≡ get_or bytes (length bytes - 1) 0 → r ≡ bare_after last
+    → r ≡ after_all q bytes
+after_bare q bytes last r bare some plain is_last is =
+    after_outer q bytes last r (subst IsOutside (sym bare) tt) some plain is_last is

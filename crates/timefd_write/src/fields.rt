@@ -84,13 +84,14 @@ pub fn cell_after(count: usize, row: &[u8]) -> Option<Cell<'_>>
 
 /// Replaces these bytes with the text of a field, without its quotes. An `Err` says that memory ran
 /// out.
-#[tactic(auto, using(crate::proofs::PlainLemmas::text_plain))]
+#[tactic(auto, using(crate::proofs::PlainLemmas::text_copied))]
 pub fn text_in(field: &[u8], bytes: &mut Vec<u8>) -> Result<(), AllocError>
     ensures { IfOk result (λ _. bytes.new.items ≡ spec.text_of field.now) }
 {
     bytes.clear();
     if !has_quote(field) {
-        return bytes.extend_from_slice(field);
+        bytes.extend_from_slice(field)?;
+        return Ok(());
     }
     let mut quoting = Quoting::Start;
     let mut rest = field;
