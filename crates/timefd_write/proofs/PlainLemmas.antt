@@ -20,8 +20,8 @@ same_of : (x y : ℕ) → nat_eq x y ≡ true → x ≡ y
 same_of x y e = grind (arith, nat_tests)
 
 other_by : (x y : ℕ) (b : Bool) → nat_eq x y ≡ b → x ≢ y → nat_eq x y ≡ false
-other_by x y true is other = absurd (other (same_of x y is))
-other_by x y false is other = is
+other_by x y true is differs = absurd (differs (same_of x y is))
+other_by x y false is differs = is
 
 other : (x y : ℕ) → x ≢ y → nat_eq x y ≡ false
 other x y is = other_by x y (nat_eq x y) refl is
