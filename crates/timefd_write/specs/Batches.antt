@@ -61,6 +61,10 @@ TriesToGrow source o text batch room None = IsBatch source o text room batch
 TriesToGrow source o text batch room (Some more) = IsBatch source o text room more
     × (more.line_count ≡ suc batch.line_count)
 
+-- how many bytes are reserved for what a batch writes
+abbrev pub batch_room : ℕ
+batch_room = 65536
+
 -- What taking a batch does to what a reader has left and to what is written.
 abbrev pub IsTaken : Source → BorrowedOutput → Option Text → Option Text → Option Text → Option Text → Taken
     → Type 0

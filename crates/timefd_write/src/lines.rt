@@ -152,9 +152,9 @@ fn write_by<R: BufRead, W: Write, E: Write>(
     let mut line: u64 = 1;
     let mut bytes = Vec::new(alloc);
     let mut room = line_room(alloc, description)?;
-    let mut batch_room = batch_room(alloc)?;
+    let mut batch_space = batch_room(alloc)?;
     'lines: for _ in 1..u64::MAX {
-        match take_batch(source, source_leaves, description, leaves, &mut batch_room, reader, output)? {
+        match take_batch(source, source_leaves, description, leaves, &mut batch_space, reader, output)? {
             Taken::Lines(count) => line = line.saturating_add(count as u64),
             Taken::Nothing => {
                 match write_next(
@@ -227,7 +227,7 @@ fn write_next<R: BufRead, W: Write, E: Write>(
                 otherwise,
                 Entry {
                     line: Some(line),
-                    text: without_newline(bytes),
+                    text: without_newline(bytes.as_slice()),
                     frame: Frame::Line,
                 },
                 room,

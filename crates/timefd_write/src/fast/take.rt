@@ -1,6 +1,7 @@
 //! Batches of lines, taken from a reader.
 
-ghost use Rattle.std.specs.Prelude.{IfErr, IfOk};
+ghost use Rattle.std.specs.Prelude.{◌≡◌, IfErr, IfOk, length};
+ghost use Rattle.timefd_write.specs.Batches as spec;
 ghost use Rattle.timefd_write.specs.Batches.{IsTaken, IsUnread};
 ghost use Rattle.timefd_write.specs.Frames.{IsFailure};
 ghost use Rattle.timefd_write.specs.ReadBack.{AreLeavesOf};
@@ -33,6 +34,7 @@ pub enum Taken {
 
 /// Room for the lines of a batch. An `Err` says that memory ran out.
 pub fn batch_room(alloc: Global) -> Result<Vec<u8>, AllocError>
+    ensures { IfOk result (λ room. length room.items ≡ spec.batch_room) }
 {
     vec![in alloc; 0u8; BATCH_ROOM]
 }
