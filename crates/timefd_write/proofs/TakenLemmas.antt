@@ -1,13 +1,15 @@
 -- Batches that are taken from a reader.
-use Rattle.std.proofs.Common.{ℕ, zero, suc, ◌≡◌, ◌∙◌, ◌++◌, ◌≤◌, [], ◌∷◌, length, take, drop, cond, Option, Some, None, Result, Ok, Err, IfOk, refl, sym, ap, subst, arith, append_assoc, eq-eqb, length-append, true, false, Bool, List}
-use Rattle.std.proofs.BufReadLemmas.{take_through-append, drop_through-append}
+use Rattle.std.proofs.Common.{ℕ, zero, suc, ◌≡◌, ◌∙◌, ◌++◌, ◌≤◌, [], ◌∷◌, length, take, drop, cond, Option, Some, None, Result, Ok, Err, IfOk, IfSome, refl, sym, ap, subst, arith, append_assoc, eq-eqb, length-append, true, false, Bool, List}
+use Rattle.std.proofs.BufReadLemmas.{Consumes_shown, take_through-append, drop_through-append}
 use Rattle.std.proofs.KnownBytes.{Appends-nil, Consumes-kept, Consumes-nil}
-use Rattle.std.specs.Io.BufRead.{take_through, drop_through}
+use Rattle.std.specs.Io.{StartsWith}
+use Rattle.std.specs.Io.BufRead.{DropsConsumable, take_through, drop_through}
 use Rattle.std.specs.Io.KnownBytes.{Appends, Consumes, IsAtEnd, Keeps}
 use Rattle.timefd_component.specs.Tree.{Text}
 use Rattle.timefd_format.specs.declared.unshown.Unshown.{Unshown}
 use Rattle.timefd_parse.specs.declared.parsing.BorrowedOutput.{BorrowedOutput}
 use Rattle.timefd_rewrite.specs.Lines.{AreLinesOf, IsNextLine, without_newline}
+use Rattle.timefd_write.specs.declared.fast.batch.Batch.{Batch}
 use Rattle.timefd_write.specs.declared.fast.take.Taken.{Taken}
 use Rattle.timefd_write.specs.declared.fast.take.Taken.TheVariants as takes
 use Rattle.timefd_write.specs.declared.frame.Frame.TheVariants as frames
@@ -19,7 +21,7 @@ use Rattle.timefd_write.specs.declared.outcome.Outcome.TheVariants as came
 use Rattle.timefd_write.specs.declared.outcome.RunError.{RunError}
 use Rattle.timefd_write.specs.declared.outcome.Tally.{Tally}
 use Rattle.timefd_write.specs.declared.source.Source.{Source}
-use Rattle.timefd_write.specs.Batches.{AreLinesShown, IsNext, IsShownAs, IsTaken, IsUnread, IsWholeLine, with_newline}
+use Rattle.timefd_write.specs.Batches.{AreLinesShown, IsBatch, IsNext, IsShownAs, IsTaken, IsUnread, IsWholeLine, with_newline}
 use Rattle.timefd_write.specs.Tallies.{at_end, both, tally_of}
 use Rattle.timefd_write.specs.Written.{AppendsIn, RunsOn, RunsOver, written_of}
 use Rattle.timefd_write.proofs.RunLemmas.{CompletesLines, line_more, lines_fail, no_line_left, none_more}
@@ -192,3 +194,24 @@ unread_taken source o old new before after (Ok (takes.Lines n)) unread kept same
 unread_taken source o old new before after (Ok takes.Nothing) unread kept same = (same, kept)
 unread_taken source o old new before after (Ok takes.End) unread kept same = absurd unread
 unread_taken source o old new before after (Ok takes.Failed) unread kept same = same
+
+pub end_shown : (old : Option Text) (text : Text) → IfSome old (λ xs. length text ≡ 0 → xs ≡ [])
+    → length text ≡ 0 → IsAtEnd old
+end_shown None text end none = tt
+end_shown (Some xs) text end none = end none
+
+pub batch_taken : (source : Source) (o : BorrowedOutput) (old mid new before after : Option Text)
+    (buffered : Option ℕ) (text room : Text) (batch : Batch) → IsBatch source o text room batch
+    → 1 ≤ batch.line_count → IfSome old (λ xs. StartsWith xs text)
+    → IfSome old (λ xs. length text ≡ 0 → xs ≡ []) → Keeps old mid
+    → IfSome old (λ _. IfSome buffered (λ k. length text ≤ k)) → DropsConsumable mid new buffered batch.read
+    → Appends before after (take batch.written room)
+    → IsTaken source o old new before after (takes.Lines batch.line_count)
+batch_taken source o old mid new before after buffered text room batch is some front end kept fits drops sent = (
+  take batch.read text,
+  take batch.written room,
+  some,
+  is.lines,
+  (Consumes_shown old mid new buffered text batch.read is.inside front end kept fits drops).0,
+  sent,
+)
