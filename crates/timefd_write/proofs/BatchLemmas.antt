@@ -85,21 +85,16 @@ line_appended m o leaves old mid new at middle r room made one two =
 -- A batch that grows.
 
 pub empty_batch : (source : Source) (o : BorrowedOutput) (text room : Text) → IsBatch source o text room no_batch
-empty_batch source o text room = record {
-  counted = omega arith;
-  inside = omega arith;
-  fits = omega arith;
-  lines = (refl, refl);
-}
+empty_batch source o text room = ((refl, refl), omega arith, omega arith, omega arith)
 
 pub same_batch : (source : Source) (o : BorrowedOutput) (text old new : Text) (batch : Batch)
     → IsBatch source o text old batch → IsKept old batch.written new → IsBatch source o text new batch
-same_batch source o text old new batch is same = record {
-  counted = is.counted;
-  inside = is.inside;
-  fits = omega (arith, is.fits, same.same);
-  lines = subst (λ w. AreLinesShown source o batch.line_count (take batch.read text) w) (sym same.front) is.lines;
-}
+same_batch source o text old new batch is same = (
+  subst (λ w. AreLinesShown source o batch.line_count (take batch.read text) w) (sym same.front) is.0,
+  is.1,
+  is.2,
+  omega (arith, is.3, same.same),
+)
 
 read_more : (text rest : Text) (at len : ℕ) → at ≤ length text → rest ≡ drop at text
     → take (at + len) text ≡ take at text ++ take len rest
@@ -123,15 +118,15 @@ one_more source o text rest line old new batch len end is is_rest within whole w
       take len rest,
       take batch.written old,
       put.0,
-      is.lines,
+      is.0,
       whole,
       subst (λ l. IsShownAs source o l put.0) without put.1,
-      read_more text rest batch.read len is.inside is_rest,
+      read_more text rest batch.read len is.2 is_rest,
       put.2.front,
     ) in
-    record {
-      counted = omega (arith, is.counted, some);
-      inside = omega (arith, is.inside, within, ap length is_rest, length-drop batch.read text);
-      fits = end_inside put.0 old new batch.written end is.fits put.2;
-      lines = subst (λ n. AreLinesShown source o n (take (batch.read + len) text) (take end new)) next lines;
-    }
+    (
+      subst (λ n. AreLinesShown source o n (take (batch.read + len) text) (take end new)) next lines,
+      omega (arith, is.1, some),
+      omega (arith, is.2, within, ap length is_rest, length-drop batch.read text),
+      end_inside put.0 old new batch.written end is.3 put.2,
+    )

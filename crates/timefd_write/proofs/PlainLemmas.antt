@@ -1,5 +1,6 @@
 -- Bytes without a quote, outside of quotes.
-use Rattle.std.proofs.Common.{ℕ, zero, suc, ◌≡◌, ◌≢◌, ◌∙◌, ◌+◌, ◌-◌, ◌<◌, ◌≤◌, ◌++◌, Bool, true, false, if◌then◌else◌, List, append-nil, [], ◌∷◌, All, Option, Some, None, length, take, drop, get_or, nat_eq, refl, sym, ap, subst, arith, eq-eqb, get_or-take, zero-le, length-take}
+use Rattle.std.proofs.Common.{ℕ, zero, suc, ◌≡◌, ◌≢◌, ◌∙◌, ◌+◌, ◌-◌, ◌<◌, ◌≤◌, ◌++◌, Bool, true, false, cond, List, append-nil, [], ◌∷◌, All, Option, Some, None, length, take, drop, get_or, nat_eq, refl, sym, ap, subst, arith, eq-eqb, get_or-take, zero-le, length-take}
+use Rattle.std.specs.Prelude.{⊤}
 use Rattle.std.proofs.lemmas.List.{append_assoc, take_all, take_more, take-append-drop}
 use Rattle.std.proofs.lemmas.List.Elements.{All-from_get_or, All-head, All-tail}
 use Rattle.std.proofs.lemmas.Bool.Decides.{nat_tests}
@@ -32,7 +33,7 @@ after_outside Bare b out plain = refl
 after_outside Inside b out plain = absurd out
 after_outside Closed b out plain = absurd out
 
-bare_by : (c : Bool) → IsOutside (if c then Start else Bare)
+bare_by : (c : Bool) → IsOutside (cond c Start Bare)
 bare_by true = tt
 bare_by false = tt
 

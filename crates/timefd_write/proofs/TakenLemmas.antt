@@ -211,7 +211,7 @@ batch_taken source o old mid new before after buffered text room batch is some f
   take batch.read text,
   take batch.written room,
   some,
-  is.lines,
-  (Consumes_shown old mid new buffered text batch.read is.inside front end kept fits drops).0,
+  is.0,
+  (Consumes_shown old mid new buffered text batch.read is.2 front end kept fits drops).0,
   sent,
 )

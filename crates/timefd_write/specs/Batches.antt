@@ -49,17 +49,15 @@ abbrev pub no_batch : Batch
 no_batch = record { line_count = 0; read = 0; written = 0 }
 
 -- The lines at the front of a text, and what is written for them at the front of a room.
-pub record IsBatch (source : Source) (o : BorrowedOutput) (text room : Text) (batch : Batch) : Type 0 where
-  pub counted : batch.line_count ≤ batch.read
-  pub inside : batch.read ≤ length text
-  pub fits : batch.written ≤ length room
-  pub lines : AreLinesShown source o batch.line_count (take batch.read text) (take batch.written room)
+abbrev pub IsBatch : Source → BorrowedOutput → Text → Text → Batch → Type 0
+IsBatch source o text room batch =
+    AreLinesShown source o batch.line_count (take batch.read text) (take batch.written room)
+    × (batch.line_count ≤ batch.read) × (batch.read ≤ length text) × (batch.written ≤ length room)
 
--- The batch grows by a line. If it doesn't, it stays what it is.
+-- The batch grows. If it doesn't, it stays what it is.
 abbrev pub TriesToGrow : Source → BorrowedOutput → Text → Batch → Text → Option Batch → Type 0
 TriesToGrow source o text batch room None = IsBatch source o text room batch
 TriesToGrow source o text batch room (Some more) = IsBatch source o text room more
-    × (more.line_count ≡ suc batch.line_count)
 
 -- how many bytes are reserved for what a batch writes
 abbrev pub batch_room : ℕ
