@@ -165,7 +165,7 @@ next_more otherwise source o bytes left rest before between next tally one sum n
 
 -- The end of the input, and a read that failed.
 
-pub run_ends : (otherwise : Otherwise) (source : Source) (o : BorrowedOutput)
+run_ends : (otherwise : Otherwise) (source : Source) (o : BorrowedOutput)
     (bytes left before between after : Option Text) (tally : Tally)
     → CompletesLines otherwise source o bytes left before between tally → (after ≡ between) × IsAtEnd left
     → RunsOver otherwise source o bytes before after tally
@@ -175,7 +175,23 @@ run_ends otherwise source o bytes left before between after tally so_far end = (
       (so_far false after (at_end false) ([], no_line_left left end.1, (end.0, refl))),
 )
 
-pub run_fails : (otherwise : Otherwise) (source : Source) (o : BorrowedOutput)
+pub taken_ends : (otherwise : Otherwise) (source : Source) (o : BorrowedOutput)
+    (bytes left rest before between after : Option Text) (tally : Tally) (t : Taken) → t ≡ takes.End
+    → CompletesLines otherwise source o bytes left before between tally
+    → IsTaken source o left rest between after t → RunsOver otherwise source o bytes before after tally
+taken_ends otherwise source o bytes left rest before between after tally t is so_far taken =
+    run_ends otherwise source o bytes left before between after tally so_far
+    (subst (λ x. IsTaken source o left rest between after x) is taken)
+
+pub next_ends : (otherwise : Otherwise) (source : Source) (o : BorrowedOutput)
+    (bytes left rest before between after : Option Text) (tally : Tally) (n : Next) → n ≡ nexts.End
+    → CompletesLines otherwise source o bytes left before between tally
+    → IsNext otherwise source o left rest between after n → RunsOver otherwise source o bytes before after tally
+next_ends otherwise source o bytes left rest before between after tally n is so_far looked =
+    run_ends otherwise source o bytes left before between after tally so_far
+    (subst (λ x. IsNext otherwise source o left rest between after x) is looked)
+
+run_fails : (otherwise : Otherwise) (source : Source) (o : BorrowedOutput)
     (bytes left before between after : Option Text) (tally failing sum : Tally)
     → CompletesLines otherwise source o bytes left before between tally → after ≡ between
     → failing ≡ at_end true → sum ≡ both tally failing
@@ -183,6 +199,24 @@ pub run_fails : (otherwise : Otherwise) (source : Source) (o : BorrowedOutput)
 run_fails otherwise source o bytes left before between after tally failing sum so_far same is is_sum =
     subst (λ a. RunsOver otherwise source o bytes before a sum) (sym same)
     (lines_fail otherwise source o bytes left before between tally failing sum so_far is is_sum)
+
+pub taken_fails : (otherwise : Otherwise) (source : Source) (o : BorrowedOutput)
+    (bytes left rest before between after : Option Text) (tally failing sum : Tally) (t : Taken) → t ≡ takes.Failed
+    → CompletesLines otherwise source o bytes left before between tally
+    → IsTaken source o left rest between after t → failing ≡ at_end true → sum ≡ both tally failing
+    → RunsOver otherwise source o bytes before after sum
+taken_fails otherwise source o bytes left rest before between after tally failing sum t is so_far taken fails is_sum =
+    run_fails otherwise source o bytes left before between after tally failing sum so_far
+    (subst (λ x. IsTaken source o left rest between after x) is taken) fails is_sum
+
+pub next_fails : (otherwise : Otherwise) (source : Source) (o : BorrowedOutput)
+    (bytes left rest before between after : Option Text) (tally failing sum : Tally) (n : Next) → n ≡ nexts.Failed
+    → CompletesLines otherwise source o bytes left before between tally
+    → IsNext otherwise source o left rest between after n → failing ≡ at_end true → sum ≡ both tally failing
+    → RunsOver otherwise source o bytes before after sum
+next_fails otherwise source o bytes left rest before between after tally failing sum n is so_far looked fails is_sum =
+    run_fails otherwise source o bytes left before between after tally failing sum so_far
+    (subst (λ x. IsNext otherwise source o left rest between after x) is looked) fails is_sum
 
 -- What `fill_buf`, a write and `consume` do together.
 

@@ -130,7 +130,7 @@ pub fn write_lines<R: BufRead, W: Write, E: Write>(
 
 // Writes those lines by the leaves of both descriptions, if they have some: in batches, and by itself each line
 // that no batch takes.
-#[tactic(auto, using(crate::proofs::RunLemmas::lines_start, crate::proofs::TakenLemmas::taken_more, crate::proofs::TakenLemmas::nothing_taken, crate::proofs::TakenLemmas::next_more, crate::proofs::TakenLemmas::run_ends, crate::proofs::TakenLemmas::run_fails))]
+#[tactic(auto, using(crate::proofs::RunLemmas::lines_start, crate::proofs::TakenLemmas::taken_more, crate::proofs::TakenLemmas::nothing_taken, crate::proofs::TakenLemmas::next_more, crate::proofs::TakenLemmas::taken_ends, crate::proofs::TakenLemmas::taken_fails, crate::proofs::TakenLemmas::next_ends, crate::proofs::TakenLemmas::next_fails, crate::proofs::RunLemmas::lines_fail))]
 fn write_by<R: BufRead, W: Write, E: Write>(
     alloc: Global,
     source: &Source<'_>,
