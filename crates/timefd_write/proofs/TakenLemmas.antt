@@ -13,6 +13,7 @@ use Rattle.timefd_write.specs.declared.fast.batch.Batch.{Batch}
 use Rattle.timefd_write.specs.declared.fast.take.Taken.{Taken}
 use Rattle.timefd_write.specs.declared.fast.take.Taken.TheVariants as takes
 use Rattle.timefd_write.specs.declared.frame.Frame.TheVariants as frames
+use Rattle.timefd_write.specs.declared.lines.LineRead.{LineRead}
 use Rattle.timefd_write.specs.declared.lines.LineRead.TheVariants as reads
 use Rattle.timefd_write.specs.declared.lines.Next.{Next}
 use Rattle.timefd_write.specs.declared.lines.Next.TheVariants as nexts
@@ -23,7 +24,7 @@ use Rattle.timefd_write.specs.declared.outcome.Tally.{Tally}
 use Rattle.timefd_write.specs.declared.source.Source.{Source}
 use Rattle.timefd_write.specs.Batches.{AreLinesShown, IsBatch, IsNext, IsShownAs, IsTaken, IsUnread, IsWholeLine, with_newline}
 use Rattle.timefd_write.specs.Tallies.{at_end, both, tally_of}
-use Rattle.timefd_write.specs.Written.{AppendsIn, RunsOn, RunsOver, written_of}
+use Rattle.timefd_write.specs.Written.{AppendsIn, IsRead, IsTallyOf, RunsOn, RunsOver, written_of}
 use Rattle.timefd_write.proofs.RunLemmas.{CompletesLines, line_more, lines_fail, no_line_left, none_more}
 
 -- A line at the front of what a reader has left.
@@ -162,6 +163,23 @@ next_more otherwise source o bytes left rest before between next tally one sum n
     let line = subst (λ x. IsNext otherwise source o left rest between next x) is looked in
     line_more otherwise source o bytes left rest line.0 (without_newline line.0) before between next tally one sum
     line.1.0 reads.Line refl so_far line.2 refl line.1.1 line.1.2 is_sum
+
+pub line_looked : (otherwise : Otherwise) (source : Source) (o : BorrowedOutput)
+    (old new before after : Option Text) (line word : Text) (one : Tally) (r : LineRead) → r ≡ reads.Line
+    → IsRead old new line r → word ≡ without_newline line
+    → IsTallyOf otherwise source o frames.Line word before after one
+    → IsNext otherwise source o old new before after (nexts.Line one)
+line_looked otherwise source o old new before after line word one r is read without tally = (
+  line,
+  subst (λ w. IsTallyOf otherwise source o frames.Line w before after one) without tally,
+  subst (λ x. IsRead old new line x) is read,
+)
+
+pub no_line_looked : (otherwise : Otherwise) (source : Source) (o : BorrowedOutput) (old new before : Option Text)
+    (line : Text) (r : LineRead) → r ≡ reads.End → IsRead old new line r
+    → IsNext otherwise source o old new before before nexts.End
+no_line_looked otherwise source o old new before line r is read =
+    (refl, subst (λ x. IsRead old new line x) is read)
 
 -- The end of the input, and a read that failed.
 

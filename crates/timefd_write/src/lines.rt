@@ -196,6 +196,7 @@ pub enum Next {
 }
 
 // Reads one more line, which has this number, and writes the moment that it names or shows.
+#[tactic(auto, using(crate::proofs::TakenLemmas::line_looked, crate::proofs::TakenLemmas::no_line_looked))]
 fn write_next<R: BufRead, W: Write, E: Write>(
     alloc: Global,
     source: &Source<'_>,

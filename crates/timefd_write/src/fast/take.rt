@@ -42,6 +42,7 @@ pub fn batch_room(alloc: Global) -> Result<Vec<u8>, AllocError>
 /// Takes lines from what the reader has in its buffer, and writes their moments, a line each.
 ///
 /// An `Err` says that memory ran out, or that the output failed.
+#[tactic(auto, using(crate::proofs::TakenLemmas::unread_taken, crate::proofs::TakenLemmas::end_shown))]
 pub fn take_batch<R: BufRead, W: Write>(
     source: &Source<'_>,
     source_leaves: Option<&[Leaf<'_>]>,
