@@ -32,9 +32,9 @@ up_to_newline text k found =
     let inside : k < length text = found.0.high in (
       take k text,
       All-from_get_or (λ b. b ≢ 10) (take k text) 0 (λ i small is.
-      let below : i < k = omega (arith, small, length-take k text) in
-      found.0.before i zero-le below
-      (eq-eqb (get_or text i 0) 10 (sym (get_or-take k text i 0 below) ∙ is))),
+          let below : i < k = omega (arith, small, length-take k text) in
+          found.0.before i zero-le below
+          (eq-eqb (get_or text i 0) 10 (sym (get_or-take k text i 0 below) ∙ is))),
       take_more text k 0 inside ∙ ap (λ b. take k text ++ b ∷ []) (eqb-true (get_or text k 0) 10 found.1),
     )
 
@@ -123,8 +123,7 @@ one_more source o text rest line old new batch len end is is_rest within whole w
       subst (λ l. IsShownAs source o l put.0) without put.1,
       read_more text rest batch.read len is.2 is_rest,
       put.2.front,
-    ) in
-    (
+    ) in (
       subst (λ n. AreLinesShown source o n (take (batch.read + len) text) (take end new)) next lines,
       omega (arith, is.1, some),
       omega (arith, is.2, within, ap length is_rest, length-drop batch.read text),

@@ -154,7 +154,15 @@ fn write_by<R: BufRead, W: Write, E: Write>(
     let mut room = line_room(alloc, description)?;
     let mut batch_space = batch_room(alloc)?;
     'lines: for _ in 1..u64::MAX {
-        match take_batch(source, source_leaves, description, leaves, &mut batch_space, reader, output)? {
+        match take_batch(
+            source,
+            source_leaves,
+            description,
+            leaves,
+            &mut batch_space,
+            reader,
+            output,
+        )? {
             Taken::Lines(count) => line = line.saturating_add(count as u64),
             Taken::Nothing => {
                 match write_next(

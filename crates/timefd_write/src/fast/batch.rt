@@ -55,7 +55,15 @@ pub fn batch_of(
 {
     let mut batch = Batch::new();
     'lines: for _ in 0..text.len() {
-        match grown(source, source_leaves, description, leaves, text, room, batch) {
+        match grown(
+            source,
+            source_leaves,
+            description,
+            leaves,
+            text,
+            room,
+            batch,
+        ) {
             Some(more) => batch = more,
             None => return batch,
         }
@@ -83,7 +91,15 @@ fn grown(
     let rest = &text[batch.read..];
     let len = first_line_len(rest)?;
     let line = without_newline(&rest[..len]);
-    let end = append_line(source, source_leaves, description, leaves, line, room, batch.written)?;
+    let end = append_line(
+        source,
+        source_leaves,
+        description,
+        leaves,
+        line,
+        room,
+        batch.written,
+    )?;
     Some(Batch {
         line_count: batch.line_count + 1,
         read: batch.read + len,
