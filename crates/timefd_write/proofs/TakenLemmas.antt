@@ -8,7 +8,7 @@ use Rattle.std.specs.Io.KnownBytes.{Appends, Consumes, IsAtEnd, Keeps}
 use Rattle.timefd_component.specs.Tree.{Text}
 use Rattle.timefd_format.specs.declared.unshown.Unshown.{Unshown}
 use Rattle.timefd_parse.specs.declared.parsing.BorrowedOutput.{BorrowedOutput}
-use Rattle.timefd_rewrite.specs.Lines.{AreLinesOf, IsNextLine, without_newline}
+use Rattle.timefd_rewrite.specs.Lines.{IsNextLine, without_newline}
 use Rattle.timefd_write.specs.declared.fast.batch.Batch.{Batch}
 use Rattle.timefd_write.specs.declared.fast.take.Taken.{Taken}
 use Rattle.timefd_write.specs.declared.fast.take.Taken.TheVariants as takes
@@ -117,41 +117,15 @@ some_more otherwise source o (suc n) read written bytes left rest before between
     sent =
     lines_more otherwise source o n read written bytes left rest before between next tally so_far are consumed sent
 
-pub taken_more : (otherwise : Otherwise) (source : Source) (o : BorrowedOutput)
-    (bytes left rest before between next : Option Text) (tally : Tally) (n : ℕ) (t : Taken) → t ≡ takes.Lines n
+pub batch_more : (otherwise : Otherwise) (source : Source) (o : BorrowedOutput)
+    (bytes left rest before between after : Option Text) (tally : Tally) (n : ℕ) (r : Next) → r ≡ nexts.Lines n
     → CompletesLines otherwise source o bytes left before between tally
-    → IsTaken source o left rest between next t
-    → CompletesLines otherwise source o bytes rest before next tally
-taken_more otherwise source o bytes left rest before between next tally n t is so_far taken =
-    let lines = subst (λ x. IsTaken source o left rest between next x) is taken in
-    some_more otherwise source o n lines.0 lines.1 bytes left rest before between next tally lines.2 so_far lines.3
+    → IsNext otherwise source o left rest between after r
+    → CompletesLines otherwise source o bytes rest before after tally
+batch_more otherwise source o bytes left rest before between after tally n r is so_far took =
+    let lines = subst (λ x. IsNext otherwise source o left rest between after x) is took in
+    some_more otherwise source o n lines.0 lines.1 bytes left rest before between after tally lines.2 so_far lines.3
     lines.4 lines.5
-
--- What is left stays the same.
-
-kept_lines : (left rest : Option Text) (lines : List Text) (failed : Bool) → Keeps left rest
-    → AreLinesOf rest lines failed → AreLinesOf left lines failed
-kept_lines None rest lines failed same are = tt
-kept_lines (Some x) None lines failed same are = absurd same
-kept_lines (Some x) (Some y) lines failed same are =
-    subst (λ z. AreLinesOf (Some z) lines failed) same are
-
-kept_left : (otherwise : Otherwise) (source : Source) (o : BorrowedOutput)
-    (bytes left rest before between : Option Text) (tally : Tally)
-    → CompletesLines otherwise source o bytes left before between tally → Keeps left rest
-    → CompletesLines otherwise source o bytes rest before between tally
-kept_left otherwise source o bytes left rest before between tally so_far same failed after more runs =
-    so_far failed after more (runs.0, kept_lines left rest runs.0 failed same runs.1, runs.2)
-
-pub nothing_taken : (otherwise : Otherwise) (source : Source) (o : BorrowedOutput)
-    (bytes left rest before between next : Option Text) (tally : Tally) (t : Taken) → t ≡ takes.Nothing
-    → CompletesLines otherwise source o bytes left before between tally
-    → IsTaken source o left rest between next t
-    → CompletesLines otherwise source o bytes rest before next tally
-nothing_taken otherwise source o bytes left rest before between next tally t is so_far taken =
-    let nothing = subst (λ x. IsTaken source o left rest between next x) is taken in
-    subst (λ b. CompletesLines otherwise source o bytes rest before b tally) (sym nothing.0)
-    (kept_left otherwise source o bytes left rest before between tally so_far nothing.1)
 
 -- A line that is looked at by itself.
 pub next_more : (otherwise : Otherwise) (source : Source) (o : BorrowedOutput)
@@ -193,14 +167,6 @@ run_ends otherwise source o bytes left before between after tally so_far end = (
       (so_far false after (at_end false) ([], no_line_left left end.1, (end.0, refl))),
 )
 
-pub taken_ends : (otherwise : Otherwise) (source : Source) (o : BorrowedOutput)
-    (bytes left rest before between after : Option Text) (tally : Tally) (t : Taken) → t ≡ takes.End
-    → CompletesLines otherwise source o bytes left before between tally
-    → IsTaken source o left rest between after t → RunsOver otherwise source o bytes before after tally
-taken_ends otherwise source o bytes left rest before between after tally t is so_far taken =
-    run_ends otherwise source o bytes left before between after tally so_far
-    (subst (λ x. IsTaken source o left rest between after x) is taken)
-
 pub next_ends : (otherwise : Otherwise) (source : Source) (o : BorrowedOutput)
     (bytes left rest before between after : Option Text) (tally : Tally) (n : Next) → n ≡ nexts.End
     → CompletesLines otherwise source o bytes left before between tally
@@ -218,15 +184,6 @@ run_fails otherwise source o bytes left before between after tally failing sum s
     subst (λ a. RunsOver otherwise source o bytes before a sum) (sym same)
     (lines_fail otherwise source o bytes left before between tally failing sum so_far is is_sum)
 
-pub taken_fails : (otherwise : Otherwise) (source : Source) (o : BorrowedOutput)
-    (bytes left rest before between after : Option Text) (tally failing sum : Tally) (t : Taken) → t ≡ takes.Failed
-    → CompletesLines otherwise source o bytes left before between tally
-    → IsTaken source o left rest between after t → failing ≡ at_end true → sum ≡ both tally failing
-    → RunsOver otherwise source o bytes before after sum
-taken_fails otherwise source o bytes left rest before between after tally failing sum t is so_far taken fails is_sum =
-    run_fails otherwise source o bytes left before between after tally failing sum so_far
-    (subst (λ x. IsTaken source o left rest between after x) is taken) fails is_sum
-
 pub next_fails : (otherwise : Otherwise) (source : Source) (o : BorrowedOutput)
     (bytes left rest before between after : Option Text) (tally failing sum : Tally) (n : Next) → n ≡ nexts.Failed
     → CompletesLines otherwise source o bytes left before between tally
@@ -235,6 +192,47 @@ pub next_fails : (otherwise : Otherwise) (source : Source) (o : BorrowedOutput)
 next_fails otherwise source o bytes left rest before between after tally failing sum n is so_far looked fails is_sum =
     run_fails otherwise source o bytes left before between after tally failing sum so_far
     (subst (λ x. IsNext otherwise source o left rest between after x) is looked) fails is_sum
+
+-- What comes next is a batch, or else what comes next after none.
+
+pub lines_next : (otherwise : Otherwise) (source : Source) (o : BorrowedOutput) (old new before after : Option Text)
+    (n : ℕ) (t : Taken) → t ≡ takes.Lines n → IsTaken source o old new before after t
+    → IsNext otherwise source o old new before after (nexts.Lines n)
+lines_next otherwise source o old new before after n t is taken =
+    subst (λ x. IsTaken source o old new before after x) is taken
+
+pub end_next : (otherwise : Otherwise) (source : Source) (o : BorrowedOutput) (old new before after : Option Text)
+    (t : Taken) → t ≡ takes.End → IsTaken source o old new before after t
+    → IsNext otherwise source o old new before after nexts.End
+end_next otherwise source o old new before after t is taken =
+    subst (λ x. IsTaken source o old new before after x) is taken
+
+pub failed_next : (otherwise : Otherwise) (source : Source) (o : BorrowedOutput) (old new before after : Option Text)
+    (t : Taken) → t ≡ takes.Failed → IsTaken source o old new before after t
+    → IsNext otherwise source o old new before after nexts.Failed
+failed_next otherwise source o old new before after t is taken =
+    subst (λ x. IsTaken source o old new before after x) is taken
+
+kept_next : (otherwise : Otherwise) (source : Source) (o : BorrowedOutput) (old mid new before after : Option Text)
+    (n : Next) → Keeps old mid → IsNext otherwise source o mid new before after n
+    → IsNext otherwise source o old new before after n
+kept_next otherwise source o None mid new before after (nexts.Lines n) same is = (is.0, is.1, is.2, is.3, tt, is.5)
+kept_next otherwise source o None mid new before after (nexts.Line t) same is = (is.0, is.1, tt)
+kept_next otherwise source o None mid new before after nexts.End same is = (is.0, tt)
+kept_next otherwise source o None mid new before after nexts.Failed same is = is
+kept_next otherwise source o (Some x) None new before after n same is = absurd same
+kept_next otherwise source o (Some x) (Some y) new before after n same is =
+    subst (λ z. IsNext otherwise source o (Some z) new before after n) same is
+
+pub nothing_next : (otherwise : Otherwise) (source : Source) (o : BorrowedOutput)
+    (old mid new before between after : Option Text) (t : Taken) (r : Result Next RunError) → t ≡ takes.Nothing
+    → IsTaken source o old mid before between t → IfOk r (IsNext otherwise source o mid new between after)
+    → IfOk r (IsNext otherwise source o old new before after)
+nothing_next otherwise source o old mid new before between after t (Err e) is taken next = tt
+nothing_next otherwise source o old mid new before between after t (Ok n) is taken next =
+    let nothing = subst (λ x. IsTaken source o old mid before between x) is taken in
+    kept_next otherwise source o old mid new before after n nothing.1
+    (subst (λ b. IsNext otherwise source o mid new b after n) nothing.0 next)
 
 -- What `fill_buf`, a write and `consume` do together.
 

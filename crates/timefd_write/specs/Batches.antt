@@ -79,9 +79,11 @@ IsUnread takes.Nothing = ⊤
 IsUnread takes.End = ⊥
 IsUnread takes.Failed = ⊤
 
--- What one more line does, looked at by itself.
+-- What the next lines do: those of a batch, or one that is looked at by itself.
 abbrev pub IsNext : Otherwise → Source → BorrowedOutput → Option Text → Option Text → Option Text → Option Text
     → Next → Type 0
+IsNext otherwise source o old new before after (next.Lines n) = (read : Text) × (written : Text)
+    × (1 ≤ n) × AreLinesShown source o n read written × Consumes old new read × Appends before after written
 IsNext otherwise source o old new before after (next.Line tally) = (line : Text)
     × IsTallyOf otherwise source o frames.Line (without_newline line) before after tally
     × IsNextLine old line new

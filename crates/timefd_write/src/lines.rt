@@ -128,9 +128,8 @@ pub fn write_lines<R: BufRead, W: Write, E: Write>(
     )
 }
 
-// Writes those lines by the leaves of both descriptions, if they have some: in batches, and by itself each line
-// that no batch takes.
-#[tactic(auto, using(crate::proofs::RunLemmas::lines_start, crate::proofs::TakenLemmas::taken_more, crate::proofs::TakenLemmas::nothing_taken, crate::proofs::TakenLemmas::next_more, crate::proofs::TakenLemmas::taken_ends, crate::proofs::TakenLemmas::taken_fails, crate::proofs::TakenLemmas::next_ends, crate::proofs::TakenLemmas::next_fails, crate::proofs::RunLemmas::lines_fail))]
+// Writes those lines by the leaves of both descriptions, if they have some.
+#[tactic(auto, using(crate::proofs::RunLemmas::lines_start, crate::proofs::TakenLemmas::batch_more, crate::proofs::TakenLemmas::next_more, crate::proofs::TakenLemmas::next_ends, crate::proofs::TakenLemmas::next_fails, crate::proofs::RunLemmas::lines_fail))]
 fn write_by<R: BufRead, W: Write, E: Write>(
     alloc: Global,
     source: &Source<'_>,
@@ -152,60 +151,104 @@ fn write_by<R: BufRead, W: Write, E: Write>(
     let mut line: u64 = 1;
     let mut bytes = Vec::new(alloc);
     let mut room = line_room(alloc, description)?;
-    let mut batch_space = batch_room(alloc)?;
+    let mut space = batch_room(alloc)?;
     'lines: for _ in 1..u64::MAX {
-        match take_batch(
+        match write_next(
+            alloc,
             source,
             source_leaves,
             description,
             leaves,
-            &mut batch_space,
+            otherwise,
+            line,
+            &mut bytes,
+            &mut room,
+            &mut space,
             reader,
             output,
+            errors,
         )? {
-            Taken::Lines(count) => line = line.saturating_add(count as u64),
-            Taken::Nothing => {
-                match write_next(
-                    alloc,
-                    source,
-                    source_leaves,
-                    description,
-                    leaves,
-                    otherwise,
-                    line,
-                    &mut bytes,
-                    &mut room,
-                    reader,
-                    output,
-                    errors,
-                )? {
-                    Next::Line(one) => tally = tally.and(one),
-                    Next::End => return Ok(tally),
-                    Next::Failed => return Ok(tally.and(Tally::at_end(true))),
-                }
+            Next::Lines(count) => line = line.saturating_add(count as u64),
+            Next::Line(one) => {
+                tally = tally.and(one);
                 line = line.saturating_add(1);
             }
-            Taken::End => return Ok(tally),
-            Taken::Failed => return Ok(tally.and(Tally::at_end(true))),
+            Next::End => return Ok(tally),
+            Next::Failed => return Ok(tally.and(Tally::at_end(true))),
         }
     }
     Ok(tally.and(Tally::at_end(true)))
 }
 
-/// What one more line came to.
+/// What came next.
 #[derive(Clone, Copy)]
 pub enum Next {
-    /// It is looked at, and adds this to the tally.
+    /// This many lines, each of which is written.
+    Lines(usize),
+    /// A line that adds this to the tally.
     Line(Tally),
     /// The end of the input.
     End,
-    /// The read failed.
+    /// A read that failed.
     Failed,
+}
+
+// Writes the next lines in a batch. If that can't be done with the first of them, which has this number, it is
+// looked at by itself.
+#[tactic(auto, using(crate::proofs::TakenLemmas::lines_next, crate::proofs::TakenLemmas::end_next, crate::proofs::TakenLemmas::failed_next, crate::proofs::TakenLemmas::nothing_next))]
+fn write_next<R: BufRead, W: Write, E: Write>(
+    alloc: Global,
+    source: &Source<'_>,
+    source_leaves: Option<&[Leaf<'_>]>,
+    description: &BorrowedOutput<'_>,
+    leaves: Option<&[Leaf<'_>]>,
+    otherwise: Otherwise,
+    line: u64,
+    bytes: &mut Vec<u8>,
+    room: &mut [u8],
+    space: &mut [u8],
+    reader: &mut R,
+    output: &mut W,
+    errors: &mut E,
+) -> Result<Next, RunError>
+    requires source { AreLeavesIn source.now source_leaves }
+    requires written { AreLeavesOf description.now leaves }
+    ensures next { IfOk result (IsNext otherwise source.now description.now (R.remaining reader.old)
+        (R.remaining reader.new) (W.contents output.old) (W.contents output.new)) }
+    ensures ends { IfErr result (EndsOnlyAsAsked otherwise) }
+{
+    match take_batch(
+        source,
+        source_leaves,
+        description,
+        leaves,
+        space,
+        reader,
+        output,
+    )? {
+        Taken::Lines(count) => Ok(Next::Lines(count)),
+        Taken::Nothing => write_line_by_itself(
+            alloc,
+            source,
+            source_leaves,
+            description,
+            leaves,
+            otherwise,
+            line,
+            bytes,
+            room,
+            reader,
+            output,
+            errors,
+        ),
+        Taken::End => Ok(Next::End),
+        Taken::Failed => Ok(Next::Failed),
+    }
 }
 
 // Reads one more line, which has this number, and writes the moment that it names or shows.
 #[tactic(auto, using(crate::proofs::TakenLemmas::line_looked, crate::proofs::TakenLemmas::no_line_looked))]
-fn write_next<R: BufRead, W: Write, E: Write>(
+fn write_line_by_itself<R: BufRead, W: Write, E: Write>(
     alloc: Global,
     source: &Source<'_>,
     source_leaves: Option<&[Leaf<'_>]>,
