@@ -89,6 +89,9 @@ plain_from text front same none =
     quote_passes : (b : ℕ) → b ≡ 34 → is_byte2 44 34 b ≡ true
     quote_passes b is = subst (λ x. is_byte2 44 34 x ≡ true) (sym is) refl
 
+pub comma_within : (row : Text) (at : ℕ) → IsFirstByte (is_byte2 44 34) row (Some at) → at < length row
+comma_within row at found = found.0.high
+
 -- The first field up to its comma.
 
 ends_outside : (q : Quoting) → IsOutside q → ends_field q 44 ≡ true

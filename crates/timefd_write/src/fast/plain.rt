@@ -1,6 +1,7 @@
 //! Bytes without quotes: most fields are without them.
 
-ghost use Rattle.std.specs.Prelude.{◌≡◌, ◌≢◌, All, IfSome, false};
+ghost use Rattle.memchr.specs.Find.{IsFirstByte, is_byte2};
+ghost use Rattle.std.specs.Prelude.{◌≡◌, ◌≢◌, All, IfSome, Some, false};
 ghost use Rattle.timefd_write.specs.Fields.{IsSplit};
 
 use crate::fields::Split;
@@ -19,16 +20,25 @@ pub fn has_quote(bytes: &[u8]) -> bool
 
 /// The first field of a record, if there is no quote in front of its comma. `None` says nothing about the
 /// record.
-#[tactic(auto, using(crate::proofs::PlainLemmas::whole_row, crate::proofs::PlainLemmas::first_field))]
+#[tactic(auto, using(crate::proofs::PlainLemmas::whole_row))]
 pub fn plain_field(row: &[u8]) -> Option<Split<'_>>
     ensures { IfSome result (IsSplit row.now) }
 {
-    let Some(at) = memchr2(b',', b'"', row) else {
-        return Some(Split {
+    match memchr2(b',', b'"', row) {
+        Some(at) => field_before(row, at),
+        None => Some(Split {
             field: row,
             rest: None,
-        });
-    };
+        }),
+    }
+}
+
+// The field in front of the first comma or quote, if that is a comma.
+#[tactic(auto, using(crate::proofs::PlainLemmas::comma_within))]
+fn field_before(row: &[u8], at: usize) -> Option<Split<'_>>
+    requires first { IsFirstByte (is_byte2 44 34) row.now (Some at) }
+    ensures { IfSome result (IsSplit row.now) }
+{
     if row[at] != b',' {
         return None;
     }
