@@ -20,7 +20,6 @@ pub fn has_quote(bytes: &[u8]) -> bool
 
 /// The first field of a record, if there is no quote in front of its comma. `None` says nothing about the
 /// record.
-#[tactic(auto, using(crate::proofs::PlainLemmas::whole_row))]
 pub fn plain_field(row: &[u8]) -> Option<Split<'_>>
     ensures { IfSome result (IsSplit row.now) }
 {
