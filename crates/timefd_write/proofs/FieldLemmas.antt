@@ -38,11 +38,11 @@ pub begins : (row : Text) → IsInField row row Start
 unfolding IsInField
 begins row = ([], refl, sym (front_nothing (fields row)))
 
-next_of : (q : Quoting) (b : ℕ) (bs : Text) → ends_field q b ≡ false
+pub next_of : (q : Quoting) (b : ℕ) (bs : Text) → ends_field q b ≡ false
     → fields_from q (b ∷ bs) ≡ with_front (b ∷ []) (fields_from (after q b) bs)
 next_of q b bs same = rw same refl
 
-last_of : (q : Quoting) (b : ℕ) (bs : Text) → ends_field q b ≡ true
+pub last_of : (q : Quoting) (b : ℕ) (bs : Text) → ends_field q b ≡ true
     → fields_from q (b ∷ bs) ≡ [] ∷ fields bs
 last_of q b bs ends = rw ends refl
 

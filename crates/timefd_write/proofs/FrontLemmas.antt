@@ -14,7 +14,7 @@ use Rattle.timefd_write.specs.Written.{IsLineOf, written_of}
 use Rattle.timefd_write.proofs.LineLemmas.{of_tree}
 
 -- the leaves show what the description does
-by_leaves : (m : Moment) (o : BorrowedOutput) (leaves : List Leaf) → IsMadeOf o leaves
+pub by_leaves : (m : Moment) (o : BorrowedOutput) (leaves : List Leaf) → IsMadeOf o leaves
     → written_all m (trees (map leaf_tree leaves)) ≡ written_of m o
 by_leaves m o leaves made = sym (of_tree m o ∙ ap (written m) made)
 

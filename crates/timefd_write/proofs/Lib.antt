@@ -1,4 +1,5 @@
 pub mod AskedLemmas
+pub mod BatchLemmas
 pub mod FieldLemmas
 pub mod FrameLemmas
 pub mod HeaderLemmas
@@ -10,6 +11,7 @@ pub mod RecordLemmas
 pub mod SecondsLemmas
 pub mod RunLemmas
 pub mod TableLemmas
+pub mod TakenLemmas
 pub mod WarnedLemmas
 pub mod ZoneLemmas
 pub mod GuessLemmas
@@ -17,3 +19,4 @@ pub mod GuessRunLemmas
 pub mod ExpectedLemmas
 pub mod MomentLemmas
 pub mod MessageLemmas
+pub mod PlainLemmas

@@ -17,6 +17,7 @@ pub mod Frames
 pub mod Fields
 pub mod Records
 pub mod Written
+pub mod Batches
 pub mod Tables
 pub mod Warned
 pub mod Runs

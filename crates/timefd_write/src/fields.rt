@@ -5,6 +5,7 @@ ghost use Rattle.timefd_rewrite.specs.Lines as lines;
 ghost use Rattle.timefd_write.specs.Fields as spec;
 ghost use Rattle.timefd_write.specs.Fields.{IsCell, IsSplit};
 
+use crate::fast::plain::{has_quote, plain_field};
 use crate::frame::Cell;
 use crate::quoting::Quoting;
 use std::alloc::AllocError;
@@ -20,8 +21,18 @@ pub struct Split<'a> {
 }
 
 /// The first field of a record. The record comes without its newline.
-#[tactic(auto, using(crate::proofs::FieldLemmas::begins, crate::proofs::FieldLemmas::in_fits, crate::proofs::FieldLemmas::goes_on, crate::proofs::FieldLemmas::found, crate::proofs::FieldLemmas::ends))]
 pub fn split_field(row: &[u8]) -> Split<'_>
+    ensures { IsSplit row.now result }
+{
+    match plain_field(row) {
+        Some(split) => split,
+        None => split_by_bytes(row),
+    }
+}
+
+// The first field, found byte by byte.
+#[tactic(auto, using(crate::proofs::FieldLemmas::begins, crate::proofs::FieldLemmas::in_fits, crate::proofs::FieldLemmas::goes_on, crate::proofs::FieldLemmas::found, crate::proofs::FieldLemmas::ends))]
+fn split_by_bytes(row: &[u8]) -> Split<'_>
     ensures { IsSplit row.now result }
 {
     let mut quoting = Quoting::Start;
@@ -73,10 +84,15 @@ pub fn cell_after(count: usize, row: &[u8]) -> Option<Cell<'_>>
 
 /// Replaces these bytes with the text of a field, without its quotes. An `Err` says that memory ran
 /// out.
+#[tactic(auto, using(crate::proofs::PlainLemmas::text_copied))]
 pub fn text_in(field: &[u8], bytes: &mut Vec<u8>) -> Result<(), AllocError>
     ensures { IfOk result (λ _. bytes.new.items ≡ spec.text_of field.now) }
 {
     bytes.clear();
+    if !has_quote(field) {
+        bytes.extend_from_slice(field)?;
+        return Ok(());
+    }
     let mut quoting = Quoting::Start;
     let mut rest = field;
     'bytes: while let [byte, more @ ..] = rest {

@@ -1,6 +1,7 @@
 //! The moments that the lines of a reader name, one after another.
 
 ghost use Rattle.std.specs.Prelude.{◌≡◌, IfErr, IfOk, length};
+ghost use Rattle.timefd_write.specs.Batches.{IsNext};
 ghost use Rattle.timefd_write.specs.Frames.{EndsOnlyAsAsked};
 ghost use Rattle.timefd_write.specs.ReadBack.{AreLeavesOf};
 ghost use Rattle.timefd_write.specs.Sources.{AreLeavesIn};
@@ -8,6 +9,7 @@ ghost use Rattle.timefd_write.specs.Written as spec;
 ghost use Rattle.timefd_write.specs.Written.{IsRead, IsReadMore, RunsOver};
 
 use crate::entry::tally_one;
+use crate::fast::take::{Taken, batch_room, take_batch};
 use crate::frame::{Entry, Frame};
 use crate::otherwise::Otherwise;
 use crate::outcome::{RunError, Tally};
@@ -127,7 +129,7 @@ pub fn write_lines<R: BufRead, W: Write, E: Write>(
 }
 
 // Writes those lines by the leaves of both descriptions, if they have some.
-#[tactic(auto, using(crate::proofs::RunLemmas::lines_start))]
+#[tactic(auto, using(crate::proofs::RunLemmas::lines_start, crate::proofs::TakenLemmas::batch_more, crate::proofs::TakenLemmas::next_more, crate::proofs::TakenLemmas::next_ends, crate::proofs::TakenLemmas::next_fails, crate::proofs::RunLemmas::lines_fail))]
 fn write_by<R: BufRead, W: Write, E: Write>(
     alloc: Global,
     source: &Source<'_>,
@@ -146,33 +148,147 @@ fn write_by<R: BufRead, W: Write, E: Write>(
     ensures ends { IfErr result (EndsOnlyAsAsked otherwise) }
 {
     let mut tally = Tally::at_end(false);
+    let mut line: u64 = 1;
     let mut bytes = Vec::new(alloc);
     let mut room = line_room(alloc, description)?;
-    'lines: for line in 1..u64::MAX {
-        match read_line(reader, &mut bytes)? {
-            LineRead::Line => {
-                let word = without_newline(&bytes);
-                let one = tally_one(
-                    alloc,
-                    source,
-                    source_leaves,
-                    description,
-                    leaves,
-                    otherwise,
-                    Entry {
-                        line: Some(line),
-                        text: word,
-                        frame: Frame::Line,
-                    },
-                    &mut room,
-                    output,
-                    errors,
-                )?;
+    let mut space = batch_room(alloc)?;
+    'lines: for _ in 1..u64::MAX {
+        match write_next(
+            alloc,
+            source,
+            source_leaves,
+            description,
+            leaves,
+            otherwise,
+            line,
+            &mut bytes,
+            &mut room,
+            &mut space,
+            reader,
+            output,
+            errors,
+        )? {
+            Next::Lines(count) => line = line.saturating_add(count as u64),
+            Next::Line(one) => {
                 tally = tally.and(one);
+                line = line.saturating_add(1);
             }
-            LineRead::End => return Ok(tally),
-            LineRead::Failed => return Ok(tally.and(Tally::at_end(true))),
+            Next::End => return Ok(tally),
+            Next::Failed => return Ok(tally.and(Tally::at_end(true))),
         }
     }
     Ok(tally.and(Tally::at_end(true)))
+}
+
+/// What came next.
+#[derive(Clone, Copy)]
+pub enum Next {
+    /// This many lines, each of which is written.
+    Lines(usize),
+    /// A line that adds this to the tally.
+    Line(Tally),
+    /// The end of the input.
+    End,
+    /// A read that failed.
+    Failed,
+}
+
+// Writes the next lines in a batch. If that can't be done with the first of them, which has this number, it is
+// looked at by itself.
+#[tactic(auto, using(crate::proofs::TakenLemmas::lines_next, crate::proofs::TakenLemmas::end_next, crate::proofs::TakenLemmas::failed_next, crate::proofs::TakenLemmas::nothing_next))]
+fn write_next<R: BufRead, W: Write, E: Write>(
+    alloc: Global,
+    source: &Source<'_>,
+    source_leaves: Option<&[Leaf<'_>]>,
+    description: &BorrowedOutput<'_>,
+    leaves: Option<&[Leaf<'_>]>,
+    otherwise: Otherwise,
+    line: u64,
+    bytes: &mut Vec<u8>,
+    room: &mut [u8],
+    space: &mut [u8],
+    reader: &mut R,
+    output: &mut W,
+    errors: &mut E,
+) -> Result<Next, RunError>
+    requires source { AreLeavesIn source.now source_leaves }
+    requires written { AreLeavesOf description.now leaves }
+    ensures next { IfOk result (IsNext otherwise source.now description.now (R.remaining reader.old)
+        (R.remaining reader.new) (W.contents output.old) (W.contents output.new)) }
+    ensures ends { IfErr result (EndsOnlyAsAsked otherwise) }
+{
+    match take_batch(
+        source,
+        source_leaves,
+        description,
+        leaves,
+        space,
+        reader,
+        output,
+    )? {
+        Taken::Lines(count) => Ok(Next::Lines(count)),
+        Taken::Nothing => write_line_by_itself(
+            alloc,
+            source,
+            source_leaves,
+            description,
+            leaves,
+            otherwise,
+            line,
+            bytes,
+            room,
+            reader,
+            output,
+            errors,
+        ),
+        Taken::End => Ok(Next::End),
+        Taken::Failed => Ok(Next::Failed),
+    }
+}
+
+// Reads one more line, which has this number, and writes the moment that it names or shows.
+#[tactic(auto, using(crate::proofs::TakenLemmas::line_looked, crate::proofs::TakenLemmas::no_line_looked))]
+fn write_line_by_itself<R: BufRead, W: Write, E: Write>(
+    alloc: Global,
+    source: &Source<'_>,
+    source_leaves: Option<&[Leaf<'_>]>,
+    description: &BorrowedOutput<'_>,
+    leaves: Option<&[Leaf<'_>]>,
+    otherwise: Otherwise,
+    line: u64,
+    bytes: &mut Vec<u8>,
+    room: &mut [u8],
+    reader: &mut R,
+    output: &mut W,
+    errors: &mut E,
+) -> Result<Next, RunError>
+    requires source { AreLeavesIn source.now source_leaves }
+    requires written { AreLeavesOf description.now leaves }
+    ensures next { IfOk result (IsNext otherwise source.now description.now (R.remaining reader.old)
+        (R.remaining reader.new) (W.contents output.old) (W.contents output.new)) }
+    ensures ends { IfErr result (EndsOnlyAsAsked otherwise) }
+{
+    match read_line(reader, bytes)? {
+        LineRead::Line => {
+            let one = tally_one(
+                alloc,
+                source,
+                source_leaves,
+                description,
+                leaves,
+                otherwise,
+                Entry {
+                    line: Some(line),
+                    text: without_newline(bytes.as_slice()),
+                    frame: Frame::Line,
+                },
+                room,
+                output,
+                errors,
+            )?;
+            Ok(Next::Line(one))
+        }
+        LineRead::End => Ok(Next::End),
+        LineRead::Failed => Ok(Next::Failed),
+    }
 }

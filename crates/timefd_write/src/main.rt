@@ -15,6 +15,7 @@ mod description;
 mod end;
 mod entry;
 mod expected;
+mod fast;
 mod field;
 mod fields;
 mod frame;

@@ -1,7 +1,9 @@
 //! The quotes of comma-separated values.
 
-ghost use Rattle.std.specs.Prelude.{◌≡◌, [], ◌∷◌, if◌then◌else◌};
+ghost use Rattle.std.specs.Prelude.{◌≡◌, [], ◌∷◌, IfSome, if◌then◌else◌};
 ghost use Rattle.timefd_write.specs.Fields as spec;
+
+use crate::fast::plain::has_quote;
 
 /// Where a byte is in its field.
 #[derive(Clone, Copy)]
@@ -61,8 +63,34 @@ impl Quoting {
     }
 
     /// The state after these bytes.
-    #[tactic(auto, using(crate::proofs::FieldLemmas::nothing))]
     pub fn after_all(self, bytes: &[u8]) -> Quoting
+        ensures { result ≡ spec.after_all self bytes.now }
+    {
+        match self.after_plain(bytes) {
+            Some(quoting) => quoting,
+            None => self.after_each(bytes),
+        }
+    }
+
+    // The state after bytes without a quote, outside of quotes. `None` says nothing about the bytes.
+    #[tactic(auto, using(crate::proofs::PlainLemmas::after_start, crate::proofs::PlainLemmas::after_bare))]
+    fn after_plain(self, bytes: &[u8]) -> Option<Quoting>
+        ensures { IfSome result (λ quoting. quoting ≡ spec.after_all self bytes.now) }
+    {
+        if bytes.is_empty() || has_quote(bytes) {
+            return None;
+        }
+        let last = bytes[bytes.len() - 1];
+        match self {
+            Quoting::Start => Some(bare_after(last)),
+            Quoting::Bare => Some(bare_after(last)),
+            Quoting::Inside | Quoting::Closed => None,
+        }
+    }
+
+    // The state after these bytes, found byte by byte.
+    #[tactic(auto, using(crate::proofs::FieldLemmas::nothing))]
+    fn after_each(self, bytes: &[u8]) -> Quoting
         ensures { result ≡ spec.after_all self bytes.now }
     {
         let mut quoting = self;

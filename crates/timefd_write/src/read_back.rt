@@ -49,24 +49,24 @@ pub fn moment_read(
     requires { AreLeavesOf description.now leaves }
     ensures { IsReadBack description.now (now written.entry) text.now result }
 {
-    if let Some(moment) = moment_shown(description, leaves, text) {
+    if let Some(moment) = moment_shown(description, leaves, text.as_bytes()) {
         return Ok(moment);
     }
     moment_by_fields(description, leaves, written, text)
 }
 
-// The moment of a text with two-digit numbers and a four-digit year only, which is the fast case. `None` says
-// nothing about the text.
+/// The moment of a text with two-digit numbers and a four-digit year only, which is the fast case. `None` says
+/// nothing about the text.
 #[inline(never)]
-fn moment_shown(
+pub fn moment_shown(
     description: &BorrowedOutput<'_>,
     leaves: Option<&[Leaf<'_>]>,
-    text: &str,
+    text: &[u8],
 ) -> Option<Moment>
     requires { AreLeavesOf description.now leaves }
     ensures { IfSome result (IsWhole description.now text.now) }
 {
-    let numbers = numbers_shown(leaves?, text.as_bytes())?;
+    let numbers = numbers_shown(leaves?, text)?;
     moment_of_numbers(numbers)
 }
 

@@ -1,6 +1,6 @@
 use Rattle.std.proofs.Common.{◌≡◌, length}
 use Rattle.timefd_write.specs.Fields.{after_all}
-use Rattle.timefd_write.proofs.quoting.Quoting.after_all.Given as goal
+use Rattle.timefd_write.proofs.quoting.Quoting.after_each.Given as goal
 
 -- The result depends only on what is left.
 abbrev pub invariant-bytes : goal.invariant-bytes

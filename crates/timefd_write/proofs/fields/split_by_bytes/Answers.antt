@@ -1,6 +1,6 @@
 use Rattle.std.proofs.Common.{◌∙◌, refl, rules, sym}
 use Rattle.timefd_write.proofs.FieldLemmas.{found, goes_on, split_bytes}
-use Rattle.timefd_write.proofs.fields.split_field.Goals as goal
+use Rattle.timefd_write.proofs.fields.split_by_bytes.Goals as goal
 
 pub bytes-preserved : goal.bytes-preserved
 bytes-preserved c =

@@ -1,6 +1,6 @@
 use Rattle.std.proofs.Common.{length}
 use Rattle.timefd_write.proofs.FieldLemmas.{IsInField}
-use Rattle.timefd_write.proofs.fields.split_field.Given as goal
+use Rattle.timefd_write.proofs.fields.split_by_bytes.Given as goal
 
 -- The bytes that were taken are the front of the field.
 abbrev pub invariant-bytes : goal.invariant-bytes

@@ -1,0 +1,13 @@
+//! Fast ways for what most inputs have, tried before the exact ones.
+//!
+//! Lines are read and written many at once, straight from the reader's buffer into one room. So a line
+//! needs no memory, and no call of the reader or the writer. A batch ends before the first line that can't
+//! be read or written here. That says nothing about the line, and changes nothing: the exact way looks at it
+//! next. Fields without quotes are searched for their comma.
+
+mod batch;
+mod line;
+mod line_end;
+mod moment;
+pub mod plain;
+pub mod take;
