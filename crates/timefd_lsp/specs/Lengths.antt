@@ -22,26 +22,35 @@ with_digit value byte =
     if nat_lt byte 48 || nat_lt 57 byte || nat_le (2 ^ 40) (unwrap_or value 0) then None
     else Some (unwrap_or value 0 * 10 + (byte - 48))
 
--- the number so far, followed by the digits up to the end of the line
+-- a space or a tab
+abbrev pub is_white : ℕ → Bool
+is_white byte = nat_eq byte 32 || nat_eq byte 9
+
+-- whether nothing but white space comes before the end of the line
+abbrev pub ends_line : List ℕ → Bool
+ends_line [] = false
+ends_line (byte ∷ after) = if is_white byte then ends_line after else nat_eq byte 13
+
+-- the number so far, followed by the digits up to white space or the end of the line
 abbrev pub number_from : Option ℕ → List ℕ → Option ℕ
 number_from value [] = None
 number_from value (byte ∷ after) =
     if is_some (with_digit value byte) then number_from (with_digit value byte) after
-    else if nat_eq byte 13 then value
+    else if ends_line (byte ∷ after) then value
     else None
 
 abbrev pub number : List ℕ → Option ℕ
 number bytes = number_from None bytes
 
-abbrev pub after_spaces : List ℕ → Option ℕ
-after_spaces [] = number []
-after_spaces (byte ∷ after) =
-    if nat_eq byte 32 then after_spaces after else number (byte ∷ after)
+abbrev pub after_white : List ℕ → Option ℕ
+after_white [] = number []
+after_white (byte ∷ after) =
+    if is_white byte then after_white after else number (byte ∷ after)
 
 -- the number after the first colon
 abbrev pub value_of : List ℕ → Option ℕ
 value_of [] = None
-value_of (byte ∷ after) = if nat_eq byte 58 then after_spaces after else value_of after
+value_of (byte ∷ after) = if nat_eq byte 58 then after_white after else value_of after
 
 abbrev pub length_from : Bool → List ℕ → Option ℕ
 length_from begins_line [] = None

@@ -10,7 +10,8 @@ const NAME: &[u8] = b"content-length:";
 const MOST_READ: u64 = 1 << 40;
 
 /// How many bytes the content has: the number in the head's first line with the name `Content-Length`, in
-/// upper or lower case. `None` if there is no such line, or no such number.
+/// upper or lower case. White space around the number doesn't count. `None` if there is no such line, or no
+/// such number.
 pub fn length_in(head: &[u8]) -> Option<u64>
     ensures { result ≡ spec.length_in head.now }
 {
@@ -60,25 +61,28 @@ fn value_of(bytes: &[u8]) -> Option<u64>
     let mut rest = bytes;
     'bytes: while let [byte, after @ ..] = rest {
         if *byte == b':' {
-            return after_spaces(after);
+            return after_white(after);
         }
         rest = after;
     }
     None
 }
 
-// The number after leading spaces.
-fn after_spaces(bytes: &[u8]) -> Option<u64>
-    ensures { result ≡ spec.after_spaces bytes.now }
+// The number after leading white space.
+fn after_white(bytes: &[u8]) -> Option<u64>
+    ensures { result ≡ spec.after_white bytes.now }
 {
     let mut rest = bytes;
-    'spaces: while let [b' ', after @ ..] = rest {
+    'white: while let [byte, after @ ..] = rest {
+        if !is_white(*byte) {
+            return number(rest);
+        }
         rest = after;
     }
     number(rest)
 }
 
-// The number whose digits come next, up to the end of the line.
+// The number whose digits come next, up to white space or the end of the line.
 fn number(bytes: &[u8]) -> Option<u64>
     ensures { result ≡ spec.number bytes.now }
 {
@@ -87,12 +91,33 @@ fn number(bytes: &[u8]) -> Option<u64>
     'digits: while let [byte, after @ ..] = rest {
         let more = with_digit(value, *byte);
         if more.is_none() {
-            return if *byte == b'\r' { value } else { None };
+            return if ends_line(rest) { value } else { None };
         }
         value = more;
         rest = after;
     }
     None
+}
+
+// Whether nothing but white space comes before the end of the line.
+fn ends_line(bytes: &[u8]) -> bool
+    ensures { result ≡ spec.ends_line bytes.now }
+{
+    let mut rest = bytes;
+    'white: while let [byte, after @ ..] = rest {
+        if !is_white(*byte) {
+            return *byte == b'\r';
+        }
+        rest = after;
+    }
+    false
+}
+
+// Whether a byte is a space or a tab.
+fn is_white(byte: u8) -> bool
+    ensures { result ≡ spec.is_white byte }
+{
+    byte == b' ' || byte == b'\t'
 }
 
 // The number with one more digit. `None` if the byte isn't a digit, or the number takes no more.
