@@ -85,12 +85,14 @@ lines_near pairs n at =
     ap lines_of (take_min n (drop at pairs)) ∙ lines_between pairs n at
 
 pub near : (pairs : List Pair) (at start count : ℕ) (is : Bool) → start ≡ at - 3
-    → count ≡ min (at + 3 + 1 - start) (length (drop start pairs))
-    → is ≡ list_any changes (lines_of (take count (drop start pairs)))
+    → count ≡ min (at + 3 + 1 - start) (length (take (length pairs - start) (drop start pairs)))
+    → is ≡ list_any changes (lines_of (take count (take (length pairs - start) (drop start pairs))))
     → is ≡ is_shown (lines_of pairs) at
 near pairs at start count is start_is count_is any =
     let width : at + 3 + 1 - start ≡ at + 4 - (at - 3) = omega (arith, start_is) in
-    any ∙ ap (λ n. list_any changes (lines_of (take n (drop start pairs)))) count_is
+    any ∙ ap (λ ps. list_any changes (lines_of (take count ps))) (take_rest pairs start)
+    ∙ ap (λ n. list_any changes (lines_of (take n (drop start pairs))))
+    (count_is ∙ ap (λ ps. min (at + 3 + 1 - start) (length ps)) (take_rest pairs start))
     ∙ ap (list_any changes) (lines_near pairs (at + 3 + 1 - start) start)
     ∙ ap (λ n. list_any changes (take n (drop start (lines_of pairs)))) width
     ∙ ap (λ f. list_any changes (take (at + 4 - (at - 3)) (drop f (lines_of pairs)))) start_is
@@ -170,13 +172,12 @@ one_stays pairs start at d within is =
 
 pub none_follows : (pairs : List Pair) (start at : ℕ) → at ≡ length pairs
     → body (lines_of (take (at - start) (drop start pairs))) (lines_of (drop at pairs))
-    ≡ added (lines_of (drop start pairs)) ++ []
+    ≡ added (lines_of (take (length pairs - start) (drop start pairs))) ++ []
 none_follows pairs start at is =
     ap (λ n. body (lines_of (take (n - start) (drop start pairs))) (lines_of (drop n pairs))) is
     ∙ ap (λ ps. body (lines_of (take (length pairs - start) (drop start pairs))) (lines_of ps))
     (drop_all (length pairs) pairs (omega arith))
-    ∙ ap (λ ps. added (lines_of ps)) (take_rest pairs start)
-    ∙ sym (append-nil (added (lines_of (drop start pairs))))
+    ∙ sym (append-nil (added (lines_of (take (length pairs - start) (drop start pairs)))))
 
 pub added_more : (rest more : List Pair) (pair : Pair) → rest ≡ pair ∷ more
     → added (lines_of rest) ≡ marked (codes "+") pair.new.now ++ added (lines_of more)

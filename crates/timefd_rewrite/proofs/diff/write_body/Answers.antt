@@ -1,5 +1,4 @@
-use Rattle.std.proofs.Common.{◌∙◌, [], arith, drop, refl, sym}
-use Rattle.timefd_rewrite.specs.Diffs.{added, lines_of}
+use Rattle.std.proofs.Common.{◌∙◌, [], arith, refl, sym}
 use Rattle.timefd_rewrite.proofs.DiffLemmas.{none_follows, none_left, one_changes, one_more, one_stays}
 use Rattle.timefd_rewrite.proofs.diff.write_body.Goals as goal
 
@@ -24,7 +23,7 @@ lines-preserved g c = (
 pub returns : goal.returns
 returns g c =
     none_left _ [] _ _ refl
-    (one_more _ _ (added (lines_of (drop c.lines.from c.args.pairs.now))) [] _ _ _
+    (one_more _ _ _ [] _ _ _
     (none_follows c.args.pairs.now c.lines.from c.lines.at
     (omega (arith, c.lines-test.false, c.lines.auto.at-end))) c.lines.invariant.1
     c.in_ok-write_added.ensures)
