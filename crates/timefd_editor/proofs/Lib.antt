@@ -5,4 +5,5 @@ pub mod WarningLemmas
 pub mod FindingLemmas
 pub mod EditLemmas
 pub mod ActionLemmas
+pub mod FixLemmas
 pub mod HoverLemmas

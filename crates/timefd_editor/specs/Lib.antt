@@ -1,4 +1,5 @@
 pub mod Actions
+pub mod AllFixes
 pub mod Each
 pub mod Edits
 pub mod Finding

@@ -5,6 +5,7 @@
 mod action;
 mod all_actions;
 mod all_findings;
+mod all_fixes;
 mod counter;
 mod faults;
 mod finding;
@@ -15,7 +16,7 @@ mod position;
 mod walk;
 mod warned;
 
-pub use action::{Action, ActionKind, Edit};
+pub use action::{Action, ActionKind, Edit, Wanted};
 pub use all_actions::actions;
 pub use all_findings::findings;
 pub use finding::{Finding, Severity};

@@ -1,4 +1,5 @@
 pub mod ParamLemmas
+pub mod WantedLemmas
 pub mod ShownLemmas
 pub mod TextLemmas
 pub mod SessionLemmas

@@ -2,11 +2,13 @@
 use Rattle.std.specs.Prelude.{◌≡◌, ℕ, List, Option, Some, None, codes, bytes_eq, string_bytes, if◌then◌else◌, IsUtf8, ◌⊎◌, ⊤}
 use Rattle.serde_json.specs.Data.{Data}
 use Rattle.serde_json.specs.Read.{read}
+use Rattle.timefd_editor.specs.declared.action.Wanted.{Wanted}
 use Rattle.timefd_editor.specs.declared.position.Position.{Position}
 use Rattle.timefd_editor.specs.declared.position.Range.{Range}
 use Rattle.timefd_lsp.specs.Envelopes.{seen_id, Shape, envelope_of}
 use Rattle.timefd_lsp.specs.Envelopes as shapes
 use Rattle.timefd_lsp.specs.Params.{last_text, position_in, range_of, text_by, uri_of}
+use Rattle.timefd_lsp.specs.WantedKinds.{wanted_in}
 use Rattle.timefd_lsp.specs.declared.message.Message.{Message}
 use Rattle.timefd_lsp.specs.declared.message.Message.TheVariants as messages
 use Rattle.timefd_lsp.specs.declared.message.Notification.{Notification}
@@ -18,7 +20,7 @@ use Rattle.timefd_lsp.specs.declared.message.Request.TheVariants as asked
 pub data Asked : Type 0 where
   initialize : Asked
   hover : List ℕ → Position → Asked
-  actions : List ℕ → Range → Asked
+  actions : List ℕ → Range → Wanted → Asked
   shutdown : Asked
   unknown : Asked
   wrong_params : Asked
@@ -26,7 +28,7 @@ pub data Asked : Type 0 where
 abbrev pub seen_request : Request → Asked
 seen_request asked.Initialize = initialize
 seen_request (asked.Hover uri position) = hover (string_bytes uri) position
-seen_request (asked.Actions uri range) = actions (string_bytes uri) range
+seen_request (asked.Actions uri range wanted) = actions (string_bytes uri) range wanted
 seen_request asked.Shutdown = shutdown
 seen_request asked.Unknown = unknown
 seen_request asked.WrongParams = wrong_params
@@ -39,13 +41,13 @@ hover_from None position = wrong_params
 abbrev pub hover_of : Data → Asked
 hover_of d = hover_from (uri_of d) (position_in d)
 
-abbrev pub actions_from : Option (List ℕ) → Option Range → Asked
-actions_from (Some uri) (Some range) = actions uri range
-actions_from (Some uri) None = wrong_params
-actions_from None range = wrong_params
+abbrev pub actions_from : Option (List ℕ) → Option Range → Wanted → Asked
+actions_from (Some uri) (Some range) wanted = actions uri range wanted
+actions_from (Some uri) None wanted = wrong_params
+actions_from None range wanted = wrong_params
 
 abbrev pub actions_of : Data → Asked
-actions_of d = actions_from (uri_of d) (range_of d)
+actions_of d = actions_from (uri_of d) (range_of d) (wanted_in d)
 
 abbrev pub request_of : List ℕ → Data → Asked
 request_of method d =

@@ -20,6 +20,7 @@ use Rattle.timefd_lsp.specs.declared.reply.Refusal.{Refusal}
 use Rattle.timefd_lsp.specs.declared.reply.Refusal.TheVariants as refusals
 use Rattle.timefd_lsp.specs.declared.reply.Reply.TheVariants as replies
 use Rattle.timefd_editor.specs.declared.action.Action.{Action}
+use Rattle.timefd_editor.specs.declared.action.Wanted.{Wanted}
 use Rattle.timefd_editor.specs.declared.finding.Finding.{Finding}
 use Rattle.timefd_editor.specs.declared.hovered.Hover.{Hover}
 use Rattle.timefd_editor.specs.declared.position.Position.{Position}
@@ -45,7 +46,7 @@ first = New
 abbrev pub first_refusal : Request → Option Refusal
 first_refusal asked.Initialize = None
 first_refusal (asked.Hover uri position) = Some refusals.NotInitialized
-first_refusal (asked.Actions uri range) = Some refusals.NotInitialized
+first_refusal (asked.Actions uri range wanted) = Some refusals.NotInitialized
 first_refusal asked.Shutdown = Some refusals.NotInitialized
 first_refusal asked.Unknown = Some refusals.NotInitialized
 first_refusal asked.WrongParams = Some refusals.NotInitialized
@@ -54,7 +55,7 @@ first_refusal asked.WrongParams = Some refusals.NotInitialized
 abbrev pub running_refusal : Request → Option Refusal
 running_refusal asked.Initialize = Some refusals.InvalidRequest
 running_refusal (asked.Hover uri position) = None
-running_refusal (asked.Actions uri range) = None
+running_refusal (asked.Actions uri range wanted) = None
 running_refusal asked.Shutdown = None
 running_refusal asked.Unknown = Some refusals.UnknownMethod
 running_refusal asked.WrongParams = Some refusals.WrongParams
@@ -68,7 +69,7 @@ refusal ShutDown request = Some refusals.InvalidRequest
 abbrev pub first_phase : Phase → Request → Phase
 first_phase phase asked.Initialize = Running
 first_phase phase (asked.Hover uri position) = phase
-first_phase phase (asked.Actions uri range) = phase
+first_phase phase (asked.Actions uri range wanted) = phase
 first_phase phase asked.Shutdown = phase
 first_phase phase asked.Unknown = phase
 first_phase phase asked.WrongParams = phase
@@ -76,7 +77,7 @@ first_phase phase asked.WrongParams = phase
 abbrev pub running_phase : Phase → Request → Phase
 running_phase phase asked.Initialize = phase
 running_phase phase (asked.Hover uri position) = phase
-running_phase phase (asked.Actions uri range) = phase
+running_phase phase (asked.Actions uri range wanted) = phase
 running_phase phase asked.Shutdown = ShutDown
 running_phase phase asked.Unknown = phase
 running_phase phase asked.WrongParams = phase
@@ -132,18 +133,20 @@ IsHoverAnswer settings (Some document) position answer = (source : Source) × Is
     × (answer ≡ hover_answer found))
 
 -- the answer for a range of a document, if it is open
-abbrev pub IsActionsAnswer : Settings → Option Document → String Global → Range → Answer → Type 0
-IsActionsAnswer settings None uri range answer = answer ≡ answers.Nothing
-IsActionsAnswer settings (Some document) uri range answer = (source : Source) × IsSourceOf settings document source
+abbrev pub IsActionsAnswer : Settings → Option Document → String Global → Range → Wanted → Answer → Type 0
+IsActionsAnswer settings None uri range wanted answer = answer ≡ answers.Nothing
+IsActionsAnswer settings (Some document) uri range wanted answer = (source : Source)
+    × IsSourceOf settings document source
     × ((actions : Vec Action Global)
-    × AreActionsOf (index_of source.text.now range.start) (index_of source.text.now range.end) source actions.items
+    × AreActionsOf wanted (index_of source.text.now range.start) (index_of source.text.now range.end) source
+    actions.items
     × (answer ≡ answers.Actions uri actions))
 
 -- The answer to a first request that isn't refused.
 abbrev pub IsFirstAnswer : Request → Answer → Type 0
 IsFirstAnswer asked.Initialize answer = answer ≡ answers.Capabilities
 IsFirstAnswer (asked.Hover uri position) answer = ⊤
-IsFirstAnswer (asked.Actions uri range) answer = ⊤
+IsFirstAnswer (asked.Actions uri range wanted) answer = ⊤
 IsFirstAnswer asked.Shutdown answer = ⊤
 IsFirstAnswer asked.Unknown answer = ⊤
 IsFirstAnswer asked.WrongParams answer = ⊤
@@ -152,8 +155,8 @@ abbrev pub IsRunningAnswer : Settings → BTreeMap (String Global) Document → 
 IsRunningAnswer settings documents asked.Initialize answer = ⊤
 IsRunningAnswer settings documents (asked.Hover uri position) answer =
     IsHoverAnswer settings (get_by_text documents (string_bytes uri)) position answer
-IsRunningAnswer settings documents (asked.Actions uri range) answer =
-    IsActionsAnswer settings (get_by_text documents (string_bytes uri)) uri range answer
+IsRunningAnswer settings documents (asked.Actions uri range wanted) answer =
+    IsActionsAnswer settings (get_by_text documents (string_bytes uri)) uri range wanted answer
 IsRunningAnswer settings documents asked.Shutdown answer = answer ≡ answers.Nothing
 IsRunningAnswer settings documents asked.Unknown answer = ⊤
 IsRunningAnswer settings documents asked.WrongParams answer = ⊤

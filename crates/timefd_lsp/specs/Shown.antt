@@ -4,7 +4,7 @@ use Rattle.serde_json.specs.Data.{Data, boolean, number, unsigned, string, array
 use Rattle.serde_json.specs.View.{items_of}
 use Rattle.timefd_editor.specs.declared.action.Action.{Action}
 use Rattle.timefd_editor.specs.declared.action.ActionKind.{ActionKind}
-use Rattle.timefd_editor.specs.declared.action.ActionKind.TheVariants.{QuickFix, Guess, Rewrite}
+use Rattle.timefd_editor.specs.declared.action.ActionKind.TheVariants.{QuickFix, Guess, Rewrite, FixAll}
 use Rattle.timefd_editor.specs.declared.action.Edit.{Edit}
 use Rattle.timefd_editor.specs.declared.finding.Finding.{Finding}
 use Rattle.timefd_editor.specs.declared.finding.Severity.{Severity}
@@ -60,12 +60,14 @@ abbrev pub kind_name : ActionKind → List ℕ
 kind_name QuickFix = codes "quickfix"
 kind_name Guess = codes "quickfix"
 kind_name Rewrite = codes "refactor.rewrite"
+kind_name FixAll = codes "source.fixAll.timefd"
 
 -- An editor may apply a sure fix without asking.
 abbrev pub is_preferred : ActionKind → Bool
 is_preferred QuickFix = true
 is_preferred Guess = false
 is_preferred Rewrite = false
+is_preferred FixAll = false
 
 abbrev pub changes_data : Data → Data
 changes_data edits = object (member (codes "changes") edits no_members)

@@ -43,7 +43,8 @@ published uri findings = object (member (codes "jsonrpc") (string (codes "2.0"))
 -- the kinds of actions that an editor may ask for
 abbrev pub action_kinds : Data
 action_kinds = object (member (codes "codeActionKinds")
-    (array (item (string (codes "quickfix")) (item (string (codes "refactor.rewrite")) no_items))) no_members)
+    (array (item (string (codes "quickfix")) (item (string (codes "refactor.rewrite"))
+    (item (string (codes "source.fixAll.timefd")) no_items)))) no_members)
 
 -- The server needs whole documents (1), and counts characters in UTF-16.
 abbrev pub provided : Data

@@ -17,6 +17,7 @@ mod server;
 mod session;
 mod shown;
 mod text;
+mod wanted;
 
 pub use documents::{Document, Documents, Kind, change, close, kind_of, open};
 pub use envelope::{Envelope, Id, envelope_of, text_at};

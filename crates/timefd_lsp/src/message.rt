@@ -6,9 +6,10 @@ ghost use Rattle.timefd_lsp.specs.Messages as spec;
 
 use crate::envelope::{Envelope, Id, envelope_of};
 use crate::params::{last_text, position_in, range_of, text_by, uri_of};
+use crate::wanted::wanted_in;
 use serde_json::Value;
 use std::alloc::{AllocError, Global};
-use timefd_editor::{Position, Range};
+use timefd_editor::{Position, Range, Wanted};
 
 /// What a request asks for.
 #[derive(Drop)]
@@ -16,8 +17,12 @@ pub enum Request {
     Initialize,
     /// What does the part of a document at this position mean?
     Hover { uri: String, position: Position },
-    /// What can be done to this range of a document?
-    Actions { uri: String, range: Range },
+    /// What can be done to this range of a document, or to all of it, of what is wanted?
+    Actions {
+        uri: String,
+        range: Range,
+        wanted: Wanted,
+    },
     Shutdown,
     /// Something that this server doesn't do.
     Unknown,
@@ -82,9 +87,11 @@ fn actions_of(alloc: Global, value: &Value) -> Result<Request, AllocError>
     let Some(range) = range_of(value) else {
         return Ok(Request::WrongParams);
     };
+    let wanted = wanted_in(value);
     Ok(Request::Actions {
         uri: String::from_str(alloc, uri)?,
         range,
+        wanted,
     })
 }
 

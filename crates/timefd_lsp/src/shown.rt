@@ -112,6 +112,7 @@ fn kind_name(kind: ActionKind) -> &'static str
     match kind {
         ActionKind::QuickFix | ActionKind::Guess => "quickfix",
         ActionKind::Rewrite => "refactor.rewrite",
+        ActionKind::FixAll => "source.fixAll.timefd",
     }
 }
 
@@ -121,7 +122,7 @@ fn is_preferred(kind: ActionKind) -> bool
 {
     match kind {
         ActionKind::QuickFix => true,
-        ActionKind::Guess | ActionKind::Rewrite => false,
+        ActionKind::Guess | ActionKind::Rewrite | ActionKind::FixAll => false,
     }
 }
 

@@ -110,7 +110,7 @@ fn published(alloc: Global, uri: &str, findings: Value) -> Result<Value, AllocEr
 fn action_kinds(alloc: Global) -> Result<Value, AllocError>
     ensures { IfOk result (λ value. view value ≡ spec.action_kinds) }
 {
-    json!(in alloc; {"codeActionKinds": ["quickfix", "refactor.rewrite"]})
+    json!(in alloc; {"codeActionKinds": ["quickfix", "refactor.rewrite", "source.fixAll.timefd"]})
 }
 
 // What the server provides. It needs whole documents, and counts characters in UTF-16.
