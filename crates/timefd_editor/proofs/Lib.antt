@@ -1,5 +1,6 @@
 pub mod WalkLemmas
 pub mod PositionLemmas
+pub mod BoundaryLemmas
 pub mod EachLemmas
 pub mod WarningLemmas
 pub mod FindingLemmas

@@ -6,3 +6,4 @@ pub mod Finding
 pub mod Findings
 pub mod Hovers
 pub mod Positions
+pub mod Replacing

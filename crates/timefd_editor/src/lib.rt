@@ -13,6 +13,7 @@ mod hovered;
 mod hovering;
 pub mod laws;
 mod position;
+mod replacing;
 mod walk;
 mod warned;
 
@@ -23,3 +24,4 @@ pub use finding::{Finding, Severity};
 pub use hovered::Hover;
 pub use hovering::hover;
 pub use position::{Position, Range, index_of, position_of};
+pub use replacing::replaced;

@@ -3,7 +3,9 @@ use Rattle.std.specs.Prelude.{◌≡◌, ℕ, List, [], Option, Some, None, Stri
 use Rattle.std.specs.BTreeMap.{BTreeMap, get_by_text}
 use Rattle.std.specs.declared.alloc.Global.{Global}
 use Rattle.std.specs.declared.vec.Vec.{Vec}
+use Rattle.timefd_lsp.specs.Changes.{after_all}
 use Rattle.timefd_lsp.specs.Kinds.{kind_of}
+use Rattle.timefd_lsp.specs.declared.changes.Change.{Change}
 use Rattle.timefd_lsp.specs.declared.documents.Document.{Document}
 use Rattle.timefd_lsp.specs.declared.documents.Kind.{Kind}
 use Rattle.timefd_lsp.specs.Replies.{refusal_of}
@@ -102,6 +104,7 @@ unanswered why = Say (replies.Response None (answers.Refused why))
 abbrev pub Responds : Id → Option Refusal → Step → Type 0
 Responds id why (Say (replies.Response other answer)) = (other ≡ Some id) × (refusal_of answer ≡ why)
 Responds id why (Say (replies.Findings uri findings)) = ⊥
+Responds id why (Say (replies.Lost uri)) = ⊥
 Responds id why Silent = ⊥
 Responds id why Exit = ⊥
 
@@ -171,6 +174,7 @@ abbrev pub Answers : Settings → Phase → BTreeMap (String Global) Document �
 Answers settings phase documents request (Say (replies.Response id answer)) =
     IsAnswer settings phase documents request answer
 Answers settings phase documents request (Say (replies.Findings uri findings)) = ⊥
+Answers settings phase documents request (Say (replies.Lost uri)) = ⊥
 Answers settings phase documents request Silent = ⊥
 Answers settings phase documents request Exit = ⊥
 
@@ -182,6 +186,7 @@ abbrev pub IsSaidOf : Settings → Kind → List ℕ → List ℕ → Step → T
 IsSaidOf settings kind text name (Say (replies.Findings uri findings)) =
     (string_bytes uri ≡ name) × AreWrongIn settings kind text findings.items
 IsSaidOf settings kind text name (Say (replies.Response other answer)) = ⊥
+IsSaidOf settings kind text name (Say (replies.Lost uri)) = ⊥
 IsSaidOf settings kind text name Silent = ⊥
 IsSaidOf settings kind text name Exit = ⊥
 
@@ -193,19 +198,32 @@ IsSaidIf settings None text name step = step ≡ Silent
 abbrev pub IsOpened : Settings → List ℕ → List ℕ → List ℕ → Step → Type 0
 IsOpened settings name language text step = IsSaidIf settings (kind_of language name) text name step
 
-abbrev pub IsSaidOfOpen : Settings → Option Document → List ℕ → List ℕ → Step → Type 0
-IsSaidOfOpen settings (Some document) text name step = IsSaidOf settings document.kind text name step
-IsSaidOfOpen settings None text name step = step ≡ Silent
+-- the step says that a document isn't checked any more
+abbrev pub lost : String Global → Step
+lost uri = Say (replies.Lost uri)
 
--- If an open document changes, what is wrong in it is reported.
-abbrev pub IsChangedOf : Settings → List ℕ → List ℕ → BTreeMap (String Global) Document → Step → Type 0
-IsChangedOf settings name text documents step =
-    IsSaidOfOpen settings (get_by_text documents name) text name step
+abbrev pub IsLost : List ℕ → Step → Type 0
+IsLost name step = (uri : String Global) × (string_bytes uri ≡ name) × (step ≡ lost uri)
+
+abbrev pub IsSaidAfter : Settings → Kind → Option (List ℕ) → List ℕ → Step → Type 0
+IsSaidAfter settings kind (Some text) name step = IsSaidOf settings kind text name step
+IsSaidAfter settings kind None name step = IsLost name step
+
+abbrev pub IsSaidOfOpen : Settings → Option Document → List Change → List ℕ → Step → Type 0
+IsSaidOfOpen settings (Some document) changes name step =
+    IsSaidAfter settings document.kind (after_all (string_bytes document.text) changes) name step
+IsSaidOfOpen settings None changes name step = step ≡ Silent
+
+-- If an open document changes, what is wrong in it is reported, or that a change can't be made.
+abbrev pub IsChangedOf : Settings → List ℕ → List Change → BTreeMap (String Global) Document → Step → Type 0
+IsChangedOf settings name changes documents step =
+    IsSaidOfOpen settings (get_by_text documents name) changes name step
 
 -- The step withdraws what was reported about the document with this name.
 abbrev pub IsTakenBack : List ℕ → Step → Type 0
 IsTakenBack name (Say (replies.Findings uri findings)) = (string_bytes uri ≡ name) × (findings.items ≡ [])
 IsTakenBack name (Say (replies.Response other answer)) = ⊥
+IsTakenBack name (Say (replies.Lost uri)) = ⊥
 IsTakenBack name Silent = ⊥
 IsTakenBack name Exit = ⊥
 
@@ -222,15 +240,15 @@ IsClosed name documents step = IsTakenBackOf (get_by_text documents name) name s
 abbrev pub IsHeard : Settings → BTreeMap (String Global) Document → Notification → Step → Type 0
 IsHeard settings documents (reported.Opened uri language text) step =
     IsOpened settings (string_bytes uri) (string_bytes language) (string_bytes text) step
-IsHeard settings documents (reported.Changed uri text) step =
-    IsChangedOf settings (string_bytes uri) (string_bytes text) documents step
+IsHeard settings documents (reported.Changed uri changes) step =
+    IsChangedOf settings (string_bytes uri) changes.items documents step
 IsHeard settings documents (reported.Closed uri) step = IsClosed (string_bytes uri) documents step
 IsHeard settings documents reported.Exit step = step ≡ Exit
 IsHeard settings documents reported.Other step = step ≡ Silent
 
 abbrev pub unheard : Notification → Step
 unheard (reported.Opened uri language text) = Silent
-unheard (reported.Changed uri text) = Silent
+unheard (reported.Changed uri changes) = Silent
 unheard (reported.Closed uri) = Silent
 unheard reported.Exit = Exit
 unheard reported.Other = Silent

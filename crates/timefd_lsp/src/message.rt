@@ -4,8 +4,9 @@ ghost use Rattle.std.specs.Prelude.{◌≡◌, IfOk};
 ghost use Rattle.serde_json.specs.View.{view};
 ghost use Rattle.timefd_lsp.specs.Messages as spec;
 
+use crate::changes::{Change, changes_in};
 use crate::envelope::{Envelope, Id, envelope_of};
-use crate::params::{last_text, position_in, range_of, text_by, uri_of};
+use crate::params::{position_in, range_of, text_by, uri_of};
 use crate::wanted::wanted_in;
 use serde_json::Value;
 use std::alloc::{AllocError, Global};
@@ -38,10 +39,10 @@ pub enum Notification {
         language: String,
         text: String,
     },
-    /// The whole text of a document is replaced.
+    /// A document is changed, by one change after another.
     Changed {
         uri: String,
-        text: String,
+        changes: Vec<Change>,
     },
     Closed {
         uri: String,
@@ -134,12 +135,10 @@ fn changed_of(alloc: Global, value: &Value) -> Result<Notification, AllocError>
     let Some(uri) = uri_of(value) else {
         return Ok(Notification::Other);
     };
-    let Some(text) = last_text(value) else {
-        return Ok(Notification::Other);
-    };
+    let changes = changes_in(alloc, value)?;
     Ok(Notification::Changed {
         uri: String::from_str(alloc, uri)?,
-        text: String::from_str(alloc, text)?,
+        changes,
     })
 }
 

@@ -87,14 +87,13 @@ fn push_action(alloc: Global, shown: &mut String, action: &Action) -> Result<(),
     shown.push_str("\n")
 }
 
-/// The actions that are offered from one byte of a source of Rust to another, and the one that fixes all of it,
-/// one per line.
+/// The actions that are offered from one byte of a source of Rust to another, one per line.
 pub fn all_actions(alloc: Global, fields: &[&str]) -> Result<String, RowFault> {
     let (text, start, end) = three(fields, "SOURCE START END")?;
     let wanted = Wanted {
         fixes: true,
         rewrites: true,
-        fix_all: true,
+        fix_all: false,
     };
     let mut shown = String::new(alloc);
     for action in &actions(alloc, rust(text), wanted, number(start)?, number(end)?)? {

@@ -1,0 +1,55 @@
+-- Changes of a document, one after another.
+use Rattle.std.proofs.Common.{ℕ, ◌≡◌, ◌+◌, ◌<◌, ◌≤◌, ◌++◌, List, [], ◌∷◌, Option, None, Some, ap, append_assoc, append-nil, drop, get_or, length, map, refl, subst, sym, ◌∙◌}
+use Rattle.std.proofs.lemmas.List.{drop_all, drop_more, map-append}
+use Rattle.std.specs.Prelude.{option_and_then}
+use Rattle.serde_json.specs.View.{items_view, view}
+use Rattle.serde_json.specs.declared.value.Value.{Value}
+use Rattle.timefd_lsp.specs.Changes.{Seen, after, after_all, all_changes, change_of, seen}
+use Rattle.timefd_lsp.specs.declared.changes.Change.{Change}
+
+-- So far the changes are those of the values before an index.
+abbrev pub AreSoFar : List Value → ℕ → List Change → Type 0
+AreSoFar all i changes = map seen changes ++ all_changes (items_view (drop i all)) ≡ all_changes (items_view all)
+
+pub one_more : (all : List Value) (i : ℕ) (value other : Value) (change : Change) (changes now : List Change)
+    → i < length all → value ≡ get_or all i other → seen change ≡ change_of (view value)
+    → now ≡ changes ++ change ∷ [] → AreSoFar all i changes → AreSoFar all (i + 1) now
+one_more all i value other change changes now below at is pushed so_far =
+    let rest : List Seen = all_changes (items_view (drop (i + 1) all)) in
+    let left : drop i all ≡ value ∷ drop (i + 1) all =
+    drop_more all i other below ∙ ap (λ x. x ∷ drop (i + 1) all) (sym at) in
+    ap (λ cs. map seen cs ++ rest) pushed
+    ∙ (ap (λ ds. ds ++ rest) (map-append seen changes (change ∷ []))
+    ∙ (append_assoc (map seen changes) (seen change ∷ []) rest
+    ∙ (ap (λ d. map seen changes ++ d ∷ rest) is
+    ∙ (ap (λ vs. map seen changes ++ all_changes (items_view vs)) (sym left) ∙ so_far))))
+
+pub at_last : (all : List Value) (i : ℕ) (changes : List Change) → length all ≤ i → AreSoFar all i changes
+    → map seen changes ≡ all_changes (items_view all)
+at_last all i changes none so_far =
+    sym (append-nil (map seen changes))
+    ∙ (ap (λ vs. map seen changes ++ all_changes (items_view vs)) (sym (drop_all all i none)) ∙ so_far)
+
+-- The changes that are left lead from one text to the next.
+pub one_made : (all : List Change) (i : ℕ) (change other : Change) (text next : List ℕ)
+    (whole : Option (List ℕ)) → i < length all → change ≡ get_or all i other → Some next ≡ after text change
+    → after_all text (drop i all) ≡ whole → after_all next (drop (i + 1) all) ≡ whole
+one_made all i change other text next whole below at is before =
+    let left : drop i all ≡ change ∷ drop (i + 1) all =
+    drop_more all i other below ∙ ap (λ x. x ∷ drop (i + 1) all) (sym at) in
+    ap (λ o. option_and_then (λ t. after_all t (drop (i + 1) all)) o) is
+    ∙ (ap (λ cs. after_all text cs) (sym left) ∙ before)
+
+pub none_made : (all : List Change) (i : ℕ) (change other : Change) (text : List ℕ) (whole : Option (List ℕ))
+    → i < length all → change ≡ get_or all i other → None ≡ after text change
+    → after_all text (drop i all) ≡ whole → None ≡ whole
+none_made all i change other text whole below at is before =
+    let left : drop i all ≡ change ∷ drop (i + 1) all =
+    drop_more all i other below ∙ ap (λ x. x ∷ drop (i + 1) all) (sym at) in
+    ap (λ o. option_and_then (λ t. after_all t (drop (i + 1) all)) o) is
+    ∙ (ap (λ cs. after_all text cs) (sym left) ∙ before)
+
+pub all_made : (all : List Change) (i : ℕ) (text : List ℕ) (whole : Option (List ℕ)) → length all ≤ i
+    → after_all text (drop i all) ≡ whole → Some text ≡ whole
+all_made all i text whole none before =
+    ap (λ cs. after_all text cs) (sym (drop_all all i none)) ∙ before
