@@ -4,6 +4,7 @@ pub mod Each
 pub mod Edits
 pub mod Finding
 pub mod Findings
+pub mod FaultHovers
 pub mod Hovers
 pub mod Positions
 pub mod Replacing

@@ -1,10 +1,11 @@
-//! What a part of a description means.
+//! What a part of a description means, or what is wrong there.
 
 ghost use Rattle.std.specs.Prelude.{◌≡◌, IfOk, IfSome, option_map, string_bytes};
-ghost use Rattle.timefd_editor.specs.Hovers.{IsHoverIn, IsHoverOf, IsShownAt, IsShownIn, IsShownOn, IsShownWhere};
+ghost use Rattle.timefd_editor.specs.Hovers.{IsHoverOf, IsPartOrFault, IsShownAt, IsShownIn, IsShownOn, IsShownWhere};
 ghost use Rattle.timefd_editor.specs.Hovers as spec;
 
 use crate::counter::{none_counted, range_from};
+use crate::fault_hover::fault_at;
 use crate::hovered::Hover;
 use std::alloc::{AllocError, Global};
 use std::str;
@@ -16,10 +17,10 @@ use timefd_parse::Language;
 use timefd_sources::{Description, Piece, index_in_source};
 
 /// What the part at a byte index means, in a description that its language accepts: the component with its
-/// modifiers, the bytes that it reserves, and an example. `None` if there is no such part. An `Err` says that
-/// memory ran out.
+/// modifiers, the bytes that it reserves, and an example. In a description with a fault: what is wrong at that
+/// index, and what helps. `None` if nothing is there. An `Err` says that memory ran out.
 pub fn hover(alloc: Global, source: Source<'_>, index: usize) -> Result<Option<Hover>, AllocError>
-    ensures part { IfOk result (λ found. IfSome found (IsHoverIn source.entry index)) }
+    ensures part { IfOk result (λ found. IfSome found (IsPartOrFault source.entry index)) }
     ensures shown { IfOk result (IsShownAt source.entry index) }
 {
     let descriptions = descriptions_in(alloc, source)?;
@@ -62,10 +63,7 @@ fn hover_on(
         return Ok(None);
     }
     match str::from_utf8(bytes) {
-        Ok(reported) => {
-            let at = index_in(&description.unescaped.positions, index);
-            hover_at(alloc, text, description, reported, at)
-        }
+        Ok(reported) => hover_at(alloc, text, description, reported, index),
         Err(_) => Ok(None),
     }
 }
@@ -84,19 +82,20 @@ fn index_in(positions: &[usize], position: usize) -> usize
     at
 }
 
-// What is shown for the part at an index of this text, which is the description's.
+// What is shown at an index of the document for a description that has this text.
 fn hover_at(
     alloc: Global,
     text: &str,
     description: &Description,
     reported: &str,
-    at: usize,
+    index: usize,
 ) -> Result<Option<Hover>, AllocError>
-    ensures { IfOk result (IsShownWhere text.now description.now reported.now at) }
+    ensures { IfOk result (IsShownWhere text.now description.now reported.now index) }
 {
     let language = language_of(description.dialect);
+    let at = index_in(&description.unescaped.positions, index);
     match diagnose(alloc, language, reported)? {
-        Some(_) => Ok(None),
+        Some(diagnostic) => fault_at(alloc, text, description, &diagnostic, index),
         None => shown(alloc, text, description, language, reported, at),
     }
 }
