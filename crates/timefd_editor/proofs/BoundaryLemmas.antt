@@ -44,15 +44,15 @@ one_more b n text at = (omega (arith, at.0), (λ below. at.1 (omega (arith, belo
 
 passed_to : (w : Walk) (sought : Position) (text : Text) → IsCharBoundary text (passed w sought text)
 passed_to w sought [] = (omega arith, (λ below. absurd (omega (arith, below))))
-passed_to w sought (b ∷ text) = by (stops_at w sought b) refl
+passed_to w sought (b ∷ text) = by (stops_at w sought b) refl (passed_to (step w b) sought text)
   where
-    by : (s : Bool) → stops_at w sought b ≡ s
+    by : (s : Bool) → stops_at w sought b ≡ s → IsCharBoundary text (passed (step w b) sought text)
         → IsCharBoundary (b ∷ text) (if s then 0 else 1 + passed (step w b) sought text)
-    by true stops = (omega arith, (λ below. begins_here w sought b stops))
-    by false goes =
+    by true stops later = (omega arith, (λ below. begins_here w sought b stops))
+    by false goes later =
         let next : suc (passed (step w b) sought text) ≡ 1 + passed (step w b) sought text = omega arith in
         subst (λ (n : ℕ). IsCharBoundary (b ∷ text) n) next
-        (one_more b (passed (step w b) sought text) text (passed_to (step w b) sought text))
+        (one_more b (passed (step w b) sought text) text later)
 
 pub at_boundary : (text : Text) (sought : Position) (n : ℕ) → n ≡ index_of text sought → IsCharBoundary text n
 at_boundary text sought n is = subst (λ (k : ℕ). IsCharBoundary text k) (sym is) (passed_to start sought text)

@@ -32,7 +32,7 @@ pub other_body : (text : Text) (d : Description) (rewritten : NewParts) (body : 
 other_body text d rewritten body new before after is same (more, are, whole) = (
   more,
   inl (subst (λ b. AreEdits text d rewritten.digit (items_of b) more) (sym is)
-  (subst (λ t. AreEdits text d rewritten.digit (Some t) more) same are)),
+      (subst (λ t. AreEdits text d rewritten.digit (Some t) more) same are)),
   whole,
 )
 

@@ -39,8 +39,21 @@ pub fn actions(
         Finder::Rust => {
             let descriptions = descriptions_of(alloc, source.text)?;
             let bytes = (start, end);
-            push_all(alloc, source.text, &descriptions, wanted, bytes, &mut actions)?;
-            push_fix_all(alloc, source.text, &descriptions, wanted.fix_all, &mut actions)?;
+            push_all(
+                alloc,
+                source.text,
+                &descriptions,
+                wanted,
+                bytes,
+                &mut actions,
+            )?;
+            push_fix_all(
+                alloc,
+                source.text,
+                &descriptions,
+                wanted.fix_all,
+                &mut actions,
+            )?;
             Ok(actions)
         }
     }

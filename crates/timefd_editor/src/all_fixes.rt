@@ -39,11 +39,7 @@ pub fn push_fix_all(
 
 // Adds some edits as one action, if there are any.
 #[tactic(auto, using(crate::proofs::FixLemmas::no_edits, crate::proofs::FixLemmas::some_edits))]
-fn push_as_one(
-    alloc: Global,
-    edits: Vec<Edit>,
-    actions: &mut Vec<Action>,
-) -> Result<(), AllocError>
+fn push_as_one(alloc: Global, edits: Vec<Edit>, actions: &mut Vec<Action>) -> Result<(), AllocError>
     ensures { OnOk result (Adds (AreAsOneAction edits.items) actions.old.items actions.new.items) }
 {
     if edits.is_empty() {
@@ -103,7 +99,12 @@ fn push_fix(alloc: Global, spot: Spot<'_>, edits: &mut Vec<Edit>) -> Result<(), 
     ensures { OnOk result (Adds (AreFixes spot.entry.text.now spot.entry.description.now)
         edits.old.items edits.new.items) }
 {
-    match answer_to(alloc, Change::Mended(Fixes::Sure), spot.text, spot.description)? {
+    match answer_to(
+        alloc,
+        Change::Mended(Fixes::Sure),
+        spot.text,
+        spot.description,
+    )? {
         Answer::Stays(_) => Ok(()),
         Answer::Becomes(rewritten) => {
             push_parts(alloc, spot, &rewritten, edits)?;

@@ -17,7 +17,10 @@ use timefd_editor::{Position, Range, Wanted};
 pub enum Request {
     Initialize,
     /// What does the part of a document at this position mean?
-    Hover { uri: String, position: Position },
+    Hover {
+        uri: String,
+        position: Position,
+    },
     /// What can be done to this range of a document, or to all of it, of what is wanted?
     Actions {
         uri: String,

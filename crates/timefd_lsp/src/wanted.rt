@@ -97,8 +97,5 @@ fn asks_for_rewrites(kind: &str) -> bool
 fn asks_for_fix_all(kind: &str) -> bool
     ensures { result ≡ spec.asks_for_fix_all kind.now }
 {
-    kind == ""
-        || kind == "source"
-        || kind == "source.fixAll"
-        || kind == "source.fixAll.timefd"
+    kind == "" || kind == "source" || kind == "source.fixAll" || kind == "source.fixAll.timefd"
 }
