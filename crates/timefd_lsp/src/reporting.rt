@@ -142,13 +142,13 @@ fn with_text(
     documents: &mut Documents,
     uri: String,
     kind: Kind,
-    text: String,
+    new: String,
 ) -> Result<Step, AllocError>
-    ensures step { IfOk result (spec.IsSaidOf settings.entry kind (string_bytes text) (string_bytes uri)) }
-    ensures documents { OnOk result (opening.AreWithText (string_bytes uri) text documents.old documents.new) }
+    ensures step { IfOk result (spec.IsSaidOf settings.entry kind (string_bytes new) (string_bytes uri)) }
+    ensures documents { OnOk result (opening.AreWithText (string_bytes uri) new documents.old documents.new) }
 {
-    let findings = findings_in(alloc, settings, &uri, kind, &text)?;
-    change(documents, &uri, text);
+    let findings = findings_in(alloc, settings, &uri, kind, &new)?;
+    change(documents, &uri, new);
     Ok(said(uri, findings))
 }
 
