@@ -1,10 +1,12 @@
 -- What is shown for a fault of a description.
-use Rattle.std.specs.Prelude.{ℕ, ◌≡◌, ◌==◌, Bool, true, false, ◌&&◌, ◌||◌, nat_le, nat_lt, Option, None, Some, string_bytes}
+use Rattle.std.specs.Prelude.{ℕ, zero, suc, ◌≡◌, ◌==◌, ◌+◌, min, Bool, false, ◌&&◌, ◌||◌, nat_le, nat_lt, if◌then◌else◌, length, slice_index, string_bytes, take}
 use Rattle.timefd_component.specs.Tree.{Text}
 use Rattle.timefd_diagnosis.specs.declared.diagnostic.Diagnostic.{Diagnostic}
 use Rattle.timefd_editor.specs.declared.hovered.Hover.{Hover}
 use Rattle.timefd_editor.specs.Findings.{fault_words}
-use Rattle.timefd_editor.specs.Positions.{range_of}
+use Rattle.timefd_editor.specs.Positions.{capped, range_of}
+use Rattle.timefd_parse.specs.declared.language.Language.{Language}
+use Rattle.timefd_parse.specs.declared.language.Language.TheVariants.{Version, Strftime}
 use Rattle.timefd_sources.specs.declared.description.Description.{Description}
 use Rattle.timefd_sources.specs.Found.{index_in_source}
 
@@ -25,11 +27,17 @@ pub record IsFaultHover (document : Text) (d : Description) (g : Diagnostic) (h 
   pub range : h.range ≡ range_of document (fault_start d g) (fault_end d g)
   pub text : string_bytes h.text ≡ fault_words false g
 
-abbrev pub IsShownFaultIf : Bool → Text → Description → Diagnostic → Option Hover → Type 0
-IsShownFaultIf true document d g (Some h) = IsFaultHover document d g h
-IsShownFaultIf true document d g None = ⊥
-IsShownFaultIf false document d g found = found ≡ None
+-- the byte that begins a bracket or a directive
+abbrev pub mark_of : Language → ℕ
+mark_of (Version version) = 91
+mark_of Strftime = 37
 
--- A fault is shown at its bytes, and nowhere else.
-abbrev pub IsShownFault : Text → Description → Diagnostic → ℕ → Option Hover → Type 0
-IsShownFault document d g index found = IsShownFaultIf (is_at_fault d g index) document d g found
+-- the index of the last such byte before an index, or else 0
+abbrev pub last_before : Text → ℕ → ℕ → ℕ
+last_before text mark zero = 0
+last_before text mark (suc n) = if slice_index text n == mark then n else last_before text mark n
+
+-- What precedes the piece that begins at or before an index.
+abbrev pub front_of : Language → Text → ℕ → Text
+front_of language text index =
+    take (last_before text (mark_of language) (min (capped (index + 1)) (length text))) text

@@ -5,7 +5,7 @@ use Rattle.timefd_diagnosis.specs.declared.diagnostic.Diagnostic.{Diagnostic}
 use Rattle.timefd_diagnosis.specs.Diagnoses.{IsDiagnosed}
 use Rattle.timefd_drawing.specs.Shown.{safe}
 use Rattle.timefd_editor.specs.declared.hovered.Hover.{Hover}
-use Rattle.timefd_editor.specs.FaultHovers.{IsFaultHover, IsShownFault, is_at_fault}
+use Rattle.timefd_editor.specs.FaultHovers.{IsFaultHover, front_of, is_at_fault}
 use Rattle.timefd_editor.specs.Positions.{range_of}
 use Rattle.timefd_explain.specs.declared.node.Node.{Node}
 use Rattle.timefd_explain.specs.Examples.{Examples, HasExample}
@@ -113,13 +113,37 @@ abbrev pub IsShownIn : Text → Description → Language → Text → ℕ → Op
 IsShownIn document d language text at found = (nodes : List Node) × AreNodesOf language text nodes
     × IsShownOf document d (innermost nodes at) found
 
+-- What is shown of the front of a refused text: its innermost part at a byte, if the front is accepted.
+abbrev pub IsShownByFront : Text → Description → Language → Text → ℕ → End → Option Hover → Type 0
+IsShownByFront document d language front at PassedOver found = ⊥
+IsShownByFront document d language front at (Accepted warned) found = IsShownIn document d language front at found
+IsShownByFront document d language front at Refused found = found ≡ None
+IsShownByFront document d language front at NotText found = found ≡ None
+IsShownByFront document d language front at UnreadCall found = ⊥
+IsShownByFront document d language front at UnreadValue found = ⊥
+
+abbrev pub IsShownBefore : Text → Description → Language → Text → ℕ → Option Hover → Type 0
+IsShownBefore document d language front at found = (end : End) × IsJudged None language front end
+    × IsShownByFront document d language front at end found
+
+abbrev pub IsShownRefusedIf : Bool → Text → Description → Language → Text → Diagnostic → ℕ → Option Hover → Type 0
+IsShownRefusedIf true document d language text g at (Some h) = IsFaultHover document d g h
+IsShownRefusedIf true document d language text g at None = ⊥
+IsShownRefusedIf false document d language text g at found =
+    IsShownBefore document d language (front_of language text g.span.start) at found
+
+-- A fault is shown at its bytes, and elsewhere what precedes the piece that has it.
+abbrev pub IsShownRefused : Text → Description → Language → Text → Diagnostic → ℕ → ℕ → Option Hover → Type 0
+IsShownRefused document d language text g index at found =
+    IsShownRefusedIf (is_at_fault d g index) document d language text g at found
+
 -- This holds for an accepted description. Of a refused one its fault is shown. For any other nothing is shown.
 abbrev pub IsShownBy : Text → Description → Text → ℕ → End → Option Hover → Type 0
 IsShownBy document d text index PassedOver found = found ≡ None
 IsShownBy document d text index (Accepted warned) found =
     IsShownIn document d (language_in d) text (byte_at d index) found
 IsShownBy document d text index Refused found = (g : Diagnostic) × IsDiagnosed (language_in d) text g
-    × IsShownFault document d g index found
+    × IsShownRefused document d (language_in d) text g index (byte_at d index) found
 IsShownBy document d text index NotText found = found ≡ None
 IsShownBy document d text index UnreadCall found = ⊥
 IsShownBy document d text index UnreadValue found = ⊥

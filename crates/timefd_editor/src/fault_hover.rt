@@ -1,7 +1,7 @@
 //! What is shown for a fault of a description.
 
-ghost use Rattle.std.specs.Prelude.{◌≡◌, IfOk};
-ghost use Rattle.timefd_editor.specs.FaultHovers.{IsFaultHover, IsShownFault};
+ghost use Rattle.std.specs.Prelude.{◌≡◌, ◌≤◌, IfOk, length};
+ghost use Rattle.timefd_editor.specs.FaultHovers.{IsFaultHover};
 ghost use Rattle.timefd_editor.specs.FaultHovers as spec;
 
 use crate::counter::{none_counted, range_from};
@@ -9,29 +9,11 @@ use crate::faults::words_for;
 use crate::hovered::Hover;
 use std::alloc::{AllocError, Global};
 use timefd_diagnosis::Diagnostic;
+use timefd_parse::Language;
 use timefd_sources::{Description, index_in_source};
 
-/// What is shown for the fault of a description, if an index of its document is at it. An `Err` says that memory
-/// ran out.
-#[tactic(auto, using(crate::proofs::FaultHoverLemmas::is_there, crate::proofs::FaultHoverLemmas::is_elsewhere))]
-pub fn fault_at(
-    alloc: Global,
-    text: &str,
-    description: &Description,
-    diagnostic: &Diagnostic,
-    index: usize,
-) -> Result<Option<Hover>, AllocError>
-    ensures { IfOk result (IsShownFault text.now description.now diagnostic.now index) }
-{
-    if !is_at(description, diagnostic, index) {
-        return Ok(None);
-    }
-    let hover = hover_of(alloc, text, description, diagnostic)?;
-    Ok(Some(hover))
-}
-
-// Whether an index of the document is at one of the bytes at fault, or where such a byte is missing.
-fn is_at(description: &Description, diagnostic: &Diagnostic, index: usize) -> bool
+/// Whether an index of the document is at one of the bytes at fault, or where such a byte is missing.
+pub fn is_at_fault(description: &Description, diagnostic: &Diagnostic, index: usize) -> bool
     ensures { result ≡ spec.is_at_fault description.now diagnostic.now index }
 {
     let start = index_in_source(description, diagnostic.span.start);
@@ -39,7 +21,8 @@ fn is_at(description: &Description, diagnostic: &Diagnostic, index: usize) -> bo
     index == start || (start <= index && index < end)
 }
 
-fn hover_of(
+/// What is shown for the fault of a description. An `Err` says that memory ran out.
+pub fn fault_hover(
     alloc: Global,
     text: &str,
     description: &Description,
@@ -53,4 +36,39 @@ fn hover_of(
         range: range_from(text, none_counted(text), start, end),
         text: words_for(alloc, false, diagnostic)?,
     })
+}
+
+/// What precedes the piece that begins at or before an index: all before the last byte that begins a bracket or
+/// a directive there.
+pub fn front_of(language: Language, text: &[u8], index: usize) -> &[u8]
+    ensures { result.now ≡ spec.front_of language text.now index }
+{
+    let end = index.saturating_add(1).min(text.len());
+    &text[..last_before(text, mark_of(language), end)]
+}
+
+fn mark_of(language: Language) -> u8
+    ensures { result ≡ spec.mark_of language }
+{
+    match language {
+        Language::Version(_) => b'[',
+        Language::Strftime => b'%',
+    }
+}
+
+// The index of the last such byte before an index, or else 0.
+#[tactic(auto, using(crate::proofs::FaultHoverLemmas::last_here, crate::proofs::FaultHoverLemmas::last_further))]
+fn last_before(text: &[u8], mark: u8, end: usize) -> usize
+    requires { end ≤ length text.now }
+    ensures last { result ≡ spec.last_before text.now mark end }
+    ensures within { result ≤ end }
+{
+    let mut at = end;
+    'back: while at > 0 {
+        at -= 1;
+        if text[at] == mark {
+            return at;
+        }
+    }
+    0
 }

@@ -1,15 +1,15 @@
 //! What a part of a description means, or what is wrong there.
 
 ghost use Rattle.std.specs.Prelude.{◌≡◌, IfOk, IfSome, option_map, string_bytes};
-ghost use Rattle.timefd_editor.specs.Hovers.{IsHoverOf, IsPartOrFault, IsShownAt, IsShownIn, IsShownOn, IsShownWhere};
+ghost use Rattle.timefd_editor.specs.Hovers.{IsHoverOf, IsPartOrFault, IsShownAt, IsShownBefore, IsShownIn, IsShownOn, IsShownRefused, IsShownWhere};
 ghost use Rattle.timefd_editor.specs.Hovers as spec;
 
 use crate::counter::{none_counted, range_from};
-use crate::fault_hover::fault_at;
+use crate::fault_hover::{fault_hover, front_of, is_at_fault};
 use crate::hovered::Hover;
 use std::alloc::{AllocError, Global};
 use std::str;
-use timefd_diagnosis::diagnose;
+use timefd_diagnosis::{Diagnostic, diagnose};
 use timefd_drawing::shown::safe;
 use timefd_explain::{Node, explanation_of};
 use timefd_lint_sources::{Source, descriptions_in, is_passed_over, language_of};
@@ -95,8 +95,65 @@ fn hover_at(
     let language = language_of(description.dialect);
     let at = index_in(&description.unescaped.positions, index);
     match diagnose(alloc, language, reported)? {
-        Some(diagnostic) => fault_at(alloc, text, description, &diagnostic, index),
+        Some(diagnostic) => {
+            let place = Place { language, index, at };
+            refused_at(alloc, text, description, reported, &diagnostic, place)
+        }
         None => shown(alloc, text, description, language, reported, at),
+    }
+}
+
+// Where a cursor is: at an index of the document, and at a byte of the description.
+#[derive(Clone, Copy)]
+struct Place {
+    language: Language,
+    index: usize,
+    at: usize,
+}
+
+// What is shown for a refused text: its fault, if the cursor is there, or else what precedes it.
+#[tactic(auto, using(crate::proofs::FaultHoverLemmas::is_there, crate::proofs::FaultHoverLemmas::is_elsewhere))]
+fn refused_at(
+    alloc: Global,
+    text: &str,
+    description: &Description,
+    reported: &str,
+    diagnostic: &Diagnostic,
+    place: Place,
+) -> Result<Option<Hover>, AllocError>
+    ensures { IfOk result (IsShownRefused text.now description.now place.language reported.now diagnostic.now
+        place.index place.at) }
+{
+    if is_at_fault(description, diagnostic, place.index) {
+        let hover = fault_hover(alloc, text, description, diagnostic)?;
+        return Ok(Some(hover));
+    }
+    let front = front_of(place.language, reported.as_bytes(), diagnostic.span.start);
+    let found = shown_before(alloc, text, description, place.language, front, place.at)?;
+    Ok(found)
+}
+
+// What is shown of the front of a refused text, if that is accepted.
+#[tactic(auto, using(crate::proofs::FaultHoverLemmas::front_accepted, crate::proofs::FaultHoverLemmas::front_refused, crate::proofs::FaultHoverLemmas::front_no_text))]
+fn shown_before(
+    alloc: Global,
+    text: &str,
+    description: &Description,
+    language: Language,
+    front: &[u8],
+    at: usize,
+) -> Result<Option<Hover>, AllocError>
+    ensures { IfOk result (IsShownBefore text.now description.now language front.now at) }
+{
+    let Ok(front) = str::from_utf8(front) else {
+        return Ok(None);
+    };
+    match diagnose(alloc, language, front)? {
+        Some(_) => Ok(None),
+        None => {
+            let found = shown(alloc, text, description, language, front, at)?;
+            Ok(found)
+        }
     }
 }
 
