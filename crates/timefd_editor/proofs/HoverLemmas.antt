@@ -4,11 +4,10 @@ use Rattle.std.proofs.lemmas.List.Elements.{All-head, All-tail}
 use Rattle.std.specs.Prelude.{IfOk, IfSome, IsTrue, IsUtf8, Result, Ok, Err, if◌then◌else◌}
 use Rattle.timefd_component.specs.Tree.{Text, Tree}
 use Rattle.timefd_editor.specs.declared.hovered.Hover.{Hover}
-use Rattle.timefd_editor.proofs.FaultHoverLemmas.{shown_there}
-use Rattle.timefd_editor.specs.FaultHovers.{IsShownFault, is_at_fault}
-use Rattle.timefd_editor.specs.Hovers.{IsHoverIn, IsPartOrFault, IsShownAt, IsShownBy, IsShownIn, IsShownOf, IsShownOfAny, IsShownWhere, byte_at, covers, first_at, innermost, innermost_from, is_at}
+use Rattle.timefd_editor.specs.FaultHovers.{front_of, is_at_fault}
+use Rattle.timefd_editor.specs.Hovers.{IsHoverIn, IsPartOrFault, IsShownAt, IsShownBefore, IsShownBy, IsShownIn, IsShownOf, IsShownOfAny, IsShownRefused, IsShownRefusedIf, IsShownWhere, byte_at, covers, first_at, innermost, innermost_from, is_at}
 use Rattle.timefd_diagnosis.specs.declared.diagnostic.Diagnostic.{Diagnostic}
-use Rattle.timefd_diagnosis.specs.Diagnoses.{IsDiagnosis}
+use Rattle.timefd_diagnosis.specs.Diagnoses.{IsDiagnosed, IsDiagnosis}
 use Rattle.timefd_explain.specs.declared.node.Node.{Node}
 use Rattle.timefd_explain.specs.Examples.{Examples, HasExample}
 use Rattle.timefd_fault.specs.Faults.{fault_of}
@@ -76,6 +75,35 @@ by_node s d index h ns (Some n) found stands each is shown =
       shown = shown;
     }
 
+by_front : (s : Source) (d : Description) (index : ℕ) (h : Hover) (front : Text) → IsFound s d
+    → IsTrue (is_at d.piece index)
+    → IsShownBefore s.text.now d (language_in d) front (byte_at d index) (Some h) → IsHoverIn s index h
+by_front s d index h front found stands (PassedOver, judged, shown) = absurd shown
+by_front s d index h front found stands (Accepted warned, judged, (ns, are, shown)) =
+    by_node s d index h ns (innermost ns (byte_at d index)) found stands are.examples refl shown
+by_front s d index h front found stands (Refused, judged, shown) = absurd (none_is_some (sym shown))
+by_front s d index h front found stands (NotText, judged, shown) = absurd (none_is_some (sym shown))
+by_front s d index h front found stands (UnreadCall, judged, shown) = absurd shown
+by_front s d index h front found stands (UnreadValue, judged, shown) = absurd shown
+
+by_refused : (s : Source) (d : Description) (index : ℕ) (h : Hover) (g : Diagnostic) (there : Bool)
+    → is_at_fault d g index ≡ there → IsFound s d → IsTrue (is_at d.piece index)
+    → IsDiagnosed (language_in d) (text_of d) g
+    → IsShownRefused s.text.now d (language_in d) (text_of d) g index (byte_at d index) (Some h)
+    → IsPartOrFault s index h
+by_refused s d index h g true is found stands diagnosed shown = inr (record {
+  description = d;
+  fault = g;
+  found = found;
+  stands = stands;
+  diagnosed = diagnosed;
+  at = is;
+  shown = subst (λ b. IsShownRefusedIf b s.text.now d (language_in d) (text_of d) g (byte_at d index) (Some h)) is shown;
+})
+by_refused s d index h g false is found stands diagnosed shown =
+    inl (by_front s d index h (front_of (language_in d) (text_of d) g.span.start) found stands
+    (subst (λ b. IsShownRefusedIf b s.text.now d (language_in d) (text_of d) g (byte_at d index) (Some h)) is shown))
+
 by_end : (s : Source) (d : Description) (index : ℕ) (h : Hover) (end : End) → IsFound s d
     → IsTrue (is_at d.piece index) → IsShownBy s.text.now d (text_of d) index end (Some h)
     → IsPartOrFault s index h
@@ -83,16 +111,7 @@ by_end s d index h PassedOver found stands shown = absurd (none_is_some (sym sho
 by_end s d index h (Accepted warned) found stands (ns, are, shown) =
     inl (by_node s d index h ns (innermost ns (byte_at d index)) found stands are.examples refl shown)
 by_end s d index h Refused found stands (g, diagnosed, shown) =
-    let there = shown_there s.text.now d g index h (is_at_fault d g index) refl shown in
-    inr (record {
-      description = d;
-      fault = g;
-      found = found;
-      stands = stands;
-      diagnosed = diagnosed;
-      at = there.0;
-      shown = there.1;
-    })
+    by_refused s d index h g (is_at_fault d g index) refl found stands diagnosed shown
 by_end s d index h NotText found stands shown = absurd (none_is_some (sym shown))
 by_end s d index h UnreadCall found stands shown = absurd shown
 by_end s d index h UnreadValue found stands shown = absurd shown
@@ -128,20 +147,23 @@ at_first s ds index o (Ok found) all stand in_order first shown = record {
 at_first s ds index o (Err e) all stand in_order first shown = tt
 
 -- For a refused text its fault is shown.
-pub refused : {E : Type 0} (document : Text) (d : Description) (language : Language) (text : Text) (index : ℕ)
+pub refused : {E : Type 0} (document : Text) (d : Description) (language : Language) (text : Text) (index at : ℕ)
     (found : Option Diagnostic) (g : Diagnostic) (done : Result (Option Hover) E) → language ≡ language_in d
-    → IsUtf8 text → found ≡ Some g
+    → at ≡ byte_at d index → IsUtf8 text → found ≡ Some g
     → IfSome found (λ x. FaultIn language nesting_limit text (fault_of x.fault))
-    → IfSome found (IsDiagnosis language text) → IfOk done (IsShownFault document d g index)
+    → IfSome found (IsDiagnosis language text) → IfOk done (IsShownRefused document d language text g index at)
     → IfOk done (IsShownWhere document d text index)
-refused document d language text index found g (Ok hover) named utf8 is faulty diagnosis shown =
+refused document d language text index at found g (Ok hover) named there utf8 is faulty diagnosis shown =
     let fault : FaultIn (language_in d) nesting_limit text (fault_of g.fault) =
     subst (λ l. FaultIn l nesting_limit text (fault_of g.fault)) named
     (subst (λ o. IfSome o (λ x. FaultIn language nesting_limit text (fault_of x.fault))) is faulty) in
     let said : IsDiagnosis (language_in d) text g =
     subst (λ l. IsDiagnosis l text g) named (subst (λ o. IfSome o (IsDiagnosis language text)) is diagnosis) in
-    (Refused, (utf8, (fault_of g.fault, fault)), (g, record { fault = fault; diagnosis = said }, shown))
-refused document d language text index found g (Err e) named utf8 is faulty diagnosis shown = tt
+    let seen : IsShownRefused document d (language_in d) text g index (byte_at d index) hover =
+    subst (λ n. IsShownRefused document d (language_in d) text g index n hover) there
+    (subst (λ l. IsShownRefused document d l text g index at hover) named shown) in
+    (Refused, (utf8, (fault_of g.fault, fault)), (g, record { fault = fault; diagnosis = said }, seen))
+refused document d language text index at found g (Err e) named there utf8 is faulty diagnosis shown = tt
 
 -- For an accepted text its innermost part is shown.
 pub accepted : {E : Type 0} (document : Text) (d : Description) (language : Language) (text : Text) (index at : ℕ)
