@@ -1,7 +1,8 @@
 -- Changes of a document, one after another.
-use Rattle.std.proofs.Common.{ℕ, ◌≡◌, ◌+◌, ◌<◌, ◌≤◌, ◌++◌, List, [], ◌∷◌, Option, None, Some, ap, append_assoc, append-nil, drop, get_or, length, map, refl, subst, sym, ◌∙◌}
+use Rattle.std.proofs.Common.{ℕ, ◌≡◌, ◌+◌, ◌<◌, ◌≤◌, ◌++◌, List, [], ◌∷◌, Option, None, Some, String, ap, append_assoc, append-nil, drop, get_or, length, map, refl, subst, sym, ◌∙◌}
 use Rattle.std.proofs.lemmas.List.{drop_all, drop_more, map-append}
-use Rattle.std.specs.Prelude.{option_and_then}
+use Rattle.std.specs.Prelude.{option_and_then, option_map, string_bytes}
+use Rattle.std.specs.declared.alloc.Global.{Global}
 use Rattle.serde_json.specs.View.{items_view, view}
 use Rattle.serde_json.specs.declared.value.Value.{Value}
 use Rattle.timefd_lsp.specs.Changes.{Seen, after, after_all, all_changes, change_of, seen}
@@ -31,25 +32,36 @@ at_last all i changes none so_far =
     ∙ (ap (λ vs. map seen changes ++ all_changes (items_view vs)) (sym (drop_all all i none)) ∙ so_far)
 
 -- The changes that are left lead from one text to the next.
-pub one_made : (all : List Change) (i : ℕ) (change other : Change) (text next : List ℕ)
-    (whole : Option (List ℕ)) → i < length all → change ≡ get_or all i other → Some next ≡ after text change
-    → after_all text (drop i all) ≡ whole → after_all next (drop (i + 1) all) ≡ whole
-one_made all i change other text next whole below at is before =
+pub one_made : (all : List Change) (i : ℕ) (change other : Change) (current next : String Global)
+    (found : Option (String Global)) (text : List ℕ) (whole : Option (List ℕ)) → i < length all
+    → change ≡ get_or all i other → text ≡ string_bytes current → found ≡ Some next
+    → option_map string_bytes found ≡ after text change
+    → after_all (string_bytes current) (drop i all) ≡ whole
+    → after_all (string_bytes next) (drop (i + 1) all) ≡ whole
+one_made all i change other current next found text whole below at same is made before =
     let left : drop i all ≡ change ∷ drop (i + 1) all =
     drop_more all i other below ∙ ap (λ x. x ∷ drop (i + 1) all) (sym at) in
-    ap (λ o. option_and_then (λ t. after_all t (drop (i + 1) all)) o) is
-    ∙ (ap (λ cs. after_all text cs) (sym left) ∙ before)
+    let after_it : Some (string_bytes next) ≡ after (string_bytes current) change =
+    subst (λ t. Some (string_bytes next) ≡ after t change) same
+    (subst (λ o. option_map string_bytes o ≡ after text change) is made) in
+    ap (λ o. option_and_then (λ t. after_all t (drop (i + 1) all)) o) after_it
+    ∙ (ap (λ cs. after_all (string_bytes current) cs) (sym left) ∙ before)
 
-pub none_made : (all : List Change) (i : ℕ) (change other : Change) (text : List ℕ) (whole : Option (List ℕ))
-    → i < length all → change ≡ get_or all i other → None ≡ after text change
-    → after_all text (drop i all) ≡ whole → None ≡ whole
-none_made all i change other text whole below at is before =
+pub none_made : (all : List Change) (i : ℕ) (change other : Change) (current : String Global)
+    (found : Option (String Global)) (text : List ℕ) (whole : Option (List ℕ)) → i < length all
+    → change ≡ get_or all i other → text ≡ string_bytes current → found ≡ None
+    → option_map string_bytes found ≡ after text change
+    → after_all (string_bytes current) (drop i all) ≡ whole → None ≡ whole
+none_made all i change other current found text whole below at same is made before =
     let left : drop i all ≡ change ∷ drop (i + 1) all =
     drop_more all i other below ∙ ap (λ x. x ∷ drop (i + 1) all) (sym at) in
-    ap (λ o. option_and_then (λ t. after_all t (drop (i + 1) all)) o) is
-    ∙ (ap (λ cs. after_all text cs) (sym left) ∙ before)
+    let after_it : None ≡ after (string_bytes current) change =
+    subst (λ t. None ≡ after t change) same
+    (subst (λ o. option_map string_bytes o ≡ after text change) is made) in
+    ap (λ o. option_and_then (λ t. after_all t (drop (i + 1) all)) o) after_it
+    ∙ (ap (λ cs. after_all (string_bytes current) cs) (sym left) ∙ before)
 
-pub all_made : (all : List Change) (i : ℕ) (text : List ℕ) (whole : Option (List ℕ)) → length all ≤ i
-    → after_all text (drop i all) ≡ whole → Some text ≡ whole
-all_made all i text whole none before =
-    ap (λ cs. after_all text cs) (sym (drop_all all i none)) ∙ before
+pub all_made : (all : List Change) (i : ℕ) (current : String Global) (whole : Option (List ℕ)) → length all ≤ i
+    → after_all (string_bytes current) (drop i all) ≡ whole → Some (string_bytes current) ≡ whole
+all_made all i current whole none before =
+    ap (λ cs. after_all (string_bytes current) cs) (sym (drop_all all i none)) ∙ before

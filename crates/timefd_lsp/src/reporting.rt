@@ -111,7 +111,7 @@ fn opened(
 
 // Makes changes of an open document, and reports what is wrong in it. A document with a change that can't be
 // made is closed.
-#[tactic(auto, using(crate::proofs::ChangedLemmas::not_open, crate::proofs::ChangedLemmas::are_not_open))]
+#[tactic(auto, using(crate::proofs::ChangedLemmas::not_open, crate::proofs::ChangedLemmas::are_not_open, crate::proofs::ChangedLemmas::made, crate::proofs::ChangedLemmas::are_made, crate::proofs::ChangedLemmas::failed, crate::proofs::ChangedLemmas::are_failed))]
 fn changed(
     alloc: Global,
     settings: Settings<'_>,

@@ -32,7 +32,6 @@ fn only_in(value: &Value) -> Option<&Vec<Value>>
 }
 
 // What is wanted by some kinds together.
-#[tactic(auto, using(crate::proofs::WantedLemmas::one_more, crate::proofs::WantedLemmas::at_last))]
 fn all_wanted(kinds: &[Value]) -> Wanted
     ensures { result ≡ spec.all_wanted (items_view kinds.now) }
 {
@@ -42,7 +41,8 @@ fn all_wanted(kinds: &[Value]) -> Wanted
         fix_all: false,
     };
     for kind in kinds {
-        wanted = either(wanted, wanted_by(kind));
+        let more = wanted_by(kind);
+        wanted = either(wanted, more);
     }
     wanted
 }
