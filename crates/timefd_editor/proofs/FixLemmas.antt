@@ -1,5 +1,6 @@
 -- One action that fixes all descriptions.
-use Rattle.std.proofs.Common.{ℕ, ◌≡◌, Bool, true, Option, None, Some, List, [], ◌∷◌, ◌++◌, inl, inr, refl, sym, subst, ap, ◌∙◌}
+use Rattle.std.proofs.Common.{ℕ, ◌≡◌, ◌==◌, Bool, true, false, Option, None, Some, List, [], ◌∷◌, ◌++◌, length, inl, inr, refl, sym, subst, ap, ◌∙◌, arith, eqb-true, eq-eqb}
+use Rattle.std.proofs.lemmas.Bool.{true≢false}
 use Rattle.std.specs.Prelude.{IsUtf8, codes, string_bytes}
 use Rattle.std.specs.declared.alloc.Global.{Global}
 use Rattle.std.specs.declared.vec.Vec.{Vec}
@@ -53,16 +54,31 @@ pub becomes : (text : Text) (d : Description) (rewritten : NewParts) (before aft
 becomes text d rewritten before after is (more, made, whole) =
     (more, record { answer = Becomes rewritten; is = is; made = made }, whole)
 
-pub no_edits : (edits : List Edit) (before : List Action) → edits ≡ []
-    → Adds (AreAsOneAction edits) before before
-no_edits edits before is =
-    subst (λ l. Adds (AreAsOneAction l) before before) (sym is) (none_added (AreAsOneAction []) before refl)
+empty_list : (edits : List Edit) → length edits ≡ 0 → edits ≡ []
+empty_list [] none = refl
+empty_list (e ∷ edits) none = absurd (omega (arith, none))
 
-pub some_edits : (edits : List Edit) (a : Action) (before after : List Action) → ¬ (edits ≡ [])
+pub no_edits : (edits : Vec Edit Global) (empty : Bool) (before : List Action) → empty ≡ (edits.len == 0)
+    → empty ≡ true → Adds (AreAsOneAction edits.items) before before
+no_edits edits empty before is yes =
+    let none : edits.items ≡ [] =
+    empty_list edits.items (sym edits.ok.0 ∙ eqb-true edits.len 0 (sym is ∙ yes)) in
+    subst (λ l. Adds (AreAsOneAction l) before before) (sym none) (none_added (AreAsOneAction []) before refl)
+
+as_one : (edits : List Edit) (a : Action) (before after : List Action) → ¬ (length edits ≡ 0)
     → string_bytes a.title ≡ codes "Mend all format descriptions" → a.kind ≡ FixAll → a.edits.items ≡ edits
     → after ≡ before ++ (a ∷ []) → Adds (AreAsOneAction edits) before after
-some_edits [] a before after some title kind all whole = absurd (some refl)
-some_edits (e ∷ edits) a before after some title kind all whole = (a ∷ [], (a, title, kind, all, refl), whole)
+as_one [] a before after some title kind all whole = absurd (some refl)
+as_one (e ∷ edits) a before after some title kind all whole = (a ∷ [], (a, title, kind, all, refl), whole)
+
+pub some_edits : (edits : Vec Edit Global) (empty : Bool) (a : Action) (before after : List Action)
+    → empty ≡ (edits.len == 0) → empty ≡ false → string_bytes a.title ≡ codes "Mend all format descriptions"
+    → a.kind ≡ FixAll → a.edits ≡ edits → after ≡ before ++ (a ∷ [])
+    → Adds (AreAsOneAction edits.items) before after
+some_edits edits empty a before after is no title kind all whole =
+    as_one edits.items a before after
+    (λ none. true≢false (sym (eq-eqb edits.len 0 (edits.ok.0 ∙ none)) ∙ sym is ∙ no))
+    title kind (ap (λ v. v.items) all) whole
 
 pub all_fixed : (text : Text) (ds : List Description) (is_wanted : Bool) (empty edits : List Edit)
     (before after : List Action) → is_wanted ≡ true → empty ≡ [] → Adds (AreOf (AreFixes text) ds) empty edits
