@@ -1,10 +1,10 @@
 -- What is shown for a fault of a description.
-use Rattle.std.specs.Prelude.{ℕ, zero, suc, ◌≡◌, ◌==◌, ◌+◌, min, Bool, false, ◌&&◌, ◌||◌, nat_le, nat_lt, if◌then◌else◌, length, slice_index, string_bytes, take}
+use Rattle.std.specs.Prelude.{ℕ, zero, suc, ◌≡◌, ◌==◌, ◌+◌, Bool, false, ◌&&◌, ◌||◌, nat_le, nat_lt, if◌then◌else◌, length, slice_index, string_bytes, take}
 use Rattle.timefd_component.specs.Tree.{Text}
 use Rattle.timefd_diagnosis.specs.declared.diagnostic.Diagnostic.{Diagnostic}
 use Rattle.timefd_editor.specs.declared.hovered.Hover.{Hover}
 use Rattle.timefd_editor.specs.Findings.{fault_words}
-use Rattle.timefd_editor.specs.Positions.{capped, range_of}
+use Rattle.timefd_editor.specs.Positions.{range_of}
 use Rattle.timefd_parse.specs.declared.language.Language.{Language}
 use Rattle.timefd_parse.specs.declared.language.Language.TheVariants.{Version, Strftime}
 use Rattle.timefd_sources.specs.declared.description.Description.{Description}
@@ -37,7 +37,10 @@ abbrev pub last_before : Text → ℕ → ℕ → ℕ
 last_before text mark zero = 0
 last_before text mark (suc n) = if slice_index text n == mark then n else last_before text mark n
 
+-- the index after the byte at an index, or else the end of the text
+abbrev pub after_byte : Text → ℕ → ℕ
+after_byte text index = if nat_lt index (length text) then index + 1 else length text
+
 -- What precedes the piece that begins at or before an index.
 abbrev pub front_of : Language → Text → ℕ → Text
-front_of language text index =
-    take (last_before text (mark_of language) (min (capped (index + 1)) (length text))) text
+front_of language text index = take (last_before text (mark_of language) (after_byte text index)) text

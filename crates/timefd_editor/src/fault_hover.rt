@@ -43,8 +43,20 @@ pub fn fault_hover(
 pub fn front_of(language: Language, text: &[u8], index: usize) -> &[u8]
     ensures { result.now ≡ spec.front_of language text.now index }
 {
-    let end = index.saturating_add(1).min(text.len());
-    &text[..last_before(text, mark_of(language), end)]
+    let end = last_before(text, mark_of(language), after_byte(text, index));
+    &text[..end]
+}
+
+// The index after the byte at an index, or else the end of the text.
+fn after_byte(text: &[u8], index: usize) -> usize
+    ensures after { result ≡ spec.after_byte text.now index }
+    ensures within { result ≤ length text.now }
+{
+    if index < text.len() {
+        index + 1
+    } else {
+        text.len()
+    }
 }
 
 fn mark_of(language: Language) -> u8
