@@ -29,7 +29,7 @@ pub at_last : (all : List Value) (i : ℕ) (changes : List Change) → length al
     → map seen changes ≡ all_changes (items_view all)
 at_last all i changes none so_far =
     sym (append-nil (map seen changes))
-    ∙ (ap (λ vs. map seen changes ++ all_changes (items_view vs)) (sym (drop_all all i none)) ∙ so_far)
+    ∙ (ap (λ vs. map seen changes ++ all_changes (items_view vs)) (sym (drop_all i all none)) ∙ so_far)
 
 -- The changes that are left lead from one text to the next.
 pub one_made : (all : List Change) (i : ℕ) (change other : Change) (current next : String Global)
@@ -64,4 +64,4 @@ none_made all i change other current found text whole below at same is made befo
 pub all_made : (all : List Change) (i : ℕ) (current : String Global) (whole : Option (List ℕ)) → length all ≤ i
     → after_all (string_bytes current) (drop i all) ≡ whole → Some (string_bytes current) ≡ whole
 all_made all i current whole none before =
-    ap (λ cs. after_all (string_bytes current) cs) (sym (drop_all all i none)) ∙ before
+    ap (λ cs. after_all (string_bytes current) cs) (sym (drop_all i all none)) ∙ before

@@ -18,4 +18,4 @@ one_more all i kind other so_far now whole below at is before =
 pub at_last : (all : List Value) (i : ℕ) (so_far whole : Wanted) → length all ≤ i
     → wanted_from so_far (items_view (drop i all)) ≡ whole → so_far ≡ whole
 at_last all i so_far whole none before =
-    subst (λ l. wanted_from so_far (items_view l) ≡ whole) (drop_all all i none) before
+    subst (λ l. wanted_from so_far (items_view l) ≡ whole) (drop_all i all none) before

@@ -76,10 +76,10 @@ pub fn after_all(
 {
     let mut current = String::from_str(alloc, text)?;
     for change in changes {
-        let Some(next) = after(alloc, &current, change)? else {
-            return Ok(None);
-        };
-        current = next;
+        match after(alloc, &current, change)? {
+            Some(next) => current = next,
+            None => return Ok(None),
+        }
     }
     Ok(Some(current))
 }
