@@ -60,9 +60,9 @@ empty_list (e ∷ edits) none = absurd (omega (arith, none))
 
 pub no_edits : (edits : Vec Edit Global) (empty : Bool) (before : List Action) → empty ≡ (edits.len == 0)
     → empty ≡ true → Adds (AreAsOneAction edits.items) before before
-no_edits edits empty before is yes =
+no_edits edits empty before is said =
     let none : edits.items ≡ [] =
-    empty_list edits.items (sym edits.ok.0 ∙ eqb-true edits.len 0 (sym is ∙ yes)) in
+    empty_list edits.items (sym edits.ok.0 ∙ eqb-true edits.len 0 (sym is ∙ said)) in
     subst (λ l. Adds (AreAsOneAction l) before before) (sym none) (none_added (AreAsOneAction []) before refl)
 
 as_one : (edits : List Edit) (a : Action) (before after : List Action) → ¬ (length edits ≡ 0)
@@ -75,15 +75,15 @@ pub some_edits : (edits : Vec Edit Global) (empty : Bool) (a : Action) (before a
     → empty ≡ (edits.len == 0) → empty ≡ false → string_bytes a.title ≡ codes "Mend all format descriptions"
     → a.kind ≡ FixAll → a.edits ≡ edits → after ≡ before ++ (a ∷ [])
     → Adds (AreAsOneAction edits.items) before after
-some_edits edits empty a before after is no title kind all whole =
+some_edits edits empty a before after is said title kind all whole =
     as_one edits.items a before after
-    (λ none. true≢false (sym (eq-eqb edits.len 0 (edits.ok.0 ∙ none)) ∙ sym is ∙ no))
+    (λ none. true≢false (sym (eq-eqb edits.len 0 (edits.ok.0 ∙ none)) ∙ sym is ∙ said))
     title kind (ap (λ v. v.items) all) whole
 
 pub all_fixed : (text : Text) (ds : List Description) (is_wanted : Bool) (empty edits : List Edit)
     (before after : List Action) → is_wanted ≡ true → empty ≡ [] → Adds (AreOf (AreFixes text) ds) empty edits
     → Adds (AreAsOneAction edits) before after → Adds (AreIf is_wanted (IsFixAll text ds)) before after
-all_fixed text ds is_wanted empty edits before after yes none (made, are, whole) (more, as_one, added) =
+all_fixed text ds is_wanted empty edits before after said none (made, are, whole) (more, one, added) =
     let is : edits ≡ made = whole ∙ ap (λ l. l ++ made) none in
-    wanted (IsFixAll text ds) is_wanted before after yes
-    (more, (made, are, subst (λ l. AreAsOneAction l more) is as_one), added)
+    wanted (IsFixAll text ds) is_wanted before after said
+    (more, (made, are, subst (λ l. AreAsOneAction l more) is one), added)

@@ -1,13 +1,11 @@
 -- What is shown at an index of a document.
-use Rattle.std.proofs.Common.{ℕ, ◌≡◌, Bool, true, false, List, [], ◌∷◌, Option, None, Some, inl, inr, refl, sym, subst}
+use Rattle.std.proofs.Common.{ℕ, ◌≡◌, Bool, true, false, List, [], ◌∷◌, Option, None, Some, refl, sym, subst}
 use Rattle.std.proofs.lemmas.List.Elements.{All-head, All-tail}
 use Rattle.std.specs.Prelude.{IfOk, IfSome, IsTrue, IsUtf8, Result, Ok, Err, if◌then◌else◌}
 use Rattle.timefd_component.specs.Tree.{Text, Tree}
 use Rattle.timefd_editor.specs.declared.hovered.Hover.{Hover}
-use Rattle.timefd_editor.specs.FaultHovers.{front_of, is_at_fault}
-use Rattle.timefd_editor.specs.Hovers.{IsHoverIn, IsPartOrFault, IsShownAt, IsShownBefore, IsShownBy, IsShownIn, IsShownOf, IsShownOfAny, IsShownRefused, IsShownRefusedIf, IsShownWhere, byte_at, covers, first_at, innermost, innermost_from, is_at}
+use Rattle.timefd_editor.specs.Hovers.{IsHoverIn, IsShownAt, IsShownBy, IsShownIn, IsShownOf, IsShownOfAny, IsShownWhere, byte_at, covers, first_at, innermost, innermost_from, is_at}
 use Rattle.timefd_diagnosis.specs.declared.diagnostic.Diagnostic.{Diagnostic}
-use Rattle.timefd_diagnosis.specs.Diagnoses.{IsDiagnosed, IsDiagnosis}
 use Rattle.timefd_explain.specs.declared.node.Node.{Node}
 use Rattle.timefd_explain.specs.Examples.{Examples, HasExample}
 use Rattle.timefd_fault.specs.Faults.{fault_of}
@@ -75,62 +73,32 @@ by_node s d index h ns (Some n) found stands each is shown =
       shown = shown;
     }
 
-by_front : (s : Source) (d : Description) (index : ℕ) (h : Hover) (front : Text) → IsFound s d
-    → IsTrue (is_at d.piece index)
-    → IsShownBefore s.text.now d (language_in d) front (byte_at d index) (Some h) → IsHoverIn s index h
-by_front s d index h front found stands (PassedOver, judged, shown) = absurd shown
-by_front s d index h front found stands (Accepted warned, judged, (ns, are, shown)) =
-    by_node s d index h ns (innermost ns (byte_at d index)) found stands are.examples refl shown
-by_front s d index h front found stands (Refused, judged, shown) = absurd (none_is_some (sym shown))
-by_front s d index h front found stands (NotText, judged, shown) = absurd (none_is_some (sym shown))
-by_front s d index h front found stands (UnreadCall, judged, shown) = absurd shown
-by_front s d index h front found stands (UnreadValue, judged, shown) = absurd shown
-
-by_refused : (s : Source) (d : Description) (index : ℕ) (h : Hover) (g : Diagnostic) (there : Bool)
-    → is_at_fault d g index ≡ there → IsFound s d → IsTrue (is_at d.piece index)
-    → IsDiagnosed (language_in d) (text_of d) g
-    → IsShownRefused s.text.now d (language_in d) (text_of d) g index (byte_at d index) (Some h)
-    → IsPartOrFault s index h
-by_refused s d index h g true is found stands diagnosed shown = inr (record {
-  description = d;
-  fault = g;
-  found = found;
-  stands = stands;
-  diagnosed = diagnosed;
-  at = is;
-  shown = subst (λ b. IsShownRefusedIf b s.text.now d (language_in d) (text_of d) g (byte_at d index) (Some h)) is shown;
-})
-by_refused s d index h g false is found stands diagnosed shown =
-    inl (by_front s d index h (front_of (language_in d) (text_of d) g.span.start) found stands
-    (subst (λ b. IsShownRefusedIf b s.text.now d (language_in d) (text_of d) g (byte_at d index) (Some h)) is shown))
-
 by_end : (s : Source) (d : Description) (index : ℕ) (h : Hover) (end : End) → IsFound s d
-    → IsTrue (is_at d.piece index) → IsShownBy s.text.now d (text_of d) index end (Some h)
-    → IsPartOrFault s index h
+    → IsTrue (is_at d.piece index) → IsShownBy s.text.now d (text_of d) (byte_at d index) end (Some h)
+    → IsHoverIn s index h
 by_end s d index h PassedOver found stands shown = absurd (none_is_some (sym shown))
 by_end s d index h (Accepted warned) found stands (ns, are, shown) =
-    inl (by_node s d index h ns (innermost ns (byte_at d index)) found stands are.examples refl shown)
-by_end s d index h Refused found stands (g, diagnosed, shown) =
-    by_refused s d index h g (is_at_fault d g index) refl found stands diagnosed shown
+    by_node s d index h ns (innermost ns (byte_at d index)) found stands are.examples refl shown
+by_end s d index h Refused found stands shown = absurd (none_is_some (sym shown))
 by_end s d index h NotText found stands shown = absurd (none_is_some (sym shown))
 by_end s d index h UnreadCall found stands shown = absurd shown
 by_end s d index h UnreadValue found stands shown = absurd shown
 
 by_description : (s : Source) (ds : List Description) (index : ℕ) (h : Hover) (o : Option Description) → AllFound s ds
-    → first_at ds index ≡ o → IsShownOfAny s.text.now o index (Some h) → IsPartOrFault s index h
+    → first_at ds index ≡ o → IsShownOfAny s.text.now o index (Some h) → IsHoverIn s index h
 by_description s ds index h None all is shown = absurd (none_is_some (sym shown))
 by_description s ds index h (Some d) all is shown =
     let first = first_is s ds index d all is in
     by_end s d index h shown.end first.0 first.1 shown.shown
 
 part_of : (s : Source) (index : ℕ) (found : Option Hover) → IsShownAt s index found
-    → IfSome found (IsPartOrFault s index)
+    → IfSome found (IsHoverIn s index)
 part_of s index None at = tt
 part_of s index (Some h) at =
     by_description s at.descriptions index h (first_at at.descriptions index) at.stand refl at.shown
 
 pub parts_of : {E : Type 0} (s : Source) (index : ℕ) (done : Result (Option Hover) E) → IfOk done (IsShownAt s index)
-    → IfOk done (λ found. IfSome found (IsPartOrFault s index))
+    → IfOk done (λ found. IfSome found (IsHoverIn s index))
 parts_of s index (Ok found) at = part_of s index found at
 parts_of s index (Err e) at = tt
 
@@ -146,34 +114,32 @@ at_first s ds index o (Ok found) all stand in_order first shown = record {
 }
 at_first s ds index o (Err e) all stand in_order first shown = tt
 
--- For a refused text its fault is shown.
-pub refused : {E : Type 0} (document : Text) (d : Description) (language : Language) (text : Text) (index at : ℕ)
-    (found : Option Diagnostic) (g : Diagnostic) (done : Result (Option Hover) E) → language ≡ language_in d
-    → at ≡ byte_at d index → IsUtf8 text → found ≡ Some g
+-- For a refused text nothing is shown.
+pub refused : (document : Text) (d : Description) (language : Language) (text : Text) (at : ℕ)
+    (found : Option Diagnostic) (g : Diagnostic) → language ≡ language_in d → IsUtf8 text → found ≡ Some g
     → IfSome found (λ x. FaultIn language nesting_limit text (fault_of x.fault))
-    → IfSome found (IsDiagnosis language text) → IfOk done (IsShownRefused document d language text g index at)
-    → IfOk done (IsShownWhere document d text index)
-refused document d language text index at found g (Ok hover) named there utf8 is faulty diagnosis shown =
-    let fault : FaultIn (language_in d) nesting_limit text (fault_of g.fault) =
-    subst (λ l. FaultIn l nesting_limit text (fault_of g.fault)) named
-    (subst (λ o. IfSome o (λ x. FaultIn language nesting_limit text (fault_of x.fault))) is faulty) in
-    let said : IsDiagnosis (language_in d) text g =
-    subst (λ l. IsDiagnosis l text g) named (subst (λ o. IfSome o (IsDiagnosis language text)) is diagnosis) in
-    let seen : IsShownRefused document d (language_in d) text g index (byte_at d index) hover =
-    subst (λ n. IsShownRefused document d (language_in d) text g index n hover) there
-    (subst (λ l. IsShownRefused document d l text g index at hover) named shown) in
-    (Refused, (utf8, (fault_of g.fault, fault)), (g, record { fault = fault; diagnosis = said }, seen))
-refused document d language text index at found g (Err e) named there utf8 is faulty diagnosis shown = tt
+    → IsShownWhere document d text at None
+refused document d language text at found g named utf8 is faulty = (
+  Refused,
+  (
+    utf8,
+    (
+      fault_of g.fault,
+      subst (λ l. FaultIn l nesting_limit text (fault_of g.fault)) named
+          (subst (λ o. IfSome o (λ x. FaultIn language nesting_limit text (fault_of x.fault))) is faulty),
+    ),
+  ),
+  refl,
+)
 
 -- For an accepted text its innermost part is shown.
-pub accepted : {E : Type 0} (document : Text) (d : Description) (language : Language) (text : Text) (index at : ℕ)
-    (list : List Tree) (done : Result (Option Hover) E) → language ≡ language_in d → at ≡ byte_at d index
-    → IsUtf8 text → SpellsIn language nesting_limit text list → IfOk done (IsShownIn document d language text at)
-    → IfOk done (IsShownWhere document d text index)
-accepted document d language text index at list (Ok found) named there utf8 spelled shown = (
+pub accepted : {E : Type 0} (document : Text) (d : Description) (language : Language) (text : Text) (at : ℕ)
+    (list : List Tree) (done : Result (Option Hover) E) → language ≡ language_in d → IsUtf8 text
+    → SpellsIn language nesting_limit text list → IfOk done (IsShownIn document d language text at)
+    → IfOk done (IsShownWhere document d text at)
+accepted document d language text at list (Ok found) named utf8 spelled shown = (
   Accepted (found_by None (language_in d) list),
   (utf8, (list, subst (λ l. SpellsIn l nesting_limit text list) named spelled, refl)),
-  subst (λ n. IsShownIn document d (language_in d) text n found) there
-      (subst (λ l. IsShownIn document d l text at found) named shown),
+  subst (λ l. IsShownIn document d l text at found) named shown,
 )
-accepted document d language text index at list (Err e) named there utf8 spelled shown = tt
+accepted document d language text at list (Err e) named utf8 spelled shown = tt

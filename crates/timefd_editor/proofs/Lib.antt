@@ -7,5 +7,4 @@ pub mod FindingLemmas
 pub mod EditLemmas
 pub mod ActionLemmas
 pub mod FixLemmas
-pub mod FaultHoverLemmas
 pub mod HoverLemmas

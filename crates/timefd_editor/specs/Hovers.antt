@@ -1,11 +1,8 @@
 -- What a part of a description means.
-use Rattle.std.specs.Prelude.{ℕ, ◌+◌, ◌≡◌, ◌⊎◌, Bool, true, false, ◌&&◌, nat_le, nat_lt, List, [], ◌∷◌, ◌++◌, Option, None, Some, codes, decimal, string_bytes, if◌then◌else◌, IsTrue}
+use Rattle.std.specs.Prelude.{ℕ, ◌+◌, ◌≡◌, Bool, ◌&&◌, nat_le, nat_lt, List, [], ◌∷◌, ◌++◌, Option, None, Some, codes, decimal, string_bytes, if◌then◌else◌, IsTrue}
 use Rattle.timefd_component.specs.Tree.{Text, Tree, trees}
-use Rattle.timefd_diagnosis.specs.declared.diagnostic.Diagnostic.{Diagnostic}
-use Rattle.timefd_diagnosis.specs.Diagnoses.{IsDiagnosed}
 use Rattle.timefd_drawing.specs.Shown.{safe}
 use Rattle.timefd_editor.specs.declared.hovered.Hover.{Hover}
-use Rattle.timefd_editor.specs.FaultHovers.{IsFaultHover, front_of, is_at_fault}
 use Rattle.timefd_editor.specs.Positions.{range_of}
 use Rattle.timefd_explain.specs.declared.node.Node.{Node}
 use Rattle.timefd_explain.specs.Examples.{Examples, HasExample}
@@ -83,20 +80,6 @@ pub record IsHoverIn (s : Source) (index : ℕ) (h : Hover) : Type 0 where
   pub example : HasExample node
   pub shown : IsHoverOf s.text.now description node h
 
--- What is shown at an index of a document is the fault of a description whose literal covers the index, and the
--- fault is there.
-pub record IsFaultIn (s : Source) (index : ℕ) (h : Hover) : Type 0 where
-  pub description : Description
-  pub fault : Diagnostic
-  pub found : IsFound s description
-  pub stands : IsTrue (is_at description.piece index)
-  pub diagnosed : IsDiagnosed (language_in description) (text_of description) fault
-  pub at : IsTrue (is_at_fault description fault index)
-  pub shown : IsFaultHover s.text.now description fault h
-
-abbrev pub IsPartOrFault : Source → ℕ → Hover → Type 0
-IsPartOrFault s index h = IsHoverIn s index h ⊎ IsFaultIn s index h
-
 -- The nodes are the parts of what a text spells, at their positions.
 pub record AreNodesOf (language : Language) (text : Text) (nodes : List Node) : Type 0 where
   pub parts : (list : List Tree) → SpellsIn language nesting_limit text list → AreParts (all_parts 0 (trees list)) nodes
@@ -113,50 +96,24 @@ abbrev pub IsShownIn : Text → Description → Language → Text → ℕ → Op
 IsShownIn document d language text at found = (nodes : List Node) × AreNodesOf language text nodes
     × IsShownOf document d (innermost nodes at) found
 
--- What is shown of the front of a refused text: its innermost part at a byte, if the front is accepted.
-abbrev pub IsShownByFront : Text → Description → Language → Text → ℕ → End → Option Hover → Type 0
-IsShownByFront document d language front at PassedOver found = ⊥
-IsShownByFront document d language front at (Accepted warned) found = IsShownIn document d language front at found
-IsShownByFront document d language front at Refused found = found ≡ None
-IsShownByFront document d language front at NotText found = found ≡ None
-IsShownByFront document d language front at UnreadCall found = ⊥
-IsShownByFront document d language front at UnreadValue found = ⊥
-
-abbrev pub IsShownBefore : Text → Description → Language → Text → ℕ → Option Hover → Type 0
-IsShownBefore document d language front at found = (end : End) × IsJudged None language front end
-    × IsShownByFront document d language front at end found
-
-abbrev pub IsShownRefusedIf : Bool → Text → Description → Language → Text → Diagnostic → ℕ → Option Hover → Type 0
-IsShownRefusedIf true document d language text g at (Some h) = IsFaultHover document d g h
-IsShownRefusedIf true document d language text g at None = ⊥
-IsShownRefusedIf false document d language text g at found =
-    IsShownBefore document d language (front_of language text g.span.start) at found
-
--- A fault is shown at its bytes, and elsewhere what precedes the piece that has it.
-abbrev pub IsShownRefused : Text → Description → Language → Text → Diagnostic → ℕ → ℕ → Option Hover → Type 0
-IsShownRefused document d language text g index at found =
-    IsShownRefusedIf (is_at_fault d g index) document d language text g at found
-
--- This holds for an accepted description. Of a refused one its fault is shown. For any other nothing is shown.
+-- This holds for an accepted description. For any other nothing is shown.
 abbrev pub IsShownBy : Text → Description → Text → ℕ → End → Option Hover → Type 0
-IsShownBy document d text index PassedOver found = found ≡ None
-IsShownBy document d text index (Accepted warned) found =
-    IsShownIn document d (language_in d) text (byte_at d index) found
-IsShownBy document d text index Refused found = (g : Diagnostic) × IsDiagnosed (language_in d) text g
-    × IsShownRefused document d (language_in d) text g index (byte_at d index) found
-IsShownBy document d text index NotText found = found ≡ None
-IsShownBy document d text index UnreadCall found = ⊥
-IsShownBy document d text index UnreadValue found = ⊥
+IsShownBy document d text at PassedOver found = found ≡ None
+IsShownBy document d text at (Accepted warned) found = IsShownIn document d (language_in d) text at found
+IsShownBy document d text at Refused found = found ≡ None
+IsShownBy document d text at NotText found = found ≡ None
+IsShownBy document d text at UnreadCall found = ⊥
+IsShownBy document d text at UnreadValue found = ⊥
 
 abbrev pub IsShownWhere : Text → Description → Text → ℕ → Option Hover → Type 0
-IsShownWhere document d text index found = (end : End) × IsJudged None (language_in d) text end
-    × IsShownBy document d text index end found
+IsShownWhere document d text at found = (end : End) × IsJudged None (language_in d) text end
+    × IsShownBy document d text at end found
 
 -- what is shown at an index of the document that has the description, by how its check ends
 pub record IsShownOn (document : Text) (d : Description) (index : ℕ) (h : Option Hover) : Type 0 where
   pub end : End
   pub is : IsEndOf None d end
-  pub shown : IsShownBy document d (text_of d) index end h
+  pub shown : IsShownBy document d (text_of d) (byte_at d index) end h
 
 abbrev pub IsShownOfAny : Text → Option Description → ℕ → Option Hover → Type 0
 IsShownOfAny document None index found = found ≡ None

@@ -4,7 +4,6 @@ pub mod Each
 pub mod Edits
 pub mod Finding
 pub mod Findings
-pub mod FaultHovers
 pub mod Hovers
 pub mod Positions
 pub mod Replacing

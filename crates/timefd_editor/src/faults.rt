@@ -58,19 +58,15 @@ fn push_fault(
     ensures { OnOk result (Adds (IsFault spot.entry.text.now spot.entry.description.now is_further diagnostic.now)
         found.old.items found.new.items) }
 {
-    let message = words_for(alloc, is_further, diagnostic)?;
+    let message = words_on(alloc, is_further, diagnostic)?;
     let start = index_in_source(spot.description, diagnostic.span.start);
     let end = index_in_source(spot.description, diagnostic.span.end);
     let code = code_of(diagnostic);
     push(found, spot, start, end, Severity::Error, code, message)
 }
 
-/// The words for a fault: a sentence, and what helps. An `Err` says that memory ran out.
-pub fn words_for(
-    alloc: Global,
-    is_further: bool,
-    diagnostic: &Diagnostic,
-) -> Result<String, AllocError>
+// The words for a fault: a sentence, and what helps.
+fn words_on(alloc: Global, is_further: bool, diagnostic: &Diagnostic) -> Result<String, AllocError>
     ensures { IfOk result (λ words. string_bytes words ≡ fault_words is_further diagnostic.now) }
 {
     let sentence = reported_sentence(alloc, is_further, &diagnostic.fault)?;

@@ -1,13 +1,12 @@
-//! What is shown for a part of a description, or for its fault.
+//! What is shown for a part of a description.
 
 use crate::position::Range;
 
-/// What is shown for a part of a description, or for its fault.
+/// What is shown for a part of a description.
 #[derive(Drop)]
 pub struct Hover {
-    /// Where the part or the fault is.
+    /// Where the part is.
     pub range: Range,
-    /// For a part: what it is, how many bytes it reserves, and an example of what it writes, in two lines. For a
-    /// fault: a sentence, and what helps.
+    /// What the part is, how many bytes it reserves, and an example of what it writes, in two lines.
     pub text: String,
 }

@@ -1,15 +1,14 @@
-//! What a part of a description means, or what is wrong there.
+//! What a part of a description means.
 
 ghost use Rattle.std.specs.Prelude.{◌≡◌, IfOk, IfSome, option_map, string_bytes};
-ghost use Rattle.timefd_editor.specs.Hovers.{IsHoverOf, IsPartOrFault, IsShownAt, IsShownBefore, IsShownIn, IsShownOn, IsShownRefused, IsShownWhere};
+ghost use Rattle.timefd_editor.specs.Hovers.{IsHoverIn, IsHoverOf, IsShownAt, IsShownIn, IsShownOn, IsShownWhere};
 ghost use Rattle.timefd_editor.specs.Hovers as spec;
 
 use crate::counter::{none_counted, range_from};
-use crate::fault_hover::{fault_hover, front_of, is_at_fault};
 use crate::hovered::Hover;
 use std::alloc::{AllocError, Global};
 use std::str;
-use timefd_diagnosis::{Diagnostic, diagnose};
+use timefd_diagnosis::diagnose;
 use timefd_drawing::shown::safe;
 use timefd_explain::{Node, explanation_of};
 use timefd_lint_sources::{Source, descriptions_in, is_passed_over, language_of};
@@ -17,10 +16,10 @@ use timefd_parse::Language;
 use timefd_sources::{Description, Piece, index_in_source};
 
 /// What the part at a byte index means, in a description that its language accepts: the component with its
-/// modifiers, the bytes that it reserves, and an example. In a description with a fault: what is wrong at that
-/// index, and what helps. `None` if nothing is there. An `Err` says that memory ran out.
+/// modifiers, the bytes that it reserves, and an example. `None` if there is no such part. An `Err` says that
+/// memory ran out.
 pub fn hover(alloc: Global, source: Source<'_>, index: usize) -> Result<Option<Hover>, AllocError>
-    ensures part { IfOk result (λ found. IfSome found (IsPartOrFault source.entry index)) }
+    ensures part { IfOk result (λ found. IfSome found (IsHoverIn source.entry index)) }
     ensures shown { IfOk result (IsShownAt source.entry index) }
 {
     let descriptions = descriptions_in(alloc, source)?;
@@ -63,7 +62,10 @@ fn hover_on(
         return Ok(None);
     }
     match str::from_utf8(bytes) {
-        Ok(reported) => hover_at(alloc, text, description, reported, index),
+        Ok(reported) => {
+            let at = index_in(&description.unescaped.positions, index);
+            hover_at(alloc, text, description, reported, at)
+        }
         Err(_) => Ok(None),
     }
 }
@@ -82,78 +84,20 @@ fn index_in(positions: &[usize], position: usize) -> usize
     at
 }
 
-// What is shown at an index of the document for a description that has this text.
+// What is shown for the part at an index of this text, which is the description's.
 fn hover_at(
     alloc: Global,
     text: &str,
     description: &Description,
     reported: &str,
-    index: usize,
+    at: usize,
 ) -> Result<Option<Hover>, AllocError>
-    ensures { IfOk result (IsShownWhere text.now description.now reported.now index) }
+    ensures { IfOk result (IsShownWhere text.now description.now reported.now at) }
 {
     let language = language_of(description.dialect);
-    let at = index_in(&description.unescaped.positions, index);
     match diagnose(alloc, language, reported)? {
-        Some(diagnostic) => {
-            let place = Place { language, index, at };
-            refused_at(alloc, text, description, reported, &diagnostic, place)
-        }
-        None => shown(alloc, text, description, language, reported, at),
-    }
-}
-
-// Where a cursor is: at an index of the document, and at a byte of the description.
-#[derive(Clone, Copy)]
-struct Place {
-    language: Language,
-    index: usize,
-    at: usize,
-}
-
-// What is shown for a refused text: its fault, if the cursor is there, or else what precedes it.
-#[tactic(auto, using(crate::proofs::FaultHoverLemmas::is_there, crate::proofs::FaultHoverLemmas::is_elsewhere))]
-fn refused_at(
-    alloc: Global,
-    text: &str,
-    description: &Description,
-    reported: &str,
-    diagnostic: &Diagnostic,
-    place: Place,
-) -> Result<Option<Hover>, AllocError>
-    ensures { IfOk result (IsShownRefused text.now description.now place.language reported.now diagnostic.now
-        place.index place.at) }
-{
-    if is_at_fault(description, diagnostic, place.index) {
-        let hover = fault_hover(alloc, text, description, diagnostic)?;
-        return Ok(Some(hover));
-    }
-    let front = front_of(place.language, reported.as_bytes(), diagnostic.span.start);
-    let found = shown_before(alloc, text, description, place.language, front, place.at)?;
-    Ok(found)
-}
-
-// What is shown of the front of a refused text, if that is accepted.
-#[tactic(auto, using(crate::proofs::FaultHoverLemmas::front_accepted, crate::proofs::FaultHoverLemmas::front_refused, crate::proofs::FaultHoverLemmas::front_no_text))]
-fn shown_before(
-    alloc: Global,
-    text: &str,
-    description: &Description,
-    language: Language,
-    front: &[u8],
-    at: usize,
-) -> Result<Option<Hover>, AllocError>
-    ensures { IfOk result (IsShownBefore text.now description.now language front.now at) }
-{
-    let Ok(front) = str::from_utf8(front) else {
-        return Ok(None);
-    };
-    match diagnose(alloc, language, front)? {
         Some(_) => Ok(None),
-        None => {
-            let found = shown(alloc, text, description, language, front, at)?;
-            Ok(found)
-        }
+        None => shown(alloc, text, description, language, reported, at),
     }
 }
 

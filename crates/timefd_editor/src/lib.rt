@@ -7,7 +7,6 @@ mod all_actions;
 mod all_findings;
 mod all_fixes;
 mod counter;
-mod fault_hover;
 mod faults;
 mod finding;
 mod hovered;
