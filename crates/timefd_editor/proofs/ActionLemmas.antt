@@ -89,8 +89,8 @@ by_guesses text d before middle after first second is (none, sure, a) (more, gue
 pub rewritten : (text : Text) (d : Description) (before after : List Action) (is_wanted done : Bool)
     → is_wanted ≡ true → Adds (IsOffer (Least versions.Three) text d done) before after
     → Adds (AreIf is_wanted (AreRewrites text d)) before after
-rewritten text d before after is_wanted done yes (more, offered, whole) =
-    wanted (AreRewrites text d) is_wanted before after yes (more, (done, offered), whole)
+rewritten text d before after is_wanted done asked (more, offered, whole) =
+    wanted (AreRewrites text d) is_wanted before after asked (more, (done, offered), whole)
 
 pub mends_and_rewrites : (asked : Wanted) (text : Text) (d : Description) (before middle after : List Action)
     → Adds (AreIf asked.fixes (AreMends text d)) before middle

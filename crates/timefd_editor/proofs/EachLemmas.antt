@@ -56,9 +56,9 @@ both_added First Second Both before middle after join (one, first, a) (rest, sec
 -- What isn't wanted isn't added.
 pub unwanted : {Y : Type 0} (Is : List Y → Type 0) (is_wanted : Bool) (before : List Y) → is_wanted ≡ false
     → Adds (AreIf is_wanted Is) before before
-unwanted Is is_wanted before no =
-    subst (λ b. Adds (AreIf b Is) before before) (sym no) (none_added (AreIf false Is) before refl)
+unwanted Is is_wanted before said =
+    subst (λ b. Adds (AreIf b Is) before before) (sym said) (none_added (AreIf false Is) before refl)
 
 pub wanted : {Y : Type 0} (Is : List Y → Type 0) (is_wanted : Bool) (before after : List Y) → is_wanted ≡ true
     → Adds Is before after → Adds (AreIf is_wanted Is) before after
-wanted Is is_wanted before after yes added = subst (λ b. Adds (AreIf b Is) before after) (sym yes) added
+wanted Is is_wanted before after said added = subst (λ b. Adds (AreIf b Is) before after) (sym said) added
