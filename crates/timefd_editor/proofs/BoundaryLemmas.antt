@@ -1,5 +1,5 @@
 -- The index of a position is between two characters.
-use Rattle.std.proofs.Common.{ℕ, suc, ◌≡◌, ◌<◌, ◌≤◌, ◌==◌, ◌+◌, ◌⊎◌, Bool, true, false, [], ◌∷◌, length, refl, inl, inr, arith, eqb-true, subst, sym}
+use Rattle.std.proofs.Common.{ℕ, suc, ◌≡◌, ◌≤◌, ◌==◌, ◌+◌, ◌⊎◌, Bool, true, false, [], ◌∷◌, refl, inl, inr, arith, eqb-true, subst, sym}
 use Rattle.std.proofs.lemmas.Bool.{le-leb, ltb-false, true≢false}
 use Rattle.std.specs.Prelude.{nat_lt, not, ◌&&◌, ◌||◌, if◌then◌else◌}
 use Rattle.std.specs.Str.{IsCharBoundary}
