@@ -1,5 +1,5 @@
 -- Changes of a document, one after another.
-use Rattle.std.proofs.Common.{ℕ, ◌≡◌, ◌+◌, ◌<◌, ◌≤◌, ◌++◌, List, [], ◌∷◌, Option, None, Some, String, ap, append_assoc, append-nil, drop, get_or, length, map, refl, subst, sym, ◌∙◌}
+use Rattle.std.proofs.Common.{ℕ, ◌≡◌, ◌+◌, ◌<◌, ◌≤◌, ◌++◌, List, [], ◌∷◌, Option, None, Some, String, ap, append_assoc, append-nil, drop, get_or, length, map, subst, sym, ◌∙◌}
 use Rattle.std.proofs.lemmas.List.{drop_all, drop_more, map-append}
 use Rattle.std.specs.Prelude.{option_and_then, option_map, string_bytes}
 use Rattle.std.specs.declared.alloc.Global.{Global}
