@@ -5,11 +5,13 @@ use Rattle.std.specs.Prelude.{IfOk, IsUtf8, Result, Ok, Err, string_bytes}
 use Rattle.std.specs.declared.alloc.Global.{Global}
 use Rattle.std.specs.declared.vec.Vec.{Vec}
 use Rattle.timefd_component.specs.Tree.{Text}
-use Rattle.timefd_editor.proofs.EachLemmas.{both_added, none_added}
+use Rattle.timefd_editor.proofs.EachLemmas.{both_added, none_added, unwanted, wanted}
 use Rattle.timefd_editor.specs.declared.action.Action.{Action}
 use Rattle.timefd_editor.specs.declared.action.Edit.{Edit}
-use Rattle.timefd_editor.specs.Actions.{AreActionsBy, AreActionsIn, AreActionsOf, AreMends, AreOffers, AreOffersIf, IsBecoming, IsOffer, IsOfferOf, IsOneAction, IsWritable, kind_of, overlaps, title_of}
-use Rattle.timefd_editor.specs.Each.{Adds, AreOf}
+use Rattle.timefd_editor.specs.declared.action.Wanted.{Wanted}
+use Rattle.timefd_editor.specs.Actions.{AreActionsBy, AreActionsIn, AreActionsOf, AreMends, AreOffers, AreRewrites, IsBecoming, IsOffer, IsOfferOf, IsOneAction, kind_of, overlaps, title_of}
+use Rattle.timefd_editor.specs.AllFixes.{IsFixAll, IsWritable}
+use Rattle.timefd_editor.specs.Each.{Adds, AreIf, AreOf}
 use Rattle.timefd_editor.specs.Edits.{AreEdits}
 use Rattle.timefd_rewrite.specs.declared.fixes.Fixes.TheVariants as fixes
 use Rattle.timefd_language.specs.declared.description_version.DescriptionVersion.TheVariants as versions
@@ -26,7 +28,7 @@ use Rattle.timefd_rewrite_sources.specs.declared.change.Change.TheVariants.{Mend
 use Rattle.timefd_rewrite_sources.specs.declared.outcome.Outcome.{Outcome}
 use Rattle.timefd_rewrite_sources.specs.Written.{IsAnswer, items_of}
 use Rattle.timefd_sources.specs.declared.description.Description.{Description}
-use Rattle.timefd_sources.specs.Found.{AllStandIn, AreDescriptionsOf}
+use Rattle.timefd_sources.specs.Found.{AllStandIn, AreDescriptionsOf, AreInOrder}
 
 pub same_text : (change : Change) (text : Text) (d : Description) (rewritten : NewParts) (before after : List Action)
     → rewritten.body ≡ None → Adds (IsOneAction change text d rewritten.digit None) before after
@@ -84,40 +86,51 @@ by_guesses text d before middle after first second is (none, sure, a) (more, gue
       b ∙ ap (λ l. l ++ more) (a ∙ ap (λ l. before ++ l) empty ∙ append-nil before),
     )
 
-pub mends_and_rewrites : (text : Text) (d : Description) (before middle after : List Action) (done : Bool)
-    → Adds (AreMends text d) before middle
-    → Adds (IsOffer (Least versions.Three) text d done) middle after → Adds (AreOffers text d) before after
-mends_and_rewrites text d before middle after done first second =
-    both_added (AreMends text d) (IsOffer (Least versions.Three) text d done) (AreOffers text d)
-    before middle after (λ one rest is are. (one, rest, is, (done, are), refl)) first second
+pub rewritten : (text : Text) (d : Description) (before after : List Action) (is_wanted done : Bool)
+    → is_wanted ≡ true → Adds (IsOffer (Least versions.Three) text d done) before after
+    → Adds (AreIf is_wanted (AreRewrites text d)) before after
+rewritten text d before after is_wanted done asked (more, offered, whole) =
+    wanted (AreRewrites text d) is_wanted before after asked (more, (done, offered), whole)
 
-pub apart : (text : Text) (d : Description) (from to : ℕ) (before : List Action)
-    → overlaps d.piece from to ≡ false → Adds (AreActionsIn text from to d) before before
-apart text d from to before is =
-    subst (λ b. Adds (AreOffersIf b text d) before before) (sym is)
-    (none_added (AreOffersIf false text d) before refl)
+pub mends_and_rewrites : (asked : Wanted) (text : Text) (d : Description) (before middle after : List Action)
+    → Adds (AreIf asked.fixes (AreMends text d)) before middle
+    → Adds (AreIf asked.rewrites (AreRewrites text d)) middle after → Adds (AreOffers asked text d) before after
+mends_and_rewrites asked text d before middle after first second =
+    both_added (AreIf asked.fixes (AreMends text d)) (AreIf asked.rewrites (AreRewrites text d))
+    (AreOffers asked text d) before middle after (λ one rest is are. (one, rest, is, are, refl)) first second
 
-pub within : (text : Text) (d : Description) (from to : ℕ) (before after : List Action)
-    → overlaps d.piece from to ≡ true → Adds (AreOffers text d) before after
-    → Adds (AreActionsIn text from to d) before after
-within text d from to before after is added =
-    subst (λ b. Adds (AreOffersIf b text d) before after) (sym is) added
+pub apart : (asked : Wanted) (text : Text) (d : Description) (from to : ℕ) (before : List Action)
+    → overlaps d.piece from to ≡ false → Adds (AreActionsIn asked text from to d) before before
+apart asked text d from to before is =
+    unwanted (AreOffers asked text d) (overlaps d.piece from to) before is
 
-pub by_rust : (s : Source) (from to : ℕ) (ds : List Description) (actions : List Action) → s.finder ≡ Rust
-    → AreDescriptionsOf s.text.now ds → AllStandIn s.text.now ds
-    → Adds (AreOf (AreActionsIn s.text.now from to) ds) [] actions → AreActionsOf from to s actions
-by_rust s from to ds actions is all stand (more, offered, whole) =
-    subst (λ f. AreActionsBy f from to s.text.now actions) (sym is) (record {
+pub within : (asked : Wanted) (text : Text) (d : Description) (from to : ℕ) (before after : List Action)
+    → overlaps d.piece from to ≡ true → Adds (AreOffers asked text d) before after
+    → Adds (AreActionsIn asked text from to d) before after
+within asked text d from to before after is added =
+    wanted (AreOffers asked text d) (overlaps d.piece from to) before after is added
+
+pub by_rust : (s : Source) (asked : Wanted) (from to : ℕ) (ds : List Description) (middle actions : List Action)
+    → s.finder ≡ Rust → AreDescriptionsOf s.text.now ds → AllStandIn s.text.now ds → AreInOrder 0 ds
+    → Adds (AreOf (AreActionsIn asked s.text.now from to) ds) [] middle
+    → Adds (AreIf asked.fix_all (IsFixAll s.text.now ds)) middle actions → AreActionsOf asked from to s actions
+by_rust s asked from to ds middle actions is all stand in_order (each, offered, first) (fix_all, fixed, second) =
+    subst (λ f. AreActionsBy f asked from to s.text.now actions) (sym is) (record {
       descriptions = ds;
       all = all;
       stand = stand;
-      offered = subst (λ a. AreOf (AreActionsIn s.text.now from to) ds a) (sym whole) offered;
+      in_order = in_order;
+      each = each;
+      fix_all = fix_all;
+      offered = offered;
+      fixed = fixed;
+      whole = second ∙ ap (λ l. l ++ fix_all) first;
     })
 
-pub by_keys : (s : Source) (from to : ℕ) (format : Format) (keys : Bor (List Key)) (actions : List Action)
-    → s.finder ≡ Keys format keys → actions ≡ [] → AreActionsOf from to s actions
-by_keys s from to format keys actions is none =
-    subst (λ f. AreActionsBy f from to s.text.now actions) (sym is) none
+pub by_keys : (s : Source) (asked : Wanted) (from to : ℕ) (format : Format) (keys : Bor (List Key))
+    (actions : List Action) → s.finder ≡ Keys format keys → actions ≡ [] → AreActionsOf asked from to s actions
+by_keys s asked from to format keys actions is none =
+    subst (λ f. AreActionsBy f asked from to s.text.now actions) (sym is) none
 
 pub pushed : (change : Change) (text : Text) (d : Description) (digit : Option ℕ) (body : Option Text)
     (a : Action) (empty : List Edit) (before after : List Action) → empty ≡ []

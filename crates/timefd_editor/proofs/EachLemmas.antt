@@ -1,7 +1,7 @@
 -- What is reported about several things, in a walk that adds one after another.
-use Rattle.std.proofs.Common.{ℕ, ◌≡◌, ◌<◌, ◌≤◌, ◌+◌, List, [], ◌∷◌, ◌++◌, length, drop, get_or, refl, sym, ap, subst, ◌∙◌}
+use Rattle.std.proofs.Common.{ℕ, ◌≡◌, ◌<◌, ◌≤◌, ◌+◌, Bool, true, false, List, [], ◌∷◌, ◌++◌, length, drop, get_or, refl, sym, ap, subst, ◌∙◌}
 use Rattle.std.proofs.lemmas.List.{append_assoc, append-nil, drop_all, drop_more}
-use Rattle.timefd_editor.specs.Each.{Adds, AreOf}
+use Rattle.timefd_editor.specs.Each.{Adds, AreIf, AreOf}
 
 -- With the reports about the remaining items after those so far, all is reported.
 pub record IsReported {X Y : Type 0} (Is : X → List Y → Type 0) (all left : List X) (before so_far : List Y)
@@ -52,3 +52,13 @@ pub both_added : {Y : Type 0} (First Second Both : List Y → Type 0) (before mi
     → Adds First before middle → Adds Second middle after → Adds Both before after
 both_added First Second Both before middle after join (one, first, a) (rest, second, b) =
     (one ++ rest, join one rest first second, b ∙ ap (λ t. t ++ rest) a ∙ append_assoc before one rest)
+
+-- What isn't wanted isn't added.
+pub unwanted : {Y : Type 0} (Is : List Y → Type 0) (is_wanted : Bool) (before : List Y) → is_wanted ≡ false
+    → Adds (AreIf is_wanted Is) before before
+unwanted Is is_wanted before said =
+    subst (λ b. Adds (AreIf b Is) before before) (sym said) (none_added (AreIf false Is) before refl)
+
+pub wanted : {Y : Type 0} (Is : List Y → Type 0) (is_wanted : Bool) (before after : List Y) → is_wanted ≡ true
+    → Adds Is before after → Adds (AreIf is_wanted Is) before after
+wanted Is is_wanted before after said added = subst (λ b. Adds (AreIf b Is) before after) (sym said) added

@@ -1,8 +1,10 @@
 pub mod WalkLemmas
 pub mod PositionLemmas
+pub mod BoundaryLemmas
 pub mod EachLemmas
 pub mod WarningLemmas
 pub mod FindingLemmas
 pub mod EditLemmas
 pub mod ActionLemmas
+pub mod FixLemmas
 pub mod HoverLemmas

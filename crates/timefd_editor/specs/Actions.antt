@@ -1,10 +1,12 @@
 -- What can be done to the descriptions of a source.
-use Rattle.std.specs.Prelude.{ℕ, ◌≡◌, ◌&&◌, ◌⊎◌, Bool, true, false, nat_le, List, [], ◌∷◌, ◌++◌, codes, Option, None, Some, IsUtf8, string_bytes, ⊤}
+use Rattle.std.specs.Prelude.{ℕ, ◌≡◌, ◌&&◌, ◌⊎◌, Bool, true, false, nat_le, List, [], ◌∷◌, ◌++◌, codes, Option, string_bytes}
 use Rattle.timefd_component.specs.Tree.{Text}
 use Rattle.timefd_editor.specs.declared.action.Action.{Action}
 use Rattle.timefd_editor.specs.declared.action.ActionKind.{ActionKind}
 use Rattle.timefd_editor.specs.declared.action.ActionKind.TheVariants.{QuickFix, Guess, Rewrite}
-use Rattle.timefd_editor.specs.Each.{AreOf}
+use Rattle.timefd_editor.specs.declared.action.Wanted.{Wanted}
+use Rattle.timefd_editor.specs.AllFixes.{IsFixAll, IsWritable}
+use Rattle.timefd_editor.specs.Each.{AreIf, AreOf}
 use Rattle.timefd_editor.specs.Edits.{AreEdits}
 use Rattle.timefd_rewrite.specs.declared.fixes.Fixes.TheVariants as fixes
 use Rattle.timefd_language.specs.declared.description_version.DescriptionVersion.TheVariants as versions
@@ -19,7 +21,7 @@ use Rattle.timefd_rewrite_sources.specs.declared.change.Change.TheVariants.{Mend
 use Rattle.timefd_rewrite_sources.specs.Written.{IsAnswer, items_of}
 use Rattle.timefd_sources.specs.declared.description.Description.{Description}
 use Rattle.timefd_sources.specs.declared.piece.Piece.{Piece}
-use Rattle.timefd_sources.specs.Found.{AllStandIn, AreDescriptionsOf}
+use Rattle.timefd_sources.specs.Found.{AllStandIn, AreDescriptionsOf, AreInOrder}
 
 abbrev pub kind_of : Change → ActionKind
 kind_of (Mended fixes.Sure) = QuickFix
@@ -43,11 +45,6 @@ pub record IsAction (change : Change) (text : Text) (d : Description) (digit : O
 abbrev pub IsOneAction : Change → Text → Description → Option ℕ → Option Text → List Action → Type 0
 IsOneAction change text d digit body actions =
     (a : Action) × IsAction change text d digit body a × (actions ≡ a ∷ [])
-
--- An editor can write a body if it is UTF-8.
-abbrev pub IsWritable : Option Text → Type 0
-IsWritable None = ⊤
-IsWritable (Some body) = IsUtf8 body
 
 -- What a description becomes is offered if it can be written. If the description stays, nothing is offered.
 abbrev pub IsBecoming : Change → Text → Description → NewParts → Bool → List Action → Type 0
@@ -80,33 +77,36 @@ AreMends text d actions = IsOffer (Mended fixes.Sure) text d true actions
 abbrev pub AreRewrites : Text → Description → List Action → Type 0
 AreRewrites text d actions = (done : Bool) × IsOffer (Least versions.Three) text d done actions
 
-abbrev pub AreOffers : Text → Description → List Action → Type 0
-AreOffers text d actions = (mends : List Action) × (rewrites : List Action)
-    × AreMends text d mends × AreRewrites text d rewrites × (actions ≡ mends ++ rewrites)
+abbrev pub AreOffers : Wanted → Text → Description → List Action → Type 0
+AreOffers wanted text d actions = (mends : List Action) × (rewrites : List Action)
+    × AreIf wanted.fixes (AreMends text d) mends × AreIf wanted.rewrites (AreRewrites text d) rewrites
+    × (actions ≡ mends ++ rewrites)
 
 -- whether a literal overlaps or touches these bytes
 abbrev pub overlaps : Piece → ℕ → ℕ → Bool
 overlaps p from to = nat_le p.start to && nat_le from p.end
 
-abbrev pub AreOffersIf : Bool → Text → Description → List Action → Type 0
-AreOffersIf true text d actions = AreOffers text d actions
-AreOffersIf false text d actions = actions ≡ []
+abbrev pub AreActionsIn : Wanted → Text → ℕ → ℕ → Description → List Action → Type 0
+AreActionsIn wanted text from to d actions = AreIf (overlaps d.piece from to) (AreOffers wanted text d) actions
 
-abbrev pub AreActionsIn : Text → ℕ → ℕ → Description → List Action → Type 0
-AreActionsIn text from to d actions = AreOffersIf (overlaps d.piece from to) text d actions
-
--- All that can be done to the descriptions in a source of Rust that overlap or touch these bytes, one after
--- another.
-pub record AreRustActions (from to : ℕ) (text : Text) (actions : List Action) : Type 0 where
+-- What is wanted of all that can be done to the descriptions in a source of Rust that overlap or touch these
+-- bytes, one after another; and then one action that fixes all descriptions, if it is wanted. Each description
+-- begins where the one before ends, or after that, so no edits overlap.
+pub record AreRustActions (wanted : Wanted) (from to : ℕ) (text : Text) (actions : List Action) : Type 0 where
   pub descriptions : List Description
   pub all : AreDescriptionsOf text descriptions
   pub stand : AllStandIn text descriptions
-  pub offered : AreOf (AreActionsIn text from to) descriptions actions
+  pub in_order : AreInOrder 0 descriptions
+  pub each : List Action
+  pub fix_all : List Action
+  pub offered : AreOf (AreActionsIn wanted text from to) descriptions each
+  pub fixed : AreIf wanted.fix_all (IsFixAll text descriptions) fix_all
+  pub whole : actions ≡ each ++ fix_all
 
-abbrev pub AreActionsBy : Finder → ℕ → ℕ → Text → List Action → Type 0
-AreActionsBy Rust from to text actions = AreRustActions from to text actions
-AreActionsBy (Keys format names) from to text actions = actions ≡ []
+abbrev pub AreActionsBy : Finder → Wanted → ℕ → ℕ → Text → List Action → Type 0
+AreActionsBy Rust wanted from to text actions = AreRustActions wanted from to text actions
+AreActionsBy (Keys format names) wanted from to text actions = actions ≡ []
 
 -- In a file with keys nothing is offered.
-abbrev pub AreActionsOf : ℕ → ℕ → Source → List Action → Type 0
-AreActionsOf from to s actions = AreActionsBy s.finder from to s.text.now actions
+abbrev pub AreActionsOf : Wanted → ℕ → ℕ → Source → List Action → Type 0
+AreActionsOf wanted from to s actions = AreActionsBy s.finder wanted from to s.text.now actions

@@ -21,6 +21,19 @@ pub enum ActionKind {
     Guess,
     /// Writes a correct description in another way.
     Rewrite,
+    /// Fixes all descriptions of a document that have a sure fix.
+    FixAll,
+}
+
+/// Which actions are wanted.
+#[derive(Clone, Copy)]
+pub struct Wanted {
+    /// Fixes of the descriptions in a range.
+    pub fixes: bool,
+    /// Rewrites of the descriptions in a range.
+    pub rewrites: bool,
+    /// One action with all sure fixes of the document.
+    pub fix_all: bool,
 }
 
 /// Replaces a range by another text. An empty range only inserts the text.

@@ -1,12 +1,13 @@
 //! What can be done to the descriptions of a source.
 
 ghost use Rattle.std.specs.Prelude.{◌≡◌, IfOk, OnOk, option_map};
-ghost use Rattle.timefd_editor.specs.Actions.{AreActionsIn, AreActionsOf, AreMends, AreOffers, IsBecoming, IsOffer, IsOneAction};
+ghost use Rattle.timefd_editor.specs.Actions.{AreActionsIn, AreActionsOf, AreMends, AreOffers, AreRewrites, IsBecoming, IsOffer, IsOneAction};
 ghost use Rattle.timefd_editor.specs.Actions as spec;
-ghost use Rattle.timefd_editor.specs.Each.{Adds, AreOf};
+ghost use Rattle.timefd_editor.specs.Each.{Adds, AreIf, AreOf};
 ghost use Rattle.timefd_editor.specs.Positions.{IsCounted};
 
-use crate::action::{Action, ActionKind, push_edits};
+use crate::action::{Action, ActionKind, Wanted, push_edits};
+use crate::all_fixes::push_fix_all;
 use crate::counter::{Counter, counted, none_counted};
 use crate::finding::Spot;
 use std::alloc::{AllocError, Global};
@@ -18,24 +19,41 @@ use timefd_rewrite_sources::{Answer, Change, NewParts, answer_to};
 use timefd_sources::version::first_position;
 use timefd_sources::{Description, Piece, descriptions_of};
 
-/// What can be done to the descriptions that overlap or touch the bytes from `start` up to `end`. A
-/// description with a fault is fixed, by a sure fix or else by guesses. One of an older version is rewritten
-/// in version 3. In files with keys nothing is offered. An `Err` says that memory ran out.
+/// What can be done to the descriptions that overlap or touch the bytes from `start` up to `end`, as far as it
+/// is wanted. A description with a fault is fixed, by a sure fix or else by guesses. One of an older version is
+/// rewritten in version 3. One more action fixes all descriptions of the document that have a sure fix. In files
+/// with keys nothing is offered. An `Err` says that memory ran out.
 #[tactic(auto, using(crate::proofs::ActionLemmas::by_rust, crate::proofs::ActionLemmas::by_keys))]
 pub fn actions(
     alloc: Global,
     source: Source<'_>,
+    wanted: Wanted,
     start: usize,
     end: usize,
 ) -> Result<Vec<Action>, AllocError>
-    ensures { IfOk result (λ actions. AreActionsOf start end source.entry actions.items) }
+    ensures { IfOk result (λ actions. AreActionsOf wanted start end source.entry actions.items) }
 {
     let mut actions = Vec::new(alloc);
     match source.finder {
         Finder::Keys(_, _) => Ok(actions),
         Finder::Rust => {
             let descriptions = descriptions_of(alloc, source.text)?;
-            push_all(alloc, source.text, &descriptions, start, end, &mut actions)?;
+            let bytes = (start, end);
+            push_all(
+                alloc,
+                source.text,
+                &descriptions,
+                wanted,
+                bytes,
+                &mut actions,
+            )?;
+            push_fix_all(
+                alloc,
+                source.text,
+                &descriptions,
+                wanted.fix_all,
+                &mut actions,
+            )?;
             Ok(actions)
         }
     }
@@ -47,16 +65,16 @@ fn push_all(
     alloc: Global,
     text: &str,
     descriptions: &[Description],
-    start: usize,
-    end: usize,
+    wanted: Wanted,
+    bytes: (usize, usize),
     actions: &mut Vec<Action>,
 ) -> Result<(), AllocError>
-    ensures { OnOk result (Adds (AreOf (AreActionsIn text.now start end) descriptions.now)
+    ensures { OnOk result (Adds (AreOf (AreActionsIn wanted text.now bytes.0 bytes.1) descriptions.now)
         actions.old.items actions.new.items) }
 {
     let mut counter = none_counted(text);
     for description in descriptions {
-        counter = push_in(alloc, text, description, counter, (start, end), actions)?;
+        counter = push_in(alloc, text, description, counter, wanted, bytes, actions)?;
     }
     Ok(())
 }
@@ -69,12 +87,13 @@ fn push_in(
     text: &str,
     description: &Description,
     counter: Counter,
+    wanted: Wanted,
     bytes: (usize, usize),
     actions: &mut Vec<Action>,
 ) -> Result<Counter, AllocError>
     requires { IsCounted text.now counter }
     ensures counted { IfOk result (λ next. IsCounted text.now next) }
-    ensures offered { OnOk result (Adds (AreActionsIn text.now bytes.0 bytes.1 description.now)
+    ensures offered { OnOk result (Adds (AreActionsIn wanted text.now bytes.0 bytes.1 description.now)
         actions.old.items actions.new.items) }
 {
     if !overlaps(description.piece, bytes.0, bytes.1) {
@@ -87,7 +106,7 @@ fn push_in(
         description,
         counter,
     };
-    push_offers(alloc, spot, actions)?;
+    push_offers(alloc, spot, wanted, actions)?;
     Ok(counter)
 }
 
@@ -98,14 +117,55 @@ fn overlaps(piece: Piece, start: usize, end: usize) -> bool
     piece.start <= end && start <= piece.end
 }
 
-// Adds what can be done to a description.
+// Adds what can be done to a description, as far as it is wanted.
 #[tactic(auto, using(crate::proofs::ActionLemmas::mends_and_rewrites))]
-fn push_offers(alloc: Global, spot: Spot<'_>, actions: &mut Vec<Action>) -> Result<(), AllocError>
+fn push_offers(
+    alloc: Global,
+    spot: Spot<'_>,
+    wanted: Wanted,
+    actions: &mut Vec<Action>,
+) -> Result<(), AllocError>
     requires { IsCounted spot.text.now spot.counter }
-    ensures { OnOk result (Adds (AreOffers spot.entry.text.now spot.entry.description.now)
+    ensures { OnOk result (Adds (AreOffers wanted spot.entry.text.now spot.entry.description.now)
         actions.old.items actions.new.items) }
 {
+    push_mends_if(alloc, spot, wanted.fixes, actions)?;
+    push_rewrite_if(alloc, spot, wanted.rewrites, actions)?;
+    Ok(())
+}
+
+#[tactic(auto, using(crate::proofs::EachLemmas::unwanted, crate::proofs::EachLemmas::wanted))]
+fn push_mends_if(
+    alloc: Global,
+    spot: Spot<'_>,
+    is_wanted: bool,
+    actions: &mut Vec<Action>,
+) -> Result<(), AllocError>
+    requires { IsCounted spot.text.now spot.counter }
+    ensures { OnOk result (Adds (AreIf is_wanted (AreMends spot.entry.text.now spot.entry.description.now))
+        actions.old.items actions.new.items) }
+{
+    if !is_wanted {
+        return Ok(());
+    }
     push_mends(alloc, spot, actions)?;
+    Ok(())
+}
+
+#[tactic(auto, using(crate::proofs::EachLemmas::unwanted, crate::proofs::ActionLemmas::rewritten))]
+fn push_rewrite_if(
+    alloc: Global,
+    spot: Spot<'_>,
+    is_wanted: bool,
+    actions: &mut Vec<Action>,
+) -> Result<(), AllocError>
+    requires { IsCounted spot.text.now spot.counter }
+    ensures { OnOk result (Adds (AreIf is_wanted (AreRewrites spot.entry.text.now spot.entry.description.now))
+        actions.old.items actions.new.items) }
+{
+    if !is_wanted {
+        return Ok(());
+    }
     let change = Change::Least(DescriptionVersion::Three);
     push_offer(alloc, spot, change, actions)?;
     Ok(())

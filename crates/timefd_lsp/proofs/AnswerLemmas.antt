@@ -6,6 +6,7 @@ use Rattle.std.specs.declared.vec.Vec.{Vec}
 use Rattle.timefd_editor.specs.Actions.{AreActionsOf}
 use Rattle.timefd_editor.specs.Positions.{index_of}
 use Rattle.timefd_editor.specs.declared.action.Action.{Action}
+use Rattle.timefd_editor.specs.declared.action.Wanted.{Wanted}
 use Rattle.timefd_editor.specs.declared.position.Range.{Range}
 use Rattle.timefd_lint_sources.specs.declared.reported.Source.{Source}
 use Rattle.timefd_lsp.specs.Servers.{IsActionsAnswer, finder_of}
@@ -14,19 +15,20 @@ use Rattle.timefd_lsp.specs.declared.reply.Answer.TheVariants as answers
 use Rattle.timefd_lsp.specs.declared.server.Settings.{Settings}
 
 pub actions_of : (settings : Settings) (found : Option Document) (document : Document) (uri : String Global)
-    (range : Range) (source : Source) (actions : Vec Action Global) (from to : ℕ) → found ≡ Some document
+    (range : Range) (wanted : Wanted) (source : Source) (actions : Vec Action Global) (from to : ℕ)
+    → found ≡ Some document
     → source.finder ≡ finder_of settings document.kind → source.text.now ≡ string_bytes document.text
     → from ≡ index_of source.text.now range.start → to ≡ index_of source.text.now range.end
-    → AreActionsOf from to source actions.items
-    → IsActionsAnswer settings found uri range (answers.Actions uri actions)
-actions_of settings found document uri range source actions from to is finder whole start end are =
-    subst (λ o. IsActionsAnswer settings o uri range (answers.Actions uri actions)) (sym is) (
+    → AreActionsOf wanted from to source actions.items
+    → IsActionsAnswer settings found uri range wanted (answers.Actions uri actions)
+actions_of settings found document uri range wanted source actions from to is finder whole start end are =
+    subst (λ o. IsActionsAnswer settings o uri range wanted (answers.Actions uri actions)) (sym is) (
       source,
       record { finder = finder; whole = whole },
       (
         actions,
-        subst (λ n. AreActionsOf n (index_of source.text.now range.end) source actions.items) start
-            (subst (λ n. AreActionsOf from n source actions.items) end are),
+        subst (λ n. AreActionsOf wanted n (index_of source.text.now range.end) source actions.items) start
+            (subst (λ n. AreActionsOf wanted from n source actions.items) end are),
         refl,
       ),
     )

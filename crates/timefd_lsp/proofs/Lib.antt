@@ -1,8 +1,9 @@
-pub mod ParamLemmas
+pub mod ChangeLemmas
+pub mod WantedLemmas
 pub mod ShownLemmas
 pub mod TextLemmas
 pub mod SessionLemmas
 pub mod ServedLemmas
 pub mod ClosedLemmas
-pub mod WithTextLemmas
+pub mod ChangedLemmas
 pub mod AnswerLemmas

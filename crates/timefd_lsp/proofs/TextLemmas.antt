@@ -66,6 +66,7 @@ reply_is_whole : (reply : Reply) → IsWhole (reply_data reply)
 reply_is_whole (replies.Response id answer) = response_is_whole (id_data id) answer (id_is_whole id)
 reply_is_whole (replies.Findings uri findings) =
     ap (λ b. (b || false) || false) (list_is_whole finding_data (λ finding. refl) findings.items)
+reply_is_whole (replies.Lost uri) = refl
 
 pub written : (reply : Reply) (said : Data) (text : Result (String Global) AllocError) → said ≡ reply_data reply
     → IfOk text (λ s. IsWhole said → string_bytes s ≡ compact_text said)

@@ -2,7 +2,9 @@
 use Rattle.std.specs.Prelude.{◌≡◌, ℕ, List, Option, Some, None, String, bytes_eq, string_bytes, if◌then◌else◌}
 use Rattle.std.specs.BTreeMap.{BTreeMap, get_by_text}
 use Rattle.std.specs.declared.alloc.Global.{Global}
+use Rattle.timefd_lsp.specs.Changes.{after_all}
 use Rattle.timefd_lsp.specs.Kinds.{kind_of}
+use Rattle.timefd_lsp.specs.declared.changes.Change.{Change}
 use Rattle.timefd_lsp.specs.declared.documents.Document.{Document}
 use Rattle.timefd_lsp.specs.declared.documents.Kind.{Kind}
 use Rattle.timefd_lsp.specs.declared.message.Message.{Message}
@@ -35,6 +37,21 @@ abbrev pub AreWithText : List ℕ → String Global → Open → Open → Type 0
 AreWithText uri text old new = (name : List ℕ) → get_by_text new name
     ≡ (if bytes_eq name uri then with_text text (get_by_text old name) else get_by_text old name)
 
+-- The document has the text after its changes. If one of them can't be made, the document is closed.
+abbrev pub AreWithResult : Option (List ℕ) → List ℕ → Open → Open → Type 0
+AreWithResult (Some bytes) uri old new = (text : String Global) × (string_bytes text ≡ bytes)
+    × AreWithText uri text old new
+AreWithResult None uri old new = AreWith uri None old new
+
+abbrev pub AreChangedFrom : Option Document → List ℕ → List Change → Open → Open → Type 0
+AreChangedFrom (Some document) uri changes old new =
+    AreWithResult (after_all (string_bytes document.text) changes) uri old new
+AreChangedFrom None uri changes old new = new ≡ old
+
+-- The changes are made if the document is open.
+abbrev pub AreChanged : List ℕ → List Change → Open → Open → Type 0
+AreChanged uri changes old new = AreChangedFrom (get_by_text old uri) uri changes old new
+
 abbrev pub AreOpenedAs : Option Kind → List ℕ → String Global → Open → Open → Type 0
 AreOpenedAs (Some kind) uri text old new = AreWith uri (Some (record { kind = kind; text = text })) old new
 AreOpenedAs None uri text old new = new ≡ old
@@ -47,7 +64,7 @@ AreOpened uri language text old new = AreOpenedAs (kind_of language uri) uri tex
 abbrev pub AreHeard : Notification → Open → Open → Type 0
 AreHeard (reported.Opened uri language text) old new =
     AreOpened (string_bytes uri) (string_bytes language) text old new
-AreHeard (reported.Changed uri text) old new = AreWithText (string_bytes uri) text old new
+AreHeard (reported.Changed uri changes) old new = AreChanged (string_bytes uri) changes.items old new
 AreHeard (reported.Closed uri) old new = AreWith (string_bytes uri) None old new
 AreHeard reported.Exit old new = new ≡ old
 AreHeard reported.Other old new = new ≡ old

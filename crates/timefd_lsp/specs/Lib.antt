@@ -4,6 +4,8 @@ pub mod Contents
 pub mod Frames
 pub mod Envelopes
 pub mod Params
+pub mod WantedKinds
+pub mod Changes
 pub mod Messages
 pub mod Kinds
 pub mod Documents

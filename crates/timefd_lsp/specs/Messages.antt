@@ -1,12 +1,15 @@
 -- The message of an editor that a value of JSON is.
-use Rattle.std.specs.Prelude.{◌≡◌, ℕ, List, Option, Some, None, codes, bytes_eq, string_bytes, if◌then◌else◌, IsUtf8, ◌⊎◌, ⊤}
+use Rattle.std.specs.Prelude.{◌≡◌, ℕ, List, Option, Some, None, codes, bytes_eq, map, string_bytes, if◌then◌else◌, IsUtf8, ◌⊎◌, ⊤}
 use Rattle.serde_json.specs.Data.{Data}
 use Rattle.serde_json.specs.Read.{read}
+use Rattle.timefd_editor.specs.declared.action.Wanted.{Wanted}
 use Rattle.timefd_editor.specs.declared.position.Position.{Position}
 use Rattle.timefd_editor.specs.declared.position.Range.{Range}
+use Rattle.timefd_lsp.specs.Changes.{Seen, changes_in, seen}
 use Rattle.timefd_lsp.specs.Envelopes.{seen_id, Shape, envelope_of}
 use Rattle.timefd_lsp.specs.Envelopes as shapes
-use Rattle.timefd_lsp.specs.Params.{last_text, position_in, range_of, text_by, uri_of}
+use Rattle.timefd_lsp.specs.Params.{position_in, range_of, text_by, uri_of}
+use Rattle.timefd_lsp.specs.WantedKinds.{wanted_in}
 use Rattle.timefd_lsp.specs.declared.message.Message.{Message}
 use Rattle.timefd_lsp.specs.declared.message.Message.TheVariants as messages
 use Rattle.timefd_lsp.specs.declared.message.Notification.{Notification}
@@ -18,7 +21,7 @@ use Rattle.timefd_lsp.specs.declared.message.Request.TheVariants as asked
 pub data Asked : Type 0 where
   initialize : Asked
   hover : List ℕ → Position → Asked
-  actions : List ℕ → Range → Asked
+  actions : List ℕ → Range → Wanted → Asked
   shutdown : Asked
   unknown : Asked
   wrong_params : Asked
@@ -26,7 +29,7 @@ pub data Asked : Type 0 where
 abbrev pub seen_request : Request → Asked
 seen_request asked.Initialize = initialize
 seen_request (asked.Hover uri position) = hover (string_bytes uri) position
-seen_request (asked.Actions uri range) = actions (string_bytes uri) range
+seen_request (asked.Actions uri range wanted) = actions (string_bytes uri) range wanted
 seen_request asked.Shutdown = shutdown
 seen_request asked.Unknown = unknown
 seen_request asked.WrongParams = wrong_params
@@ -39,13 +42,13 @@ hover_from None position = wrong_params
 abbrev pub hover_of : Data → Asked
 hover_of d = hover_from (uri_of d) (position_in d)
 
-abbrev pub actions_from : Option (List ℕ) → Option Range → Asked
-actions_from (Some uri) (Some range) = actions uri range
-actions_from (Some uri) None = wrong_params
-actions_from None range = wrong_params
+abbrev pub actions_from : Option (List ℕ) → Option Range → Wanted → Asked
+actions_from (Some uri) (Some range) wanted = actions uri range wanted
+actions_from (Some uri) None wanted = wrong_params
+actions_from None range wanted = wrong_params
 
 abbrev pub actions_of : Data → Asked
-actions_of d = actions_from (uri_of d) (range_of d)
+actions_of d = actions_from (uri_of d) (range_of d) (wanted_in d)
 
 abbrev pub request_of : List ℕ → Data → Asked
 request_of method d =
@@ -58,7 +61,7 @@ request_of method d =
 -- what is reported, without the addresses of its texts in memory
 pub data Reported : Type 0 where
   opened : List ℕ → List ℕ → List ℕ → Reported
-  changed : List ℕ → List ℕ → Reported
+  changed : List ℕ → List Seen → Reported
   closed : List ℕ → Reported
   exit : Reported
   other : Reported
@@ -66,7 +69,7 @@ pub data Reported : Type 0 where
 abbrev pub seen_notification : Notification → Reported
 seen_notification (reported.Opened uri language text) =
     opened (string_bytes uri) (string_bytes language) (string_bytes text)
-seen_notification (reported.Changed uri text) = changed (string_bytes uri) (string_bytes text)
+seen_notification (reported.Changed uri changes) = changed (string_bytes uri) (map seen changes.items)
 seen_notification (reported.Closed uri) = closed (string_bytes uri)
 seen_notification reported.Exit = exit
 seen_notification reported.Other = other
@@ -88,14 +91,12 @@ closed_from None = other
 abbrev pub closed_of : Data → Reported
 closed_of d = closed_from (uri_of d)
 
-abbrev pub changed_from : Option (List ℕ) → Option (List ℕ) → Reported
-changed_from (Some uri) (Some text) = changed uri text
-changed_from (Some uri) None = other
-changed_from None text = other
+abbrev pub changed_from : Option (List ℕ) → List Seen → Reported
+changed_from (Some uri) changes = changed uri changes
+changed_from None changes = other
 
--- A change replaces the document's text with the text after the last of the changes.
 abbrev pub changed_of : Data → Reported
-changed_of d = changed_from (uri_of d) (last_text d)
+changed_of d = changed_from (uri_of d) (changes_in d)
 
 -- what a notification's method does
 pub data Notice : Type 0 where

@@ -1,7 +1,7 @@
 -- The parameters of a message of an editor.
 use Rattle.std.specs.Prelude.{ℕ, List, Option, Some, None, codes, option_and_then}
-use Rattle.serde_json.specs.Data.{Data, Items, no_items, item}
-use Rattle.serde_json.specs.Find.{as_array, as_number, as_str, as_u64, get, pointer}
+use Rattle.serde_json.specs.Data.{Data, Items}
+use Rattle.serde_json.specs.Find.{as_array, as_number, as_str, as_u64, pointer}
 use Rattle.timefd_editor.specs.declared.position.Position.{Position}
 use Rattle.timefd_editor.specs.declared.position.Range.{Range}
 
@@ -29,23 +29,17 @@ range_of d = range_from
     (position_by (codes "/params/range/start/line") (codes "/params/range/start/character") d)
     (position_by (codes "/params/range/end/line") (codes "/params/range/end/character") d)
 
+-- the range that a change of a document replaces
+abbrev pub range_in : Data → Option Range
+range_in d = range_from
+    (position_by (codes "/range/start/line") (codes "/range/start/character") d)
+    (position_by (codes "/range/end/line") (codes "/range/end/character") d)
+
 abbrev pub position_in : Data → Option Position
 position_in d = position_by (codes "/params/position/line") (codes "/params/position/character") d
 
 abbrev pub uri_of : Data → Option (List ℕ)
 uri_of d = text_by (codes "/params/textDocument/uri") d
 
-abbrev pub last_item : Items → Option Data
-last_item no_items = None
-last_item (item d no_items) = Some d
-last_item (item d (item e rest)) = last_item (item e rest)
-
 abbrev pub changes_of : Data → Option Items
 changes_of d = option_and_then as_array (pointer (codes "/params/contentChanges") d)
-
-abbrev pub last_change : Data → Option Data
-last_change d = option_and_then last_item (changes_of d)
-
--- the text of a document after the last of its changes
-abbrev pub last_text : Data → Option (List ℕ)
-last_text d = option_and_then (λ change. option_and_then as_str (get (codes "text") change)) (last_change d)

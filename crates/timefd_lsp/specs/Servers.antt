@@ -3,7 +3,9 @@ use Rattle.std.specs.Prelude.{◌≡◌, ℕ, List, [], Option, Some, None, Stri
 use Rattle.std.specs.BTreeMap.{BTreeMap, get_by_text}
 use Rattle.std.specs.declared.alloc.Global.{Global}
 use Rattle.std.specs.declared.vec.Vec.{Vec}
+use Rattle.timefd_lsp.specs.Changes.{after_all}
 use Rattle.timefd_lsp.specs.Kinds.{kind_of}
+use Rattle.timefd_lsp.specs.declared.changes.Change.{Change}
 use Rattle.timefd_lsp.specs.declared.documents.Document.{Document}
 use Rattle.timefd_lsp.specs.declared.documents.Kind.{Kind}
 use Rattle.timefd_lsp.specs.Replies.{refusal_of}
@@ -20,6 +22,7 @@ use Rattle.timefd_lsp.specs.declared.reply.Refusal.{Refusal}
 use Rattle.timefd_lsp.specs.declared.reply.Refusal.TheVariants as refusals
 use Rattle.timefd_lsp.specs.declared.reply.Reply.TheVariants as replies
 use Rattle.timefd_editor.specs.declared.action.Action.{Action}
+use Rattle.timefd_editor.specs.declared.action.Wanted.{Wanted}
 use Rattle.timefd_editor.specs.declared.finding.Finding.{Finding}
 use Rattle.timefd_editor.specs.declared.hovered.Hover.{Hover}
 use Rattle.timefd_editor.specs.declared.position.Position.{Position}
@@ -45,7 +48,7 @@ first = New
 abbrev pub first_refusal : Request → Option Refusal
 first_refusal asked.Initialize = None
 first_refusal (asked.Hover uri position) = Some refusals.NotInitialized
-first_refusal (asked.Actions uri range) = Some refusals.NotInitialized
+first_refusal (asked.Actions uri range wanted) = Some refusals.NotInitialized
 first_refusal asked.Shutdown = Some refusals.NotInitialized
 first_refusal asked.Unknown = Some refusals.NotInitialized
 first_refusal asked.WrongParams = Some refusals.NotInitialized
@@ -54,7 +57,7 @@ first_refusal asked.WrongParams = Some refusals.NotInitialized
 abbrev pub running_refusal : Request → Option Refusal
 running_refusal asked.Initialize = Some refusals.InvalidRequest
 running_refusal (asked.Hover uri position) = None
-running_refusal (asked.Actions uri range) = None
+running_refusal (asked.Actions uri range wanted) = None
 running_refusal asked.Shutdown = None
 running_refusal asked.Unknown = Some refusals.UnknownMethod
 running_refusal asked.WrongParams = Some refusals.WrongParams
@@ -68,7 +71,7 @@ refusal ShutDown request = Some refusals.InvalidRequest
 abbrev pub first_phase : Phase → Request → Phase
 first_phase phase asked.Initialize = Running
 first_phase phase (asked.Hover uri position) = phase
-first_phase phase (asked.Actions uri range) = phase
+first_phase phase (asked.Actions uri range wanted) = phase
 first_phase phase asked.Shutdown = phase
 first_phase phase asked.Unknown = phase
 first_phase phase asked.WrongParams = phase
@@ -76,7 +79,7 @@ first_phase phase asked.WrongParams = phase
 abbrev pub running_phase : Phase → Request → Phase
 running_phase phase asked.Initialize = phase
 running_phase phase (asked.Hover uri position) = phase
-running_phase phase (asked.Actions uri range) = phase
+running_phase phase (asked.Actions uri range wanted) = phase
 running_phase phase asked.Shutdown = ShutDown
 running_phase phase asked.Unknown = phase
 running_phase phase asked.WrongParams = phase
@@ -101,6 +104,7 @@ unanswered why = Say (replies.Response None (answers.Refused why))
 abbrev pub Responds : Id → Option Refusal → Step → Type 0
 Responds id why (Say (replies.Response other answer)) = (other ≡ Some id) × (refusal_of answer ≡ why)
 Responds id why (Say (replies.Findings uri findings)) = ⊥
+Responds id why (Say (replies.Lost uri)) = ⊥
 Responds id why Silent = ⊥
 Responds id why Exit = ⊥
 
@@ -132,18 +136,20 @@ IsHoverAnswer settings (Some document) position answer = (source : Source) × Is
     × (answer ≡ hover_answer found))
 
 -- the answer for a range of a document, if it is open
-abbrev pub IsActionsAnswer : Settings → Option Document → String Global → Range → Answer → Type 0
-IsActionsAnswer settings None uri range answer = answer ≡ answers.Nothing
-IsActionsAnswer settings (Some document) uri range answer = (source : Source) × IsSourceOf settings document source
+abbrev pub IsActionsAnswer : Settings → Option Document → String Global → Range → Wanted → Answer → Type 0
+IsActionsAnswer settings None uri range wanted answer = answer ≡ answers.Nothing
+IsActionsAnswer settings (Some document) uri range wanted answer = (source : Source)
+    × IsSourceOf settings document source
     × ((actions : Vec Action Global)
-    × AreActionsOf (index_of source.text.now range.start) (index_of source.text.now range.end) source actions.items
+    × AreActionsOf wanted (index_of source.text.now range.start) (index_of source.text.now range.end) source
+    actions.items
     × (answer ≡ answers.Actions uri actions))
 
 -- The answer to a first request that isn't refused.
 abbrev pub IsFirstAnswer : Request → Answer → Type 0
 IsFirstAnswer asked.Initialize answer = answer ≡ answers.Capabilities
 IsFirstAnswer (asked.Hover uri position) answer = ⊤
-IsFirstAnswer (asked.Actions uri range) answer = ⊤
+IsFirstAnswer (asked.Actions uri range wanted) answer = ⊤
 IsFirstAnswer asked.Shutdown answer = ⊤
 IsFirstAnswer asked.Unknown answer = ⊤
 IsFirstAnswer asked.WrongParams answer = ⊤
@@ -152,8 +158,8 @@ abbrev pub IsRunningAnswer : Settings → BTreeMap (String Global) Document → 
 IsRunningAnswer settings documents asked.Initialize answer = ⊤
 IsRunningAnswer settings documents (asked.Hover uri position) answer =
     IsHoverAnswer settings (get_by_text documents (string_bytes uri)) position answer
-IsRunningAnswer settings documents (asked.Actions uri range) answer =
-    IsActionsAnswer settings (get_by_text documents (string_bytes uri)) uri range answer
+IsRunningAnswer settings documents (asked.Actions uri range wanted) answer =
+    IsActionsAnswer settings (get_by_text documents (string_bytes uri)) uri range wanted answer
 IsRunningAnswer settings documents asked.Shutdown answer = answer ≡ answers.Nothing
 IsRunningAnswer settings documents asked.Unknown answer = ⊤
 IsRunningAnswer settings documents asked.WrongParams answer = ⊤
@@ -168,6 +174,7 @@ abbrev pub Answers : Settings → Phase → BTreeMap (String Global) Document �
 Answers settings phase documents request (Say (replies.Response id answer)) =
     IsAnswer settings phase documents request answer
 Answers settings phase documents request (Say (replies.Findings uri findings)) = ⊥
+Answers settings phase documents request (Say (replies.Lost uri)) = ⊥
 Answers settings phase documents request Silent = ⊥
 Answers settings phase documents request Exit = ⊥
 
@@ -179,6 +186,7 @@ abbrev pub IsSaidOf : Settings → Kind → List ℕ → List ℕ → Step → T
 IsSaidOf settings kind text name (Say (replies.Findings uri findings)) =
     (string_bytes uri ≡ name) × AreWrongIn settings kind text findings.items
 IsSaidOf settings kind text name (Say (replies.Response other answer)) = ⊥
+IsSaidOf settings kind text name (Say (replies.Lost uri)) = ⊥
 IsSaidOf settings kind text name Silent = ⊥
 IsSaidOf settings kind text name Exit = ⊥
 
@@ -190,19 +198,32 @@ IsSaidIf settings None text name step = step ≡ Silent
 abbrev pub IsOpened : Settings → List ℕ → List ℕ → List ℕ → Step → Type 0
 IsOpened settings name language text step = IsSaidIf settings (kind_of language name) text name step
 
-abbrev pub IsSaidOfOpen : Settings → Option Document → List ℕ → List ℕ → Step → Type 0
-IsSaidOfOpen settings (Some document) text name step = IsSaidOf settings document.kind text name step
-IsSaidOfOpen settings None text name step = step ≡ Silent
+-- the step says that a document isn't checked any more
+abbrev pub lost : String Global → Step
+lost uri = Say (replies.Lost uri)
 
--- If an open document changes, what is wrong in it is reported.
-abbrev pub IsChangedOf : Settings → List ℕ → List ℕ → BTreeMap (String Global) Document → Step → Type 0
-IsChangedOf settings name text documents step =
-    IsSaidOfOpen settings (get_by_text documents name) text name step
+abbrev pub IsLost : List ℕ → Step → Type 0
+IsLost name step = (uri : String Global) × (string_bytes uri ≡ name) × (step ≡ lost uri)
+
+abbrev pub IsSaidAfter : Settings → Kind → Option (List ℕ) → List ℕ → Step → Type 0
+IsSaidAfter settings kind (Some text) name step = IsSaidOf settings kind text name step
+IsSaidAfter settings kind None name step = IsLost name step
+
+abbrev pub IsSaidOfOpen : Settings → Option Document → List Change → List ℕ → Step → Type 0
+IsSaidOfOpen settings (Some document) changes name step =
+    IsSaidAfter settings document.kind (after_all (string_bytes document.text) changes) name step
+IsSaidOfOpen settings None changes name step = step ≡ Silent
+
+-- If an open document changes, what is wrong in it is reported, or that a change can't be made.
+abbrev pub IsChangedOf : Settings → List ℕ → List Change → BTreeMap (String Global) Document → Step → Type 0
+IsChangedOf settings name changes documents step =
+    IsSaidOfOpen settings (get_by_text documents name) changes name step
 
 -- The step withdraws what was reported about the document with this name.
 abbrev pub IsTakenBack : List ℕ → Step → Type 0
 IsTakenBack name (Say (replies.Findings uri findings)) = (string_bytes uri ≡ name) × (findings.items ≡ [])
 IsTakenBack name (Say (replies.Response other answer)) = ⊥
+IsTakenBack name (Say (replies.Lost uri)) = ⊥
 IsTakenBack name Silent = ⊥
 IsTakenBack name Exit = ⊥
 
@@ -219,15 +240,15 @@ IsClosed name documents step = IsTakenBackOf (get_by_text documents name) name s
 abbrev pub IsHeard : Settings → BTreeMap (String Global) Document → Notification → Step → Type 0
 IsHeard settings documents (reported.Opened uri language text) step =
     IsOpened settings (string_bytes uri) (string_bytes language) (string_bytes text) step
-IsHeard settings documents (reported.Changed uri text) step =
-    IsChangedOf settings (string_bytes uri) (string_bytes text) documents step
+IsHeard settings documents (reported.Changed uri changes) step =
+    IsChangedOf settings (string_bytes uri) changes.items documents step
 IsHeard settings documents (reported.Closed uri) step = IsClosed (string_bytes uri) documents step
 IsHeard settings documents reported.Exit step = step ≡ Exit
 IsHeard settings documents reported.Other step = step ≡ Silent
 
 abbrev pub unheard : Notification → Step
 unheard (reported.Opened uri language text) = Silent
-unheard (reported.Changed uri text) = Silent
+unheard (reported.Changed uri changes) = Silent
 unheard (reported.Closed uri) = Silent
 unheard reported.Exit = Exit
 unheard reported.Other = Silent

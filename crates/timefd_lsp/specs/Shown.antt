@@ -1,10 +1,10 @@
 -- What an editor shows, as values of JSON. An object has its members in the order of their names.
 use Rattle.std.specs.Prelude.{ℕ, Bool, true, false, List, codes, map, string_bytes}
-use Rattle.serde_json.specs.Data.{Data, boolean, number, unsigned, string, array, object, member, no_members}
+use Rattle.serde_json.specs.Data.{Data, boolean, number, unsigned, string, array, object, item, no_items, member, no_members}
 use Rattle.serde_json.specs.View.{items_of}
 use Rattle.timefd_editor.specs.declared.action.Action.{Action}
 use Rattle.timefd_editor.specs.declared.action.ActionKind.{ActionKind}
-use Rattle.timefd_editor.specs.declared.action.ActionKind.TheVariants.{QuickFix, Guess, Rewrite}
+use Rattle.timefd_editor.specs.declared.action.ActionKind.TheVariants.{QuickFix, Guess, Rewrite, FixAll}
 use Rattle.timefd_editor.specs.declared.action.Edit.{Edit}
 use Rattle.timefd_editor.specs.declared.finding.Finding.{Finding}
 use Rattle.timefd_editor.specs.declared.finding.Severity.{Severity}
@@ -36,6 +36,21 @@ finding_data finding = object (member (codes "code") (string finding.code.now)
 abbrev pub findings_data : List Finding → Data
 findings_data findings = array (items_of (map finding_data findings))
 
+-- the start of a document
+abbrev pub first : Position
+first = record { line = 0; character = 0 }
+
+-- A warning at the start of a document says that it isn't checked any more.
+abbrev pub loss : Data
+loss = object (member (codes "message")
+    (string (codes "a change of this document can't be made, so it isn't checked any more: close it and open it again"))
+    (member (codes "range") (range_data (record { start = first; end = first }))
+    (member (codes "severity") (number (unsigned (severity_number Warning)))
+    (member (codes "source") (string (codes "timefd_lint")) no_members))))
+
+abbrev pub loss_data : Data
+loss_data = array (item loss no_items)
+
 -- a text of Markdown
 abbrev pub markdown : List ℕ → Data
 markdown text = object (member (codes "kind") (string (codes "markdown"))
@@ -60,12 +75,14 @@ abbrev pub kind_name : ActionKind → List ℕ
 kind_name QuickFix = codes "quickfix"
 kind_name Guess = codes "quickfix"
 kind_name Rewrite = codes "refactor.rewrite"
+kind_name FixAll = codes "source.fixAll.timefd"
 
 -- An editor may apply a sure fix without asking.
 abbrev pub is_preferred : ActionKind → Bool
 is_preferred QuickFix = true
 is_preferred Guess = false
 is_preferred Rewrite = false
+is_preferred FixAll = false
 
 abbrev pub changes_data : Data → Data
 changes_data edits = object (member (codes "changes") edits no_members)

@@ -3,7 +3,7 @@ use Rattle.std.specs.Prelude.{ℕ, List, codes, Option, Some, None, string_bytes
 use Rattle.serde_json.specs.Data.{Data, null, boolean, number, unsigned, string, array, object, item, no_items, member, no_members}
 use Rattle.serde_json.specs.Find.{of_integer}
 use Rattle.timefd_lsp.specs.Replies.{code_of, sentence_of}
-use Rattle.timefd_lsp.specs.Shown.{actions_data, findings_data, hover_data}
+use Rattle.timefd_lsp.specs.Shown.{actions_data, findings_data, hover_data, loss_data}
 use Rattle.timefd_lsp.specs.declared.envelope.Id.{Id}
 use Rattle.timefd_lsp.specs.declared.envelope.Id.TheVariants as ids
 use Rattle.timefd_lsp.specs.declared.reply.Answer.{Answer}
@@ -43,14 +43,15 @@ published uri findings = object (member (codes "jsonrpc") (string (codes "2.0"))
 -- the kinds of actions that an editor may ask for
 abbrev pub action_kinds : Data
 action_kinds = object (member (codes "codeActionKinds")
-    (array (item (string (codes "quickfix")) (item (string (codes "refactor.rewrite")) no_items))) no_members)
+    (array (item (string (codes "quickfix")) (item (string (codes "refactor.rewrite"))
+    (item (string (codes "source.fixAll.timefd")) no_items)))) no_members)
 
--- The server needs whole documents (1), and counts characters in UTF-16.
+-- The server takes changes of ranges (2), and counts characters in UTF-16.
 abbrev pub provided : Data
 provided = object (member (codes "codeActionProvider") action_kinds
     (member (codes "hoverProvider") (boolean true)
     (member (codes "positionEncoding") (string (codes "utf-16"))
-    (member (codes "textDocumentSync") (number (unsigned 1)) no_members))))
+    (member (codes "textDocumentSync") (number (unsigned 2)) no_members))))
 
 abbrev pub server : Data
 server = object (member (codes "name") (string (codes "timefd_lint"))
@@ -70,3 +71,4 @@ response id (answers.Actions uri actions) = answered id (actions_data (string_by
 abbrev pub reply_data : Reply → Data
 reply_data (replies.Response id answer) = response (id_data id) answer
 reply_data (replies.Findings uri findings) = published (string_bytes uri) (findings_data findings.items)
+reply_data (replies.Lost uri) = published (string_bytes uri) loss_data

@@ -10,7 +10,7 @@ use crate::message::Request;
 use crate::reply::{Answer, Refusal};
 use crate::server::{Phase, Server, Settings, source_of};
 use std::alloc::{AllocError, Global};
-use timefd_editor::{Position, Range, actions, hover, index_of};
+use timefd_editor::{Position, Range, Wanted, actions, hover, index_of};
 
 /// The answer to a request.
 pub fn answer_to(
@@ -68,8 +68,8 @@ fn running_answer(
         Request::Hover { uri, position } => {
             hover_at(alloc, settings, &server.documents, &uri, position)
         }
-        Request::Actions { uri, range } => {
-            actions_in(alloc, settings, &server.documents, uri, range)
+        Request::Actions { uri, range, wanted } => {
+            actions_in(alloc, settings, &server.documents, uri, range, wanted)
         }
         Request::Shutdown => {
             server.phase = Phase::ShutDown;
@@ -102,17 +102,18 @@ fn hover_at(
     }
 }
 
-// The answer to a request for actions in a range of a document.
+// The answer to a request for actions in a range of a document, as far as they are wanted.
 fn actions_in(
     alloc: Global,
     settings: Settings<'_>,
     documents: &Documents,
     uri: String,
     range: Range,
+    wanted: Wanted,
 ) -> Result<Answer, AllocError>
     ensures refusal { IfOk result (λ answer. refusal_of answer ≡ None) }
     ensures answer { IfOk result (spec.IsActionsAnswer settings.entry
-        (get_by_text documents.now (string_bytes uri)) uri range) }
+        (get_by_text documents.now (string_bytes uri)) uri range wanted) }
 {
     let Some(document) = documents.get(uri.as_str()) else {
         return Ok(Answer::Nothing);
@@ -121,6 +122,6 @@ fn actions_in(
     let source = source_of(settings, &uri, document.kind, text);
     let start = index_of(text, range.start);
     let end = index_of(text, range.end);
-    let actions = actions(alloc, source, start, end)?;
+    let actions = actions(alloc, source, wanted, start, end)?;
     Ok(Answer::Actions { uri, actions })
 }

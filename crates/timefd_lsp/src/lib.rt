@@ -3,6 +3,7 @@
 #![tactic(auto)]
 
 mod answering;
+mod changes;
 mod content;
 mod documents;
 mod envelope;
@@ -17,7 +18,9 @@ mod server;
 mod session;
 mod shown;
 mod text;
+mod wanted;
 
+pub use changes::{Change, after_all, changes_in};
 pub use documents::{Document, Documents, Kind, change, close, kind_of, open};
 pub use envelope::{Envelope, Id, envelope_of, text_at};
 pub use frame::{Frame, MOST_CONTENT, WriteError, read_frame, write_frame};

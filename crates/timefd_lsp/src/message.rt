@@ -4,20 +4,29 @@ ghost use Rattle.std.specs.Prelude.{◌≡◌, IfOk};
 ghost use Rattle.serde_json.specs.View.{view};
 ghost use Rattle.timefd_lsp.specs.Messages as spec;
 
+use crate::changes::{Change, changes_in};
 use crate::envelope::{Envelope, Id, envelope_of};
-use crate::params::{last_text, position_in, range_of, text_by, uri_of};
+use crate::params::{position_in, range_of, text_by, uri_of};
+use crate::wanted::wanted_in;
 use serde_json::Value;
 use std::alloc::{AllocError, Global};
-use timefd_editor::{Position, Range};
+use timefd_editor::{Position, Range, Wanted};
 
 /// What a request asks for.
 #[derive(Drop)]
 pub enum Request {
     Initialize,
     /// What does the part of a document at this position mean?
-    Hover { uri: String, position: Position },
-    /// What can be done to this range of a document?
-    Actions { uri: String, range: Range },
+    Hover {
+        uri: String,
+        position: Position,
+    },
+    /// What can be done to this range of a document, or to all of it, of what is wanted?
+    Actions {
+        uri: String,
+        range: Range,
+        wanted: Wanted,
+    },
     Shutdown,
     /// Something that this server doesn't do.
     Unknown,
@@ -33,10 +42,10 @@ pub enum Notification {
         language: String,
         text: String,
     },
-    /// The whole text of a document is replaced.
+    /// A document is changed, by one change after another.
     Changed {
         uri: String,
-        text: String,
+        changes: Vec<Change>,
     },
     Closed {
         uri: String,
@@ -82,9 +91,11 @@ fn actions_of(alloc: Global, value: &Value) -> Result<Request, AllocError>
     let Some(range) = range_of(value) else {
         return Ok(Request::WrongParams);
     };
+    let wanted = wanted_in(value);
     Ok(Request::Actions {
         uri: String::from_str(alloc, uri)?,
         range,
+        wanted,
     })
 }
 
@@ -127,12 +138,10 @@ fn changed_of(alloc: Global, value: &Value) -> Result<Notification, AllocError>
     let Some(uri) = uri_of(value) else {
         return Ok(Notification::Other);
     };
-    let Some(text) = last_text(value) else {
-        return Ok(Notification::Other);
-    };
+    let changes = changes_in(alloc, value)?;
     Ok(Notification::Changed {
         uri: String::from_str(alloc, uri)?,
-        text: String::from_str(alloc, text)?,
+        changes,
     })
 }
 

@@ -4,7 +4,6 @@ ghost use Rattle.std.specs.Prelude.{◌≡◌, option_map};
 ghost use Rattle.serde_json.specs.View.{items_view, view};
 ghost use Rattle.timefd_lsp.specs.Params as spec;
 
-use crate::envelope::text_at;
 use serde_json::Value;
 use timefd_editor::{Position, Range};
 
@@ -72,6 +71,15 @@ pub fn range_of(value: &Value) -> Option<Range>
     range_from(start, end)
 }
 
+/// The range that a change of a document replaces.
+pub fn range_in(change: &Value) -> Option<Range>
+    ensures { result ≡ spec.range_in (view change.now) }
+{
+    let start = position_by(change, "/range/start/line", "/range/start/character");
+    let end = position_by(change, "/range/end/line", "/range/end/character");
+    range_from(start, end)
+}
+
 /// The position in a request's parameters.
 pub fn position_in(value: &Value) -> Option<Position>
     ensures { result ≡ spec.position_in (view value.now) }
@@ -86,40 +94,12 @@ pub fn uri_of(value: &Value) -> Option<&str>
     text_by(value, "/params/textDocument/uri")
 }
 
-// The last of some changes.
-#[tactic(auto, using(crate::proofs::ParamLemmas::last_seen))]
-fn last_of(changes: &[Value]) -> Option<&Value>
-    ensures { option_map (λ change. view change.now) result ≡ spec.last_item (items_view changes.now) }
-{
-    changes.last()
-}
-
-// The changes of a document.
-fn changes_of(value: &Value) -> Option<&Vec<Value>>
+/// The list of a document's changes.
+pub fn changes_of(value: &Value) -> Option<&Vec<Value>>
     ensures { option_map (λ changes. items_view changes.now.items) result ≡ spec.changes_of (view value.now) }
 {
     match value.pointer("/params/contentChanges") {
         Some(changes) => changes.as_array(),
-        None => None,
-    }
-}
-
-// The last change of a document.
-fn last_change(value: &Value) -> Option<&Value>
-    ensures { option_map (λ change. view change.now) result ≡ spec.last_change (view value.now) }
-{
-    match changes_of(value) {
-        Some(changes) => last_of(changes),
-        None => None,
-    }
-}
-
-/// The text of a document after the last of its changes.
-pub fn last_text(value: &Value) -> Option<&str>
-    ensures { option_map (λ text. text.now) result ≡ spec.last_text (view value.now) }
-{
-    match last_change(value) {
-        Some(change) => text_at(change, "text"),
         None => None,
     }
 }

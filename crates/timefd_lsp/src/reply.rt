@@ -42,6 +42,8 @@ pub enum Reply {
     Response { id: Option<Id>, answer: Answer },
     /// All that is wrong in a document.
     Findings { uri: String, findings: Vec<Finding> },
+    /// The document isn't checked any more, as its text isn't known after a change.
+    Lost { uri: String },
 }
 
 /// The number of a refusal in JSON-RPC or in the protocol.

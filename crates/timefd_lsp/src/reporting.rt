@@ -4,6 +4,7 @@ ghost use Rattle.std.specs.Prelude.{◌≡◌, IfOk, OnOk, None, string_bytes};
 ghost use Rattle.timefd_lsp.specs.Documents as opening;
 ghost use Rattle.timefd_lsp.specs.Servers as spec;
 
+use crate::changes::{Change, after_all};
 use crate::documents::{Document, Documents, Kind, change, close, kind_of, open};
 use crate::message::Notification;
 use crate::reply::Reply;
@@ -58,8 +59,8 @@ fn heard(
             language,
             text,
         } => opened(alloc, settings, &mut server.documents, uri, &language, text),
-        Notification::Changed { uri, text } => {
-            changed(alloc, settings, &mut server.documents, uri, text)
+        Notification::Changed { uri, changes } => {
+            changed(alloc, settings, &mut server.documents, uri, &changes)
         }
         Notification::Closed { uri } => Ok(closed(alloc, &mut server.documents, uri)),
         Notification::Exit => Ok(Step::Exit),
@@ -108,24 +109,56 @@ fn opened(
     Ok(said(uri, findings))
 }
 
-// Replaces the text of an open document, and reports what is wrong in it.
-#[tactic(auto, using(crate::proofs::WithTextLemmas::not_open))]
+// Makes changes of an open document, and reports what is wrong in it. A document with a change that can't be
+// made is closed.
+#[tactic(auto, using(crate::proofs::ChangedLemmas::not_open, crate::proofs::ChangedLemmas::are_not_open, crate::proofs::ChangedLemmas::made, crate::proofs::ChangedLemmas::are_made, crate::proofs::ChangedLemmas::failed, crate::proofs::ChangedLemmas::are_failed))]
 fn changed(
     alloc: Global,
     settings: Settings<'_>,
     documents: &mut Documents,
     uri: String,
-    text: String,
+    changes: &[Change],
 ) -> Result<Step, AllocError>
-    ensures step { IfOk result (spec.IsChangedOf settings.entry (string_bytes uri) (string_bytes text) documents.old) }
-    ensures documents { OnOk result (opening.AreWithText (string_bytes uri) text documents.old documents.new) }
+    ensures step { IfOk result (spec.IsChangedOf settings.entry (string_bytes uri) changes.now documents.old) }
+    ensures documents { OnOk result (opening.AreChanged (string_bytes uri) changes.now documents.old documents.new) }
 {
     let Some(document) = documents.get(uri.as_str()) else {
         return Ok(Step::Silent);
     };
-    let findings = findings_in(alloc, settings, &uri, document.kind, &text)?;
-    change(documents, &uri, text);
+    let kind = document.kind;
+    match after_all(alloc, document.text.as_str(), changes)? {
+        Some(text) => {
+            let step = with_text(alloc, settings, documents, uri, kind, text)?;
+            Ok(step)
+        }
+        None => Ok(lost(documents, uri)),
+    }
+}
+
+// Replaces the text of an open document, and reports what is wrong in it.
+fn with_text(
+    alloc: Global,
+    settings: Settings<'_>,
+    documents: &mut Documents,
+    uri: String,
+    kind: Kind,
+    new: String,
+) -> Result<Step, AllocError>
+    ensures step { IfOk result (spec.IsSaidOf settings.entry kind (string_bytes new) (string_bytes uri)) }
+    ensures documents { OnOk result (opening.AreWithText (string_bytes uri) new documents.old documents.new) }
+{
+    let findings = findings_in(alloc, settings, &uri, kind, &new)?;
+    change(documents, &uri, new);
     Ok(said(uri, findings))
+}
+
+// Closes a document whose text isn't known any more, and says so.
+fn lost(documents: &mut Documents, uri: String) -> Step
+    ensures step { result ≡ spec.lost uri }
+    ensures documents { opening.AreWith (string_bytes uri) None documents.old documents.new }
+{
+    close(documents, &uri);
+    Step::Say(Reply::Lost { uri })
 }
 
 // Closes a document, and withdraws what was reported about it.

@@ -61,6 +61,37 @@ pub fn findings_value(alloc: Global, findings: &[Finding]) -> Result<Value, Allo
     Ok(Value::Array(values))
 }
 
+fn loss(alloc: Global) -> Result<Value, AllocError>
+    ensures { IfOk result (λ value. view value ≡ spec.loss) }
+{
+    let first = Position {
+        line: 0,
+        character: 0,
+    };
+    let range = range_value(
+        alloc,
+        Range {
+            start: first,
+            end: first,
+        },
+    )?;
+    let severity = severity_number(Severity::Warning);
+    json!(in alloc; {
+        "message": "a change of this document can't be made, so it isn't checked any more: close it and open it again",
+        "range": range,
+        "severity": severity,
+        "source": "timefd_lint"
+    })
+}
+
+/// That a document isn't checked any more, at its start.
+pub fn loss_value(alloc: Global) -> Result<Value, AllocError>
+    ensures { IfOk result (λ value. view value ≡ spec.loss_data) }
+{
+    let loss = loss(alloc)?;
+    json!(in alloc; [loss])
+}
+
 // A text of Markdown.
 fn markdown(alloc: Global, text: &str) -> Result<Value, AllocError>
     ensures { IfOk result (λ value. view value ≡ spec.markdown text.now) }
@@ -112,6 +143,7 @@ fn kind_name(kind: ActionKind) -> &'static str
     match kind {
         ActionKind::QuickFix | ActionKind::Guess => "quickfix",
         ActionKind::Rewrite => "refactor.rewrite",
+        ActionKind::FixAll => "source.fixAll.timefd",
     }
 }
 
@@ -121,7 +153,7 @@ fn is_preferred(kind: ActionKind) -> bool
 {
     match kind {
         ActionKind::QuickFix => true,
-        ActionKind::Guess | ActionKind::Rewrite => false,
+        ActionKind::Guess | ActionKind::Rewrite | ActionKind::FixAll => false,
     }
 }
 

@@ -7,7 +7,7 @@ ghost use Rattle.timefd_lsp.specs.Texts as spec;
 
 use crate::envelope::Id;
 use crate::reply::{Answer, Refusal, Reply, code_of, sentence_of};
-use crate::shown::{actions_value, findings_value, hover_value};
+use crate::shown::{actions_value, findings_value, hover_value, loss_value};
 use serde_json::{Value, json};
 use std::alloc::{AllocError, Global};
 
@@ -26,6 +26,10 @@ fn value_of(alloc: Global, reply: &Reply) -> Result<Value, AllocError>
         Reply::Response { id, answer } => response(alloc, id, answer),
         Reply::Findings { uri, findings } => {
             let findings = findings_value(alloc, findings)?;
+            published(alloc, uri, findings)
+        }
+        Reply::Lost { uri } => {
+            let findings = loss_value(alloc)?;
             published(alloc, uri, findings)
         }
     }
@@ -110,10 +114,10 @@ fn published(alloc: Global, uri: &str, findings: Value) -> Result<Value, AllocEr
 fn action_kinds(alloc: Global) -> Result<Value, AllocError>
     ensures { IfOk result (λ value. view value ≡ spec.action_kinds) }
 {
-    json!(in alloc; {"codeActionKinds": ["quickfix", "refactor.rewrite"]})
+    json!(in alloc; {"codeActionKinds": ["quickfix", "refactor.rewrite", "source.fixAll.timefd"]})
 }
 
-// What the server provides. It needs whole documents, and counts characters in UTF-16.
+// What the server provides. It takes changes of ranges, and counts characters in UTF-16.
 fn provided(alloc: Global) -> Result<Value, AllocError>
     ensures { IfOk result (λ value. view value ≡ spec.provided) }
 {
@@ -122,7 +126,7 @@ fn provided(alloc: Global) -> Result<Value, AllocError>
         "codeActionProvider": kinds,
         "hoverProvider": true,
         "positionEncoding": "utf-16",
-        "textDocumentSync": 1u64
+        "textDocumentSync": 2u64
     })
 }
 

@@ -5,7 +5,7 @@ use crate::fields::{one, three, two};
 use crate::sources::text_of;
 use std::alloc::{AllocError, Global};
 use timefd_editor::{
-    Action, Finding, Position, Range, actions, findings, hover, index_of, position_of,
+    Action, Finding, Position, Range, Wanted, actions, findings, hover, index_of, position_of,
 };
 use timefd_lint_sources::{Finder, Source};
 use timefd_lsp::{Settings, serve};
@@ -90,8 +90,13 @@ fn push_action(alloc: Global, shown: &mut String, action: &Action) -> Result<(),
 /// The actions that are offered from one byte of a source of Rust to another, one per line.
 pub fn all_actions(alloc: Global, fields: &[&str]) -> Result<String, RowFault> {
     let (text, start, end) = three(fields, "SOURCE START END")?;
+    let wanted = Wanted {
+        fixes: true,
+        rewrites: true,
+        fix_all: false,
+    };
     let mut shown = String::new(alloc);
-    for action in &actions(alloc, rust(text), number(start)?, number(end)?)? {
+    for action in &actions(alloc, rust(text), wanted, number(start)?, number(end)?)? {
         push_action(alloc, &mut shown, action)?;
     }
     Ok(shown)

@@ -8,6 +8,6 @@ use Rattle.timefd_editor.proofs.all_actions.push_all.Given as goal
 abbrev pub invariant-loop-description : goal.invariant-loop-description
 invariant-loop-description l = record {
   counted : IsCounted l.text l.counter;
-  reported : IsReported (AreActionsIn l.text l.start l.end) l.descriptions (drop l.description-index l.descriptions)
-      l.fn.actions.items l.actions.items;
+  reported : IsReported (AreActionsIn l.wanted l.text l.bytes.0 l.bytes.1) l.descriptions
+      (drop l.description-index l.descriptions) l.fn.actions.items l.actions.items;
 }

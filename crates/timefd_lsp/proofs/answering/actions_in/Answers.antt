@@ -11,7 +11,7 @@ returns-clause-answer c =
     search rules in
     let whole = c.source_of-source.ensures.text ∙ c.as_str-text.ensures.value in
     actions_of c.args.settings (get_by_text c.args.documents.now (string_bytes c.args.uri)) c.in-Some.document.now
-    c.args.uri c.args.range c.source_of-source.result c.in_ok-actions.actions c.index_of-start.result
+    c.args.uri c.args.range c.args.wanted c.source_of-source.result c.in_ok-actions.actions c.index_of-start.result
     c.index_of-end.result is c.source_of-source.ensures.finder whole
     (c.index_of-start.ensures.index ∙ ap (λ t. index_of t c.args.range.start) (sym c.source_of-source.ensures.text))
     (c.index_of-end.ensures.index ∙ ap (λ t. index_of t c.args.range.end) (sym c.source_of-source.ensures.text))

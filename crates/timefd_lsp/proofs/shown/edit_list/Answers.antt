@@ -1,4 +1,4 @@
-use Rattle.std.proofs.Common.{◌∙◌, rules, arith, true}
+use Rattle.std.proofs.Common.{◌∙◌, rules, arith}
 use Rattle.serde_json.proofs.Views.{view-Array}
 use Rattle.timefd_lsp.specs.Shown as spec
 use Rattle.timefd_lsp.proofs.ShownLemmas.{at_last, one_more}
