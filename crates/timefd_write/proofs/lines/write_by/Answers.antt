@@ -23,10 +23,10 @@ returns-in-Failed-clause-runs g c =
 
 pub lines-preserved : goal.lines-preserved
 lines-preserved g c = elim c.match-branch-4.branch [
-  in-Lines w ↦
+  | in-Lines w ↦
       subst (λ t. CompletesLines c.args.otherwise c.args.source.now c.args.description.now
-          (g.R.Read.remaining c.args.reader.now) (g.R.Read.remaining c.write_next.new.reader)
-          (g.W.Write.contents c.args.output.now) (g.W.Write.contents c.write_next.new.output) t)
+      (g.R.Read.remaining c.args.reader.now) (g.R.Read.remaining c.write_next.new.reader)
+      (g.W.Write.contents c.args.output.now) (g.W.Write.contents c.write_next.new.output) t)
       (sym w.tally-is)
       (batch_more c.args.otherwise c.args.source.now c.args.description.now (g.R.Read.remaining c.args.reader.now)
       (g.R.Read.remaining c.lines.reader) (g.R.Read.remaining c.write_next.new.reader)
@@ -40,7 +40,7 @@ lines-preserved g c = elim c.match-branch-4.branch [
       (g.W.Write.contents c.write_next.new.output) c.lines.tally w.in-Line.one c.match-branch-4.tally
       c.in_ok-count.field-0 w.in-Line.is c.lines.invariant c.in_ok-count.ensures.next
       (w.tally-is ∙ w.and-tally.ensures)
-  ]
+]
 
 pub returns-clause-runs : goal.returns-clause-runs
 returns-clause-runs g c =
