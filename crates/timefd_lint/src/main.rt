@@ -20,6 +20,7 @@ mod log;
 mod mark;
 mod no_code;
 mod options;
+mod other_rules;
 mod output;
 mod page;
 mod progress;

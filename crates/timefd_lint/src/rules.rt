@@ -8,6 +8,7 @@ ghost use Rattle.timefd_lint.specs.Rules.{AreRules, IsErrorRule, IsFaultRule, Is
 
 use crate::error_code::ErrorCode;
 use crate::error_page::{explanation, summary};
+use crate::other_rules::push_other_rules;
 use std::alloc::AllocError;
 use timefd_diagnosis::Code;
 use timefd_drawing::json::push_quoted;
@@ -15,24 +16,25 @@ use timefd_warnings::Warning;
 
 /// What a log says of a code.
 #[derive(Clone, Copy)]
-struct Rule<'a> {
-    name: &'a str,
+pub struct Rule<'a> {
+    pub name: &'a str,
     /// How bad a result with this code is: `error` or `warning`.
-    level: &'a str,
+    pub level: &'a str,
     /// What the code is, in a few words.
-    summary: &'a str,
+    pub summary: &'a str,
     /// What the code means, with an example, and what to write instead.
-    explanation: &'a str,
+    pub explanation: &'a str,
 }
 
-/// Appends all rules: those of faults, of other errors, and of warnings. A comma precedes each. An `Err` says
-/// that memory ran out.
+/// Appends all rules: those of faults, of other errors, of warnings, and of formats of other languages. A comma precedes
+/// each. An `Err` says that memory ran out.
 pub fn push_rules(out: &mut Vec<u8>) -> Result<(), AllocError>
     ensures { OnOk result (Adds AreRules out.old.items out.new.items) }
 {
     push_faults(out, Code::all())?;
     push_errors(out, ErrorCode::others())?;
-    push_warnings(out, Warning::all())
+    push_warnings(out, Warning::all())?;
+    push_other_rules(out)
 }
 
 #[tactic(auto, using(timefd_editor::proofs::EachLemmas::at_first, timefd_editor::proofs::EachLemmas::at_last))]
@@ -96,8 +98,8 @@ fn push_warning(out: &mut Vec<u8>, warning: Warning) -> Result<(), AllocError>
     push_rule(out, rule)
 }
 
-// Appends a comma and a rule.
-fn push_rule(out: &mut Vec<u8>, rule: Rule<'_>) -> Result<(), AllocError>
+/// Appends a comma and a rule. An `Err` says that memory ran out.
+pub fn push_rule(out: &mut Vec<u8>, rule: Rule<'_>) -> Result<(), AllocError>
     ensures { OnOk result (out.new.items ≡ out.old.items ++ spec.rule rule.entry.name.now
         rule.entry.level.now rule.entry.summary.now rule.entry.explanation.now) }
 {
