@@ -151,10 +151,10 @@ fn other_conflict(settings: Settings<'_>) -> Option<Conflict>
     if settings.fixes {
         return Some(Conflict::FixesOther);
     }
-    if target(settings).is_some() {
-        return Some(Conflict::NoConversion);
+    match target(settings) {
+        Some(_) => Some(Conflict::NoConversion),
+        None => None,
     }
-    None
 }
 
 fn conversion_conflict(language: Language, version: DescriptionVersion) -> Option<Conflict>
