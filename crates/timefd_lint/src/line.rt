@@ -142,7 +142,15 @@ fn own_judged<W: Write>(
         None => accepted(alloc, language, reporting, origin, text, writer),
         Some(diagnostic) => {
             let further = further_faults(alloc, language, text, &diagnostic, MOST_FURTHER)?;
-            refused(alloc, reporting.style, origin, text, &diagnostic, &further, writer)
+            refused(
+                alloc,
+                reporting.style,
+                origin,
+                text,
+                &diagnostic,
+                &further,
+                writer,
+            )
         }
     }
 }

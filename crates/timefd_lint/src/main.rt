@@ -26,6 +26,7 @@ mod page;
 mod progress;
 mod rewrite_report;
 mod rewriting;
+mod rule;
 mod rules;
 mod run;
 mod running;

@@ -5,7 +5,7 @@ ghost use Rattle.timefd_editor.specs.Each.{Adds, AreOf};
 ghost use Rattle.timefd_lint.specs.Rules as spec;
 ghost use Rattle.timefd_lint.specs.Rules.{AreOtherRules, IsReasonRule, IsTrapRule};
 
-use crate::rules::{Rule, push_rule};
+use crate::rule::{Rule, push_rule};
 use std::alloc::AllocError;
 use timefd_dialect::{Reason, Trap};
 use timefd_lint_dialects::all_reasons;

@@ -11,7 +11,7 @@ use timefd_drawing::github::{Command, annotation};
 use timefd_drawing::json::{Entry, push_number, push_text};
 use timefd_drawing::sarif::{note_result, with_help};
 use timefd_drawing::shown::safe;
-use timefd_drawing::{Format, Origin, Style, char_position_from, none_counted, position_of};
+use timefd_drawing::{Format, Origin, Position, Style, char_position_from, none_counted, position_of};
 use timefd_warnings::Level;
 
 /// What is found in a part of a text.
@@ -95,15 +95,30 @@ fn json(
         finding.entry.code.now finding.entry.message.now finding.entry.help.now finding.span) }
 {
     let position = position_of(alloc, origin.line, text, finding.span.start)?;
+    let severity = severity(finding.level);
+    object(alloc, origin.file, position, severity, finding)
+}
+
+fn object(
+    alloc: Global,
+    file: &str,
+    position: Position,
+    severity: &str,
+    finding: Finding<'_>,
+) -> Result<Vec<u8>, AllocError>
+    ensures { IfOk result (λ made. made.items ≡ spec.object finding.entry.code.now position.column
+        finding.span.end file.now finding.entry.help.now position.line finding.entry.message.now
+        severity.now finding.span.start) }
+{
     let mut out = Vec::new(alloc);
     push_text(&mut out, "{\"code\":", finding.code)?;
     push_number(alloc, &mut out, ",\"column\":", position.column as u64)?;
     push_number(alloc, &mut out, ",\"end\":", finding.span.end as u64)?;
-    push_text(&mut out, ",\"file\":", origin.file)?;
+    push_text(&mut out, ",\"file\":", file)?;
     push_text(&mut out, ",\"help\":", finding.help)?;
     push_number(alloc, &mut out, ",\"line\":", position.line)?;
     push_text(&mut out, ",\"message\":", finding.message)?;
-    push_text(&mut out, ",\"severity\":", severity(finding.level))?;
+    push_text(&mut out, ",\"severity\":", severity)?;
     push_number(alloc, &mut out, ",\"start\":", finding.span.start as u64)?;
     out.extend_from_slice(b"}\n")?;
     Ok(out)

@@ -30,6 +30,7 @@ pub struct Judged {
 
 /// Reads a format, and reports the part for which version 3 has no text, or else its traps, if `reports_traps`. An `Err`
 /// says that memory ran out.
+#[tactic(auto, using(crate::proofs::JudgingLemmas::with_meaning, crate::proofs::JudgingLemmas::is_refused))]
 pub fn judge(
     alloc: Global,
     style: Style,
@@ -42,7 +43,7 @@ pub fn judge(
         judged.judgement judged.message.items) }
 {
     match to_version_three(alloc, dialect, text) {
-        Ok(_) => converted(alloc, style, origin, reports_traps, dialect, text),
+        Ok(_converted) => converted(alloc, style, origin, reports_traps, dialect, text),
         Err(DialectError::Refused(refusal)) => {
             let message = refusal_drawn(alloc, style, origin, text, refusal)?;
             Ok(Judged {
@@ -55,6 +56,7 @@ pub fn judge(
 }
 
 // The judgement on a format that means something.
+#[tactic(auto, using(crate::proofs::JudgingLemmas::are_not_asked_for, crate::proofs::JudgingLemmas::are_drawn))]
 fn converted(
     alloc: Global,
     style: Style,
