@@ -16,7 +16,7 @@ use Rattle.timefd_rewrite_sources.specs.declared.change.Change.{Change}
 use Rattle.timefd_rewrite_sources.specs.declared.change.Change.TheVariants as changes
 use Rattle.timefd_lint_options.specs.declared.settings.Settings.{Settings}
 use Rattle.timefd_lint_options.specs.Settings.{target}
-use Rattle.timefd_lint_options.specs.Values.{own}
+use Rattle.timefd_lint_options.specs.Values.{language_of}
 use Rattle.timefd_lint.specs.declared.found.Unit.{Unit}
 use Rattle.timefd_lint.specs.declared.found.Unit.TheVariants.{Line, Description}
 use Rattle.timefd_lint.specs.declared.rewriting.Rewriting.{Rewriting}
@@ -42,7 +42,7 @@ layout_of is_normal None version = None
 
 -- How lines are laid out in a version; not at all if no conversion leads there.
 abbrev pub layout_in : Settings → DescriptionVersion → Option Layout
-layout_in s version = layout_of s.is_normal (own s.language) version
+layout_in s version = layout_of s.is_normal (language_of s.language) version
 
 -- How lines are mended; not at all if their language isn't one of `time`.
 abbrev pub mended : Option Language → Fixes → Option Layout
@@ -54,7 +54,7 @@ change_to s version = if s.is_normal then changes.Normal else changes.Least vers
 
 abbrev pub mending : Settings → Rewriting
 mending s = record {
-  lines = mended (own s.language) (fixes_of s);
+  lines = mended (language_of s.language) (fixes_of s);
   sources = changes.Mended (fixes_of s);
   writes = s.writes;
   is_partial = s.is_partial;

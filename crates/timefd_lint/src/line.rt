@@ -20,7 +20,7 @@ use timefd_diagnosis::{Diagnostic, MOST_FURTHER, diagnose, further_faults};
 use timefd_dialect::Dialect;
 use timefd_drawing::{Origin, Style, drawn_all, note};
 use timefd_explain::explained;
-use timefd_lint_dialects::{Judgement, judge};
+use timefd_lint_dialects::{Judged, Judgement, judge};
 use timefd_lint_options::Wording;
 use timefd_lint_sources::Reporting;
 use timefd_lint_warnings::{found_in, messages};
@@ -103,6 +103,7 @@ pub fn lint_text<W: Write>(
 }
 
 // Checks a text that is UTF-8.
+#[tactic(auto, using(crate::proofs::OtherLemmas::end_as, crate::proofs::OtherLemmas::said_as))]
 fn judged<W: Write>(
     alloc: Global,
     options: Options<'_>,
@@ -170,9 +171,16 @@ fn other_judged<W: Write>(
         text.now end (W.contents writer.old) (W.contents writer.new)) }
 {
     let reports_traps = reporting.levels.is_some();
-    let judged = judge(alloc, reporting.style, origin, reports_traps, dialect, text)?;
-    write(writer, &judged.message)?;
-    Ok(end_of(judged.judgement))
+    let Judged { judgement, message } = judge(
+        alloc,
+        reporting.style,
+        origin,
+        reports_traps,
+        dialect,
+        text,
+    )?;
+    write(writer, &message)?;
+    Ok(end_of(judgement))
 }
 
 // How the check of a format of another language ends.

@@ -52,7 +52,7 @@ fn fixes_of(settings: Settings<'_>) -> Fixes
 fn layout_in(settings: Settings<'_>, version: DescriptionVersion) -> Option<Layout>
     ensures { result ≡ spec.layout_in settings.entry version }
 {
-    match settings.language.own() {
+    match settings.language.language() {
         Some(language) => own_layout(settings.is_normal, language, version),
         None => None,
     }
@@ -95,7 +95,7 @@ fn mending(settings: Settings<'_>) -> Rewriting
 {
     let fixes = fixes_of(settings);
     Rewriting {
-        lines: mended(settings.language.own(), fixes),
+        lines: mended(settings.language.language(), fixes),
         sources: Change::Mended(fixes),
         writes: settings.writes,
         is_partial: settings.is_partial,

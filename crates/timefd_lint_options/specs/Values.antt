@@ -23,9 +23,9 @@ language_named word =
     else None
 
 -- the language, if it is one of `time`
-abbrev pub own : Wording → Option Language
-own (Own language) = Some language
-own (Other dialect) = None
+abbrev pub language_of : Wording → Option Language
+language_of (Own language) = Some language
+language_of (Other dialect) = None
 
 abbrev pub dialect_by : Option Dialect → Option Wording
 dialect_by (Some dialect) = Some (Other dialect)

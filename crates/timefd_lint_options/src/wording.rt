@@ -18,8 +18,8 @@ pub enum Wording {
 
 impl Wording {
     /// The language, if it is one of `time`.
-    pub fn own(self) -> Option<Language>
-        ensures { result ≡ spec.own self }
+    pub fn language(self) -> Option<Language>
+        ensures { result ≡ spec.language_of self }
     {
         match self {
             Wording::Own(language) => Some(language),
