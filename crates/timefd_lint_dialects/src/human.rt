@@ -4,7 +4,7 @@ ghost use Rattle.std.specs.Prelude.{◌≡◌, IfOk, string_bytes};
 ghost use Rattle.timefd_lint_dialects.specs.Drawn as spec;
 
 use crate::cut::cut_line;
-use crate::drawn::Finding;
+use crate::finding::Finding;
 use crate::lines::{help_line, margin, position_line, source};
 use std::alloc::{AllocError, Global};
 use timefd_drawing::{Origin, position_of};

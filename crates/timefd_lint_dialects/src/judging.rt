@@ -4,7 +4,7 @@ ghost use Rattle.std.specs.Prelude.{◌≡◌, ◌++◌, IfOk, List, OnOk, flat_
 ghost use Rattle.timefd_dialect.specs.Reading.{Means, Piece};
 ghost use Rattle.timefd_lint_dialects.specs.Judging as spec;
 
-use crate::drawn::{Finding, drawn};
+use crate::finding::{Finding, drawn};
 use std::alloc::{AllocError, Global};
 use timefd_diagnosis::Span;
 use timefd_dialect::{Dialect, DialectError, Found, Refusal, to_version_three, traps};

@@ -4,11 +4,12 @@
 
 mod codes;
 mod cut;
-mod drawn;
+mod finding;
+
 mod human;
 mod judging;
 mod lines;
 
 pub use codes::{all_reasons, all_traps, names_are_read, reason_named, trap_named};
-pub use drawn::{Finding, drawn};
+pub use finding::{Finding, drawn};
 pub use judging::{Judged, Judgement, judge};

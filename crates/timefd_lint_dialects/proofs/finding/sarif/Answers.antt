@@ -1,7 +1,7 @@
 use Rattle.std.proofs.Common.{◌∙◌}
 use Rattle.std.proofs.lemmas.Result.{IfOk-weaker}
 use Rattle.timefd_lint_dialects.proofs.DrawnLemmas.{as_result}
-use Rattle.timefd_lint_dialects.proofs.drawn.sarif.Goals as goal
+use Rattle.timefd_lint_dialects.proofs.finding.sarif.Goals as goal
 
 pub returns : goal.returns
 returns c =
