@@ -38,8 +38,8 @@ pub fn drawn(
     finding: Finding<'_>,
 ) -> Result<Vec<u8>, AllocError>
     ensures { IfOk result (λ message. message.items
-        ≡ spec.drawn style origin.entry text.now finding.level finding.entry.code.now
-        finding.entry.message.now finding.entry.help.now finding.span) }
+        ≡ spec.drawn style origin.entry text.now finding.entry.level finding.entry.code.now
+        finding.entry.message.now finding.entry.help.now finding.entry.span) }
 {
     match style.format {
         Format::Human => {
@@ -74,8 +74,8 @@ fn short(
     text: &str,
     finding: Finding<'_>,
 ) -> Result<String, AllocError>
-    ensures { IfOk result (λ line. string_bytes line ≡ spec.short origin.entry text.now finding.level
-        finding.entry.code.now finding.entry.message.now finding.span) }
+    ensures { IfOk result (λ line. string_bytes line ≡ spec.short origin.entry text.now finding.entry.level
+        finding.entry.code.now finding.entry.message.now finding.entry.span) }
 {
     let position = position_of(alloc, origin.line, text, finding.span.start)?;
     let file = safe(alloc, origin.file)?;
@@ -91,8 +91,8 @@ fn json(
     text: &str,
     finding: Finding<'_>,
 ) -> Result<Vec<u8>, AllocError>
-    ensures { IfOk result (λ object. object.items ≡ spec.json origin.entry text.now finding.level
-        finding.entry.code.now finding.entry.message.now finding.entry.help.now finding.span) }
+    ensures { IfOk result (λ object. object.items ≡ spec.json origin.entry text.now finding.entry.level
+        finding.entry.code.now finding.entry.message.now finding.entry.help.now finding.entry.span) }
 {
     let position = position_of(alloc, origin.line, text, finding.span.start)?;
     let severity = severity(finding.level);
@@ -107,8 +107,8 @@ fn object(
     finding: Finding<'_>,
 ) -> Result<Vec<u8>, AllocError>
     ensures { IfOk result (λ made. made.items ≡ spec.object finding.entry.code.now position.column
-        finding.span.end file.now finding.entry.help.now position.line finding.entry.message.now
-        severity.now finding.span.start) }
+        finding.entry.span.end file.now finding.entry.help.now position.line finding.entry.message.now
+        severity.now finding.entry.span.start) }
 {
     let mut out = Vec::new(alloc);
     push_text(&mut out, "{\"code\":", finding.code)?;
@@ -141,8 +141,8 @@ fn github(
     text: &str,
     finding: Finding<'_>,
 ) -> Result<Vec<u8>, AllocError>
-    ensures { IfOk result (λ line. line.items ≡ spec.github origin.entry text.now finding.level
-        finding.entry.code.now finding.entry.message.now finding.entry.help.now finding.span) }
+    ensures { IfOk result (λ line. line.items ≡ spec.github origin.entry text.now finding.entry.level
+        finding.entry.code.now finding.entry.message.now finding.entry.help.now finding.entry.span) }
 {
     let position = position_of(alloc, origin.line, text, finding.span.start)?;
     let message = with_help(alloc, finding.message, finding.help)?;
@@ -163,8 +163,8 @@ fn sarif(
     text: &str,
     finding: Finding<'_>,
 ) -> Result<Vec<u8>, AllocError>
-    ensures { IfOk result (λ reported. reported.items ≡ spec.sarif origin.entry text.now finding.level
-        finding.entry.code.now finding.entry.message.now finding.entry.help.now finding.span) }
+    ensures { IfOk result (λ reported. reported.items ≡ spec.sarif origin.entry text.now finding.entry.level
+        finding.entry.code.now finding.entry.message.now finding.entry.help.now finding.entry.span) }
 {
     let from = none_counted(origin.line);
     let position = char_position_from(origin.line, text, from, finding.span.start);

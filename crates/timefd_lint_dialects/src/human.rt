@@ -19,8 +19,8 @@ pub fn human(
     finding: Finding<'_>,
 ) -> Result<String, AllocError>
     ensures { IfOk result (λ drawing. string_bytes drawing
-        ≡ spec.human is_colored origin.entry text.now finding.level finding.entry.code.now
-        finding.entry.message.now finding.entry.help.now finding.span) }
+        ≡ spec.human is_colored origin.entry text.now finding.entry.level finding.entry.code.now
+        finding.entry.message.now finding.entry.help.now finding.entry.span) }
 {
     let position = position_of(alloc, origin.line, text, finding.span.start)?;
     let margin = margin(alloc, position.line)?;

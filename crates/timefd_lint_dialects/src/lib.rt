@@ -5,7 +5,6 @@
 mod codes;
 mod cut;
 mod finding;
-
 mod human;
 mod judging;
 mod lines;
