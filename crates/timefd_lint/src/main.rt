@@ -188,10 +188,7 @@ fn files_status(rt: &HostRuntime, settings: Settings<'_>, keys: &[Key<'_>], file
     let colored = is_colored(rt, settings.color);
     let options = run_options(settings, colored, keys, files);
     match lines_conflict(settings) {
-        Some(conflict) if has_lines(options) => wrong_arguments(
-            rt,
-            OptionError::Conflict(conflict),
-        ),
+        Some(why) if has_lines(options) => wrong_arguments(rt, OptionError::Conflict(why)),
         Some(_) | None => run_status(rt, settings, options),
     }
 }
