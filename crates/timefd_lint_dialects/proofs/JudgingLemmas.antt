@@ -54,8 +54,7 @@ pub are_drawn : (reports : Bool) (style : Style) (origin : Origin) (dialect : Di
     → message ≡ start ++ flat_map (trap_drawn style origin text) given
     → AreTrapsDrawn reports style origin dialect text count message
 are_drawn reports style origin dialect text found given count start message on are counted same none told =
-    subst (λ b. AreTrapsDrawn b style origin dialect text count message) (sym on)
-    (
+    subst (λ b. AreTrapsDrawn b style origin dialect text count message) (sym on) (
       found,
       are,
       counted,

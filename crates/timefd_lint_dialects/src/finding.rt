@@ -11,7 +11,9 @@ use timefd_drawing::github::{Command, annotation};
 use timefd_drawing::json::{Entry, push_number, push_text};
 use timefd_drawing::sarif::{note_result, with_help};
 use timefd_drawing::shown::safe;
-use timefd_drawing::{Format, Origin, Position, Style, char_position_from, none_counted, position_of};
+use timefd_drawing::{
+    Format, Origin, Position, Style, char_position_from, none_counted, position_of,
+};
 use timefd_warnings::Level;
 
 /// What is found in a part of a text.
