@@ -15,7 +15,7 @@ _timefd_lint() {
         fi
     done
     case $3 in
-    --language) mapfile -t COMPREPLY < <(compgen -W '1 2 3 strftime' -- "$2") ;;
+    --language) mapfile -t COMPREPLY < <(compgen -W '1 2 3 strftime python c gnu chrono jiff ruby java go moment' -- "$2") ;;
     --format) mapfile -t COMPREPLY < <(compgen -W 'human json short github sarif' -- "$2") ;;
     --color) mapfile -t COMPREPLY < <(compgen -W 'always never auto' -- "$2") ;;
     --to) mapfile -t COMPREPLY < <(compgen -W '2 3' -- "$2") ;;

@@ -1,4 +1,4 @@
-complete -c timefd_lint -l language -x -a '1 2 3 strftime' -d 'the language of all lines'
+complete -c timefd_lint -l language -x -a '1 2 3 strftime python c gnu chrono jiff ruby java go moment' -d 'the language of all lines'
 complete -c timefd_lint -l format -x -a 'human json short github sarif' -d 'how a fault is written'
 complete -c timefd_lint -l color -x -a 'always never auto' -d 'whether the drawing is coloured'
 complete -c timefd_lint -l comment -x -d 'skip lines that begin with this mark'

@@ -14,9 +14,9 @@ use denote.Ref.{Bor}
 use Rattle.timefd_component.specs.Tree.{Text}
 use Rattle.timefd_drawing.specs.declared.draw.Style.{Style}
 use Rattle.timefd_drawing.specs.declared.position.Origin.{Origin}
-use Rattle.timefd_parse.specs.declared.language.Language.{Language}
+use Rattle.timefd_lint_options.specs.declared.wording.Wording.{Wording}
 use Rattle.timefd_lint.specs.declared.line.TextEnd.{TextEnd}
-use Rattle.timefd_lint.specs.declared.line.TextEnd.TheVariants.{PassedOver, Accepted, Refused, NotText, Failed, UnreadCall, UnreadValue}
+use Rattle.timefd_lint.specs.declared.line.TextEnd.TheVariants.{PassedOver, Accepted, Converted, Refused, NotText, Failed, UnreadCall, UnreadValue}
 use Rattle.timefd_lint_sources.specs.declared.reported.Reporting.{Reporting}
 use Rattle.timefd_lint.specs.declared.tally.Tally.{Tally}
 use Rattle.timefd_warnings.specs.declared.levels.Level.TheVariants.{Warned}
@@ -32,7 +32,7 @@ use Rattle.timefd_lint.specs.Marks.{Notes, has_mark}
 use Rattle.timefd_lint.specs.Reported.{Says, SaysUnread, SaysOf, IsUnreadIfFailed, AreMarked, Reported, is_description, is_refused, is_not_text, is_failed, is_unread_call, is_unread_value, warnings_in, warnings_of, IsEndIn, IsReportOn, IsPosition, ArePlaced, position, one_if, count, tally_of_one, tally_of, text_in, both, messages, lines_in, lines_of, IsReadUp, IsRun, IsRunOver, IsRunOfAll, IsRunOn, IsNext}
 
 -- A note, and the message after it.
-pub notes_and_says : (is_marked : Bool) (language : Language) (reporting : Reporting) (origin : Origin)
+pub notes_and_says : (is_marked : Bool) (language : Wording) (reporting : Reporting) (origin : Origin)
     (text : Text) (end : TextEnd) (before between after : Option Text)
     → Notes is_marked reporting.style origin before between
     → Says language reporting origin text end between after
@@ -49,7 +49,7 @@ says_unread style file kind before after written =
     (note_of style file (unread kind), (kind, refl), written)
 
 -- The message on a file that fails depends on no text and no line.
-fails_at : (language : Language) (reporting : Reporting) (origin : Origin) (text : Text)
+fails_at : (language : Wording) (reporting : Reporting) (origin : Origin) (text : Text)
     (before after : Option Text) (failure : Failure)
     → Appends before after (note_of reporting.style origin.file failure)
     → SaysOf false language reporting origin text Failed before after
@@ -58,7 +58,7 @@ fails_at language reporting origin text before after failure written =
     (message, ([], message, refl, refl, (failure, refl)), written)
 
 -- The message is the note on why the file can't be read.
-unread_at : (language : Language) (reporting : Reporting) (origin : Origin) (text : Text)
+unread_at : (language : Wording) (reporting : Reporting) (origin : Origin) (text : Text)
     (before after : Option Text) → SaysUnread reporting.style origin.file before after
     → SaysOf false language reporting origin text Failed before after
 unread_at language reporting origin text before after said = (
@@ -76,7 +76,7 @@ and_right true b both = both
 and_right false true both = refl
 and_right false false both = both
 
-pub read_fails : (is_first : Bool) (language : Language) (comment : Option (Bor Text))
+pub read_fails : (is_first : Bool) (language : Wording) (comment : Option (Bor Text))
     (reporting : Reporting) (origin : Origin) (bytes rest before after : Option Text)
     (end : TextEnd) → end ≡ Failed → SaysUnread reporting.style origin.file before after
     → IsNext is_first language comment reporting origin bytes rest before after (Some end)
@@ -91,20 +91,22 @@ read_fails is_first language comment reporting origin bytes rest before after en
 )
 
 -- The check of a text never ends with a failed file.
-never_failed : (language : Language) (reporting : Reporting) (text : Text) (end : TextEnd)
+never_failed : (language : Wording) (reporting : Reporting) (text : Text) (end : TextEnd)
     → IsEndOf language reporting text end → IsTrue (is_failed end) → ⊥
 never_failed language reporting text PassedOver ended fails = ended
 never_failed language reporting text (Accepted found) ended fails = false≢true fails
+never_failed language reporting text (Converted traps) ended fails = false≢true fails
 never_failed language reporting text Refused ended fails = false≢true fails
 never_failed language reporting text NotText ended fails = false≢true fails
 never_failed language reporting text Failed ended fails = ended
 never_failed language reporting text UnreadCall ended fails = ended
 never_failed language reporting text UnreadValue ended fails = ended
 
-line_never_failed : (language : Language) (comment : Option (Bor Text)) (reporting : Reporting) (line : Text) (end : TextEnd)
+line_never_failed : (language : Wording) (comment : Option (Bor Text)) (reporting : Reporting) (line : Text) (end : TextEnd)
     → IsLineEnd language comment reporting line end → IsTrue (is_failed end) → ⊥
 line_never_failed language comment reporting line PassedOver ended fails = false≢true fails
 line_never_failed language comment reporting line (Accepted found) ended fails = false≢true fails
+line_never_failed language comment reporting line (Converted traps) ended fails = false≢true fails
 line_never_failed language comment reporting line Refused ended fails = false≢true fails
 line_never_failed language comment reporting line NotText ended fails = false≢true fails
 line_never_failed language comment reporting line Failed ended fails = ended
@@ -125,6 +127,7 @@ few_warnings PassedOver = refl
 few_warnings (Accepted found) =
     let few : warning_count Warned found ≤ 14 = count_within Warned found all_warnings in
     omega (arith, few)
+few_warnings (Converted traps) = omega arith
 few_warnings Refused = refl
 few_warnings NotText = refl
 few_warnings Failed = refl
@@ -146,7 +149,7 @@ tally_one t =
 pub only : (t : Reported) (P : Reported → Type 0) → P t → All P (t ∷ [])
 only t P is = All-cons P t [] is (λ k d below. absurd (omega (arith, below)))
 
-pub one_text : (is_whole : Bool) (language : Language) (comment : Option (Bor Text))
+pub one_text : (is_whole : Bool) (language : Wording) (comment : Option (Bor Text))
     (reporting : Reporting) (origin : Origin) (line : Text) (is_marked : Bool) (end : TextEnd)
     (before after : Option Text)
     → (IsFalse (is_failed end) → IsEndIn is_whole language comment reporting line end)
@@ -203,7 +206,7 @@ tally_both xs ys =
       list_any-append (λ (t : Reported). is_failed t.end) xs ys,
     ) refl
 
-pub run_after : (is_whole : Bool) (language : Language) (comment : Option (Bor Text))
+pub run_after : (is_whole : Bool) (language : Wording) (comment : Option (Bor Text))
     (reporting : Reporting) (before between after : Option Text) (a b : Tally)
     → IsRun is_whole language comment reporting before between a
     → IsRun is_whole language comment reporting between after b
@@ -219,7 +222,7 @@ run_after is_whole language comment reporting before between after a b first sec
       (Appends-trans before between after _ _ first.written second.written);
 }
 
-pub no_text : (is_whole : Bool) (language : Language) (comment : Option (Bor Text))
+pub no_text : (is_whole : Bool) (language : Wording) (comment : Option (Bor Text))
     (reporting : Reporting) (known : Option Text)
     → IsRun is_whole language comment reporting known known (tally_of [])
 no_text is_whole language comment reporting known = record {
@@ -267,7 +270,7 @@ one_longer : (line : ℕ) (reported : List Reported) (t : Reported) → line ≡
 one_longer line reported t is = omega (arith, is, length-append reported (t ∷ []))
 
 -- a run over the lines up to a rest, which begins in this line, the first one or a later one
-pub record IsRunUpTo (is_first : Bool) (language : Language) (comment : Option (Bor Text)) (reporting : Reporting)
+pub record IsRunUpTo (is_first : Bool) (language : Wording) (comment : Option (Bor Text)) (reporting : Reporting)
     (file : Text) (line : ℕ) (bytes rest before after : Option Text) (tally : Tally) : Type 0 where
   pub run : IsRun false language comment reporting before after tally
   pub lines : AreLinesUpTo bytes (lines_of run.reported) rest
@@ -287,7 +290,7 @@ lines_more reported t open_end =
     sym (flat_map-append lines_in reported (t ∷ [])
     ∙ ap (λ ls. lines_of reported ++ ls) (one_line t open_end))
 
-pub next_reported : (is_first : Bool) (language : Language) (comment : Option (Bor Text)) (reporting : Reporting)
+pub next_reported : (is_first : Bool) (language : Wording) (comment : Option (Bor Text)) (reporting : Reporting)
     (origin : Origin) (bytes rest before between after : Option Text)
     (old line text : Text) (end : TextEnd) → IsLineEnd language comment reporting text end → text
     ≡ without_newline line
@@ -309,7 +312,7 @@ next_reported is_first language comment reporting origin bytes rest before betwe
     )
 
 -- Nothing is reported yet.
-pub no_lines : (language : Language) (comment : Option (Bor Text)) (reporting : Reporting) (file : Text)
+pub no_lines : (language : Wording) (comment : Option (Bor Text)) (reporting : Reporting) (file : Text)
     (bytes known : Option Text)
     → IsRunUpTo true language comment reporting file 1 bytes bytes known known (tally_of [])
 unfolding no_text
@@ -333,7 +336,7 @@ or_right false b none = none
 or_right true true none = none
 or_right true false none = refl
 
-pub line_after : (is_first : Bool) (language : Language) (comment : Option (Bor Text)) (reporting : Reporting)
+pub line_after : (is_first : Bool) (language : Wording) (comment : Option (Bor Text)) (reporting : Reporting)
     (origin : Origin) (file : Text) (line : ℕ)
     (bytes rest next before between after : Option Text) (tally : Tally) (end : TextEnd)
     → IsPosition file line origin
@@ -377,7 +380,7 @@ appends_kept (Some x) None c bs p q = absurd p
 appends_kept (Some x) (Some y) None bs p q = absurd q
 appends_kept (Some x) (Some y) (Some z) bs p q = q ∙ p
 
-kept_after : (language : Language) (comment : Option (Bor Text)) (reporting : Reporting)
+kept_after : (language : Wording) (comment : Option (Bor Text)) (reporting : Reporting)
     (before between after : Option Text) (tally : Tally)
     → IsRun false language comment reporting before between tally → Keeps between after
     → IsRun false language comment reporting before after tally
@@ -401,7 +404,7 @@ read_none None rest end left = tt
 read_none (Some bytes) rest end left =
     subst IsAtEnd (sym (left ∙ ap (λ b. Some (drop_through 10 b)) end)) refl
 
-pub at_end : (is_first : Bool) (language : Language) (comment : Option (Bor Text)) (reporting : Reporting)
+pub at_end : (is_first : Bool) (language : Wording) (comment : Option (Bor Text)) (reporting : Reporting)
     (origin : Origin) (file : Text) (line : ℕ)
     (bytes rest before between after next : Option Text) (tally : Tally)
     → IsRunUpTo is_first language comment reporting file line bytes rest before between tally
@@ -437,7 +440,7 @@ failed_one reported t failed =
     sym (flat_map-append lines_in reported (t ∷ [])
     ∙ ap (λ ls. lines_of reported ++ ls) (no_line_of t failed) ∙ append-nil (lines_of reported))
 
-pub run_fails : (is_first : Bool) (language : Language) (comment : Option (Bor Text)) (reporting : Reporting)
+pub run_fails : (is_first : Bool) (language : Wording) (comment : Option (Bor Text)) (reporting : Reporting)
     (origin : Origin) (file : Text) (number : ℕ)
     (bytes rest left before between after : Option Text) (tally : Tally)
     → IsPosition file number origin
@@ -476,13 +479,14 @@ run_fails is_first language comment reporting origin file number bytes rest left
 is_failed_alone : (end : TextEnd) → is_failed end ≡ true → end ≡ Failed
 is_failed_alone PassedOver e = absurd (false≢true e)
 is_failed_alone (Accepted found) e = absurd (false≢true e)
+is_failed_alone (Converted traps) e = absurd (false≢true e)
 is_failed_alone Refused e = absurd (false≢true e)
 is_failed_alone NotText e = absurd (false≢true e)
 is_failed_alone UnreadCall e = absurd (false≢true e)
 is_failed_alone UnreadValue e = absurd (false≢true e)
 is_failed_alone Failed e = refl
 
-pub line_fails : (is_first : Bool) (language : Language) (comment : Option (Bor Text)) (reporting : Reporting)
+pub line_fails : (is_first : Bool) (language : Wording) (comment : Option (Bor Text)) (reporting : Reporting)
     (origin : Origin) (file : Text) (line : ℕ)
     (bytes rest next before between after : Option Text) (tally : Tally) (end : TextEnd)
     → IsPosition file line origin
@@ -512,7 +516,7 @@ read_to_end None rest end = tt
 read_to_end (Some xs) rest end = end
 
 -- all bytes of a reader, read into an empty buffer
-pub text_of_all : (language : Language) (comment : Option (Bor Text)) (reporting : Reporting)
+pub text_of_all : (language : Wording) (comment : Option (Bor Text)) (reporting : Reporting)
     (origin : Origin) (file : Text) (bytes rest : Option Text) (old read text : Text) (before after : Option Text) (end : TextEnd)
     (tally : Tally)
     → IfSome bytes (λ all. read ≡ old ++ all) → IsAtEnd rest → old ≡ [] → text ≡ read
@@ -539,7 +543,7 @@ text_of_all language comment reporting origin file bytes rest old read text befo
       read = λ _. read_to_end bytes rest left;
     }
 
-pub none_of_all : (language : Language) (comment : Option (Bor Text)) (reporting : Reporting)
+pub none_of_all : (language : Wording) (comment : Option (Bor Text)) (reporting : Reporting)
     (name : Bor Text) (bytes rest before after : Option Text) (end : TextEnd) (tally : Tally)
     → end ≡ Failed → SaysUnread reporting.style name before after → tally ≡ tally_of_one end
     → IsRunOfAll language comment reporting name.now bytes rest before after tally
@@ -570,7 +574,7 @@ none_of_all language comment reporting name bytes rest before after end tally fa
           (sym (ap (λ t. t.failed) (is ∙ ap tally_of_one failed)) ∙ works));
     }
 
-pub failed_run : (is_whole : Bool) (language : Language) (comment : Option (Bor Text))
+pub failed_run : (is_whole : Bool) (language : Wording) (comment : Option (Bor Text))
     (reporting : Reporting) (name : Bor Text) (before after : Option Text) (end : TextEnd)
     (tally : Tally) (failure : Failure) → end ≡ Failed
     → Appends before after (note_of reporting.style name failure)
@@ -582,7 +586,7 @@ failed_run is_whole language comment reporting name before after end tally failu
     (λ e. absurd (true≢false e)) (λ e. absurd (false≢true e))
     (fails_at language reporting (position name 1) (text_in is_whole []) before after failure written))
 
-pub unread_run : (is_whole : Bool) (language : Language) (comment : Option (Bor Text))
+pub unread_run : (is_whole : Bool) (language : Wording) (comment : Option (Bor Text))
     (reporting : Reporting) (name : Bor Text) (before after : Option Text)
     (tally : Tally) → SaysUnread reporting.style name before after
     → tally ≡ tally_of_one Failed → IsRun is_whole language comment reporting before after tally
@@ -590,7 +594,7 @@ unread_run is_whole language comment reporting name before after tally said is =
     failed_run is_whole language comment reporting name before after Failed tally (unread said.1.0) refl
     (subst (λ m. Appends before after m) said.1.1 said.2) is
 
-pub whole_run : (is_whole : Bool) (language : Language) (comment : Option (Bor Text))
+pub whole_run : (is_whole : Bool) (language : Wording) (comment : Option (Bor Text))
     (reporting : Reporting) (file : Text) (bytes rest before after : Option Text) (tally : Tally)
     → is_whole ≡ true → IsRunOfAll language comment reporting file bytes rest before after tally
     → IsRun is_whole language comment reporting before after tally
@@ -602,7 +606,7 @@ whole_run is_whole language comment reporting file bytes rest before after tally
       written = subst (λ m. Appends before after m) (sym (append-nil run.reported.message)) run.written;
     })
 
-pub lines_run : (is_whole : Bool) (language : Language) (comment : Option (Bor Text))
+pub lines_run : (is_whole : Bool) (language : Wording) (comment : Option (Bor Text))
     (reporting : Reporting) (file : Text) (bytes rest before after : Option Text) (tally : Tally)
     → is_whole ≡ false → IsRunOver language comment reporting file bytes rest before after tally
     → IsRun is_whole language comment reporting before after tally
@@ -610,7 +614,7 @@ lines_run is_whole language comment reporting file bytes rest before after tally
     subst (λ w. IsRun w language comment reporting before after tally) (sym is) over.run
 
 -- The end of the run, in the terms of the code.
-pub ends_here : (is_first : Bool) (language : Language) (comment : Option (Bor Text)) (reporting : Reporting)
+pub ends_here : (is_first : Bool) (language : Wording) (comment : Option (Bor Text)) (reporting : Reporting)
     (name : Bor Text) (line : ℕ)
     (bytes rest next before between after : Option Text) (tally : Tally) (o : Option TextEnd)
     → o ≡ None
@@ -628,7 +632,7 @@ tally_is : (tally one all : Tally) (end : TextEnd) → one ≡ tally_of_one end 
     → all ≡ both tally (tally_of_one end)
 tally_is tally one all end is sum = sum ∙ ap (λ t. both tally t) is
 
-pub goes_on : (is_first : Bool) (language : Language) (comment : Option (Bor Text)) (reporting : Reporting)
+pub goes_on : (is_first : Bool) (language : Wording) (comment : Option (Bor Text)) (reporting : Reporting)
     (name : Bor Text) (line : ℕ)
     (bytes rest next before between after : Option Text) (tally one all : Tally)
     (o : Option TextEnd) (end : TextEnd) → o ≡ Some end
@@ -647,7 +651,7 @@ goes_on is_first language comment reporting name line bytes rest next before bet
     is more)
     (sym (ap (λ t. t.failed) same) ∙ works))
 
-pub fails_here : (is_first : Bool) (language : Language) (comment : Option (Bor Text)) (reporting : Reporting)
+pub fails_here : (is_first : Bool) (language : Wording) (comment : Option (Bor Text)) (reporting : Reporting)
     (name : Bor Text) (line : ℕ)
     (bytes rest next before between after : Option Text) (tally one all : Tally)
     (o : Option TextEnd) (end : TextEnd) → o ≡ Some end
@@ -665,7 +669,7 @@ fails_here is_first language comment reporting name line bytes rest next before 
     is more)
     (sym (ap (λ t. t.failed) same) ∙ fails))
 
-pub fails_last : (is_first : Bool) (language : Language) (comment : Option (Bor Text)) (reporting : Reporting)
+pub fails_last : (is_first : Bool) (language : Wording) (comment : Option (Bor Text)) (reporting : Reporting)
     (name : Bor Text) (line : ℕ)
     (bytes rest left before between after : Option Text) (tally one all : Tally) (end : TextEnd)
     → end ≡ Failed
@@ -680,21 +684,21 @@ fails_last is_first language comment reporting name line bytes rest left before 
     (run_fails is_first language comment reporting (position name line) name.now line bytes rest left before
     between after tally (refl, refl) so_far said)
 
-pub whole_on : (is_whole : Bool) (language : Language) (comment : Option (Bor Text))
+pub whole_on : (is_whole : Bool) (language : Wording) (comment : Option (Bor Text))
     (reporting : Reporting) (file : Text) (bytes rest before after : Option Text) (tally : Tally)
     → is_whole ≡ true → IsRunOfAll language comment reporting file bytes rest before after tally
     → IsRunOn is_whole language comment reporting file bytes rest before after tally
 whole_on is_whole language comment reporting file bytes rest before after tally is run =
     subst (λ w. IsRunOn w language comment reporting file bytes rest before after tally) (sym is) run
 
-pub lines_on : (is_whole : Bool) (language : Language) (comment : Option (Bor Text))
+pub lines_on : (is_whole : Bool) (language : Wording) (comment : Option (Bor Text))
     (reporting : Reporting) (file : Text) (bytes rest before after : Option Text) (tally : Tally)
     → is_whole ≡ false → IsRunOver language comment reporting file bytes rest before after tally
     → IsRunOn is_whole language comment reporting file bytes rest before after tally
 lines_on is_whole language comment reporting file bytes rest before after tally is over =
     subst (λ w. IsRunOn w language comment reporting file bytes rest before after tally) (sym is) over
 
-pub run_on : (is_whole : Bool) (language : Language) (comment : Option (Bor Text))
+pub run_on : (is_whole : Bool) (language : Wording) (comment : Option (Bor Text))
     (reporting : Reporting) (file : Text) (bytes rest before after : Option Text) (tally : Tally)
     → IsRunOn is_whole language comment reporting file bytes rest before after tally
     → IsRun is_whole language comment reporting before after tally

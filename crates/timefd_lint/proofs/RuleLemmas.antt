@@ -13,42 +13,74 @@ use Rattle.timefd_editor.specs.Each.{Adds, AreOf}
 use Rattle.timefd_component.specs.Tree.{Text}
 use Rattle.timefd_lint.specs.declared.error_code.ErrorCode.{ErrorCode}
 use Rattle.timefd_lint.specs.ErrorCodes.{name_of}
-use Rattle.timefd_lint.specs.Rules.{AreRules, IsErrorRule, IsFaultRule, IsWarningRule, others, rule}
+use Rattle.timefd_dialect.specs.declared.reason.Reason.{Reason}
+use Rattle.timefd_dialect.specs.declared.trap.Trap.{Trap}
+use Rattle.timefd_dialect.specs.Reasons as reasons
+use Rattle.timefd_dialect.specs.TrapWords as traps
+use Rattle.timefd_lint_dialects.specs.Codes.{all_reasons}
+use Rattle.timefd_lint.specs.Rules.{AreOtherRules, AreRules, IsErrorRule, IsFaultRule, IsReasonRule, IsTrapRule, IsWarningRule, others, own_traps, rule}
 use Rattle.timefd_warnings.specs.declared.warning.Warning.{Warning}
 use Rattle.timefd_warnings.specs.Explanations.{explanation_of}
 use Rattle.timefd_warnings.specs.Codes as warnings
 
-pub all_rules : (before first second last : List ℕ)
+pub all_rules : (before first second third last : List ℕ)
     → Adds (AreOf IsFaultRule faults.all) before first → Adds (AreOf IsErrorRule others) first second
-    → Adds (AreOf IsWarningRule warnings.all) second last → Adds AreRules before last
-all_rules before first second last (f, are_f, at_f) (e, are_e, at_e) (w, are_w, at_w) = (
-  f ++ (e ++ w),
+    → Adds (AreOf IsWarningRule warnings.all) second third → Adds AreOtherRules third last
+    → Adds AreRules before last
+all_rules before first second third last (f, are_f, at_f) (e, are_e, at_e) (w, are_w, at_w) (d, are_d, at_d) = (
+  f ++ (e ++ (w ++ d)),
   record {
     faults_text = f;
     others_text = e;
     warnings_text = w;
+    dialects_text = d;
     faults = are_f;
     errors = are_e;
     warned = are_w;
+    dialects = are_d;
     whole = refl;
   },
-  at_w ∙ ap (λ t. t ++ w) (at_e ∙ ap (λ t. t ++ e) at_f)
-      ∙ append_assoc (before ++ f) e w ∙ append_assoc before f (e ++ w),
+  at_d ∙ ap (λ t. t ++ d) (at_w ∙ ap (λ t. t ++ w) (at_e ∙ ap (λ t. t ++ e) at_f))
+      ∙ append_assoc ((before ++ f) ++ e) w d ∙ append_assoc (before ++ f) e (w ++ d)
+      ∙ append_assoc before f (e ++ (w ++ d)),
 )
 
 -- The rules of all lists, if the last call succeeds.
-pub rules_added : {T E : Type 0} (answer : Result T E) (before first second last : List ℕ)
+pub rules_added : {T E : Type 0} (answer : Result T E) (before first second third last : List ℕ)
     (fs : List Code) (es : List ErrorCode) (ws : List Warning)
     → fs ≡ faults.all → es ≡ others → ws ≡ warnings.all
     → Adds (AreOf IsFaultRule fs) before first → Adds (AreOf IsErrorRule es) first second
-    → OnOk answer (Adds (AreOf IsWarningRule ws) second last) → OnOk answer (Adds AreRules before last)
-rules_added (Ok v) before first second last fs es ws fs_are es_are ws_are of_faults of_errors of_warnings =
-    all_rules before first second last
+    → Adds (AreOf IsWarningRule ws) second third → OnOk answer (Adds AreOtherRules third last)
+    → OnOk answer (Adds AreRules before last)
+rules_added (Ok v) before first second third last fs es ws fs_are es_are ws_are of_faults of_errors
+    of_warnings of_others =
+    all_rules before first second third last
     (subst (λ l. Adds (AreOf IsFaultRule l) before first) fs_are of_faults)
     (subst (λ l. Adds (AreOf IsErrorRule l) first second) es_are of_errors)
-    (subst (λ l. Adds (AreOf IsWarningRule l) second last) ws_are of_warnings)
-rules_added (Err e) before first second last fs es ws fs_are es_are ws_are of_faults of_errors of_warnings =
-    of_warnings
+    (subst (λ l. Adds (AreOf IsWarningRule l) second third) ws_are of_warnings)
+    of_others
+rules_added (Err e) before first second third last fs es ws fs_are es_are ws_are of_faults of_errors
+    of_warnings of_others =
+    of_others
+
+-- The rules on formats of other languages, if the last call succeeds.
+all_others : (before middle last : List ℕ) → Adds (AreOf IsReasonRule all_reasons) before middle
+    → Adds (AreOf IsTrapRule own_traps) middle last → Adds AreOtherRules before last
+all_others before middle last (r, are_r, at_r) (t, are_t, at_t) = (
+  r ++ t,
+  record { reasons_text = r; traps_text = t; refused = are_r; trapped = are_t; whole = refl },
+  at_t ∙ ap (λ x. x ++ t) at_r ∙ append_assoc before r t,
+)
+
+pub other_rules_added : {T E : Type 0} (answer : Result T E) (before middle last : List ℕ)
+    (rs : List Reason) (ts : List Trap) → rs ≡ all_reasons → ts ≡ own_traps
+    → Adds (AreOf IsReasonRule rs) before middle → OnOk answer (Adds (AreOf IsTrapRule ts) middle last)
+    → OnOk answer (Adds AreOtherRules before last)
+other_rules_added (Ok v) before middle last rs ts rs_are ts_are of_reasons of_traps =
+    all_others before middle last
+    (subst (λ l. Adds (AreOf IsReasonRule l) before middle) rs_are of_reasons)
+    (subst (λ l. Adds (AreOf IsTrapRule l) middle last) ts_are of_traps)
+other_rules_added (Err e) before middle last rs ts rs_are ts_are of_reasons of_traps = of_traps
 
 -- the part before the results
 pub head_joined : {E : Type 0} (answer : Result (Vec ℕ Global) E) (start front members rules : List ℕ)
@@ -108,4 +140,34 @@ warning_rule w name level summary explanation before after name_is level_is summ
       ∙ ap (λ l. before ++ rule (warnings.name_of w) l summary explanation) level_is
       ∙ ap (λ s. before ++ rule (warnings.name_of w) (codes "warning") s explanation) summary_is
       ∙ ap (λ e. before ++ rule (warnings.name_of w) (codes "warning") (warnings.sentence_of w) e) explanation_is,
+)
+
+-- A rule of which each part is what the tables give.
+whole_rule : (name level summary explanation : Text) {n l s e : Text} (before after : List ℕ)
+    → n ≡ name → l ≡ level → s ≡ summary → e ≡ explanation → after ≡ before ++ rule n l s e
+    → after ≡ before ++ rule name level summary explanation
+whole_rule name level summary explanation {n} {l} {s} {e} before after n_is l_is s_is e_is added =
+    added ∙ ap (λ x. before ++ rule x l s e) n_is ∙ ap (λ x. before ++ rule name x s e) l_is
+    ∙ ap (λ x. before ++ rule name level x e) s_is ∙ ap (λ x. before ++ rule name level summary x) e_is
+
+pub reason_rule : (r : Reason) (name level summary explanation : Text) (before after : List ℕ)
+    → name ≡ reasons.name r → level ≡ codes "error" → summary ≡ reasons.sentence r
+    → explanation ≡ reasons.cure r → after ≡ before ++ rule name level summary explanation
+    → Adds (IsReasonRule r) before after
+reason_rule r name level summary explanation before after n_is l_is s_is e_is added = (
+  rule (reasons.name r) (codes "error") (reasons.sentence r) (reasons.cure r),
+  refl,
+  whole_rule (reasons.name r) (codes "error") (reasons.sentence r) (reasons.cure r) before after n_is l_is
+      s_is e_is added,
+)
+
+pub trap_rule : (t : Trap) (name level summary explanation : Text) (before after : List ℕ)
+    → name ≡ traps.name t → level ≡ codes "warning" → summary ≡ traps.sentence t
+    → explanation ≡ traps.cure t → after ≡ before ++ rule name level summary explanation
+    → Adds (IsTrapRule t) before after
+trap_rule t name level summary explanation before after n_is l_is s_is e_is added = (
+  rule (traps.name t) (codes "warning") (traps.sentence t) (traps.cure t),
+  refl,
+  whole_rule (traps.name t) (codes "warning") (traps.sentence t) (traps.cure t) before after n_is l_is s_is
+      e_is added,
 )

@@ -9,7 +9,7 @@ use Rattle.std.proofs.lemmas.Grind.{flat_map-append}
 use mathlib.Core.Logic.{inl, inr}
 use denote.Ref.{Bor}
 use Rattle.timefd_component.specs.Tree.{Text}
-use Rattle.timefd_parse.specs.declared.language.Language.{Language}
+use Rattle.timefd_lint_options.specs.declared.wording.Wording.{Wording}
 use Rattle.timefd_sources.specs.declared.description.Description.{Description}
 use Rattle.timefd_lint_sources.specs.declared.remark.Remark.{Remark}
 use Rattle.timefd_lint_sources.specs.declared.source.Report.{Report}
@@ -114,7 +114,7 @@ source_unread finder reporting name bytes rest before after end tally failed sai
     )
 
 -- the report on each literal, as a report on a text
-record AreLiterals (is_whole : Bool) (language : Language) (comment : Option (Bor Text))
+record AreLiterals (is_whole : Bool) (language : Wording) (comment : Option (Bor Text))
     (reporting : Reporting) (ends : List End) (message : Text) : Type 0 where
   reported : List Reported
   each : All (IsReportedOfAny is_whole language comment reporting) reported
@@ -131,7 +131,7 @@ judged_found s (d ∷ ds) judged stand (one, others, is, are, whole) =
     (judged_found s ds others (All-tail (IsFound s) d ds stand) are))
 
 -- Each remark is reported.
-remarked : (is_whole : Bool) (language : Language) (comment : Option (Bor Text)) (reporting : Reporting)
+remarked : (is_whole : Bool) (language : Wording) (comment : Option (Bor Text)) (reporting : Reporting)
     (s : Source) (ds : List Description) (all front left : List Remark) → AreSeen s ds all
     → all ≡ front ++ left
     → AreLiterals is_whole language comment reporting (ends_of left) (messages_of reporting.style s left)
@@ -177,7 +177,7 @@ remarked is_whole language comment reporting s ds all front (r ∷ left) seen is
     }
 
 -- Adds the reports on literals before these.
-literals : (is_whole : Bool) (language : Language) (comment : Option (Bor Text)) (reporting : Reporting)
+literals : (is_whole : Bool) (language : Wording) (comment : Option (Bor Text)) (reporting : Reporting)
     (s : Source) (ds : List Description) (ends more_ends : List End) (message more_message : Text)
     → All (IsJudgedFound s) ds → AreReported reporting s ds ends message
     → AreLiterals is_whole language comment reporting more_ends more_message
@@ -225,7 +225,7 @@ literals is_whole language comment reporting s (d ∷ ds) (e ∷ ends) more_ends
     }
 
 -- Runs over texts, and over sources too.
-pub of_texts : (is_whole : Bool) (language : Language) (comment : Option (Bor Text)) (reporting : Reporting)
+pub of_texts : (is_whole : Bool) (language : Wording) (comment : Option (Bor Text)) (reporting : Reporting)
     (before after : Option Text) (tally : Tally)
     → IsRun is_whole language comment reporting before after tally
     → IsRunOfAny is_whole language comment reporting before after tally
@@ -236,7 +236,7 @@ of_texts is_whole language comment reporting before after tally run = record {
   written = run.written;
 }
 
-pub of_source : (is_whole : Bool) (language : Language) (comment : Option (Bor Text)) (reporting : Reporting)
+pub of_source : (is_whole : Bool) (language : Wording) (comment : Option (Bor Text)) (reporting : Reporting)
     (finder : Finder) (name : Text) (bytes rest before after : Option Text) (tally : Tally)
     → IsRunOfSource finder reporting name bytes rest before after tally
     → IsRunOfAny is_whole language comment reporting before after tally
@@ -277,7 +277,7 @@ of_source is_whole language comment reporting finder name bytes rest before afte
     of_texts is_whole language comment reporting before after tally
     (unread_run is_whole language comment reporting file before after tally said found)
 
-any_after : (is_whole : Bool) (language : Language) (comment : Option (Bor Text)) (reporting : Reporting)
+any_after : (is_whole : Bool) (language : Wording) (comment : Option (Bor Text)) (reporting : Reporting)
     (before between after : Option Text) (a b : Tally)
     → IsRunOfAny is_whole language comment reporting before between a
     → IsRunOfAny is_whole language comment reporting between after b
@@ -293,7 +293,7 @@ any_after is_whole language comment reporting before between after a b first sec
       (Appends-trans before between after _ _ first.written second.written);
 }
 
-to_any : (reads is_whole : Bool) (language : Language) (comment : Option (Bor Text))
+to_any : (reads is_whole : Bool) (language : Wording) (comment : Option (Bor Text))
     (reporting : Reporting) (before after : Option Text) (tally : Tally)
     → IsRunWith reads is_whole language comment reporting before after tally
     → IsRunOfAny is_whole language comment reporting before after tally
@@ -302,7 +302,7 @@ to_any false is_whole language comment reporting before after tally run =
     of_texts is_whole language comment reporting before after tally run
 
 -- Two runs in a row read sources if one of them does.
-pub with_after : (one other is_whole : Bool) (language : Language) (comment : Option (Bor Text))
+pub with_after : (one other is_whole : Bool) (language : Wording) (comment : Option (Bor Text))
     (reporting : Reporting) (before between after : Option Text) (a b : Tally)
     → IsRunWith one is_whole language comment reporting before between a
     → IsRunWith other is_whole language comment reporting between after b
@@ -317,7 +317,7 @@ with_after false false is_whole language comment reporting before between after 
     run_after is_whole language comment reporting before between after a b first second
 
 -- A run that reads no source is also one that reads sources or none.
-pub with_more : (one other is_whole : Bool) (language : Language) (comment : Option (Bor Text))
+pub with_more : (one other is_whole : Bool) (language : Wording) (comment : Option (Bor Text))
     (reporting : Reporting) (before after : Option Text) (tally : Tally)
     → IsRunWith one is_whole language comment reporting before after tally
     → IsRunWith (one || other) is_whole language comment reporting before after tally
@@ -326,7 +326,7 @@ with_more false true is_whole language comment reporting before after tally run 
     of_texts is_whole language comment reporting before after tally run
 with_more false false is_whole language comment reporting before after tally run = run
 
-pub with_texts : (reads is_whole : Bool) (language : Language) (comment : Option (Bor Text))
+pub with_texts : (reads is_whole : Bool) (language : Wording) (comment : Option (Bor Text))
     (reporting : Reporting) (before after : Option Text) (tally : Tally)
     → IsRun is_whole language comment reporting before after tally
     → IsRunWith reads is_whole language comment reporting before after tally
@@ -334,7 +334,7 @@ with_texts true is_whole language comment reporting before after tally run =
     of_texts is_whole language comment reporting before after tally run
 with_texts false is_whole language comment reporting before after tally run = run
 
-pub with_source : (reads is_whole : Bool) (language : Language) (comment : Option (Bor Text))
+pub with_source : (reads is_whole : Bool) (language : Wording) (comment : Option (Bor Text))
     (reporting : Reporting) (finder : Finder) (name : Text) (bytes rest before after : Option Text)
     (tally : Tally) → reads ≡ true → IsRunOfSource finder reporting name bytes rest before after tally
     → IsRunWith reads is_whole language comment reporting before after tally
@@ -343,7 +343,7 @@ with_source reads is_whole language comment reporting finder name bytes rest bef
     (of_source is_whole language comment reporting finder name bytes rest before after tally run)
 
 -- The report on a source, in a run that may have ended early.
-pub source_reported : (reads is_whole : Bool) (language : Language) (comment : Option (Bor Text))
+pub source_reported : (reads is_whole : Bool) (language : Wording) (comment : Option (Bor Text))
     (reporting : Reporting) (finder : Finder) (name : Text) (bytes rest before after : Option Text)
     (r : Result Tally RunError) → reads ≡ true
     → IfOk r (IsRunOfSource finder reporting name bytes rest before after)
@@ -352,7 +352,7 @@ source_reported reads is_whole language comment reporting finder name bytes rest
     with_source reads is_whole language comment reporting finder name bytes rest before after tally is run
 source_reported reads is_whole language comment reporting finder name bytes rest before after (Err e) is run = tt
 
-pub with_whole : (reads is_whole : Bool) (language : Language) (comment : Option (Bor Text))
+pub with_whole : (reads is_whole : Bool) (language : Wording) (comment : Option (Bor Text))
     (reporting : Reporting) (file : Text) (bytes rest before after : Option Text) (tally : Tally)
     → reads ≡ false → is_whole ≡ true
     → IsRunOfAll language comment reporting file bytes rest before after tally
@@ -361,7 +361,7 @@ with_whole reads is_whole language comment reporting file bytes rest before afte
     subst (λ r. IsRunWith r is_whole language comment reporting before after tally) (sym none)
     (whole_run is_whole language comment reporting file bytes rest before after tally is run)
 
-pub with_lines : (reads is_whole : Bool) (language : Language) (comment : Option (Bor Text))
+pub with_lines : (reads is_whole : Bool) (language : Wording) (comment : Option (Bor Text))
     (reporting : Reporting) (file : Text) (bytes rest before after : Option Text) (tally : Tally)
     → reads ≡ false → is_whole ≡ false
     → IsRunOver language comment reporting file bytes rest before after tally

@@ -6,6 +6,8 @@ use Rattle.timefd_component.specs.Tree.{Text, Tree}
 use Rattle.timefd_fault.specs.Faults.{fault_of}
 use Rattle.timefd_language.specs.Grammar.{nesting_limit}
 use Rattle.timefd_parse.specs.declared.language.Language.{Language}
+use Rattle.timefd_lint_options.specs.declared.wording.Wording.{Wording}
+use Rattle.timefd_lint_options.specs.declared.wording.Wording.TheVariants.{Own}
 use Rattle.timefd_parse.specs.Language.{SpellsIn, FaultIn}
 use Rattle.timefd_diagnosis.specs.declared.diagnostic.Diagnostic.{Diagnostic}
 use Rattle.timefd_diagnosis.specs.Diagnoses.{IsDiagnosis}
@@ -22,13 +24,13 @@ use Rattle.timefd_lint.specs.Lines.{IsEndOf}
 use Rattle.timefd_lint.specs.Reported.{Says}
 
 -- A text's end and its message are those of its bytes.
-pub end_of_bytes : (language : Language) (reporting : Reporting) (bytes text : Text)
+pub end_of_bytes : (language : Wording) (reporting : Reporting) (bytes text : Text)
     (end : Result TextEnd RunError) → text ≡ bytes → IfOk end (IsEndOf language reporting text)
     → IfOk end (IsEndOf language reporting bytes)
 end_of_bytes language reporting bytes text end same ended =
     subst (λ t. IfOk end (IsEndOf language reporting t)) same ended
 
-pub said_of_bytes : (language : Language) (reporting : Reporting) (origin : Origin) (bytes text : Text)
+pub said_of_bytes : (language : Wording) (reporting : Reporting) (origin : Origin) (bytes text : Text)
     (before after : Option Text) (end : Result TextEnd RunError) → text ≡ bytes
     → IfOk end (λ e. Says language reporting origin text e before after)
     → IfOk end (λ e. Says language reporting origin bytes e before after)
@@ -36,7 +38,7 @@ said_of_bytes language reporting origin bytes text before after end same said =
     subst (λ t. IfOk end (λ e. Says language reporting origin t e before after)) same said
 
 -- Bytes that aren't UTF-8.
-pub no_text_is : (language : Language) (reporting : Reporting) (bytes : Text)
+pub no_text_is : (language : Wording) (reporting : Reporting) (bytes : Text)
     (end : Result TextEnd RunError) → ¬ IsUtf8 bytes → IfOk end (λ e. e ≡ NotText)
     → IfOk end (IsEndOf language reporting bytes)
 no_text_is language reporting bytes (Ok e) none is =
@@ -49,7 +51,7 @@ pub no_text_written : (style : Style) (origin : Origin) (before after : Option T
 no_text_written style origin before after message is written =
     subst (λ m. Appends before after m) is written
 
-pub no_text_said : (language : Language) (reporting : Reporting) (origin : Origin) (bytes : Text)
+pub no_text_said : (language : Wording) (reporting : Reporting) (origin : Origin) (bytes : Text)
     (before after : Option Text) (end : Result TextEnd RunError) → IfOk end (λ e. e ≡ NotText)
     → OnOk end (Appends before after (no_text_note reporting.style origin))
     → IfOk end (λ e. Says language reporting origin bytes e before after)
@@ -62,17 +64,17 @@ no_text_said language reporting origin bytes before after (Err e) is written = t
 pub with_list : (language : Language) (reporting : Reporting) (text : Text)
     (end : Result TextEnd RunError) → ((list : List Tree) × SpellsIn language nesting_limit text list)
     → ((list : List Tree) → SpellsIn language nesting_limit text list
-    → IfOk end (IsEndOf language reporting text))
-    → IfOk end (IsEndOf language reporting text)
+    → IfOk end (IsEndOf (Own language) reporting text))
+    → IfOk end (IsEndOf (Own language) reporting text)
 with_list language reporting text end spelled ended = ended spelled.0 spelled.1
 
 -- A text with a fault.
 pub with_fault : (language : Language) (reporting : Reporting) (text : Text) (g : Diagnostic)
     (end : Result TextEnd RunError) → IsUtf8 text
     → FaultIn language nesting_limit text (fault_of g.fault) → IfOk end (λ e. e ≡ Refused)
-    → IfOk end (IsEndOf language reporting text)
+    → IfOk end (IsEndOf (Own language) reporting text)
 with_fault language reporting text g (Ok e) utf8 faulty is =
-    subst (λ x. IsEndOf language reporting text x) (sym is) (utf8, (fault_of g.fault, faulty))
+    subst (λ x. IsEndOf (Own language) reporting text x) (sym is) (utf8, (fault_of g.fault, faulty))
 with_fault language reporting text g (Err e) utf8 faulty is = tt
 
 pub fault_said : (language : Language) (reporting : Reporting) (origin : Origin) (text : Text)
@@ -82,9 +84,9 @@ pub fault_said : (language : Language) (reporting : Reporting) (origin : Origin)
     → AreFurther most_further language (without language text (fault_of g.fault)) further
     → IfOk end (λ e. e ≡ Refused)
     → OnOk end (Appends before after (drawn_all reporting.style origin text g further))
-    → IfOk end (λ e. Says language reporting origin text e before after)
+    → IfOk end (λ e. Says (Own language) reporting origin text e before after)
 fault_said language reporting origin text g further before after (Ok e) faulty diagnosed others is written =
-    subst (λ x. Says language reporting origin text x before after) (sym is) (
+    subst (λ x. Says (Own language) reporting origin text x before after) (sym is) (
       drawn_all reporting.style origin text g further,
       (
         g,

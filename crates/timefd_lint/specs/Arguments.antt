@@ -30,7 +30,7 @@ warning_names = codes "one of " ++ join_by warnings.name_of (codes ", ") warning
 
 -- the values that an option takes
 abbrev pub values : Valued → Text
-values Language = codes "one of 1, 2, 3, strftime"
+values Language = codes "one of 1, 2, 3, strftime, python, c, gnu, chrono, jiff, ruby, java, go, moment"
 values Format = codes "one of human, json, short, github, sarif"
 values Color = codes "one of always, never, auto"
 values Comment = codes "a mark that is not empty"
@@ -88,6 +88,12 @@ conflict_sentence conflicts.NormalOfAnother =
 conflict_sentence conflicts.NoConversion =
     codes
     "no rewriting leads there: `--language 1` goes `--to 2` or `3`, `2` and `strftime` go `--to 3`; `--normal` lays out version 3"
+conflict_sentence conflicts.ExplainsOther =
+    codes
+    "`--explain` draws trees of the languages of `time`; leave it out for formats of other libraries"
+conflict_sentence conflicts.FixesOther =
+    codes
+    "`--fix` mends the languages of `time`; change a format of another library as its help says"
 conflict_sentence conflicts.RewritesWarned =
     codes
     "`--warn`, `--deny` and `--allow` look at files, and don't go with `--to` and `--normal`"

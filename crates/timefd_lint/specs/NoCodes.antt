@@ -7,11 +7,20 @@ use Rattle.timefd_drawing.specs.Shown.{safe}
 use Rattle.timefd_fault.specs.Codes as faults
 use Rattle.timefd_warnings.specs.Codes as warnings
 use Rattle.timefd_lint.specs.ErrorCodes.{name_of}
-use Rattle.timefd_lint.specs.Rules.{others}
+use Rattle.timefd_dialect.specs.Reasons as reasons
+use Rattle.timefd_dialect.specs.TrapWords as traps
+use Rattle.timefd_lint_dialects.specs.Codes.{all_reasons}
+use Rattle.timefd_lint.specs.Rules.{others, own_traps}
 
--- the codes of all faults, of all other errors, and of all warnings
+-- the codes of what is refused in formats of other languages, and of traps
+abbrev pub codes_of_others : List Text
+codes_of_others = map reasons.name all_reasons ++ map traps.name own_traps
+
+-- the codes of all faults, of all other errors, of all warnings, and on formats of other languages
 abbrev pub all_codes : List Text
-all_codes = map faults.name_of faults.all ++ (map name_of others ++ map warnings.name_of warnings.all)
+all_codes =
+    map faults.name_of faults.all
+    ++ (map name_of others ++ (map warnings.name_of warnings.all ++ codes_of_others))
 
 abbrev pub sentence : Text → Option Text → Text → Text
 sentence name (Some code) listed =

@@ -1,16 +1,19 @@
 -- What a run reports about texts, one after another.
-use Rattle.std.specs.Prelude.{◌≡◌, Bool, true, false, ◌||◌, ◌&&◌, IsTrue, List, [], ◌∷◌, ◌++◌, Option, Some, None, All, IfSome, IsFalse, ⊤, ℕ, ◌+◌, nat_lt, flat_map, if◌then◌else◌}
+use Rattle.std.specs.Prelude.{◌≡◌, Bool, true, false, ◌||◌, ◌&&◌, IsTrue, List, [], ◌∷◌, ◌++◌, Option, Some, None, is_some, All, IfSome, IsFalse, ⊤, ℕ, ◌+◌, nat_lt, flat_map, if◌then◌else◌}
 use Rattle.std.specs.List.{list_any}
 use Rattle.std.specs.Io.KnownBytes.{Appends, Keeps, IsAtEnd}
 use Rattle.std.specs.Io.Iter.{u64_saturate}
 use denote.Ref.{Bor}
 use Rattle.timefd_component.specs.Tree.{Text}
 use Rattle.timefd_parse.specs.declared.language.Language.{Language}
+use Rattle.timefd_lint_options.specs.declared.wording.Wording.{Wording}
+use Rattle.timefd_lint_options.specs.declared.wording.Wording.TheVariants.{Own, Other}
+use Rattle.timefd_lint_dialects.specs.Judging.{AreTrapsDrawn, IsRefusalDrawn}
 use Rattle.timefd_diagnosis.specs.declared.diagnostic.Diagnostic.{Diagnostic}
 use Rattle.timefd_diagnosis.specs.Further.{AreDiagnosed}
 use Rattle.timefd_lint.specs.declared.failure.Failure.{Failure}
 use Rattle.timefd_lint.specs.declared.line.TextEnd.{TextEnd}
-use Rattle.timefd_lint.specs.declared.line.TextEnd.TheVariants.{PassedOver, Accepted, Refused, NotText, Failed, UnreadCall, UnreadValue}
+use Rattle.timefd_lint.specs.declared.line.TextEnd.TheVariants.{PassedOver, Accepted, Converted, Refused, NotText, Failed, UnreadCall, UnreadValue}
 use Rattle.timefd_lint.specs.declared.tally.Tally.{Tally}
 use Rattle.timefd_drawing.specs.declared.draw.Style.{Style}
 use Rattle.timefd_drawing.specs.declared.position.Origin.{Origin}
@@ -28,21 +31,21 @@ use Rattle.timefd_lint.specs.Lines.{IsEndOf, IsLineEnd}
 use Rattle.timefd_lint.specs.Marks.{IsNote, has_mark}
 
 -- the tree of a text, byte for byte, if it is asked for
-abbrev pub IsTreeOf : Language → Reporting → Origin → Text → Text → Type 0
-IsTreeOf language reporting origin text tree =
-    IsExplainedIf reporting.explains language origin.file.now origin.line text tree
+abbrev pub IsTreeOf : Language → Bool → Origin → Text → Text → Type 0
+IsTreeOf language explains origin text tree =
+    IsExplainedIf explains language origin.file.now origin.line text tree
 
 -- An accepted text's message is its tree, if that is asked for, and then each of its warnings that is
 -- reported, at its position and in the order of the codes, and nothing else.
 abbrev pub IsTreeAndWarnings : Language → Reporting → Origin → Levels → Text → Text → Type 0
 IsTreeAndWarnings language reporting origin found text message = (tree : Text)
     × (message ≡ tree ++ warning_messages reporting.style origin found)
-    × IsTreeOf language reporting origin text tree
+    × IsTreeOf language reporting.explains origin text tree
 
 -- The tree of a text is written, if it is asked for, and nothing else is.
-abbrev pub WritesTree : Language → Reporting → Origin → Text → Option Text → Option Text → Type 0
-WritesTree language reporting origin text before after = (tree : Text)
-    × IsTreeOf language reporting origin text tree × Appends before after tree
+abbrev pub WritesTree : Language → Bool → Origin → Text → Option Text → Option Text → Type 0
+WritesTree language explains origin text before after = (tree : Text)
+    × IsTreeOf language explains origin text tree × Appends before after tree
 
 -- A refused text's message draws its first fault and the further ones, each at its position.
 abbrev pub IsDrawing : Language → Style → Origin → Text → Text → Type 0
@@ -53,13 +56,32 @@ IsDrawing language style origin text message = (g : Diagnostic) × (further : Li
 abbrev pub IsFailureNote : Style → Bor Text → Text → Type 0
 IsFailureNote style file message = (failure : Failure) × (message ≡ note_of style file failure)
 
+abbrev pub IsMessageOnAccepted : Wording → Reporting → Origin → Levels → Text → Text → Type 0
+IsMessageOnAccepted (Own language) reporting origin found text message =
+    IsTreeAndWarnings language reporting origin found text message
+IsMessageOnAccepted (Other dialect) reporting origin found text message = ⊥
+
+-- The message on a format of another language: a warning on each trap, in order, if warnings are reported.
+abbrev pub IsMessageOnConverted : Wording → Reporting → Origin → ℕ → Text → Text → Type 0
+IsMessageOnConverted (Own language) reporting origin traps text message = ⊥
+IsMessageOnConverted (Other dialect) reporting origin traps text message =
+    AreTrapsDrawn (is_some reporting.levels) reporting.style origin dialect text traps message
+
+-- What is wrong with a text: its faults, or the part of a format of another language that is refused.
+abbrev pub IsMessageOnRefused : Wording → Style → Origin → Text → Text → Type 0
+IsMessageOnRefused (Own language) style origin text message = IsDrawing language style origin text message
+IsMessageOnRefused (Other dialect) style origin text message =
+    IsRefusalDrawn style origin dialect text message
+
 -- The message on a text. A text that is passed over has none.
-abbrev pub IsMessageOn : Language → Reporting → Origin → Text → TextEnd → Text → Type 0
+abbrev pub IsMessageOn : Wording → Reporting → Origin → Text → TextEnd → Text → Type 0
 IsMessageOn language reporting origin text PassedOver message = message ≡ []
 IsMessageOn language reporting origin text (Accepted found) message =
-    IsTreeAndWarnings language reporting origin found text message
+    IsMessageOnAccepted language reporting origin found text message
+IsMessageOn language reporting origin text (Converted traps) message =
+    IsMessageOnConverted language reporting origin traps text message
 IsMessageOn language reporting origin text Refused message =
-    IsDrawing language reporting.style origin text message
+    IsMessageOnRefused language reporting.style origin text message
 IsMessageOn language reporting origin text NotText message =
     message ≡ no_text_note reporting.style origin
 IsMessageOn language reporting origin text Failed message =
@@ -68,7 +90,7 @@ IsMessageOn language reporting origin text UnreadCall message = ⊥
 IsMessageOn language reporting origin text UnreadValue message = ⊥
 
 -- The message on a text is written after what was there before, and no other bytes are.
-abbrev pub Says : Language → Reporting → Origin → Text → TextEnd → Option Text → Option Text → Type 0
+abbrev pub Says : Wording → Reporting → Origin → Text → TextEnd → Option Text → Option Text → Type 0
 Says language reporting origin text end before after = (message : Text)
     × IsMessageOn language reporting origin text end message × Appends before after message
 
@@ -78,13 +100,13 @@ SaysUnread style file before after = (message : Text)
     × IsUnreadNote style file message × Appends before after message
 
 -- The note on a byte-order mark, if there is one, comes before the message.
-abbrev pub IsMessageOf : Bool → Language → Reporting → Origin → Text → TextEnd → Text → Type 0
+abbrev pub IsMessageOf : Bool → Wording → Reporting → Origin → Text → TextEnd → Text → Type 0
 IsMessageOf is_marked language reporting origin text end message =
     (note : Text) × (rest : Text) × (message ≡ note ++ rest)
     × IsNote is_marked reporting.style origin note
     × IsMessageOn language reporting origin text end rest
 
-abbrev pub SaysOf : Bool → Language → Reporting → Origin → Text → TextEnd → Option Text → Option Text
+abbrev pub SaysOf : Bool → Wording → Reporting → Origin → Text → TextEnd → Option Text → Option Text
     → Type 0
 SaysOf is_marked language reporting origin text end before after = (message : Text)
     × IsMessageOf is_marked language reporting origin text end message × Appends before after message
@@ -107,6 +129,7 @@ pub record Reported : Type 0 where
 abbrev pub is_description : TextEnd → Bool
 is_description PassedOver = false
 is_description (Accepted found) = true
+is_description (Converted traps) = true
 is_description Refused = true
 is_description NotText = true
 is_description Failed = false
@@ -120,6 +143,7 @@ is_denied found = nat_lt 0 (warning_count Denied found)
 abbrev pub is_refused : TextEnd → Bool
 is_refused PassedOver = false
 is_refused (Accepted found) = is_denied found
+is_refused (Converted traps) = false
 is_refused Refused = true
 is_refused NotText = false
 is_refused Failed = false
@@ -129,6 +153,7 @@ is_refused UnreadValue = false
 abbrev pub is_not_text : TextEnd → Bool
 is_not_text PassedOver = false
 is_not_text (Accepted found) = false
+is_not_text (Converted traps) = false
 is_not_text Refused = false
 is_not_text NotText = true
 is_not_text Failed = false
@@ -138,6 +163,7 @@ is_not_text UnreadValue = false
 abbrev pub is_failed : TextEnd → Bool
 is_failed PassedOver = false
 is_failed (Accepted found) = false
+is_failed (Converted traps) = false
 is_failed Refused = false
 is_failed NotText = false
 is_failed Failed = true
@@ -148,6 +174,7 @@ is_failed UnreadValue = false
 abbrev pub is_unread_call : TextEnd → Bool
 is_unread_call PassedOver = false
 is_unread_call (Accepted found) = false
+is_unread_call (Converted traps) = false
 is_unread_call Refused = false
 is_unread_call NotText = false
 is_unread_call Failed = false
@@ -158,6 +185,7 @@ is_unread_call UnreadValue = false
 abbrev pub is_unread_value : TextEnd → Bool
 is_unread_value PassedOver = false
 is_unread_value (Accepted found) = false
+is_unread_value (Converted traps) = false
 is_unread_value Refused = false
 is_unread_value NotText = false
 is_unread_value Failed = false
@@ -168,6 +196,7 @@ is_unread_value UnreadValue = true
 abbrev pub warnings_in : TextEnd → ℕ
 warnings_in PassedOver = 0
 warnings_in (Accepted found) = warning_count Warned found
+warnings_in (Converted traps) = u64_saturate traps
 warnings_in Refused = 0
 warnings_in NotText = 0
 warnings_in Failed = 0
@@ -180,7 +209,7 @@ text_in true bytes = bytes
 text_in false bytes = without_newline bytes
 
 -- How the check ends, for a whole file or for a line.
-abbrev pub IsEndIn : Bool → Language → Option (Bor Text) → Reporting → Text → TextEnd → Type 0
+abbrev pub IsEndIn : Bool → Wording → Option (Bor Text) → Reporting → Text → TextEnd → Type 0
 IsEndIn true language comment reporting line end = IsEndOf language reporting line end
 IsEndIn false language comment reporting line end = IsLineEnd language comment reporting (without_newline line) end
 
@@ -190,7 +219,7 @@ IsUnreadIfFailed reporting t =
     IsTrue (is_failed t.end) → IsUnreadNote reporting.style t.origin.file t.message
 
 -- A file that can't be read has no line.
-pub record IsReportOn (is_whole : Bool) (language : Language) (comment : Option (Bor Text))
+pub record IsReportOn (is_whole : Bool) (language : Wording) (comment : Option (Bor Text))
     (reporting : Reporting) (t : Reported) : Type 0 where
   pub end : IsFalse (is_failed t.end) → IsEndIn is_whole language comment reporting t.line t.end
   pub marked : IsTrue t.is_marked → IsTrue (has_mark t.line)
@@ -282,7 +311,7 @@ IsReadUp bytes rest = IfSome bytes (λ _. IsAtEnd rest)
 
 -- The result of a run: its tally counts all reports, and their messages are written in order, and nothing
 -- else.
-pub record IsRun (is_whole : Bool) (language : Language) (comment : Option (Bor Text))
+pub record IsRun (is_whole : Bool) (language : Wording) (comment : Option (Bor Text))
     (reporting : Reporting) (before after : Option Text) (tally : Tally) : Type 0 where
   pub reported : List Reported
   pub each : All (IsReportOn is_whole language comment reporting) reported
@@ -290,7 +319,7 @@ pub record IsRun (is_whole : Bool) (language : Language) (comment : Option (Bor 
   pub written : Appends before after (messages reported)
 
 -- The result of a run over the lines of a reader, which are the lines of a file.
-pub record IsRunOver (language : Language) (comment : Option (Bor Text)) (reporting : Reporting)
+pub record IsRunOver (language : Wording) (comment : Option (Bor Text)) (reporting : Reporting)
     (file : Text) (bytes rest before after : Option Text) (tally : Tally) : Type 0 where
   pub run : IsRun false language comment reporting before after tally
   pub lines : AreLinesOf bytes (lines_of run.reported) tally.failed
@@ -301,7 +330,7 @@ pub record IsRunOver (language : Language) (comment : Option (Bor Text)) (report
 
 -- The result of a run over all bytes of a reader as one text. If the bytes are known, the report is about
 -- that text, unless it can't be read.
-pub record IsRunOfAll (language : Language) (comment : Option (Bor Text)) (reporting : Reporting)
+pub record IsRunOfAll (language : Wording) (comment : Option (Bor Text)) (reporting : Reporting)
     (file : Text) (bytes rest before after : Option Text) (tally : Tally) : Type 0 where
   pub reported : Reported
   pub is_reported : IsReportOn true language comment reporting reported
@@ -314,7 +343,7 @@ pub record IsRunOfAll (language : Language) (comment : Option (Bor Text)) (repor
   pub read : IsFalse tally.failed → IsReadUp bytes rest
 
 -- The result of a run over all that a reader has: as one text, or line by line.
-abbrev pub IsRunOn : Bool → Language → Option (Bor Text) → Reporting → Text → Option Text → Option Text
+abbrev pub IsRunOn : Bool → Wording → Option (Bor Text) → Reporting → Text → Option Text → Option Text
     → Option Text → Option Text → Tally → Type 0
 IsRunOn true language comment reporting file bytes rest before after tally =
     IsRunOfAll language comment reporting file bytes rest before after tally
@@ -323,7 +352,7 @@ IsRunOn false language comment reporting file bytes rest before after tally =
 
 -- The result for the next line, the first or a later one, at its position. At the end of the bytes nothing is
 -- written. If the line can't be read, the note says why.
-abbrev pub IsNext : Bool → Language → Option (Bor Text) → Reporting → Origin → Option Text → Option Text
+abbrev pub IsNext : Bool → Wording → Option (Bor Text) → Reporting → Origin → Option Text → Option Text
     → Option Text → Option Text → Option TextEnd → Type 0
 IsNext is_first language comment reporting origin bytes rest before after None =
     IsAtEnd bytes × IsReadUp bytes rest × Keeps before after

@@ -5,6 +5,7 @@ use Rattle.timefd_component.specs.Tree.{Text}
 use Rattle.timefd_convert.specs.declared.conversion.Conversion.{Conversion}
 use Rattle.timefd_convert.specs.Conversions.{conversion_between}
 use Rattle.timefd_language.specs.declared.description_version.DescriptionVersion.{DescriptionVersion}
+use Rattle.timefd_parse.specs.declared.language.Language.{Language}
 use Rattle.timefd_parse.specs.declared.language.Language.TheVariants.{Version}
 use Rattle.timefd_rewrite.specs.declared.counts.Counts.{Counts}
 use Rattle.timefd_rewrite.specs.declared.layout.Layout.{Layout}
@@ -15,6 +16,7 @@ use Rattle.timefd_rewrite_sources.specs.declared.change.Change.{Change}
 use Rattle.timefd_rewrite_sources.specs.declared.change.Change.TheVariants as changes
 use Rattle.timefd_lint_options.specs.declared.settings.Settings.{Settings}
 use Rattle.timefd_lint_options.specs.Settings.{target}
+use Rattle.timefd_lint_options.specs.Values.{language_of}
 use Rattle.timefd_lint.specs.declared.found.Unit.{Unit}
 use Rattle.timefd_lint.specs.declared.found.Unit.TheVariants.{Line, Description}
 use Rattle.timefd_lint.specs.declared.rewriting.Rewriting.{Rewriting}
@@ -30,16 +32,29 @@ layout_by is_normal None = None
 layout_by true (Some conversion) = Some (layouts.Normal conversion)
 layout_by false (Some conversion) = Some (layouts.Least conversion)
 
+abbrev pub own_layout : Bool → Language → DescriptionVersion → Option Layout
+own_layout is_normal language version =
+    layout_by is_normal (conversion_between language (Version version))
+
+abbrev pub layout_of : Bool → Option Language → DescriptionVersion → Option Layout
+layout_of is_normal (Some language) version = own_layout is_normal language version
+layout_of is_normal None version = None
+
 -- How lines are laid out in a version; not at all if no conversion leads there.
 abbrev pub layout_in : Settings → DescriptionVersion → Option Layout
-layout_in s version = layout_by s.is_normal (conversion_between s.language (Version version))
+layout_in s version = layout_of s.is_normal (language_of s.language) version
+
+-- How lines are mended; not at all if their language isn't one of `time`.
+abbrev pub mended : Option Language → Fixes → Option Layout
+mended (Some language) fixes = Some (layouts.Fixed language fixes)
+mended None fixes = None
 
 abbrev pub change_to : Settings → DescriptionVersion → Change
 change_to s version = if s.is_normal then changes.Normal else changes.Least version
 
 abbrev pub mending : Settings → Rewriting
 mending s = record {
-  lines = Some (layouts.Fixed s.language (fixes_of s));
+  lines = mended (language_of s.language) (fixes_of s);
   sources = changes.Mended (fixes_of s);
   writes = s.writes;
   is_partial = s.is_partial;

@@ -8,6 +8,12 @@ use Rattle.timefd_editor.specs.Each.{AreOf}
 use Rattle.timefd_lint.specs.declared.error_code.ErrorCode.{ErrorCode}
 use Rattle.timefd_lint.specs.declared.error_code.ErrorCode.TheVariants.{Fault, NotText, Unreadable, Unwritable, ByteOrderMark, UnknownLanguage}
 use Rattle.timefd_lint.specs.ErrorCodes.{name_of}
+use Rattle.timefd_dialect.specs.declared.reason.Reason.{Reason}
+use Rattle.timefd_dialect.specs.declared.trap.Trap.{Trap}
+use Rattle.timefd_dialect.specs.declared.trap.Trap.TheVariants.{WeekYearBesideMonth, DayOfYearBesideMonth, MinuteBesideDay, SecondBeforeMinute, TwoLetterWeekday, WeekdayFromZero, Panic, YearWithoutCentury}
+use Rattle.timefd_dialect.specs.Reasons as reasons
+use Rattle.timefd_dialect.specs.TrapWords as traps
+use Rattle.timefd_lint_dialects.specs.Codes.{all_reasons}
 use Rattle.timefd_warnings.specs.declared.warning.Warning.{Warning}
 use Rattle.timefd_warnings.specs.Codes as warnings
 use Rattle.timefd_warnings.specs.Explanations.{explanation_of}
@@ -42,12 +48,34 @@ IsWarningRule w text =
 abbrev pub others : List ErrorCode
 others = NotText ∷ Unreadable ∷ Unwritable ∷ ByteOrderMark ∷ UnknownLanguage ∷ []
 
--- All rules: those of faults, of other errors, and of warnings.
+abbrev pub IsReasonRule : Reason → Text → Type 0
+IsReasonRule r text = text ≡ rule (reasons.name r) (codes "error") (reasons.sentence r) (reasons.cure r)
+
+abbrev pub IsTrapRule : Trap → Text → Type 0
+IsTrapRule t text = text ≡ rule (traps.name t) (codes "warning") (traps.sentence t) (traps.cure t)
+
+-- the traps without the one whose code a warning has too
+abbrev pub own_traps : List Trap
+own_traps =
+    WeekYearBesideMonth ∷ DayOfYearBesideMonth ∷ MinuteBesideDay ∷ SecondBeforeMinute ∷ TwoLetterWeekday
+    ∷ WeekdayFromZero ∷ Panic ∷ YearWithoutCentury ∷ []
+
+-- The rules of what is reported of formats of other languages: of what is refused, and of traps.
+pub record AreOtherRules (text : Text) : Type 0 where
+  pub reasons_text : Text
+  pub traps_text : Text
+  pub refused : AreOf IsReasonRule all_reasons reasons_text
+  pub trapped : AreOf IsTrapRule own_traps traps_text
+  pub whole : text ≡ reasons_text ++ traps_text
+
+-- All rules: those of faults, of other errors, of warnings, and of formats of other languages.
 pub record AreRules (text : Text) : Type 0 where
   pub faults_text : Text
   pub others_text : Text
   pub warnings_text : Text
+  pub dialects_text : Text
   pub faults : AreOf IsFaultRule faults.all faults_text
   pub errors : AreOf IsErrorRule others others_text
   pub warned : AreOf IsWarningRule warnings.all warnings_text
-  pub whole : text ≡ faults_text ++ (others_text ++ warnings_text)
+  pub dialects : AreOtherRules dialects_text
+  pub whole : text ≡ faults_text ++ (others_text ++ (warnings_text ++ dialects_text))

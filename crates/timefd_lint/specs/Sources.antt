@@ -4,7 +4,7 @@ use Rattle.std.specs.List.{ends_with}
 use Rattle.std.specs.Io.KnownBytes.{Appends}
 use denote.Ref.{Bor}
 use Rattle.timefd_component.specs.Tree.{Text}
-use Rattle.timefd_parse.specs.declared.language.Language.{Language}
+use Rattle.timefd_lint_options.specs.declared.wording.Wording.{Wording}
 use Rattle.timefd_sources.specs.declared.description.Description.{Description}
 use Rattle.timefd_keys.specs.declared.format.Format.{Format}
 use Rattle.timefd_keys.specs.Formats.{format_named}
@@ -133,13 +133,13 @@ pub record IsOfRemark (reporting : Reporting) (t : Reported) : Type 0 where
 
 -- The report is about a text, a literal of a source, a source that isn't UTF-8, or something else in a
 -- source.
-abbrev pub IsReportedOfAny : Bool → Language → Option (Bor Text) → Reporting → Reported → Type 0
+abbrev pub IsReportedOfAny : Bool → Wording → Option (Bor Text) → Reporting → Reported → Type 0
 IsReportedOfAny is_whole language comment reporting t =
     IsReportOn is_whole language comment reporting t
     ⊎ (IsOfLiteral reporting t ⊎ (IsOfNoText reporting t ⊎ IsOfRemark reporting t))
 
 -- The result of a run, like `IsRun`, that also reads sources.
-pub record IsRunOfAny (is_whole : Bool) (language : Language) (comment : Option (Bor Text))
+pub record IsRunOfAny (is_whole : Bool) (language : Wording) (comment : Option (Bor Text))
     (reporting : Reporting) (before after : Option Text) (tally : Tally) : Type 0 where
   pub reported : List Reported
   pub each : All (IsReportedOfAny is_whole language comment reporting) reported
@@ -147,7 +147,7 @@ pub record IsRunOfAny (is_whole : Bool) (language : Language) (comment : Option 
   pub written : Appends before after (messages reported)
 
 -- The result of a run that reads sources, or of one that doesn't.
-abbrev pub IsRunWith : Bool → Bool → Language → Option (Bor Text) → Reporting → Option Text → Option Text
+abbrev pub IsRunWith : Bool → Bool → Wording → Option (Bor Text) → Reporting → Option Text → Option Text
     → Tally → Type 0
 IsRunWith true is_whole language comment reporting before after tally =
     IsRunOfAny is_whole language comment reporting before after tally

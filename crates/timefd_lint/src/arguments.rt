@@ -99,7 +99,10 @@ fn values(alloc: Global, option: Valued) -> Result<String, AllocError>
     ensures { IfOk result (λ text. string_bytes text ≡ spec.values option) }
 {
     match option {
-        Valued::Language => String::from_str(alloc, "one of 1, 2, 3, strftime"),
+        Valued::Language => String::from_str(
+            alloc,
+            "one of 1, 2, 3, strftime, python, c, gnu, chrono, jiff, ruby, java, go, moment",
+        ),
         Valued::Format => String::from_str(alloc, "one of human, json, short, github, sarif"),
         Valued::Color => String::from_str(alloc, "one of always, never, auto"),
         Valued::Comment => String::from_str(alloc, "a mark that is not empty"),
@@ -178,6 +181,12 @@ fn conflict_sentence(conflict: Conflict) -> &'static str
         }
         Conflict::NoConversion => {
             "no rewriting leads there: `--language 1` goes `--to 2` or `3`, `2` and `strftime` go `--to 3`; `--normal` lays out version 3"
+        }
+        Conflict::ExplainsOther => {
+            "`--explain` draws trees of the languages of `time`; leave it out for formats of other libraries"
+        }
+        Conflict::FixesOther => {
+            "`--fix` mends the languages of `time`; change a format of another library as its help says"
         }
         Conflict::RewritesWarned => {
             "`--warn`, `--deny` and `--allow` look at files, and don't go with `--to` and `--normal`"

@@ -8,7 +8,8 @@ ghost use Rattle.timefd_language.specs.Grammar.{nesting_limit};
 ghost use Rattle.timefd_parse.specs.Language.{SpellsIn};
 ghost use Rattle.timefd_lint_sources.specs.Reported.{no_text_note};
 ghost use Rattle.timefd_lint.specs.declared.line.TextEnd.TheVariants as ends;
-ghost use Rattle.timefd_lint.specs.Lines.{IsEndOf, IsLineEnd};
+ghost use Rattle.timefd_lint.specs.Lines.{IsEndOf, IsLineEnd, end_by};
+ghost use Rattle.timefd_lint_options.specs.declared.wording.Wording.TheVariants.{Own, Other};
 ghost use Rattle.timefd_lint.specs.Reported.{Says, WritesTree};
 
 use crate::options::Options;
@@ -16,9 +17,14 @@ use std::alloc::{AllocError, Global};
 use std::io::Write;
 use std::str;
 use timefd_diagnosis::{Diagnostic, MOST_FURTHER, diagnose, further_faults};
-use timefd_drawing::{Origin, drawn_all, note};
+use timefd_dialect::Dialect;
+use timefd_drawing::{Origin, Style, drawn_all, note};
 use timefd_explain::explained;
+use timefd_lint_dialects::{Judged, Judgement, judge};
+use timefd_lint_options::Wording;
+use timefd_lint_sources::Reporting;
 use timefd_lint_warnings::{found_in, messages};
+use timefd_parse::Language;
 use timefd_rewrite::is_passed_over;
 use timefd_warnings::{Level, Levels};
 
@@ -44,7 +50,9 @@ pub enum TextEnd {
     PassedOver,
     /// A description, with its warnings that are reported. All other warnings count as allowed.
     Accepted(Levels),
-    /// Not a description. A diagnostic was written.
+    /// A format of another language that version 3 writes too, with so many traps that were reported.
+    Converted(u64),
+    /// Not a description, or a format that version 3 can't write. What is wrong was written.
     Refused,
     /// Not UTF-8. A note was written.
     NotText,
@@ -95,7 +103,7 @@ pub fn lint_text<W: Write>(
 }
 
 // Checks a text that is UTF-8.
-#[tactic(auto, using(crate::proofs::TextLemmas::with_list, crate::proofs::TextLemmas::with_fault, crate::proofs::TextLemmas::fault_said))]
+#[tactic(auto, using(crate::proofs::OtherLemmas::end_as, crate::proofs::OtherLemmas::said_as))]
 fn judged<W: Write>(
     alloc: Global,
     options: Options<'_>,
@@ -107,19 +115,88 @@ fn judged<W: Write>(
     ensures said { IfOk result (λ end. Says options.entry.language options.entry.reporting origin.entry
         text.now end (W.contents writer.old) (W.contents writer.new)) }
 {
-    match diagnose(alloc, options.language, text)? {
-        None => accepted(alloc, options, origin, text, writer),
-        Some(diagnostic) => {
-            let further = further_faults(alloc, options.language, text, &diagnostic, MOST_FURTHER)?;
-            refused(alloc, options, origin, text, &diagnostic, &further, writer)
+    match options.language {
+        Wording::Own(language) => {
+            own_judged(alloc, language, options.reporting, origin, text, writer)
         }
+        Wording::Other(dialect) => {
+            other_judged(alloc, dialect, options.reporting, origin, text, writer)
+        }
+    }
+}
+
+// Checks a text of a language of `time`.
+#[tactic(auto, using(crate::proofs::TextLemmas::with_list, crate::proofs::TextLemmas::with_fault, crate::proofs::TextLemmas::fault_said))]
+fn own_judged<W: Write>(
+    alloc: Global,
+    language: Language,
+    reporting: Reporting,
+    origin: Origin<'_>,
+    text: &str,
+    writer: &mut W,
+) -> Result<TextEnd, RunError>
+    ensures end { IfOk result (IsEndOf (Own language) reporting text.now) }
+    ensures said { IfOk result (λ end. Says (Own language) reporting origin.entry
+        text.now end (W.contents writer.old) (W.contents writer.new)) }
+{
+    match diagnose(alloc, language, text)? {
+        None => accepted(alloc, language, reporting, origin, text, writer),
+        Some(diagnostic) => {
+            let further = further_faults(alloc, language, text, &diagnostic, MOST_FURTHER)?;
+            refused(
+                alloc,
+                reporting.style,
+                origin,
+                text,
+                &diagnostic,
+                &further,
+                writer,
+            )
+        }
+    }
+}
+
+// Checks a format of another language.
+#[tactic(auto, using(crate::proofs::OtherLemmas::other_end, crate::proofs::OtherLemmas::other_said))]
+fn other_judged<W: Write>(
+    alloc: Global,
+    dialect: Dialect,
+    reporting: Reporting,
+    origin: Origin<'_>,
+    text: &str,
+    writer: &mut W,
+) -> Result<TextEnd, RunError>
+    ensures end { IfOk result (IsEndOf (Other dialect) reporting text.now) }
+    ensures said { IfOk result (λ end. Says (Other dialect) reporting origin.entry
+        text.now end (W.contents writer.old) (W.contents writer.new)) }
+{
+    let reports_traps = reporting.levels.is_some();
+    let Judged { judgement, message } = judge(
+        alloc,
+        reporting.style,
+        origin,
+        reports_traps,
+        dialect,
+        text,
+    )?;
+    write(writer, &message)?;
+    Ok(end_of(judgement))
+}
+
+// How the check of a format of another language ends.
+fn end_of(judgement: Judgement) -> TextEnd
+    ensures { result ≡ end_by judgement }
+{
+    match judgement {
+        Judgement::Converted(traps) => TextEnd::Converted(traps),
+        Judgement::Refused => TextEnd::Refused,
     }
 }
 
 // Writes all that is wrong with a refused text.
 fn refused<W: Write>(
     alloc: Global,
-    options: Options<'_>,
+    style: Style,
     origin: Origin<'_>,
     text: &str,
     diagnostic: &Diagnostic,
@@ -128,10 +205,8 @@ fn refused<W: Write>(
 ) -> Result<TextEnd, RunError>
     ensures end { IfOk result (λ end. end ≡ ends.Refused) }
     ensures written { OnOk result (Appends (W.contents writer.old) (W.contents writer.new)
-        (drawing.drawn_all options.entry.reporting.style origin.entry text.now diagnostic.now
-        further.now)) }
+        (drawing.drawn_all style origin.entry text.now diagnostic.now further.now)) }
 {
-    let style = options.reporting.style;
     let message = drawn_all(alloc, style, origin, text, diagnostic, further)?;
     write(writer, &message)?;
     Ok(TextEnd::Refused)
@@ -162,22 +237,23 @@ fn not_text<W: Write>(
 // Writes the tree of an accepted text, if it is asked for, and then the warnings that are reported.
 fn accepted<W: Write>(
     alloc: Global,
-    options: Options<'_>,
+    language: Language,
+    reporting: Reporting,
     origin: Origin<'_>,
     text: &str,
     writer: &mut W,
 ) -> Result<TextEnd, RunError>
-    ensures end { (list : List Tree) → SpellsIn options.entry.language nesting_limit text.now list
-        → IfOk result (IsEndOf options.entry.language options.entry.reporting text.now) }
-    ensures said { IfOk result (λ end. Says options.entry.language options.entry.reporting origin.entry
+    ensures end { (list : List Tree) → SpellsIn language nesting_limit text.now list
+        → IfOk result (IsEndOf (Own language) reporting text.now) }
+    ensures said { IfOk result (λ end. Says (Own language) reporting origin.entry
         text.now end (W.contents writer.old) (W.contents writer.new)) }
 {
-    write_tree(alloc, options, origin, text, writer)?;
-    let Some(levels) = options.reporting.levels else {
+    write_tree(alloc, language, reporting.explains, origin, text, writer)?;
+    let Some(levels) = reporting.levels else {
         return Ok(TextEnd::Accepted(Levels::all_at(Level::Allowed)));
     };
-    let found = found_in(alloc, options.language, text, levels)?;
-    let reported = messages(alloc, options.reporting.style, origin, found)?;
+    let found = found_in(alloc, language, text, levels)?;
+    let reported = messages(alloc, reporting.style, origin, found)?;
     write(writer, &reported)?;
     Ok(TextEnd::Accepted(found))
 }
@@ -186,17 +262,17 @@ fn accepted<W: Write>(
 #[tactic(auto, using(crate::proofs::AcceptedLemmas::tree_written, crate::proofs::AcceptedLemmas::no_tree))]
 fn write_tree<W: Write>(
     alloc: Global,
-    options: Options<'_>,
+    language: Language,
+    explains: bool,
     origin: Origin<'_>,
     text: &str,
     writer: &mut W,
 ) -> Result<(), RunError>
-    ensures { OnOk result
-        (WritesTree options.entry.language options.entry.reporting origin.entry text.now
+    ensures { OnOk result (WritesTree language explains origin.entry text.now
         (W.contents writer.old) (W.contents writer.new)) }
 {
-    if options.reporting.explains {
-        let tree = explained(alloc, options.language, origin, text)?;
+    if explains {
+        let tree = explained(alloc, language, origin, text)?;
         write(writer, tree.as_bytes())?;
     }
     Ok(())

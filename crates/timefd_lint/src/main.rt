@@ -20,11 +20,13 @@ mod log;
 mod mark;
 mod no_code;
 mod options;
+mod other_rules;
 mod output;
 mod page;
 mod progress;
 mod rewrite_report;
 mod rewriting;
+mod rule;
 mod rules;
 mod run;
 mod running;
@@ -177,14 +179,16 @@ fn nothing_status(rt: &HostRuntime, settings: Settings<'_>) -> u8 {
     }
 }
 
+// Whether something is read line by line, or as a whole text: a file that is no source, or the standard input.
+fn has_lines(options: Options<'_>) -> bool {
+    !are_sources(options) || (options.files.is_empty() && !options.is_source)
+}
+
 fn files_status(rt: &HostRuntime, settings: Settings<'_>, keys: &[Key<'_>], files: &[&str]) -> u8 {
     let colored = is_colored(rt, settings.color);
     let options = run_options(settings, colored, keys, files);
     match lines_conflict(settings) {
-        Some(conflict) if !are_sources(options) => wrong_arguments(
-            rt,
-            OptionError::Conflict(conflict),
-        ),
+        Some(why) if has_lines(options) => wrong_arguments(rt, OptionError::Conflict(why)),
         Some(_) | None => run_status(rt, settings, options),
     }
 }

@@ -4,16 +4,15 @@ ghost use Rattle.std.specs.Prelude.{◌≡◌, length, max, if◌then◌else◌,
 
 use timefd_drawing::Style;
 use timefd_keys::Key;
-use timefd_lint_options::Settings;
+use timefd_lint_options::{Settings, Wording};
 use timefd_lint_sources::Reporting;
-use timefd_parse::Language;
 use timefd_warnings::Levels;
 
 /// What a run does.
 #[derive(Clone, Copy)]
 pub struct Options<'a> {
-    /// The language of the texts.
-    pub language: Language,
+    /// What the texts are written in.
+    pub language: Wording,
     /// What is reported about each text, and how.
     pub reporting: Reporting,
     /// Lines that begin with this are passed over.

@@ -6,6 +6,8 @@ ghost use Rattle.timefd_lint.specs.Pages as spec;
 use crate::error_code::ErrorCode;
 use crate::error_page::{explanation, summary};
 use std::alloc::{AllocError, Global};
+use timefd_dialect::{Reason, Trap};
+use timefd_lint_dialects::{reason_named, trap_named};
 use timefd_warnings::Warning;
 
 /// What a page explains.
@@ -13,9 +15,13 @@ use timefd_warnings::Warning;
 pub enum Subject {
     Error(ErrorCode),
     Warning(Warning),
+    /// A part of a format that version 3 can't write.
+    Reason(Reason),
+    /// What in a format often means something else.
+    Trap(Trap),
 }
 
-/// The error or warning with this name.
+/// The error or warning with this name. A trap that a warning names too has the page of the warning.
 fn subject_named(name: &str) -> Option<Subject>
     ensures { result ≡ spec.subject_named name.now }
 {
@@ -23,6 +29,19 @@ fn subject_named(name: &str) -> Option<Subject>
         Some(code) => Some(Subject::Error(code)),
         None => match Warning::named(name) {
             Some(warning) => Some(Subject::Warning(warning)),
+            None => other_named(name),
+        },
+    }
+}
+
+/// What is reported of formats of other languages by this name.
+fn other_named(name: &str) -> Option<Subject>
+    ensures { result ≡ spec.other_named name.now }
+{
+    match reason_named(name) {
+        Some(reason) => Some(Subject::Reason(reason)),
+        None => match trap_named(name) {
+            Some(trap) => Some(Subject::Trap(trap)),
             None => None,
         },
     }
@@ -77,6 +96,10 @@ pub fn page_on(alloc: Global, subject: Subject) -> Result<String, AllocError>
             warning.sentence(),
             warning.explanation(),
         ),
+        Subject::Reason(reason) => {
+            page_of(alloc, reason.name(), reason.sentence(), reason.cure())
+        }
+        Subject::Trap(trap) => page_of(alloc, trap.name(), trap.sentence(), trap.cure()),
     }
 }
 

@@ -52,8 +52,17 @@ fn fixes_of(settings: Settings<'_>) -> Fixes
 fn layout_in(settings: Settings<'_>, version: DescriptionVersion) -> Option<Layout>
     ensures { result ≡ spec.layout_in settings.entry version }
 {
-    match conversion_between(settings.language, Language::Version(version)) {
-        Some(conversion) if settings.is_normal => Some(Layout::Normal(conversion)),
+    match settings.language.language() {
+        Some(language) => own_layout(settings.is_normal, language, version),
+        None => None,
+    }
+}
+
+fn own_layout(is_normal: bool, language: Language, version: DescriptionVersion) -> Option<Layout>
+    ensures { result ≡ spec.own_layout is_normal language version }
+{
+    match conversion_between(language, Language::Version(version)) {
+        Some(conversion) if is_normal => Some(Layout::Normal(conversion)),
         Some(conversion) => Some(Layout::Least(conversion)),
         None => None,
     }
@@ -70,13 +79,23 @@ fn change_to(settings: Settings<'_>, version: DescriptionVersion) -> Change
     }
 }
 
+// How lines are mended. `None` if their language isn't one of `time`.
+fn mended(language: Option<Language>, fixes: Fixes) -> Option<Layout>
+    ensures { result ≡ spec.mended language fixes }
+{
+    match language {
+        Some(language) => Some(Layout::Fixed(language, fixes)),
+        None => None,
+    }
+}
+
 // How files are mended.
 fn mending(settings: Settings<'_>) -> Rewriting
     ensures { result ≡ spec.mending settings.entry }
 {
     let fixes = fixes_of(settings);
     Rewriting {
-        lines: Some(Layout::Fixed(settings.language, fixes)),
+        lines: mended(settings.language.language(), fixes),
         sources: Change::Mended(fixes),
         writes: settings.writes,
         is_partial: settings.is_partial,

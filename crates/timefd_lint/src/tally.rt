@@ -99,7 +99,7 @@ fn is_description(end: TextEnd) -> bool
     ensures { result ≡ spec.is_description end }
 {
     match end {
-        TextEnd::Accepted(_) | TextEnd::Refused | TextEnd::NotText => true,
+        TextEnd::Accepted(_) | TextEnd::Converted(_) | TextEnd::Refused | TextEnd::NotText => true,
         TextEnd::PassedOver | TextEnd::Failed | TextEnd::UnreadCall | TextEnd::UnreadValue => false,
     }
 }
@@ -112,6 +112,7 @@ fn is_unread_call(end: TextEnd) -> bool
         TextEnd::UnreadCall => true,
         TextEnd::PassedOver
         | TextEnd::Accepted(_)
+        | TextEnd::Converted(_)
         | TextEnd::Refused
         | TextEnd::NotText
         | TextEnd::Failed
@@ -127,6 +128,7 @@ fn is_unread_value(end: TextEnd) -> bool
         TextEnd::UnreadValue => true,
         TextEnd::PassedOver
         | TextEnd::Accepted(_)
+        | TextEnd::Converted(_)
         | TextEnd::Refused
         | TextEnd::NotText
         | TextEnd::Failed
@@ -142,6 +144,7 @@ fn is_refused(end: TextEnd) -> bool
         TextEnd::Accepted(found) => found.count(Level::Denied) > 0,
         TextEnd::Refused => true,
         TextEnd::PassedOver
+        | TextEnd::Converted(_)
         | TextEnd::NotText
         | TextEnd::Failed
         | TextEnd::UnreadCall
@@ -155,6 +158,7 @@ fn warnings_in(end: TextEnd) -> u64
 {
     match end {
         TextEnd::Accepted(found) => found.count(Level::Warned),
+        TextEnd::Converted(traps) => traps,
         TextEnd::PassedOver
         | TextEnd::Refused
         | TextEnd::NotText

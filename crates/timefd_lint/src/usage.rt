@@ -15,7 +15,9 @@ ones and those that .gitignore files name, or the list exclude in a file .timefd
 at a terminal, it is the working directory, unless an option says how lines are read: --language,
 --comment, --whole or --source. An option may stand after a file, and = may join it to its value.
 
-  --language 1|2|3|strftime    the language of all lines; version 3 if it isn't given
+  --language LANGUAGE          the language of all lines: 1, 2, 3 (if it isn't given), strftime of time,
+                               or python, c, gnu, chrono, jiff, ruby, java, go, moment, whose formats
+                               have to be ones that version 3 can write
   --format human|json|short|github|sarif
                                drawn, an object of JSON on a line, FILE:LINE:COLUMN: MESSAGE, an
                                annotation of GitHub, or one log of SARIF 2.1.0

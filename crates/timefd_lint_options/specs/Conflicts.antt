@@ -7,9 +7,11 @@ use Rattle.timefd_language.specs.declared.description_version.DescriptionVersion
 use Rattle.timefd_parse.specs.declared.language.Language.{Language}
 use Rattle.timefd_parse.specs.declared.language.Language.TheVariants as languages
 use Rattle.timefd_lint_options.specs.declared.error.Conflict.{Conflict}
-use Rattle.timefd_lint_options.specs.declared.error.Conflict.TheVariants.{ServesFiles, ServesAlone, ExplainUndrawn, LogRewritten, KeysRewritten, WriteWithoutVersion, PartialWithoutWrite, UnsafeWithoutFix, FixesRewritten, FixesWhole, FixesNoFile, FixesInput, NormalOfAnother, NoConversion, RewritesWarned, RewritesWhole, RewritesNoFile, RewritesInput}
+use Rattle.timefd_lint_options.specs.declared.error.Conflict.TheVariants.{ServesFiles, ServesAlone, ExplainUndrawn, LogRewritten, KeysRewritten, WriteWithoutVersion, PartialWithoutWrite, UnsafeWithoutFix, FixesRewritten, FixesWhole, FixesNoFile, FixesInput, NormalOfAnother, NoConversion, ExplainsOther, FixesOther, RewritesWarned, RewritesWhole, RewritesNoFile, RewritesInput}
 use Rattle.timefd_lint_options.specs.declared.names.Names.{Names}
 use Rattle.timefd_lint_options.specs.declared.settings.Settings.{Settings}
+use Rattle.timefd_lint_options.specs.declared.wording.Wording.{Wording}
+use Rattle.timefd_lint_options.specs.declared.wording.Wording.TheVariants.{Own, Other}
 use Rattle.timefd_lint_options.specs.Settings.{target}
 
 abbrev pub is_drawn : Format → Bool
@@ -63,9 +65,25 @@ lines_conflict_by None is_normal language = None
 lines_conflict_by (Some version) is_normal language =
     if is_normal then None else conversion_conflict language version
 
--- why lines can't be rewritten: no conversion exists from their language to the version
+-- why lines in a language of `time` can't be rewritten: no conversion exists from their language to the version
+abbrev pub own_conflict : Settings → Language → Option Conflict
+own_conflict s language = lines_conflict_by (target s) s.is_normal language
+
+-- what can't be done with formats of other languages
+abbrev pub other_conflict : Settings → Option Conflict
+other_conflict s =
+    if s.explains then Some ExplainsOther
+    else if s.fixes then Some FixesOther
+    else if is_some (target s) then Some NoConversion
+    else None
+
+abbrev pub lines_conflict_in : Wording → Settings → Option Conflict
+lines_conflict_in (Own language) s = own_conflict s language
+lines_conflict_in (Other dialect) s = other_conflict s
+
+-- why lines can't be looked at or rewritten as the options ask
 abbrev pub lines_conflict : Settings → Option Conflict
-lines_conflict s = lines_conflict_by (target s) s.is_normal s.language
+lines_conflict s = lines_conflict_in s.language s
 
 abbrev pub fixing_conflict : Settings → Names → Option Conflict
 fixing_conflict s names =

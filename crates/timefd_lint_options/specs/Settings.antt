@@ -12,11 +12,13 @@ use Rattle.timefd_lint_options.specs.declared.error.OptionError.{OptionError}
 use Rattle.timefd_lint_options.specs.declared.error.OptionError.TheVariants.{NotAKey, NotAValue}
 use Rattle.timefd_lint_options.specs.declared.settings.Color.TheVariants as colors
 use Rattle.timefd_lint_options.specs.declared.settings.Settings.{Settings}
+use Rattle.timefd_lint_options.specs.declared.wording.Wording.{Wording}
+use Rattle.timefd_lint_options.specs.declared.wording.Wording.TheVariants as wordings
 use Rattle.timefd_lint_options.specs.declared.word.Flag.{Flag}
 use Rattle.timefd_lint_options.specs.declared.word.Flag.TheVariants.{Whole, Source, Explain, Normal, Fix, Unsafe, Write, Partial, Warn, Lsp, Quiet}
 use Rattle.timefd_lint_options.specs.declared.word.Valued.{Valued}
 use Rattle.timefd_lint_options.specs.declared.word.Valued.TheVariants.{Language, Format, Color, Comment, Key, To, Deny, Allow}
-use Rattle.timefd_lint_options.specs.Values.{language_named, format_named, color_named, version_named}
+use Rattle.timefd_lint_options.specs.Values.{wording_named, format_named, color_named, version_named}
 use Rattle.timefd_keys.specs.declared.key.KeyFault.{KeyFault}
 use Rattle.timefd_keys.specs.Keys.{key_fault}
 use Rattle.timefd_warnings.specs.declared.levels.Level.{Level}
@@ -26,7 +28,7 @@ use Rattle.timefd_warnings.specs.Levels.{all_at, with_level}
 
 abbrev pub initial : Settings
 initial = record {
-  language = languages.Version Three;
+  language = wordings.Own (languages.Version Three);
   format = formats.Human;
   color = colors.Auto;
   comment = None;
@@ -46,12 +48,16 @@ initial = record {
   is_quiet = false;
 }
 
--- whether a language is another than without an option
-abbrev pub is_chosen : languages_of.Language → Bool
-is_chosen (languages.Version One) = true
-is_chosen (languages.Version Two) = true
-is_chosen (languages.Version Three) = false
-is_chosen languages.Strftime = true
+abbrev pub is_chosen_language : languages_of.Language → Bool
+is_chosen_language (languages.Version One) = true
+is_chosen_language (languages.Version Two) = true
+is_chosen_language (languages.Version Three) = false
+is_chosen_language languages.Strftime = true
+
+-- whether a wording is another than without an option
+abbrev pub is_chosen : Wording → Bool
+is_chosen (wordings.Own language) = is_chosen_language language
+is_chosen (wordings.Other dialect) = true
 
 -- whether the settings are about lines or a whole text, which may be read from the standard input
 abbrev pub reads_lines : Settings → Bool
@@ -79,7 +85,7 @@ with_flag s Lsp = record s { serves = true }
 with_flag s Quiet = record s { is_quiet = true }
 
 abbrev pub with_language : Settings → Text → Option Settings
-with_language s word = option_map (λ l. record s { language = l }) (language_named word)
+with_language s word = option_map (λ l. record s { language = l }) (wording_named word)
 
 abbrev pub with_format : Settings → Text → Option Settings
 with_format s word = option_map (λ f. record s { format = f }) (format_named word)

@@ -7,8 +7,12 @@ use Rattle.timefd_language.specs.declared.description_version.DescriptionVersion
 use Rattle.timefd_language.specs.declared.description_version.DescriptionVersion.TheVariants.{One, Two, Three}
 use Rattle.timefd_parse.specs.declared.language.Language.{Language}
 use Rattle.timefd_parse.specs.declared.language.Language.TheVariants.{Version, Strftime}
+use Rattle.timefd_dialect.specs.declared.dialect.Dialect.{Dialect}
+use Rattle.timefd_dialect.specs.Dialects.{named}
 use Rattle.timefd_lint_options.specs.declared.settings.Color.{Color}
 use Rattle.timefd_lint_options.specs.declared.settings.Color.TheVariants.{Always, Never, Auto}
+use Rattle.timefd_lint_options.specs.declared.wording.Wording.{Wording}
+use Rattle.timefd_lint_options.specs.declared.wording.Wording.TheVariants.{Own, Other}
 
 abbrev pub language_named : Text → Option Language
 language_named word =
@@ -17,6 +21,26 @@ language_named word =
     else if bytes_eq word (codes "3") then Some (Version Three)
     else if bytes_eq word (codes "strftime") then Some Strftime
     else None
+
+-- the language, if it is one of `time`
+abbrev pub language_of : Wording → Option Language
+language_of (Own language) = Some language
+language_of (Other dialect) = None
+
+abbrev pub dialect_by : Option Dialect → Option Wording
+dialect_by (Some dialect) = Some (Other dialect)
+dialect_by None = None
+
+abbrev pub dialect_named : Text → Option Wording
+dialect_named word = dialect_by (named word)
+
+abbrev pub wording_by : Option Language → Option Wording → Option Wording
+wording_by (Some language) other = Some (Own language)
+wording_by None other = other
+
+-- a language of `time`, or else a dialect
+abbrev pub wording_named : Text → Option Wording
+wording_named word = wording_by (language_named word) (dialect_named word)
 
 abbrev pub format_named : Text → Option Format
 format_named word =

@@ -6,6 +6,7 @@ ghost use Rattle.timefd_lint_options.specs.Conflicts as spec;
 use crate::error::Conflict;
 use crate::names::Names;
 use crate::settings::{Settings, target};
+use crate::wording::Wording;
 use timefd_drawing::Format;
 use timefd_parse::{DescriptionVersion, Language};
 
@@ -119,14 +120,40 @@ fn rewriting_conflict(
     None
 }
 
-/// Why lines can't be rewritten, if some files aren't sources: no conversion exists from their language to
-/// the version.
+/// Why lines can't be looked at or rewritten as the options ask, if some files aren't sources: no conversion exists from
+/// their language to the version, or it is no language of `time`.
 pub fn lines_conflict(settings: Settings<'_>) -> Option<Conflict>
     ensures { result ≡ spec.lines_conflict settings.entry }
 {
+    match settings.language {
+        Wording::Own(language) => own_conflict(settings, language),
+        Wording::Other(_) => other_conflict(settings),
+    }
+}
+
+// Why lines in a language of `time` can't be rewritten.
+fn own_conflict(settings: Settings<'_>, language: Language) -> Option<Conflict>
+    ensures { result ≡ spec.own_conflict settings.entry language }
+{
     match target(settings) {
-        Some(version) if !settings.is_normal => conversion_conflict(settings.language, version),
+        Some(version) if !settings.is_normal => conversion_conflict(language, version),
         Some(_) | None => None,
+    }
+}
+
+// What can't be done with formats of other languages.
+fn other_conflict(settings: Settings<'_>) -> Option<Conflict>
+    ensures { result ≡ spec.other_conflict settings.entry }
+{
+    if settings.explains {
+        return Some(Conflict::ExplainsOther);
+    }
+    if settings.fixes {
+        return Some(Conflict::FixesOther);
+    }
+    match target(settings) {
+        Some(_) => Some(Conflict::NoConversion),
+        None => None,
     }
 }
 

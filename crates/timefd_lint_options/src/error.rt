@@ -49,6 +49,10 @@ pub enum Conflict {
     NormalOfAnother,
     /// No conversion exists from the language of the lines to the version.
     NoConversion,
+    /// Trees are those of the languages of `time`.
+    ExplainsOther,
+    /// Only faults of the languages of `time` are fixed.
+    FixesOther,
     /// Warnings are only reported about descriptions that stay as they are.
     RewritesWarned,
     /// A file is rewritten line by line, not as a whole.

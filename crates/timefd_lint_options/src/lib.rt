@@ -13,6 +13,7 @@ mod suggestion;
 mod valued;
 mod values;
 mod word;
+mod wording;
 
 pub use asked::{Asked, Options, options_of};
 pub use conflict::{is_log, lines_conflict};
@@ -22,3 +23,4 @@ pub use order::ordered;
 pub use settings::{Color, Settings, reads_lines, target};
 pub use suggestion::nearest_option;
 pub use word::{Flag, Valued, is_input};
+pub use wording::Wording;

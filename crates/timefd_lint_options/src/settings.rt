@@ -3,6 +3,7 @@
 ghost use Rattle.std.specs.Prelude.{◌≡◌};
 ghost use Rattle.timefd_lint_options.specs.Settings as spec;
 
+use crate::wording::Wording;
 use timefd_drawing::Format;
 use timefd_parse::{DescriptionVersion, Language};
 use timefd_warnings::{Level, Levels};
@@ -19,8 +20,8 @@ pub enum Color {
 /// The settings of a run.
 #[derive(Clone, Copy)]
 pub struct Settings<'a> {
-    /// The language of the texts.
-    pub language: Language,
+    /// What the texts are written in.
+    pub language: Wording,
     /// How diagnostics are written.
     pub format: Format,
     /// Whether diagnostics are coloured.
@@ -63,7 +64,7 @@ impl Settings<'_> {
         ensures { result ≡ spec.initial }
     {
         Settings {
-            language: Language::Version(DescriptionVersion::Three),
+            language: Wording::Own(Language::Version(DescriptionVersion::Three)),
             format: Format::Human,
             color: Color::Auto,
             comment: None,
@@ -97,9 +98,18 @@ pub fn reads_lines(settings: Settings<'_>) -> bool
         || is_chosen(settings.language)
 }
 
-// Whether a language is another than without an option.
-fn is_chosen(language: Language) -> bool
-    ensures { result ≡ spec.is_chosen language }
+// Whether a wording is another than without an option.
+fn is_chosen(wording: Wording) -> bool
+    ensures { result ≡ spec.is_chosen wording }
+{
+    match wording {
+        Wording::Own(language) => is_chosen_language(language),
+        Wording::Other(_) => true,
+    }
+}
+
+fn is_chosen_language(language: Language) -> bool
+    ensures { result ≡ spec.is_chosen_language language }
 {
     match language {
         Language::Version(DescriptionVersion::Three) => false,

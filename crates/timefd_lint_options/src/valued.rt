@@ -5,8 +5,9 @@ ghost use Rattle.timefd_lint_options.specs.Settings as spec;
 
 use crate::error::OptionError;
 use crate::settings::Settings;
-use crate::values::{color_named, format_named, language_named, version_named};
+use crate::values::{color_named, format_named, version_named};
 use crate::word::Valued;
+use crate::wording::wording_named;
 use timefd_keys::key_fault;
 use timefd_warnings::{Level, Warning};
 
@@ -37,7 +38,7 @@ pub fn with_value<'a>(
 fn with_language<'a>(settings: Settings<'a>, value: &str) -> Option<Settings<'a>>
     ensures { result ≡ spec.with_language settings.entry value.now }
 {
-    match language_named(value) {
+    match wording_named(value) {
         Some(language) => Some(Settings {
             language,
             ..settings

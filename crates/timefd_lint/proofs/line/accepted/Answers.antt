@@ -5,27 +5,27 @@ use Rattle.timefd_lint.proofs.line.accepted.Goals as goal
 
 pub returns-in_default-clause-end : goal.returns-in_default-clause-end
 returns-in_default-clause-end g c = λ list spelled.
-    accepted_is c.args.options.language c.args.options.reporting c.args.text.now list
+    accepted_is c.args.language c.args.reporting c.args.text.now list
     c.all_at.result c.utf8.text spelled
-    (c.all_at.ensures ∙ sym (ap (λ l. found_by l c.args.options.language list) c.in_default.is))
+    (c.all_at.ensures ∙ sym (ap (λ l. found_by l c.args.language list) c.in_default.is))
 
 pub returns-in_default-clause-said : goal.returns-in_default-clause-said
 returns-in_default-clause-said g c =
-    tree_alone c.args.options.language c.args.options.reporting c.args.origin c.args.text.now
+    tree_alone c.args.language c.args.reporting c.args.origin c.args.text.now
     c.all_at.result
     (g.W.Write.contents c.args.writer.now) (g.W.Write.contents c.write_tree.new.writer)
     c.in_ok-write_tree.ensures c.all_at.ensures
 
 pub returns-clause-end : goal.returns-clause-end
 returns-clause-end g c = λ list spelled.
-    accepted_is c.args.options.language c.args.options.reporting c.args.text.now list
+    accepted_is c.args.language c.args.reporting c.args.text.now list
     c.in_ok-found.found c.utf8.text spelled
     (c.in_ok-found.ensures list spelled
-    ∙ sym (ap (λ l. found_by l c.args.options.language list) c.in-Some.is))
+    ∙ sym (ap (λ l. found_by l c.args.language list) c.in-Some.is))
 
 pub returns-clause-said : goal.returns-clause-said
 returns-clause-said g c =
-    tree_and_warnings c.args.options.language c.args.options.reporting c.args.origin c.args.text.now
+    tree_and_warnings c.args.language c.args.reporting c.args.origin c.args.text.now
     c.in_ok-found.found
     (g.W.Write.contents c.args.writer.now) (g.W.Write.contents c.write_tree.new.writer)
     (g.W.Write.contents c.write.new.writer) c.deref.result.now c.in_ok-write_tree.ensures

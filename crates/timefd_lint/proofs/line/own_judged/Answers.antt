@@ -8,14 +8,14 @@ use Rattle.timefd_language.specs.Grammar.{nesting_limit}
 use Rattle.timefd_parse.specs.Language.{FaultIn}
 use Rattle.timefd_lint.specs.declared.line.TextEnd.TheVariants.{Refused}
 use Rattle.timefd_lint.proofs.TextLemmas.{fault_said}
-use Rattle.timefd_lint.proofs.line.judged.Goals as goal
+use Rattle.timefd_lint.proofs.line.own_judged.Goals as goal
 
 pub returns-in_ok-further-in-Some-clause-said : goal.returns-in_ok-further-in-Some-clause-said
 returns-in_ok-further-in-Some-clause-said g c =
     let d = c.in-Some.diagnostic in
-    let language = c.args.options.language in
+    let language = c.args.language in
     let text = c.args.text.now in
-    let reporting = c.args.options.reporting in
+    let reporting = c.args.reporting in
     let others = c.in_ok-further-in-Some.further.items in
     let faulty : FaultIn language nesting_limit text (fault_of d.fault) = search rules in
     let diagnosed : IsDiagnosis language text d = search rules in
