@@ -3,4 +3,3 @@ pub mod Chains
 pub mod Lines
 pub mod Layouts
 pub mod Rewriting
-pub mod Diffs

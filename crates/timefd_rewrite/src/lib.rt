@@ -11,7 +11,6 @@ mod fixing;
 mod layout;
 mod lines;
 mod nearest;
-mod pairs;
 mod rewrite;
 
 pub use counts::{Counts, Outcome};
