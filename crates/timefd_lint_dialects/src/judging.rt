@@ -126,7 +126,7 @@ fn trap_drawn(
     drawn(alloc, style, origin, text, finding)
 }
 
-// The message on a part that has no text of version 3. Where the part ends isn't known, so it is told by its start.
+// The message on a part that has no text of version 3. Where the part ends isn't known, so only its start is reported.
 fn refusal_drawn(
     alloc: Global,
     style: Style,
