@@ -7,13 +7,13 @@ use Rattle.timefd_language.specs.Grammar.{nesting_limit}
 use Rattle.timefd_language.specs.Strftime.{SpellsStrftime}
 use Rattle.timefd_parse.specs.declared.language.Language.TheVariants.{Strftime}
 use Rattle.timefd_parse.specs.Language.{FaultIn}
-use Rattle.timefd_strftime.specs.declared.piece.StrftimePiece.{StrftimePiece}
-use Rattle.timefd_strftime.specs.PieceMeaning.{piece_tree}
+use Rattle.timefd_language.specs.declared.strftime.piece.StrftimePiece.{StrftimePiece}
+use Rattle.timefd_language.specs.Directives.PieceMeaning.{piece_tree}
 use Rattle.timefd_c_nodes.specs.declared.node.Node.{Node}
 use Rattle.timefd_c_nodes.specs.Encoding.{literals_of, own_text, texts_of}
-use Rattle.timefd_c_read.specs.declared.report.Report.{Report}
-use Rattle.timefd_c_read.specs.Composites.{piece_text}
-use Rattle.timefd_c_read.specs.Pieces.{IsReportOfPieces}
+use Rattle.timefd_c_nodes.specs.declared.reading.report.Report.{Report}
+use Rattle.timefd_c_nodes.specs.Reading.Composites.{piece_text}
+use Rattle.timefd_c_nodes.specs.Reading.Pieces.{IsReportOfPieces}
 use Rattle.timefd_c.specs.declared.answer.TheConstants.{ACCEPTED, REFUSED}
 use Rattle.timefd_c.specs.Answers.{Describes}
 use Rattle.timefd_c.specs.Composites.{ReadsComposites}
@@ -21,7 +21,7 @@ use Rattle.timefd_c.specs.Reading.{report_in}
 use Rattle.timefd_c.proofs.AnswerLemmas as answers
 use Rattle.timefd_c.proofs.LongestLemmas.{is_longest}
 use Rattle.timefd_c.proofs.ReadingLemmas.{silent, reported}
-use Rattle.timefd_c_read.proofs.RoomLemmas.{items_within}
+use Rattle.timefd_c_nodes.proofs.ReadingLemmas.RoomLemmas.{items_within}
 
 -- the literals of pieces are those of their trees
 piece_texts : (pieces : List StrftimePiece) → texts_of piece_text pieces ≡ literals_of (map piece_tree pieces)

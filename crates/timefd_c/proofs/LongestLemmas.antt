@@ -10,7 +10,7 @@ use Rattle.timefd_parse.specs.Language.{amount}
 use Rattle.timefd_parse.specs.declared.language.Language.{Language}
 use Rattle.timefd_parse.specs.declared.language.Language.TheVariants.{Version, Strftime}
 use Rattle.timefd_c.specs.Reading.{IsLongest}
-use Rattle.timefd_c_read.specs.Reports.{longest}
+use Rattle.timefd_c_nodes.specs.Reading.Reports.{longest}
 
 whole_longest : (list : List Tree) (bytes : ℕ) → bytes ≡ reserve_all (trees list)
     → IsLongest list bytes

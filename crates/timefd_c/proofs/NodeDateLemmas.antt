@@ -3,8 +3,8 @@ use Rattle.std.proofs.Common.{List, Result, Ok, sym, subst}
 use Rattle.timefd_c.specs.Dates.{IsRead}
 use Rattle.timefd_c.specs.NodeDates.{ReadsNodes}
 use Rattle.timefd_c.specs.declared.date_answer.DateAnswer.{DateAnswer}
-use Rattle.timefd_c_dates.specs.Shown.{IsShown}
-use Rattle.timefd_c_format.specs.Nodes.{node_trees}
+use Rattle.timefd_c_nodes.specs.Dates.Shown.{IsShown}
+use Rattle.timefd_c_nodes.specs.Formatting.Nodes.{node_trees}
 use Rattle.timefd_c_nodes.specs.declared.node.Node.{Node}
 use Rattle.timefd_component.specs.Tree.{Text}
 use Rattle.timefd_description.specs.ReadAnswers.{IsReadAs, fields_in}

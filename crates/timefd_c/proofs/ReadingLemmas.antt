@@ -12,7 +12,7 @@ use Rattle.timefd_parse.specs.Language.{SpellsIn, FaultIn}
 use Rattle.timefd_c_nodes.specs.declared.node.Node.{Node}
 use Rattle.timefd_c.specs.declared.answer.TheConstants.{ACCEPTED, REFUSED}
 use Rattle.timefd_c.specs.declared.answer.ReadAnswer.{ReadAnswer}
-use Rattle.timefd_c_read.specs.declared.report.Report.{Report}
+use Rattle.timefd_c_nodes.specs.declared.reading.report.Report.{Report}
 use Rattle.timefd_language.specs.declared.description_version.DescriptionVersion.TheVariants.{One, Two, Three}
 use Rattle.timefd_parse.specs.declared.language.Language.TheVariants.{Version, Strftime}
 use Rattle.timefd_language.proofs.Reserved.{reserves_within_law}
@@ -20,7 +20,7 @@ use Rattle.timefd_c_nodes.proofs.TreeLemmas.{walked_length}
 use Rattle.timefd_c.proofs.LongestLemmas.{is_longest, three_reserved}
 use Rattle.timefd_c.proofs.RoomLemmas.{nodes_within, literals_within}
 use Rattle.timefd_c.specs.Answers.{DescribesWithin}
-use Rattle.timefd_c_read.specs.Reports.{IsReport, parts, tops}
+use Rattle.timefd_c_nodes.specs.Reading.Reports.{IsReport, parts, tops}
 use Rattle.timefd_c.specs.Reading.{Reads, Tells}
 use Rattle.timefd_c.proofs.AnswerLemmas as answers
 

@@ -7,8 +7,8 @@ use Rattle.timefd_parse.specs.declared.language.Language.TheVariants.{Version, S
 use Rattle.timefd_parse.specs.Language.{SpellsIn}
 use Rattle.timefd_c_nodes.specs.Encoding.{literals_of}
 use Rattle.timefd_c_nodes.proofs.TreeLemmas.{walked_length, walked_all_length}
-use Rattle.timefd_c_read.specs.Reports.{parts}
-use Rattle.timefd_c_read.proofs.RoomLemmas.{all_walked_bytes, pack_bytes, pack_count, spelled_within, strftime_within, walked_bytes}
+use Rattle.timefd_c_nodes.specs.Reading.Reports.{parts}
+use Rattle.timefd_c_nodes.proofs.ReadingLemmas.RoomLemmas.{all_walked_bytes, pack_bytes, pack_count, spelled_within, strftime_within, walked_bytes}
 use Rattle.timefd_c.specs.Reading.{most_nodes, most_literals}
 
 -- What is reported of a text that spells the list.

@@ -10,17 +10,17 @@ use Rattle.timefd_component.specs.Tree.{Text, Tree}
 use Rattle.timefd_fault.specs.Faults.{Fault}
 use Rattle.timefd_moment.specs.declared.moment.Moment.{Moment}
 use Rattle.timefd_parse.specs.declared.language.Language.{Language}
-use Rattle.timefd_read_dates.specs.declared.fault.ReadError.{ReadError}
-use Rattle.timefd_read_dates.specs.declared.fault.Reason.{Reason}
-use Rattle.timefd_read_dates.specs.declared.fault.Reason.TheVariants as for
-use Rattle.timefd_read_moment.specs.declared.error.ValueError.{ValueError}
-use Rattle.timefd_read_moment.specs.declared.error.ValueError.TheVariants as error
-use Rattle.timefd_read_moment.specs.declared.part.DatePart.{DatePart}
-use Rattle.timefd_read_moment.specs.declared.part.TimePart.{TimePart}
-use Rattle.timefd_read_moment.specs.declared.part.OffsetPart.{OffsetPart}
-use Rattle.timefd_read_moment.specs.declared.part.InstantPart.{InstantPart}
-use Rattle.timefd_read_moment.specs.declared.part.Part.{Part}
-use Rattle.timefd_read_moment.specs.declared.part.Part.TheVariants as part
+use Rattle.timefd_moment.specs.declared.fields.fault.ReadError.{ReadError}
+use Rattle.timefd_moment.specs.declared.fields.fault.Reason.{Reason}
+use Rattle.timefd_moment.specs.declared.fields.fault.Reason.TheVariants as for
+use Rattle.timefd_moment.specs.declared.reading.error.ValueError.{ValueError}
+use Rattle.timefd_moment.specs.declared.reading.error.ValueError.TheVariants as error
+use Rattle.timefd_moment.specs.declared.reading.part.DatePart.{DatePart}
+use Rattle.timefd_moment.specs.declared.reading.part.TimePart.{TimePart}
+use Rattle.timefd_moment.specs.declared.reading.part.OffsetPart.{OffsetPart}
+use Rattle.timefd_moment.specs.declared.reading.part.InstantPart.{InstantPart}
+use Rattle.timefd_moment.specs.declared.reading.part.Part.{Part}
+use Rattle.timefd_moment.specs.declared.reading.part.Part.TheVariants as part
 use Rattle.timefd_description.specs.ReadAnswers.{IsReadAs, fields_in}
 use Rattle.timefd_description.specs.declared.read_error.ReadTextError.{ReadTextError}
 use Rattle.timefd_description.specs.declared.read_error.ReadTextError.TheVariants as fails

@@ -6,9 +6,9 @@ use Rattle.timefd_c.specs.declared.answer.TheConstants.{NOT_UTF8}
 use Rattle.timefd_c.specs.declared.date_answer.DateAnswer.{DateAnswer}
 use Rattle.timefd_c.specs.declared.date_answer.TheConstants.{DATE_NOT_UTF8}
 use Rattle.timefd_c.specs.declared.format_answer.TheConstants.{NO_DESCRIPTION}
-use Rattle.timefd_c_format.specs.Literals.{is_text}
-use Rattle.timefd_c_format.specs.Nodes.{node_fault, node_trees}
-use Rattle.timefd_c_format.specs.Parts.{role_in}
+use Rattle.timefd_c_nodes.specs.Formatting.Literals.{is_text}
+use Rattle.timefd_c_nodes.specs.Formatting.Nodes.{node_fault, node_trees}
+use Rattle.timefd_c_nodes.specs.Formatting.Parts.{role_in}
 use Rattle.timefd_c_nodes.specs.declared.node.Node.{Node}
 use Rattle.timefd_component.specs.Tree.{Text}
 

@@ -6,7 +6,7 @@ use Rattle.timefd_c.specs.declared.format_answer.TheConstants.{NO_DESCRIPTION}
 use Rattle.timefd_c.specs.declared.moment.MomentFields.{MomentFields}
 use Rattle.timefd_c.specs.Formats.{range_answer, silent, unshown_answer}
 use Rattle.timefd_c.specs.Moments.{IsMoment, range_fault}
-use Rattle.timefd_c_format.specs.Nodes.{node_fault, node_trees}
+use Rattle.timefd_c_nodes.specs.Formatting.Nodes.{node_fault, node_trees}
 use Rattle.timefd_c_nodes.specs.declared.node.Node.{Node}
 use Rattle.timefd_component.specs.Tree.{Text, trees}
 use Rattle.timefd_format.specs.declared.unshown.Unshown.{Unshown}

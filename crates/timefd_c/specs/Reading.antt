@@ -8,10 +8,10 @@ use Rattle.timefd_parse.specs.declared.language.Language.TheVariants.{Version, S
 use Rattle.timefd_c_nodes.specs.declared.node.Node.{Node}
 use Rattle.timefd_c.specs.declared.answer.TheConstants.{ACCEPTED, NO_MEMORY, REFUSED}
 use Rattle.timefd_c.specs.declared.answer.ReadAnswer.{ReadAnswer}
-use Rattle.timefd_c_read.specs.declared.report.Report.{Report}
+use Rattle.timefd_c_nodes.specs.declared.reading.report.Report.{Report}
 use Rattle.timefd_c.specs.Answers.{DescribesWithin, IsAnswer}
 use Rattle.timefd_c_nodes.specs.Decoding.{read_nodes}
-use Rattle.timefd_c_read.specs.Reports.{IsReport, TakesNone, tops}
+use Rattle.timefd_c_nodes.specs.Reading.Reports.{IsReport, TakesNone, tops}
 
 -- what the answer reports
 abbrev pub report_in : ReadAnswer → Report

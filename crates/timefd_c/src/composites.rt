@@ -4,7 +4,7 @@ ghost use Rattle.timefd_c.specs.Composites.{ReadsComposites};
 
 use crate::answer::{ACCEPTED, NOT_UTF8, REFUSED, ReadAnswer};
 use timefd_c_nodes::Node;
-use timefd_c_read::{read_composites, text_of};
+use timefd_c_nodes::reading::{read_composites, text_of};
 use timefd_parse::BorrowedParseError;
 
 /// Says what `timefd_judge` says of a text of strftime, and writes the nodes and the bytes of the

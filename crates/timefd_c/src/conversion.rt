@@ -6,7 +6,7 @@ ghost use Rattle.timefd_c.specs.Conversions.{ConvertsBetween, ConvertsTo};
 use crate::answer::{ACCEPTED, Answer, NO_CONVERSION, NOT_UTF8, UNKNOWN_KIND};
 use crate::whole::write_whole;
 use std::alloc::Global;
-use timefd_c_read::text_of;
+use timefd_c_nodes::reading::text_of;
 use timefd_convert::{Conversion, conversion_between, convert_by_borrowed};
 use timefd_parse::Language;
 

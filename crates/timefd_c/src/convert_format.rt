@@ -7,7 +7,7 @@ use crate::convert_answer::ConvertAnswer;
 use crate::numbers::dialect_from;
 use crate::whole::write_whole;
 use std::alloc::Global;
-use timefd_c_read::text_of;
+use timefd_c_nodes::reading::text_of;
 use timefd_dialect::{Converted, Dialect, DialectError, to_version_three};
 
 /// Converts a format of the dialect with this number to a text of version 3 that writes the same,

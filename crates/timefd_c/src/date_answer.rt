@@ -8,8 +8,8 @@ use crate::moment::MomentFields;
 use timefd_c_nodes::component_node;
 use timefd_description::ReadTextError;
 use timefd_moment::Moment;
-use timefd_read_dates::{ReadError, Reason};
-use timefd_read_moment::{DatePart, InstantPart, OffsetPart, Part, TimePart, ValueError};
+use timefd_moment::fields::{ReadError, Reason};
+use timefd_moment::reading::{DatePart, InstantPart, OffsetPart, Part, TimePart, ValueError};
 
 /// The status if a part of the date doesn't match the description. The value is the byte index
 /// where that part begins, and the answer says why it doesn't match.

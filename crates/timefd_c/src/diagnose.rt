@@ -13,7 +13,7 @@ use crate::diagnosis::{Diagnosis, FaultFields};
 use crate::exports::timefd_check;
 use crate::numbers::from_number;
 use std::alloc::Global;
-use timefd_c_read::text_of;
+use timefd_c_nodes::reading::text_of;
 use timefd_parse::{BorrowedParseError, Language, NESTING_LIMIT, amount_all_borrowed};
 
 /// Says what `timefd_check` says. Of a refused text it also says which fault it is, which bytes are

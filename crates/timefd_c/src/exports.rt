@@ -12,7 +12,7 @@ use crate::numbers::from_number;
 use crate::verdict::{Verdict, verdict_on};
 use crate::whole::write_whole;
 use std::alloc::Global;
-use timefd_c_read::text_of;
+use timefd_c_nodes::reading::text_of;
 use timefd_lift::{v1_to_v2_borrowed, v2_to_v3_borrowed};
 
 /// Says what the bytes are as a text of the language with this number: 1, 2 and 3 are the versions

@@ -10,7 +10,7 @@ use crate::moment::MomentFields;
 use crate::numbers::from_number;
 use crate::whole::write_bytes;
 use std::alloc::Global;
-use timefd_c_read::text_of;
+use timefd_c_nodes::reading::text_of;
 use timefd_description::{FormatTextError, format_text};
 use timefd_moment::Moment;
 use timefd_parse::Language;

@@ -5,8 +5,8 @@ ghost use Rattle.timefd_c.specs.NodeFormats.{FormatsNodes, FormatsNodesBy};
 use crate::answer::ACCEPTED;
 use crate::format_answer::{FormatAnswer, NO_DESCRIPTION};
 use crate::moment::MomentFields;
-use timefd_c_format::{NodesError, format_nodes};
 use timefd_c_nodes::Node;
+use timefd_c_nodes::formatting::{NodesError, format_nodes};
 use timefd_moment::Moment;
 
 /// Writes the moment by nodes, as `timefd_read` writes them, and the bytes of their literals, to

@@ -9,7 +9,7 @@ use crate::answer::{ACCEPTED, NO_MEMORY, NOT_UTF8, REFUSED, ReadAnswer, UNKNOWN_
 use crate::numbers::{from_number, limit_from};
 use std::alloc::Global;
 use timefd_c_nodes::Node;
-use timefd_c_read::{read_within, text_of};
+use timefd_c_nodes::reading::{read_within, text_of};
 use timefd_parse::{BorrowedParseError, NESTING_LIMIT};
 
 /// The number of this version, 0.2.0: a million for each major one, a thousand for each minor one.

@@ -7,7 +7,7 @@ use crate::answer::{NOT_UTF8, UNKNOWN_KIND};
 use crate::date_answer::{DATE_NOT_UTF8, DateAnswer};
 use crate::numbers::from_number;
 use std::alloc::Global;
-use timefd_c_read::text_of;
+use timefd_c_nodes::reading::text_of;
 use timefd_description::read_text;
 use timefd_parse::Language;
 

@@ -4,27 +4,27 @@ ghost use Rattle.std.specs.List.{list_all};
 ghost use Rattle.std.specs.Prelude.{◌≡◌, IsUtf8, None, map, true};
 ghost use Rattle.timefd_c.specs.Dates.{ReadsBy, silent};
 ghost use Rattle.timefd_c.specs.NodeDates.{ReadsNodes};
-ghost use Rattle.timefd_c_format.specs.Literals.{is_text};
-ghost use Rattle.timefd_c_format.specs.Nodes.{node_fault, node_trees};
-ghost use Rattle.timefd_c_format.specs.Parts.{role_in};
+ghost use Rattle.timefd_c_nodes.specs.Formatting.Literals.{is_text};
+ghost use Rattle.timefd_c_nodes.specs.Formatting.Nodes.{node_fault, node_trees};
+ghost use Rattle.timefd_c_nodes.specs.Formatting.Parts.{role_in};
 ghost use Rattle.timefd_node_list.specs.LeafMeaning.{leaf_tree};
 ghost use Rattle.timefd_node_list.specs.Views.{view_tree};
-ghost use Rattle.timefd_read_dates.specs.Reads.{fields_of};
+ghost use Rattle.timefd_moment.specs.Fields.Reads.{fields_of};
 ghost use Rattle.timefd_description.specs.ReadAnswers.{IsReadAs, fields_in};
 
 use crate::answer::NOT_UTF8;
 use crate::date_answer::{DATE_NOT_UTF8, DateAnswer};
 use crate::format_answer::NO_DESCRIPTION;
 use std::alloc::Global;
-use timefd_c_dates::moment_shown;
-use timefd_c_format::{are_texts, leaves_of, listed, node_fault};
 use timefd_c_nodes::Node;
-use timefd_c_read::text_of;
+use timefd_c_nodes::dates::moment_shown;
+use timefd_c_nodes::formatting::{are_texts, leaves_of, listed, node_fault};
+use timefd_c_nodes::reading::text_of;
 use timefd_description::ReadTextError;
 use timefd_moment::Moment;
+use timefd_moment::fields::{NO_FIELDS, fill_leaf_fields, read_fields};
+use timefd_moment::reading::moment;
 use timefd_node_list::{Leaf, View};
-use timefd_read_dates::{NO_FIELDS, fill_leaf_fields, read_fields};
-use timefd_read_moment::moment;
 
 /// Reads a date by nodes, as `timefd_read` writes them, and the bytes of their literals, and
 /// returns the moment that the date shows.

@@ -10,7 +10,7 @@ ghost use Rattle.timefd_c.specs.Verdicts.{Says, Accepts, Refuses, IsAccepted};
 
 use crate::answer::{ACCEPTED, Answer, NO_MEMORY, NOT_UTF8, REFUSED, UNKNOWN_KIND};
 use std::alloc::Global;
-use timefd_c_read::text_of;
+use timefd_c_nodes::reading::text_of;
 use timefd_parse::{
     BorrowedFault, BorrowedParseError, Language, NESTING_LIMIT, amount_all_borrowed,
 };

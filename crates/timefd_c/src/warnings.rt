@@ -12,7 +12,7 @@ use crate::answer::{ACCEPTED, NO_MEMORY, NOT_UTF8, REFUSED, UNKNOWN_KIND};
 use crate::numbers::from_number;
 use crate::warning_fields::{WarningFields, WarningsAnswer, push_warning};
 use std::alloc::{AllocError, Global};
-use timefd_c_read::text_of;
+use timefd_c_nodes::reading::text_of;
 use timefd_lint_warnings::found_in;
 use timefd_parse::{BorrowedParseError, Language, NESTING_LIMIT, amount_all_borrowed};
 use timefd_warnings::{Level, Levels, Warning};

@@ -1,8 +1,8 @@
 -- The tree of an item that is a component.
 use Rattle.std.proofs.Common.{rules, ◌≡◌}
-use Rattle.timefd_format_item.specs.declared.borrowed_format_item.BorrowedFormatItem.TheVariants as item
-use Rattle.timefd_format_item.specs.declared.borrowed_format_item.BorrowedFormatItem.TheFolds.{the_lemmas}
-use Rattle.timefd_format_item.specs.Meaning.{item_tree}
+use Rattle.timefd_node_list.specs.declared.item.borrowed_format_item.BorrowedFormatItem.TheVariants as item
+use Rattle.timefd_node_list.specs.declared.item.borrowed_format_item.BorrowedFormatItem.TheFolds.{the_lemmas}
+use Rattle.timefd_node_list.specs.Item.Meaning.{item_tree}
 use Rattle.timefd_component.specs.declared.component.Component.{Component}
 use Rattle.timefd_component.specs.Tree.{component}
 

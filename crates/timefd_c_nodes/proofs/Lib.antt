@@ -4,3 +4,6 @@ pub mod TreeLemmas
 pub mod ComponentLemmas
 pub mod DecodeLemmas
 pub mod ItemLemmas
+pub mod ReadingLemmas
+pub mod FormattingLemmas
+pub mod DatesLemmas

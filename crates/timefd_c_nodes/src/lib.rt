@@ -3,12 +3,15 @@
 #![tactic(auto)]
 
 mod component;
+pub mod dates;
 mod fields;
+pub mod formatting;
 mod items;
 pub mod laws;
 mod node;
 mod part;
 mod position;
+pub mod reading;
 mod view;
 
 pub use component::component_node;

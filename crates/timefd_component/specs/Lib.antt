@@ -5,3 +5,4 @@ pub mod Texts
 pub mod Equality
 pub mod ComponentEquality
 pub mod Laws
+pub mod Bracket

@@ -2,6 +2,7 @@
 //! description means, as a tree of components and literals. Users take them from `timefd_items`.
 #![tactic(auto)]
 
+pub mod bracket;
 mod component;
 pub mod debug;
 pub mod laws;

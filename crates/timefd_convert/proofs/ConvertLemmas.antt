@@ -17,7 +17,7 @@ use Rattle.timefd_language.proofs.LawLemmas.{one_answer_law}
 use Rattle.timefd_lift.specs.Answers.{IsSpelledBy}
 use Rattle.timefd_lift.specs.Modernized.{IsWrittenOf}
 use Rattle.timefd_lift.specs.Written.{written}
-use Rattle.timefd_print.specs.Printed.{printed, printed_all}
+use Rattle.timefd_convert.specs.Printing.Printed.{printed, printed_all}
 
 abbrev Answer : Type 0
 Answer = Result (String Global) BorrowedParseError

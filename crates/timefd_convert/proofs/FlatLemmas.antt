@@ -12,7 +12,7 @@ use Rattle.timefd_language.specs.Grammar.{Pieces, no_pieces, escape, spelling, i
 use Rattle.timefd_language.proofs.Join.{join, join-spelling, join-pieces, join-joined, with_run, with_run-spelling, with_run-pieces, with_run-joined, literals_joined}
 use Rattle.timefd_lift.specs.Written.{component_text}
 use Rattle.timefd_lift.proofs.Rewritten.{components_read_law}
-use Rattle.timefd_print.specs.Printed.{escaped, printed, printed_all}
+use Rattle.timefd_convert.specs.Printing.Printed.{escaped, printed, printed_all}
 
 -- pieces that spell the text, and are the list once neighbouring literals are joined
 record Reads (limit : ℕ) (text : Text) (list : List Tree) (ps : Pieces) : Type 0 where

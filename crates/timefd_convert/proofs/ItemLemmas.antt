@@ -4,12 +4,12 @@ use Rattle.std.proofs.lemmas.Bool.{and_parts}
 use Rattle.timefd_component.specs.Tree.{Text, trees}
 use Rattle.timefd_convert.specs.Leaves.{AreLeaves, AreShallow, Every, AreLeafItems, AreShallowItems}
 use Rattle.timefd_convert.proofs.LetterLemmas.{spelled_shallow}
-use Rattle.timefd_format_item.specs.declared.borrowed_format_item.BorrowedFormatItem.{BorrowedFormatItem}
-use Rattle.timefd_format_item.specs.Meaning.{item_tree, item_trees}
+use Rattle.timefd_node_list.specs.declared.item.borrowed_format_item.BorrowedFormatItem.{BorrowedFormatItem}
+use Rattle.timefd_node_list.specs.Item.Meaning.{item_tree, item_trees}
 use Rattle.timefd_language.specs.Strftime.{no_directives, SpellsStrftime}
 use Rattle.timefd_language.specs.Strings.{is_of_strings, are_of_strings}
 use Rattle.timefd_lift.proofs.PlainItems.{first_left}
-use Rattle.timefd_print.specs.Printed.{printed, printed_all}
+use Rattle.timefd_convert.specs.Printing.Printed.{printed, printed_all}
 
 -- Members of a compound, and items of a text.
 

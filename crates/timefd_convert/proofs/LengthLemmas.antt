@@ -6,7 +6,7 @@ use Rattle.timefd_language.specs.Letters.{Flag, unflagged, flagged, letters, ite
 use Rattle.timefd_language.specs.Strftime.{is_flag, flag_text, IsFlag, Directives, no_directives, plain, directive, directives_text, directive_items, AreDirectives, SpellsStrftime}
 use Rattle.timefd_language.proofs.Lookup.{Each, each-passes}
 use Rattle.timefd_language.proofs.ModernPieces.{item_has}
-use Rattle.timefd_print.specs.Printed.{escaped, printed, printed_all}
+use Rattle.timefd_convert.specs.Printing.Printed.{escaped, printed, printed_all}
 
 -- Letters: computed for each letter with each flag.
 

@@ -3,3 +3,4 @@ pub mod LetterLemmas
 pub mod LengthLemmas
 pub mod ItemLemmas
 pub mod ConvertLemmas
+pub mod PrintingLemmas

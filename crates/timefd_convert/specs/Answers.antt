@@ -7,7 +7,7 @@ use Rattle.timefd_language.specs.Grammar.{Spells, nesting_limit}
 use Rattle.timefd_language.specs.Strftime.{SpellsStrftime}
 use Rattle.timefd_lift.specs.Answers.{IsRewritten}
 use Rattle.timefd_lift.specs.Modernized.{IsWrittenOf}
-use Rattle.timefd_print.specs.Printed.{printed, printed_all}
+use Rattle.timefd_convert.specs.Printing.Printed.{printed, printed_all}
 
 -- From strftime.
 

@@ -5,7 +5,7 @@ use Rattle.timefd_convert.specs.Flat.{flat_all}
 use Rattle.timefd_language.specs.declared.description_version.DescriptionVersion.TheVariants.{Three}
 use Rattle.timefd_language.specs.Grammar.{Spells}
 use Rattle.timefd_language.specs.Strftime.{SpellsStrftime}
-use Rattle.timefd_print.specs.Printed.{printed_all}
+use Rattle.timefd_convert.specs.Printing.Printed.{printed_all}
 
 -- the text spells the trees in version 3, once compounds are taken apart and neighbouring literals
 -- are joined

@@ -1,8 +1,8 @@
 -- The trees of strftime: literals, components, and compounds of these.
 use Rattle.std.specs.Prelude.{List, [], ◌∷◌, IsTrue, ⊤}
 use Rattle.timefd_component.specs.Tree.{Tree, component, literal, compound, optional, first, Trees, no_trees, more_trees}
-use Rattle.timefd_format_item.specs.declared.borrowed_format_item.BorrowedFormatItem.{BorrowedFormatItem}
-use Rattle.timefd_format_item.specs.Meaning.{item_tree}
+use Rattle.timefd_node_list.specs.declared.item.borrowed_format_item.BorrowedFormatItem.{BorrowedFormatItem}
+use Rattle.timefd_node_list.specs.Item.Meaning.{item_tree}
 use Rattle.timefd_language.specs.Strings.{is_of_strings}
 use Rattle.timefd_lift.specs.Plain.{IsCounted}
 

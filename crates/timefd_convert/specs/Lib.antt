@@ -3,3 +3,4 @@ pub mod Leaves
 pub mod Laws
 pub mod Answers
 pub mod Conversions
+pub mod Printing

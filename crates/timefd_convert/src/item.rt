@@ -3,14 +3,14 @@
 ghost use Rattle.std.specs.Prelude.{◌≡◌, ◌++◌, IsTrue, OnOk, string_bytes};
 ghost use Rattle.timefd_component.specs.Tree.{trees};
 ghost use Rattle.timefd_convert.specs.Leaves.{AreLeaves, IsLeafItem, IsShallowItem};
-ghost use Rattle.timefd_format_item.specs.Meaning.{item_tree, item_trees};
+ghost use Rattle.timefd_node_list.specs.Item.Meaning.{item_tree, item_trees};
 ghost use Rattle.timefd_language.specs.Strings.{are_of_strings};
-ghost use Rattle.timefd_print.specs.Printed as spec;
+ghost use Rattle.timefd_convert.specs.Printing.Printed as spec;
 
+use crate::printing::push_literal;
 use std::alloc::{AllocError, Global};
 use timefd_items::BorrowedFormatItem;
 use timefd_lift::push_component;
-use timefd_print::push_literal;
 
 /// Appends the text of an item in version 3. A compound becomes its members, one after another. An
 /// `Err` says that memory ran out.

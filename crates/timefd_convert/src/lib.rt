@@ -7,6 +7,7 @@ mod from_one;
 mod item;
 pub mod laws;
 mod normal;
+pub mod printing;
 mod strftime;
 
 pub use conversion::{Conversion, conversion_between};

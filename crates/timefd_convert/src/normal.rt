@@ -13,15 +13,15 @@ ghost use Rattle.timefd_fault.specs.Reported.{IsFaultOrMemory};
 ghost use Rattle.timefd_language.specs.declared.description_version.DescriptionVersion.TheVariants.{Three};
 ghost use Rattle.timefd_lift.specs.Answers.{IsTextOrMemory};
 ghost use Rattle.timefd_parse.specs.Answers.{IsAssigned};
-ghost use Rattle.timefd_print.specs.Printed.{printed};
+ghost use Rattle.timefd_convert.specs.Printing.Printed.{printed};
 
+use crate::printing::laws::reads_back;
+use crate::printing::{PrintError, print_v3};
 use std::alloc::Global;
 use timefd_parse::{
     BorrowedOutput, BorrowedParseError, DescriptionVersion, NESTING_LIMIT, ParseError,
     parse_all_borrowed,
 };
-use timefd_print::laws::reads_back;
-use timefd_print::{PrintError, print_v3};
 
 /// The normal form of a text of version 3: what `print_v3` prints for the description that it spells.
 /// The normal form spells the same description, and all texts that spell it have the same normal

@@ -9,12 +9,12 @@ ghost use Rattle.timefd_component.specs.Tree.{Tree, trees};
 ghost use Rattle.timefd_convert.specs.Answers.{HasStrftimeItems, IsPrintedOf};
 ghost use Rattle.timefd_convert.specs.Leaves.{AreShallowItems};
 ghost use Rattle.timefd_fault.specs.Faults as spec;
-ghost use Rattle.timefd_format_item.specs.Meaning.{item_trees};
+ghost use Rattle.timefd_node_list.specs.Item.Meaning.{item_trees};
 ghost use Rattle.timefd_language.specs.Strftime.{SpellsStrftime, StrftimeFaultOf};
 ghost use Rattle.timefd_fault.specs.Reported.{IsFaultOrMemory};
 ghost use Rattle.timefd_lift.specs.Answers.{IsTextOrMemory};
-ghost use Rattle.timefd_print.specs.Printed.{printed_all};
-ghost use Rattle.timefd_strftime.specs.StrftimeAnswers.{IsStrftimeFault};
+ghost use Rattle.timefd_convert.specs.Printing.Printed.{printed_all};
+ghost use Rattle.timefd_language.specs.Directives.StrftimeAnswers.{IsStrftimeFault};
 
 use crate::item::push_item;
 use crate::laws::flattening;

@@ -6,8 +6,8 @@ use Rattle.std.specs.declared.vec.Vec.{Vec}
 use Rattle.timefd_component.specs.Tree.{Text, Tree, trees, pack}
 use Rattle.timefd_format.specs.declared.unshown.Unshown.{Unshown}
 use Rattle.timefd_format.specs.Written.{written, written_all, followed}
-use Rattle.timefd_format_item.specs.declared.borrowed_format_item.BorrowedFormatItem.{BorrowedFormatItem}
-use Rattle.timefd_format_item.specs.Meaning.{item_tree, item_trees}
+use Rattle.timefd_node_list.specs.declared.item.borrowed_format_item.BorrowedFormatItem.{BorrowedFormatItem}
+use Rattle.timefd_node_list.specs.Item.Meaning.{item_tree, item_trees}
 use Rattle.timefd_description.specs.declared.format_error.FormatTextError.{FormatTextError}
 use Rattle.timefd_description.specs.declared.format_error.FormatTextError.TheVariants as fails
 use Rattle.timefd_description.specs.Formatted.{IsShownAs, IsMemory}

@@ -3,3 +3,4 @@ pub mod ParsedLemmas
 pub mod CompositeLemmas
 pub mod FormatLemmas
 pub mod ReadTextLemmas
+pub mod GuessingLemmas

@@ -13,7 +13,7 @@ use Rattle.timefd_parse.proofs.ParseLemmas.{one}
 use Rattle.timefd_parse.specs.Language.{FaultIn, SpellsIn}
 use Rattle.timefd_parse.specs.declared.language.Language.{Language}
 use Rattle.timefd_parse.specs.declared.language.Language.TheVariants.{Version, Strftime}
-use Rattle.timefd_strftime.proofs.DirectiveLemmas.{one as strftime_one}
+use Rattle.timefd_language.proofs.DirectiveLemmas.DirectiveLemmas.{one as strftime_one}
 use Rattle.timefd_description.specs.Parsed.{AreNodes, IsParsed}
 
 pub accepted : (language : Language) (text : Text) (list : List Tree) (d : FormatDescriptionV3)

@@ -4,3 +4,4 @@ pub mod Descriptions
 pub mod Formatted
 pub mod ReadAnswers
 pub mod Sentences
+pub mod Guessing

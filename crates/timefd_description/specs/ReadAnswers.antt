@@ -6,10 +6,10 @@ use Rattle.timefd_fault.specs.BorrowedFaults.{to_borrowed_fault}
 use Rattle.timefd_component.specs.Tree.{Text, Tree, compound, trees}
 use Rattle.timefd_fault.specs.Faults.{Fault}
 use Rattle.timefd_moment.specs.declared.moment.Moment.{Moment}
-use Rattle.timefd_read_dates.specs.declared.fault.ReadError.{ReadError}
-use Rattle.timefd_read_dates.specs.declared.fields.Fields.{Fields}
-use Rattle.timefd_read_dates.specs.Reads.{fields_of}
-use Rattle.timefd_read_moment.specs.Values.{IsMomentOf}
+use Rattle.timefd_moment.specs.declared.fields.fault.ReadError.{ReadError}
+use Rattle.timefd_moment.specs.declared.fields.fields.Fields.{Fields}
+use Rattle.timefd_moment.specs.Fields.Reads.{fields_of}
+use Rattle.timefd_moment.specs.Reading.Values.{IsMomentOf}
 use Rattle.timefd_description.specs.declared.read_error.ReadTextError.{ReadTextError}
 use Rattle.timefd_description.specs.declared.read_error.ReadTextError.TheVariants as fails
 

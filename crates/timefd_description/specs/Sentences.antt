@@ -3,9 +3,9 @@ use Rattle.std.specs.Prelude.{◌++◌, codes}
 use Rattle.std.specs.Fmt.{decimal}
 use Rattle.timefd_component.specs.Tree.{Text}
 use Rattle.timefd_format.specs.Sentences.{name}
-use Rattle.timefd_read_dates.specs.declared.fault.ReadError.{ReadError}
-use Rattle.timefd_read_dates.specs.declared.fault.Reason.{Reason}
-use Rattle.timefd_read_dates.specs.declared.fault.Reason.TheVariants as for
+use Rattle.timefd_moment.specs.declared.fields.fault.ReadError.{ReadError}
+use Rattle.timefd_moment.specs.declared.fields.fault.Reason.{Reason}
+use Rattle.timefd_moment.specs.declared.fields.fault.Reason.TheVariants as for
 
 -- Why it doesn't read, without the position.
 abbrev pub reason_sentence : Reason → Text

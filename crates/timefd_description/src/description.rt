@@ -9,9 +9,9 @@ use std::alloc::{AllocError, Global};
 use timefd_format::{TextError, format};
 use timefd_items::FormatDescriptionV3;
 use timefd_moment::Moment;
+use timefd_moment::fields::{Fields, ReadError, read_fields};
 use timefd_node_list::View;
 use timefd_parse::{BorrowedParseError, Language};
-use timefd_read_dates::{Fields, ReadError, read_fields};
 
 /// A format description, opened. It borrows its text. Whatever the language of the text, formatting and
 /// reading see one tree, and no items or tables.
@@ -32,7 +32,7 @@ impl<'a> Description<'a> {
     ghost use Rattle.timefd_language.specs.Grammar.{nesting_limit};
     ghost use Rattle.timefd_node_list.specs.Views.{view_tree};
     ghost use Rattle.timefd_parse.specs.Language.{FaultIn, SpellsIn};
-    ghost use Rattle.timefd_read_dates.specs.Reads.{fields_of};
+    ghost use Rattle.timefd_moment.specs.Fields.Reads.{fields_of};
 
     /// Opens a text of a language.
     ///

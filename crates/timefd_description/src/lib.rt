@@ -11,6 +11,7 @@ mod version;
 // A moment written, and a text read, by the text of a description.
 mod format_error;
 mod formatting;
+pub mod guessing;
 mod read_error;
 mod reading;
 mod sentence;

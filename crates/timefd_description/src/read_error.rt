@@ -4,9 +4,9 @@ ghost use Rattle.std.specs.Prelude.{◌≡◌};
 ghost use Rattle.timefd_description.specs.ReadAnswers as spec;
 
 use std::alloc::AllocError;
+use timefd_moment::fields::ReadError;
+use timefd_moment::reading::ValueError;
 use timefd_parse::{BorrowedFault, BorrowedParseError};
-use timefd_read_dates::ReadError;
-use timefd_read_moment::ValueError;
 
 /// Why a text shows nothing by the text of a description.
 #[derive(Drop)]

@@ -5,7 +5,7 @@ ghost use Rattle.timefd_description.specs.Sentences as spec;
 
 use std::alloc::{AllocError, Global};
 use timefd_format::component_name;
-use timefd_read_dates::{ReadError, Reason};
+use timefd_moment::fields::{ReadError, Reason};
 
 /// Why a part of a text doesn't read, and the byte index where it begins: `another text was expected at
 /// byte 4`. An `Err` says that memory ran out.

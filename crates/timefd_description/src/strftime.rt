@@ -9,16 +9,16 @@ ghost use Rattle.timefd_items.specs.Builder.{built};
 ghost use Rattle.timefd_fault.specs.ReadErrors.{MemoryOr};
 ghost use Rattle.timefd_language.specs.Strftime.{SpellsStrftime};
 ghost use Rattle.timefd_parse.specs.declared.language.Language.TheVariants.{Strftime};
-ghost use Rattle.timefd_strftime.specs.PieceMeaning.{piece_tree};
-ghost use Rattle.timefd_strftime.specs.StrftimeReading.{IsStrftimeFaultIn};
+ghost use Rattle.timefd_language.specs.Directives.PieceMeaning.{piece_tree};
+ghost use Rattle.timefd_language.specs.Directives.StrftimeReading.{IsStrftimeFaultIn};
 
 use crate::composite::add_composite;
 use crate::nodes::finished;
 use std::alloc::{AllocError, Global};
 use timefd_fault::read_error::ReadError;
 use timefd_items::{DescriptionBuilder, FormatDescriptionV3};
+use timefd_language::strftime::{StrftimePiece, next_strftime_piece, strftime_error};
 use timefd_parse::BorrowedParseError;
-use timefd_strftime::{StrftimePiece, next_strftime_piece, strftime_error};
 
 /// Reads a text of strftime.
 pub fn read_strftime<'a>(

@@ -3,8 +3,8 @@ use Rattle.std.proofs.Common.{◌≡◌, ◌∙◌, List, [], ◌∷◌, ◌++�
 use Rattle.timefd_component.specs.Modern.{modern}
 use Rattle.timefd_component.specs.Tree.{Text}
 use Rattle.timefd_component.specs.declared.component.Component.{Component}
-use Rattle.timefd_words.specs.Words as names
-use Rattle.timefd_words.specs.declared.defaults.Defaults.{Defaults}
+use Rattle.timefd_component.specs.Bracket.Words as names
+use Rattle.timefd_component.specs.declared.bracket.defaults.Defaults.{Defaults}
 use Rattle.timefd_explain.specs.declared.node.Node.{Node}
 use Rattle.timefd_explain.specs.declared.node.NodeKind.{NodeKind}
 use Rattle.timefd_explain.specs.declared.piece.What.{What}

@@ -23,9 +23,9 @@ use Rattle.timefd_format.specs.declared.text.TextError.{TextError}
 use Rattle.timefd_format.specs.declared.text.TextError.TheVariants as reported
 use Rattle.timefd_format.specs.declared.unshown.Unshown.{Unshown}
 use Rattle.timefd_format.proofs.RenderingLemmas.{writes_listed}
-use Rattle.timefd_format_item.specs.Meaning.{item_tree, item_trees}
-use Rattle.timefd_format_item.specs.declared.borrowed_format_item.BorrowedFormatItem.TheVariants as items
-use Rattle.timefd_format_item.specs.declared.borrowed_format_item.BorrowedFormatItem.TheFolds.{the_lemmas}
+use Rattle.timefd_node_list.specs.Item.Meaning.{item_tree, item_trees}
+use Rattle.timefd_node_list.specs.declared.item.borrowed_format_item.BorrowedFormatItem.TheVariants as items
+use Rattle.timefd_node_list.specs.declared.item.borrowed_format_item.BorrowedFormatItem.TheFolds.{the_lemmas}
 use Rattle.timefd_moment.specs.Calendar.{days_in_year, days_of_months, days_of_years}
 use Rattle.timefd_moment.specs.Moments.{date_ordinal, day_number, iso_years, thursday, unix_start, unix_time, utc_nanoseconds, utc_seconds, local_seconds}
 use Rattle.timefd_moment.specs.declared.date.Date.{Date}

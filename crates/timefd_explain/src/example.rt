@@ -10,8 +10,8 @@ ghost use Rattle.timefd_explain.specs.Samples.{IsExample, IsMemory, IsSample};
 use std::alloc::{AllocError, Global};
 use timefd_component::Component;
 use timefd_format::{TextError, format_items};
-use timefd_format_item::BorrowedFormatItem;
 use timefd_moment::{Date, Moment, Time, UtcOffset};
+use timefd_node_list::item::BorrowedFormatItem;
 
 /// What the formatter writes for a component at that moment. A deprecated component has the text of the
 /// component that replaces it. An `Err` says that memory ran out.

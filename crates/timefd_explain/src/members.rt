@@ -2,7 +2,7 @@
 
 ghost use Rattle.std.specs.Prelude.{ℕ, ◌≡◌, [], ◌∷◌, IsTrue, OnOk};
 ghost use Rattle.timefd_component.specs.Tree.{Trees, compound, trees};
-ghost use Rattle.timefd_format_item.specs.Meaning.{item_trees};
+ghost use Rattle.timefd_node_list.specs.Item.Meaning.{item_trees};
 ghost use Rattle.timefd_language.specs.Strings.{are_of_strings};
 ghost use Rattle.timefd_language.specs.Strftime.{SpellsStrftime};
 ghost use Rattle.timefd_explain.specs.Examples.{Examples};

@@ -2,7 +2,7 @@
 
 ghost use Rattle.std.specs.Prelude.{◌≡◌, ◌∷◌, [], List, IfOk, IsTrue};
 ghost use Rattle.timefd_component.specs.Tree.{Tree};
-ghost use Rattle.timefd_format_item.specs.Meaning.{item_tree, item_trees};
+ghost use Rattle.timefd_node_list.specs.Item.Meaning.{item_tree, item_trees};
 ghost use Rattle.timefd_language.specs.Grammar.{nesting_limit};
 ghost use Rattle.timefd_language.specs.Strings.{are_of_strings, is_of_strings};
 ghost use Rattle.timefd_node_list.specs.Views.{shape_tree, view_tree};

@@ -2,12 +2,12 @@
 
 ghost use Rattle.std.specs.Prelude.{◌≡◌, IfOk, string_bytes};
 ghost use Rattle.timefd_component.specs.Modern.{modern};
-ghost use Rattle.timefd_words.specs.Words.{words};
-ghost use Rattle.timefd_words.specs.declared.defaults.Defaults.{Defaults as Omission};
+ghost use Rattle.timefd_component.specs.Bracket.Words.{words};
+ghost use Rattle.timefd_component.specs.declared.bracket.defaults.Defaults.{Defaults as Omission};
 
 use std::alloc::{AllocError, Global};
 use timefd_component::Component;
-use timefd_words::{Defaults, push_words};
+use timefd_component::bracket::{Defaults, push_words};
 
 // Room for the words of most components, and for what follows them.
 const ROOM: usize = 96;

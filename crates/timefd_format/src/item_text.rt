@@ -2,7 +2,7 @@
 
 ghost use Rattle.std.specs.Prelude.{IfOk, IfSome, IsUtf8};
 ghost use Rattle.timefd_component.specs.Tree.{trees};
-ghost use Rattle.timefd_format_item.specs.Meaning.{item_trees};
+ghost use Rattle.timefd_node_list.specs.Item.Meaning.{item_trees};
 ghost use Rattle.timefd_format.specs.Answers.{AreBytes};
 ghost use Rattle.timefd_format.specs.Literals.{HaveUtf8Literals};
 ghost use Rattle.timefd_format.specs.Sent.{IsSent};
@@ -13,8 +13,8 @@ use crate::text::TextError;
 use crate::write::{FormatError, write_items};
 use std::alloc::{AllocError, Global};
 use std::io;
-use timefd_format_item::BorrowedFormatItem;
 use timefd_moment::Moment;
+use timefd_node_list::item::BorrowedFormatItem;
 
 /// What items of version 1 or 2, or of strftime, show of the moment. It is bytes, since a literal of manually
 /// built items may hold any. They are UTF-8 if all literals are.

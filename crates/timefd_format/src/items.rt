@@ -2,14 +2,14 @@
 
 ghost use Rattle.std.specs.Prelude.{length};
 ghost use Rattle.timefd_component.specs.Tree.{trees};
-ghost use Rattle.timefd_format_item.specs.Meaning.{item_tree, item_trees};
+ghost use Rattle.timefd_node_list.specs.Item.Meaning.{item_tree, item_trees};
 ghost use Rattle.timefd_format.specs.Writes.{IsIn, Writes};
 ghost use Rattle.timefd_format.specs.Written.{written, written_all};
 
 use crate::component::write_component;
 use crate::cursor::{WriteCursor, put_on};
-use timefd_format_item::BorrowedFormatItem;
 use timefd_moment::Moment;
+use timefd_node_list::item::BorrowedFormatItem;
 
 /// Writes what an item shows of the moment in front of what is already written.
 #[cycle(items)]

@@ -3,7 +3,7 @@
 ghost use Rattle.std.specs.Prelude.{◌≡◌, ◌≤◌, IfErr, IfOk, IsUtf8, drop, length};
 ghost use Rattle.timefd_component.specs.Reserved.{reserve};
 ghost use Rattle.timefd_component.specs.Tree.{trees};
-ghost use Rattle.timefd_format_item.specs.Meaning.{item_trees};
+ghost use Rattle.timefd_node_list.specs.Item.Meaning.{item_trees};
 ghost use Rattle.timefd_format.specs.Literals.{HaveUtf8Literals};
 ghost use Rattle.timefd_format.specs.Outcomes.{IsOutcome};
 ghost use Rattle.timefd_format.specs.Written.{shown, written, written_all};
@@ -16,9 +16,9 @@ use crate::shown::field;
 use crate::unshown::Unshown;
 use crate::view::write_view;
 use timefd_component::Component;
-use timefd_format_item::BorrowedFormatItem;
 use timefd_moment::Moment;
 use timefd_node_list::View;
+use timefd_node_list::item::BorrowedFormatItem;
 
 /// Why nothing is written.
 #[derive(Debug, Clone, Copy)]

@@ -10,10 +10,10 @@ use Rattle.timefd_component.specs.declared.component.Component.TheVariants.{Mont
 use Rattle.timefd_component.specs.Modern.{modern}
 use Rattle.timefd_component.specs.Reserved.{reserve, reserve_all, reserved}
 use Rattle.timefd_component.specs.Tree.{Tree, first, trees}
-use Rattle.timefd_format_item.specs.declared.borrowed_format_item.BorrowedFormatItem.{BorrowedFormatItem}
-use Rattle.timefd_format_item.specs.declared.borrowed_format_item.BorrowedFormatItem.TheVariants as item
-use Rattle.timefd_format_item.specs.declared.borrowed_format_item.BorrowedFormatItem.TheFolds.{the_lemmas}
-use Rattle.timefd_format_item.specs.Meaning.{item_tree}
+use Rattle.timefd_node_list.specs.declared.item.borrowed_format_item.BorrowedFormatItem.{BorrowedFormatItem}
+use Rattle.timefd_node_list.specs.declared.item.borrowed_format_item.BorrowedFormatItem.TheVariants as item
+use Rattle.timefd_node_list.specs.declared.item.borrowed_format_item.BorrowedFormatItem.TheFolds.{the_lemmas}
+use Rattle.timefd_node_list.specs.Item.Meaning.{item_tree}
 use Rattle.timefd_node_list.specs.Nodes.{kept_bytes}
 
 pub first_tree : (members : Bor (List BorrowedFormatItem))

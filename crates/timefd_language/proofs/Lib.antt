@@ -36,3 +36,4 @@ pub mod PositionsBetween
 pub mod DistinctLemmas
 pub mod ShortWords
 pub mod PlacedLemmas
+pub mod DirectiveLemmas

@@ -24,3 +24,4 @@ pub mod Laws
 pub mod Settled
 pub mod Positions
 pub mod Distinct
+pub mod Directives

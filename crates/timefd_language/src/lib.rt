@@ -13,6 +13,7 @@ pub mod name;
 pub mod same;
 pub mod search;
 pub mod setting;
+pub mod strftime;
 pub mod text;
 pub mod value;
 

@@ -10,3 +10,4 @@ pub mod LastLemmas
 pub mod AnswerLemmas
 pub mod ExampleLemmas
 pub mod OutermostLemmas
+pub mod ReadingLemmas

@@ -8,3 +8,4 @@ pub mod Directives
 pub mod Words
 pub mod Answers
 pub mod Examples
+pub mod Reading

@@ -11,4 +11,5 @@ pub mod examples;
 pub mod modifiers;
 pub mod names;
 pub mod nests;
+pub mod reading;
 pub mod words;

@@ -5,8 +5,8 @@ ghost use Rattle.timefd_component.specs.Modern.{modern};
 ghost use Rattle.timefd_lift.specs.Written as spec;
 
 use std::alloc::{AllocError, Global};
+use timefd_component::bracket::{Defaults, push_words};
 use timefd_items::Component;
-use timefd_words::{Defaults, push_words};
 
 /// Appends the text of a component. For a deprecated one, this is the text of the component that it
 /// stands for. An `Err` says that memory ran out.

@@ -3,7 +3,7 @@
 ghost use Rattle.std.specs.Prelude.{◌≡◌, [], List, IfOk, IsOk, MatchResult, string_bytes};
 ghost use Rattle.std.specs.Result.{IfErr};
 ghost use Rattle.timefd_fault.specs.Faults as spec;
-ghost use Rattle.timefd_format_item.specs.Meaning.{item_trees};
+ghost use Rattle.timefd_node_list.specs.Item.Meaning.{item_trees};
 ghost use Rattle.timefd_component.specs.Tree.{Tree};
 ghost use Rattle.timefd_language.specs.declared.description_version.DescriptionVersion.TheVariants.{Two};
 ghost use Rattle.timefd_language.specs.Grammar.{Spells, nesting_limit};

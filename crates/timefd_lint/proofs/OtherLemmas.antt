@@ -5,9 +5,9 @@ use Rattle.std.specs.Io.KnownBytes.{Appends}
 use Rattle.timefd_component.specs.Tree.{Text}
 use Rattle.timefd_dialect.specs.declared.dialect.Dialect.{Dialect}
 use Rattle.timefd_drawing.specs.declared.position.Origin.{Origin}
-use Rattle.timefd_lint_dialects.specs.declared.judging.Judgement.{Judgement}
-use Rattle.timefd_lint_dialects.specs.declared.judging.Judgement.TheVariants.{Converted, Refused}
-use Rattle.timefd_lint_dialects.specs.Judging.{IsJudged}
+use Rattle.timefd_lint_warnings.specs.declared.dialects.judging.Judgement.{Judgement}
+use Rattle.timefd_lint_warnings.specs.declared.dialects.judging.Judgement.TheVariants.{Converted, Refused}
+use Rattle.timefd_lint_warnings.specs.Dialects.Judging.{IsJudged}
 use Rattle.timefd_lint_options.specs.declared.wording.Wording.{Wording}
 use Rattle.timefd_lint_options.specs.declared.wording.Wording.TheVariants.{Other}
 use Rattle.timefd_lint_sources.specs.declared.reported.Reporting.{Reporting}

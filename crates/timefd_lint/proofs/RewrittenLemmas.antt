@@ -3,9 +3,9 @@ use Rattle.std.proofs.Common.{◌≡◌, subst}
 use Rattle.std.specs.Prelude.{IsUtf8}
 use Rattle.timefd_component.specs.Tree.{Text}
 use Rattle.timefd_rewrite.specs.declared.counts.Counts.{Counts}
-use Rattle.timefd_rewrite_sources.specs.declared.change.Change.{Change}
-use Rattle.timefd_rewrite_sources.specs.declared.source.NewSource.{NewSource}
-use Rattle.timefd_rewrite_sources.specs.Written.{IsSourceRewritten}
+use Rattle.timefd_lint_sources.specs.declared.rewriting.change.Change.{Change}
+use Rattle.timefd_lint_sources.specs.declared.rewriting.source.NewSource.{NewSource}
+use Rattle.timefd_lint_sources.specs.Rewriting.Written.{IsSourceRewritten}
 use Rattle.timefd_lint.specs.Rewritten.{AreCounted, IsFileRewritten}
 
 pub text_rewritten : (change : Change) (bytes source : Text) (m : NewSource) (counts : Counts) (new : Text)

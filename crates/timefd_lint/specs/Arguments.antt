@@ -4,8 +4,8 @@ use Rattle.std.specs.List.{join_by}
 use Rattle.timefd_component.specs.Tree.{Text}
 use Rattle.timefd_diagnosis.specs.Nearest.{IsNearest}
 use Rattle.timefd_drawing.specs.Shown.{safe}
-use Rattle.timefd_keys.specs.declared.key.KeyFault.{KeyFault}
-use Rattle.timefd_keys.specs.declared.key.KeyFault.TheVariants.{NoEqualsSign, EmptyName, UnknownLanguage}
+use Rattle.timefd_sources.specs.declared.keys.key.KeyFault.{KeyFault}
+use Rattle.timefd_sources.specs.declared.keys.key.KeyFault.TheVariants.{NoEqualsSign, EmptyName, UnknownLanguage}
 use Rattle.timefd_lint_options.specs.declared.error.Conflict.{Conflict as Conflicts}
 use Rattle.timefd_lint_options.specs.declared.error.Conflict.TheVariants as conflicts
 use Rattle.timefd_lint_options.specs.declared.error.OptionError.{OptionError}

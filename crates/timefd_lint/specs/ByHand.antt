@@ -1,10 +1,10 @@
 -- Descriptions that have to be changed manually.
 use Rattle.std.specs.Prelude.{Bool, true, false, not, ◌&&◌, List}
 use Rattle.std.specs.List.{list_any}
-use Rattle.timefd_rewrite_sources.specs.declared.change.Change.{Change}
-use Rattle.timefd_rewrite_sources.specs.declared.change.Change.TheVariants.{Mended, Least, Normal}
-use Rattle.timefd_rewrite_sources.specs.declared.outcome.Outcome.{Outcome}
-use Rattle.timefd_rewrite_sources.specs.declared.outcome.Outcome.TheVariants.{PassedOver, Same, Rewritten, ByHand, NotALiteral, WithItems, Refused, NotText}
+use Rattle.timefd_lint_sources.specs.declared.rewriting.change.Change.{Change}
+use Rattle.timefd_lint_sources.specs.declared.rewriting.change.Change.TheVariants.{Mended, Least, Normal}
+use Rattle.timefd_lint_sources.specs.declared.rewriting.outcome.Outcome.{Outcome}
+use Rattle.timefd_lint_sources.specs.declared.rewriting.outcome.Outcome.TheVariants.{PassedOver, Same, Rewritten, ByHand, NotALiteral, WithItems, Refused, NotText}
 
 -- whether a change converts descriptions
 abbrev pub converts : Change → Bool

@@ -1,8 +1,8 @@
 -- What of the settings counts in a run.
 use Rattle.std.specs.Prelude.{Bool, not, ◌&&◌, ◌||◌, ◌==◌, List, [], ◌∷◌, Option, Some, None, codes, length, if◌then◌else◌}
 use Rattle.timefd_component.specs.Tree.{Text}
-use Rattle.timefd_keys.specs.declared.key.Key.{Key}
-use Rattle.timefd_lint_config.specs.declared.keys.OwnedKey.{OwnedKey}
+use Rattle.timefd_sources.specs.declared.keys.key.Key.{Key}
+use Rattle.timefd_lint_options.specs.declared.config.keys.OwnedKey.{OwnedKey}
 use Rattle.timefd_lint_options.specs.declared.settings.Settings.{Settings}
 use Rattle.timefd_lint_options.specs.Settings.{reads_lines}
 use Rattle.timefd_lint.specs.declared.rewriting.Rewriting.{Rewriting}

@@ -10,8 +10,8 @@ use Rattle.timefd_lint_options.specs.declared.wording.Wording.{Wording}
 use Rattle.timefd_lint_options.specs.declared.wording.Wording.TheVariants.{Own, Other}
 use Rattle.timefd_parse.specs.Language.{SpellsIn, FaultIn}
 use Rattle.timefd_rewrite.specs.Lines.{is_passed_over}
-use Rattle.timefd_lint_dialects.specs.declared.judging.Judgement.{Judgement}
-use Rattle.timefd_lint_dialects.specs.declared.judging.Judgement.TheVariants as judgements
+use Rattle.timefd_lint_warnings.specs.declared.dialects.judging.Judgement.{Judgement}
+use Rattle.timefd_lint_warnings.specs.declared.dialects.judging.Judgement.TheVariants as judgements
 use Rattle.timefd_lint_sources.specs.declared.reported.Reporting.{Reporting}
 use Rattle.timefd_lint_warnings.specs.Found.{found_by}
 use Rattle.timefd_warnings.specs.declared.levels.Levels.{Levels}

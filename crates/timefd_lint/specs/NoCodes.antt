@@ -9,7 +9,7 @@ use Rattle.timefd_warnings.specs.Codes as warnings
 use Rattle.timefd_lint.specs.ErrorCodes.{name_of}
 use Rattle.timefd_dialect.specs.Reasons as reasons
 use Rattle.timefd_dialect.specs.TrapWords as traps
-use Rattle.timefd_lint_dialects.specs.Codes.{all_reasons}
+use Rattle.timefd_lint_warnings.specs.Dialects.Codes.{all_reasons}
 use Rattle.timefd_lint.specs.Rules.{others, own_traps}
 
 -- the codes of what is refused in formats of other languages, and of traps

@@ -13,7 +13,7 @@ use Rattle.timefd_dialect.specs.declared.reason.Reason as reasons
 use Rattle.timefd_dialect.specs.declared.trap.Trap as traps
 use Rattle.timefd_dialect.specs.Reasons as of_reasons
 use Rattle.timefd_dialect.specs.TrapWords as of_traps
-use Rattle.timefd_lint_dialects.specs.Codes.{reason_named, trap_named}
+use Rattle.timefd_lint_warnings.specs.Dialects.Codes.{reason_named, trap_named}
 use Rattle.timefd_lint.specs.ErrorCodes.{name_of, named}
 use Rattle.timefd_lint.specs.ErrorPages.{explanation, summary}
 

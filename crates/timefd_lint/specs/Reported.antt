@@ -8,7 +8,7 @@ use Rattle.timefd_component.specs.Tree.{Text}
 use Rattle.timefd_parse.specs.declared.language.Language.{Language}
 use Rattle.timefd_lint_options.specs.declared.wording.Wording.{Wording}
 use Rattle.timefd_lint_options.specs.declared.wording.Wording.TheVariants.{Own, Other}
-use Rattle.timefd_lint_dialects.specs.Judging.{AreTrapsDrawn, IsRefusalDrawn}
+use Rattle.timefd_lint_warnings.specs.Dialects.Judging.{AreTrapsDrawn, IsRefusalDrawn}
 use Rattle.timefd_diagnosis.specs.declared.diagnostic.Diagnostic.{Diagnostic}
 use Rattle.timefd_diagnosis.specs.Further.{AreDiagnosed}
 use Rattle.timefd_lint.specs.declared.failure.Failure.{Failure}

@@ -12,8 +12,8 @@ use Rattle.timefd_rewrite.specs.declared.layout.Layout.{Layout}
 use Rattle.timefd_rewrite.specs.declared.layout.Layout.TheVariants as layouts
 use Rattle.timefd_rewrite.specs.declared.fixes.Fixes.{Fixes}
 use Rattle.timefd_rewrite.specs.declared.fixes.Fixes.TheVariants.{All, Sure}
-use Rattle.timefd_rewrite_sources.specs.declared.change.Change.{Change}
-use Rattle.timefd_rewrite_sources.specs.declared.change.Change.TheVariants as changes
+use Rattle.timefd_lint_sources.specs.declared.rewriting.change.Change.{Change}
+use Rattle.timefd_lint_sources.specs.declared.rewriting.change.Change.TheVariants as changes
 use Rattle.timefd_lint_options.specs.declared.settings.Settings.{Settings}
 use Rattle.timefd_lint_options.specs.Settings.{target}
 use Rattle.timefd_lint_options.specs.Values.{language_of}

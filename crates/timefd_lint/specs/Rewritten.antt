@@ -2,10 +2,10 @@
 use Rattle.std.specs.Prelude.{◌≡◌, List, [], count_by, length, IsUtf8}
 use Rattle.timefd_component.specs.Tree.{Text}
 use Rattle.timefd_rewrite.specs.declared.counts.Counts.{Counts}
-use Rattle.timefd_rewrite_sources.specs.declared.change.Change.{Change}
-use Rattle.timefd_rewrite_sources.specs.declared.outcome.Outcome.{Outcome}
-use Rattle.timefd_rewrite_sources.specs.declared.source.NewSource.{NewSource}
-use Rattle.timefd_rewrite_sources.specs.Written.{IsSourceRewritten, is_refusing, is_rewriting}
+use Rattle.timefd_lint_sources.specs.declared.rewriting.change.Change.{Change}
+use Rattle.timefd_lint_sources.specs.declared.rewriting.outcome.Outcome.{Outcome}
+use Rattle.timefd_lint_sources.specs.declared.rewriting.source.NewSource.{NewSource}
+use Rattle.timefd_lint_sources.specs.Rewriting.Written.{IsSourceRewritten, is_refusing, is_rewriting}
 
 -- how many descriptions there are, how many are rewritten, and how many stay with a fault
 pub record AreCounted (outcomes : List Outcome) (counts : Counts) : Type 0 where

@@ -7,8 +7,8 @@ ghost use Rattle.timefd_lint.specs.Arguments as spec;
 
 use std::alloc::{AllocError, Global};
 use timefd_drawing::shown::safe;
-use timefd_keys::KeyFault;
 use timefd_lint_options::{Conflict, OptionError, Valued, nearest_option};
+use timefd_sources::keys::KeyFault;
 use timefd_warnings::Warning;
 
 /// What is wrong with the arguments, in a sentence. An `Err` says that memory ran out.

@@ -8,9 +8,9 @@ use std::str;
 use timefd_drawing::shown::safe;
 use timefd_drawing::{Position, position_of};
 use timefd_lint_sources::FIRST_LINE;
+use timefd_lint_sources::rewriting::{Change, Outcome, layout_of};
 use timefd_parse::{DescriptionVersion, ParseError};
 use timefd_rewrite::lay_out;
-use timefd_rewrite_sources::{Change, Outcome, layout_of};
 use timefd_sources::{Description, VersionPosition, body_alike, body_end, descriptions_of, inside};
 
 /// One line for each description of a source that has to be changed manually: no number says its version, its

@@ -9,8 +9,8 @@ use std::alloc::{AllocError, Global};
 use std::io::ErrorKind;
 use std::{fs, str};
 use timefd_drawing::shown::safe;
-use timefd_lint_config::{Config, ConfigError, OwnedKey, config_of};
 use timefd_lint_options::Settings;
+use timefd_lint_options::config::{Config, ConfigError, OwnedKey, config_of};
 use toml::de;
 
 const NAME: &str = ".timefd.toml";

@@ -16,8 +16,10 @@ use crate::tally::Tally;
 use std::alloc::Global;
 use std::io::Write;
 use std::str;
+use timefd_lint_sources::rewriting::{
+    Change, Outcome, count_refused, count_rewritten, rewrite_source,
+};
 use timefd_rewrite::{Counts, Layout, rewrite_lines};
-use timefd_rewrite_sources::{Change, Outcome, count_refused, count_rewritten, rewrite_source};
 
 /// What is counted in a file: lines or descriptions.
 #[derive(Clone, Copy)]

@@ -61,12 +61,12 @@ use std::io::{BufWriter, IsTerminal, Write};
 use std::process::ExitCode;
 use summary::summary;
 use tally::Tally;
-use timefd_keys::Key;
-use timefd_lint_config::{OwnedKey, same_keys, with_keys};
 use timefd_lint_files::{WalkError, expanded};
+use timefd_lint_options::config::{OwnedKey, same_keys, with_keys};
 use timefd_lint_options::{
     Asked, OptionError, Settings, is_log, keys_of, lines_conflict, options_of, ordered,
 };
+use timefd_sources::keys::Key;
 use timefd_streams::{WordsError, all_words, borrowed};
 
 // Writes a text to the standard output, and returns the status.

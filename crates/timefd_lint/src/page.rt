@@ -7,7 +7,7 @@ use crate::error_code::ErrorCode;
 use crate::error_page::{explanation, summary};
 use std::alloc::{AllocError, Global};
 use timefd_dialect::{Reason, Trap};
-use timefd_lint_dialects::{reason_named, trap_named};
+use timefd_lint_warnings::dialects::{reason_named, trap_named};
 use timefd_warnings::Warning;
 
 /// What a page explains.

@@ -20,9 +20,9 @@ use std::rt::Files;
 use timefd_convert::conversion_between;
 use timefd_drawing::shown::safe;
 use timefd_lint_options::{Settings, target};
+use timefd_lint_sources::rewriting::Change;
 use timefd_parse::{DescriptionVersion, Language};
 use timefd_rewrite::{Fixes, Layout, RewriteError, write_diff};
-use timefd_rewrite_sources::Change;
 
 /// How files are rewritten.
 #[derive(Clone, Copy)]

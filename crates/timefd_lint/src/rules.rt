@@ -1,7 +1,7 @@
 //! The rules of a log: each code that a result may have, and what it means.
 
 ghost use Rattle.std.specs.Prelude.{OnOk};
-ghost use Rattle.timefd_editor.specs.Each.{Adds, AreOf};
+ghost use Rattle.timefd_lsp.specs.Editor.Each.{Adds, AreOf};
 ghost use Rattle.timefd_lint.specs.Rules.{AreRules, IsErrorRule, IsFaultRule, IsWarningRule};
 
 use crate::error_code::ErrorCode;
@@ -23,7 +23,7 @@ pub fn push_rules(out: &mut Vec<u8>) -> Result<(), AllocError>
     push_other_rules(out)
 }
 
-#[tactic(auto, using(timefd_editor::proofs::EachLemmas::at_first, timefd_editor::proofs::EachLemmas::at_last))]
+#[tactic(auto, using(timefd_lsp::proofs::EditorLemmas::EachLemmas::at_first, timefd_lsp::proofs::EditorLemmas::EachLemmas::at_last))]
 fn push_faults(out: &mut Vec<u8>, faults: &[Code]) -> Result<(), AllocError>
     ensures { OnOk result (Adds (AreOf IsFaultRule faults.now) out.old.items out.new.items) }
 {
@@ -33,7 +33,7 @@ fn push_faults(out: &mut Vec<u8>, faults: &[Code]) -> Result<(), AllocError>
     Ok(())
 }
 
-#[tactic(auto, using(timefd_editor::proofs::EachLemmas::at_first, timefd_editor::proofs::EachLemmas::at_last))]
+#[tactic(auto, using(timefd_lsp::proofs::EditorLemmas::EachLemmas::at_first, timefd_lsp::proofs::EditorLemmas::EachLemmas::at_last))]
 fn push_errors(out: &mut Vec<u8>, errors: &[ErrorCode]) -> Result<(), AllocError>
     ensures { OnOk result (Adds (AreOf IsErrorRule errors.now) out.old.items out.new.items) }
 {
@@ -43,7 +43,7 @@ fn push_errors(out: &mut Vec<u8>, errors: &[ErrorCode]) -> Result<(), AllocError
     Ok(())
 }
 
-#[tactic(auto, using(timefd_editor::proofs::EachLemmas::at_first, timefd_editor::proofs::EachLemmas::at_last))]
+#[tactic(auto, using(timefd_lsp::proofs::EditorLemmas::EachLemmas::at_first, timefd_lsp::proofs::EditorLemmas::EachLemmas::at_last))]
 fn push_warnings(out: &mut Vec<u8>, warnings: &[Warning]) -> Result<(), AllocError>
     ensures { OnOk result (Adds (AreOf IsWarningRule warnings.now) out.old.items out.new.items) }
 {

@@ -13,8 +13,8 @@ use std::alloc::Global;
 use std::io::{Read, Write};
 use std::str;
 use timefd_drawing::{Origin, note};
-use timefd_keys::format_named;
 use timefd_lint_sources::{End, Finder, Source};
+use timefd_sources::keys::format_named;
 
 /// Whether a file with this name is read as a source of Rust.
 fn is_rust(options: Options<'_>, name: &str) -> bool

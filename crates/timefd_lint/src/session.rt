@@ -3,9 +3,9 @@
 use crate::options::reported_levels;
 use crate::status::{FAILED, no_memory, reported, write_failed};
 use std::io::BufReader;
-use timefd_keys::Key;
 use timefd_lint_options::Settings;
 use timefd_lsp::{End, serve};
+use timefd_sources::keys::Key;
 use timefd_streams::{FromReader, ToWriter};
 
 // The status of a session that the editor left without `shutdown`, or whose input ended early.

@@ -4,9 +4,9 @@ ghost use Rattle.std.specs.Prelude.{◌≡◌};
 ghost use Rattle.timefd_diagnosis.specs.Words.{texts};
 ghost use Rattle.timefd_lint.specs.Counted as spec;
 
-use timefd_keys::Key;
 use timefd_lint_files::Sought;
 use timefd_lint_options::{Settings, reads_lines};
+use timefd_sources::keys::Key;
 
 /// The working directory.
 const HERE: &[&str] = &["."];

@@ -2,7 +2,7 @@
 use Rattle.std.specs.Prelude.{List, [], ◌∷◌, ◌++◌}
 use denote.Ref.{Bor}
 use Rattle.timefd_component.specs.Tree.{Text}
-use Rattle.timefd_keys.specs.Keys.{Named, keys_in}
+use Rattle.timefd_sources.specs.Keys.Keys.{Named, keys_in}
 use Rattle.timefd_lint_options.specs.declared.keys.Expected.{Expected}
 use Rattle.timefd_lint_options.specs.declared.keys.Expected.TheVariants as expects
 use Rattle.timefd_lint_options.specs.declared.word.Valued.{Valued}

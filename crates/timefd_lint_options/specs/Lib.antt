@@ -7,3 +7,4 @@ pub mod Asked
 pub mod Suggestions
 pub mod KeyWords
 pub mod Order
+pub mod Config

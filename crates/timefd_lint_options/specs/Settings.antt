@@ -19,8 +19,8 @@ use Rattle.timefd_lint_options.specs.declared.word.Flag.TheVariants.{Whole, Sour
 use Rattle.timefd_lint_options.specs.declared.word.Valued.{Valued}
 use Rattle.timefd_lint_options.specs.declared.word.Valued.TheVariants.{Language, Format, Color, Comment, Key, To, Deny, Allow}
 use Rattle.timefd_lint_options.specs.Values.{wording_named, format_named, color_named, version_named}
-use Rattle.timefd_keys.specs.declared.key.KeyFault.{KeyFault}
-use Rattle.timefd_keys.specs.Keys.{key_fault}
+use Rattle.timefd_sources.specs.declared.keys.key.KeyFault.{KeyFault}
+use Rattle.timefd_sources.specs.Keys.Keys.{key_fault}
 use Rattle.timefd_warnings.specs.declared.levels.Level.{Level}
 use Rattle.timefd_warnings.specs.declared.levels.Level.TheVariants.{Allowed, Warned, Denied}
 use Rattle.timefd_warnings.specs.Codes as warnings

@@ -2,6 +2,7 @@
 #![tactic(auto)]
 
 mod asked;
+pub mod config;
 mod conflict;
 mod error;
 mod flags;

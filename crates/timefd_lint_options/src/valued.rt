@@ -8,7 +8,7 @@ use crate::settings::Settings;
 use crate::values::{color_named, format_named, version_named};
 use crate::word::Valued;
 use crate::wording::wording_named;
-use timefd_keys::key_fault;
+use timefd_sources::keys::key_fault;
 use timefd_warnings::{Level, Warning};
 
 /// The settings with the value of an option. `NotAValue` or `NotAKey` if the option doesn't take the value.

@@ -6,3 +6,4 @@ mod ReportLemmas
 pub mod FinderLemmas
 mod SeenLemmas
 pub mod PlacedLemmas
+pub mod RewritingLemmas

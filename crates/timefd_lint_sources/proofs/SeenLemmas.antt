@@ -2,9 +2,9 @@
 use Rattle.std.proofs.Common.{ℕ, ◌≡◌, ◌∙◌, List, [], ◌++◌, ap, refl, sym, subst}
 use denote.Ref.{Bor}
 use Rattle.timefd_component.specs.Tree.{Text}
-use Rattle.timefd_keys.specs.declared.format.Format.{Format}
-use Rattle.timefd_keys.specs.declared.key.Key.{Key}
-use Rattle.timefd_keys.specs.Found as keyed
+use Rattle.timefd_sources.specs.declared.keys.format.Format.{Format}
+use Rattle.timefd_sources.specs.declared.keys.key.Key.{Key}
+use Rattle.timefd_sources.specs.Keys.Found as keyed
 use Rattle.timefd_sources.specs.declared.description.Description.{Description}
 use Rattle.timefd_sources.specs.declared.look.Look.{Look}
 use Rattle.timefd_sources.specs.Found.{AllStandIn, AreDescriptionsOf, AreInOrder}

@@ -3,3 +3,4 @@ pub mod Judged
 pub mod Calls
 pub mod Remarks
 pub mod Reported
+pub mod Rewriting

@@ -4,9 +4,9 @@ use Rattle.timefd_component.specs.Tree.{Text}
 use Rattle.timefd_drawing.specs.declared.draw.Style.{Style}
 use Rattle.timefd_drawing.specs.Drawing.{note}
 use Rattle.timefd_drawing.specs.Positions.{line_number}
-use Rattle.timefd_keys.specs.declared.format.Format.{Format}
-use Rattle.timefd_keys.specs.declared.key.Key.{Key}
-use Rattle.timefd_keys.specs.Found.{AreValues}
+use Rattle.timefd_sources.specs.declared.keys.format.Format.{Format}
+use Rattle.timefd_sources.specs.declared.keys.key.Key.{Key}
+use Rattle.timefd_sources.specs.Keys.Found.{AreValues}
 use Rattle.timefd_sources.specs.declared.description.Description.{Description}
 use Rattle.timefd_sources.specs.declared.look.Look.{Look}
 use Rattle.timefd_sources.specs.Looks.{IsLook}

@@ -9,7 +9,7 @@ use Rattle.timefd_drawing.specs.Drawing.{drawn_all, note}
 use Rattle.timefd_drawing.specs.Positions.{reported_column, line_number}
 use Rattle.timefd_explain.specs.Lines.{IsExplainedIf}
 use Rattle.timefd_sources.specs.declared.description.Description.{Description}
-use Rattle.timefd_keys.specs.Found as keys
+use Rattle.timefd_sources.specs.Keys.Found as keys
 use Rattle.timefd_sources.specs.Found.{AreDescriptionsOf, AreInOrder, StandsIn, index_in_source}
 use Rattle.timefd_warnings.specs.declared.levels.Levels.{Levels}
 use Rattle.timefd_lint_warnings.specs.Messages.{messages_at}

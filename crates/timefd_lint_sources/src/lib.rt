@@ -12,6 +12,7 @@ mod opening;
 mod position;
 mod remark;
 mod reported;
+pub mod rewriting;
 mod source;
 
 pub use further::further_of;

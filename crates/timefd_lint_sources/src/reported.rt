@@ -17,7 +17,7 @@ use std::alloc::{AllocError, Global};
 use std::str;
 use timefd_diagnosis::{Diagnostic, Span, diagnose};
 use timefd_drawing::{Counter, Origin, Style, counted, drawn_all_from, note};
-use timefd_keys::{Format, Key};
+use timefd_sources::keys::{Format, Key};
 use timefd_sources::{Description, index_in_source};
 use timefd_warnings::Levels;
 

@@ -2,7 +2,7 @@
 
 ghost use Rattle.std.specs.Prelude.{IfOk, OnOk};
 ghost use Rattle.timefd_drawing.specs.Counted.{IsCounted};
-ghost use Rattle.timefd_keys.specs.Found.{AllValues};
+ghost use Rattle.timefd_sources.specs.Keys.Found.{AllValues};
 ghost use Rattle.timefd_lint_sources.specs.Remarks.{AreSeenIn, AreValuesSeen};
 ghost use Rattle.timefd_lint_sources.specs.Reported.{AddsReported, AreSeen, AllFound, AreAllOf, AreJudgedIn, AreReported, IsSourceReported};
 ghost use Rattle.timefd_sources.specs.Found.{AreInOrder};
@@ -13,7 +13,7 @@ use crate::remark::{Remark, push_remarks, remarks_on, remarks_on_values};
 use crate::reported::{End, Finder, Reported, Reporting, Source, report};
 use std::alloc::{AllocError, Global};
 use timefd_drawing::{Counter, counted, none_counted};
-use timefd_keys::{Format, Key, Values, descriptions_by, values_by};
+use timefd_sources::keys::{Format, Key, Values, descriptions_by, values_by};
 use timefd_sources::{Description, Look, descriptions_of, looked_at};
 
 /// What the linter reports about the descriptions of a source.

@@ -9,8 +9,8 @@ use Rattle.timefd_node_list.specs.Leaves.{leaves, leaves_all, leaves_in}
 use Rattle.timefd_parse.specs.Answers.{IsOutput}
 use Rattle.timefd_parse.specs.declared.parsing.BorrowedOutput.{BorrowedOutput}
 use Rattle.timefd_parse.specs.declared.parsing.BorrowedOutput.TheVariants.{Items, Description}
-use Rattle.timefd_format_item.specs.declared.borrowed_format_item.BorrowedFormatItem.{BorrowedFormatItem}
-use Rattle.timefd_format_item.specs.Meaning.{item_trees}
+use Rattle.timefd_node_list.specs.declared.item.borrowed_format_item.BorrowedFormatItem.{BorrowedFormatItem}
+use Rattle.timefd_node_list.specs.Item.Meaning.{item_trees}
 use Rattle.timefd_node_list.proofs.LeafLemmas.{leaves_packed}
 use Rattle.timefd_warnings.specs.declared.levels.Levels.{Levels}
 use Rattle.timefd_warnings.specs.declared.warned.Style.{Style}

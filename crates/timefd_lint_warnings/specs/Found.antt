@@ -1,7 +1,7 @@
 -- The warnings of a text, by what it spells.
 use Rattle.std.specs.Prelude.{List, Option, None, Some}
 use Rattle.timefd_component.specs.Tree.{Tree, trees}
-use Rattle.timefd_format_item.specs.Meaning.{item_trees}
+use Rattle.timefd_node_list.specs.Item.Meaning.{item_trees}
 use Rattle.timefd_items.specs.Description.{description_tree}
 use Rattle.timefd_node_list.specs.Leaves.{leaves, leaves_all, leaves_in}
 use Rattle.timefd_parse.specs.declared.language.Language.{Language}

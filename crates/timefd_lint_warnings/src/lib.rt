@@ -1,6 +1,7 @@
 //! What the linter reports about accepted texts: their warnings, and a message for each warning.
 #![tactic(auto)]
 
+pub mod dialects;
 mod found;
 mod message;
 mod reported;

@@ -3,11 +3,11 @@ use Rattle.std.proofs.Common.{◌≡◌, ℕ, Option, Some, String, refl, sym, s
 use Rattle.std.specs.Prelude.{string_bytes}
 use Rattle.std.specs.declared.alloc.Global.{Global}
 use Rattle.std.specs.declared.vec.Vec.{Vec}
-use Rattle.timefd_editor.specs.Actions.{AreActionsOf}
-use Rattle.timefd_editor.specs.Positions.{index_of}
-use Rattle.timefd_editor.specs.declared.action.Action.{Action}
-use Rattle.timefd_editor.specs.declared.action.Wanted.{Wanted}
-use Rattle.timefd_editor.specs.declared.position.Range.{Range}
+use Rattle.timefd_lsp.specs.Editor.Actions.{AreActionsOf}
+use Rattle.timefd_lsp.specs.Editor.Positions.{index_of}
+use Rattle.timefd_lsp.specs.declared.editor.action.Action.{Action}
+use Rattle.timefd_lsp.specs.declared.editor.action.Wanted.{Wanted}
+use Rattle.timefd_lsp.specs.declared.editor.position.Range.{Range}
 use Rattle.timefd_lint_sources.specs.declared.reported.Source.{Source}
 use Rattle.timefd_lsp.specs.Servers.{IsActionsAnswer, finder_of}
 use Rattle.timefd_lsp.specs.declared.documents.Document.{Document}

@@ -7,3 +7,4 @@ pub mod ServedLemmas
 pub mod ClosedLemmas
 pub mod ChangedLemmas
 pub mod AnswerLemmas
+pub mod EditorLemmas

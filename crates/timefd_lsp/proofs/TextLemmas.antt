@@ -5,7 +5,7 @@ use Rattle.std.specs.Prelude.{IfOk, Option, Some, None, Result, Ok, Err, string_
 use Rattle.serde_json.specs.Data.{Data}
 use Rattle.serde_json.specs.View.{items_of}
 use Rattle.serde_json.specs.Written.{compact_text, has_float, items_have_float}
-use Rattle.timefd_editor.specs.declared.action.Action.{Action}
+use Rattle.timefd_lsp.specs.declared.editor.action.Action.{Action}
 use Rattle.timefd_lsp.specs.Shown.{action_data, edit_data, finding_data}
 use Rattle.timefd_lsp.specs.Texts.{error_data, id_data, reply_data, response}
 use Rattle.timefd_lsp.specs.declared.envelope.Id.{Id}

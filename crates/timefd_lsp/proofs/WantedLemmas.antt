@@ -3,7 +3,7 @@ use Rattle.std.proofs.Common.{ℕ, ◌≡◌, ◌+◌, ◌<◌, ◌≤◌, List,
 use Rattle.std.proofs.lemmas.List.{drop_all, drop_more}
 use Rattle.serde_json.specs.View.{items_view, view}
 use Rattle.serde_json.specs.declared.value.Value.{Value}
-use Rattle.timefd_editor.specs.declared.action.Wanted.{Wanted}
+use Rattle.timefd_lsp.specs.declared.editor.action.Wanted.{Wanted}
 use Rattle.timefd_lsp.specs.WantedKinds.{either, wanted_by, wanted_from}
 
 pub one_more : (all : List Value) (i : ℕ) (kind other : Value) (so_far now whole : Wanted) → i < length all

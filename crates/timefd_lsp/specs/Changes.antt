@@ -2,8 +2,8 @@
 use Rattle.std.specs.Prelude.{ℕ, List, [], ◌∷◌, Bool, true, false, Option, Some, None, codes, is_some, option_and_then, string_bytes}
 use Rattle.serde_json.specs.Data.{Data, Items, no_items, item}
 use Rattle.serde_json.specs.Find.{as_str, get}
-use Rattle.timefd_editor.specs.Replacing.{replaced}
-use Rattle.timefd_editor.specs.declared.position.Range.{Range}
+use Rattle.timefd_lsp.specs.Editor.Replacing.{replaced}
+use Rattle.timefd_lsp.specs.declared.editor.position.Range.{Range}
 use Rattle.timefd_lsp.specs.Params.{changes_of, range_in}
 use Rattle.timefd_lsp.specs.declared.changes.Change.{Change}
 use Rattle.timefd_lsp.specs.declared.changes.Change.TheVariants.{Whole, Part, Unreadable}

@@ -1,8 +1,8 @@
 -- How the descriptions in a document are found.
 use Rattle.std.specs.Prelude.{ℕ, List, Option, Some, codes, bytes_eq, nat_eq, option_map, if◌then◌else◌}
 use Rattle.std.specs.List.{ends_with}
-use Rattle.timefd_keys.specs.declared.format.Format.TheVariants.{Toml, Json, Yaml}
-use Rattle.timefd_keys.specs.Formats.{format_named}
+use Rattle.timefd_sources.specs.declared.keys.format.Format.TheVariants.{Toml, Json, Yaml}
+use Rattle.timefd_sources.specs.Keys.Formats.{format_named}
 use Rattle.timefd_lsp.specs.declared.documents.Kind.{Kind}
 use Rattle.timefd_lsp.specs.declared.documents.Kind.TheVariants as kinds
 

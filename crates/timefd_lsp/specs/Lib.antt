@@ -14,3 +14,4 @@ pub mod Servers
 pub mod Shown
 pub mod Texts
 pub mod Sessions
+pub mod Editor

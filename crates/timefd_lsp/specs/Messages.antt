@@ -2,9 +2,9 @@
 use Rattle.std.specs.Prelude.{◌≡◌, ℕ, List, Option, Some, None, codes, bytes_eq, map, string_bytes, if◌then◌else◌, IsUtf8, ◌⊎◌, ⊤}
 use Rattle.serde_json.specs.Data.{Data}
 use Rattle.serde_json.specs.Read.{read}
-use Rattle.timefd_editor.specs.declared.action.Wanted.{Wanted}
-use Rattle.timefd_editor.specs.declared.position.Position.{Position}
-use Rattle.timefd_editor.specs.declared.position.Range.{Range}
+use Rattle.timefd_lsp.specs.declared.editor.action.Wanted.{Wanted}
+use Rattle.timefd_lsp.specs.declared.editor.position.Position.{Position}
+use Rattle.timefd_lsp.specs.declared.editor.position.Range.{Range}
 use Rattle.timefd_lsp.specs.Changes.{Seen, changes_in, seen}
 use Rattle.timefd_lsp.specs.Envelopes.{seen_id, Shape, envelope_of}
 use Rattle.timefd_lsp.specs.Envelopes as shapes

@@ -2,8 +2,8 @@
 use Rattle.std.specs.Prelude.{ℕ, List, Option, Some, None, codes, option_and_then}
 use Rattle.serde_json.specs.Data.{Data, Items}
 use Rattle.serde_json.specs.Find.{as_array, as_number, as_str, as_u64, pointer}
-use Rattle.timefd_editor.specs.declared.position.Position.{Position}
-use Rattle.timefd_editor.specs.declared.position.Range.{Range}
+use Rattle.timefd_lsp.specs.declared.editor.position.Position.{Position}
+use Rattle.timefd_lsp.specs.declared.editor.position.Range.{Range}
 
 abbrev pub text_by : List ℕ → Data → Option (List ℕ)
 text_by path d = option_and_then as_str (pointer path d)

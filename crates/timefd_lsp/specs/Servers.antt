@@ -21,16 +21,16 @@ use Rattle.timefd_lsp.specs.declared.reply.Answer.TheVariants as answers
 use Rattle.timefd_lsp.specs.declared.reply.Refusal.{Refusal}
 use Rattle.timefd_lsp.specs.declared.reply.Refusal.TheVariants as refusals
 use Rattle.timefd_lsp.specs.declared.reply.Reply.TheVariants as replies
-use Rattle.timefd_editor.specs.declared.action.Action.{Action}
-use Rattle.timefd_editor.specs.declared.action.Wanted.{Wanted}
-use Rattle.timefd_editor.specs.declared.finding.Finding.{Finding}
-use Rattle.timefd_editor.specs.declared.hovered.Hover.{Hover}
-use Rattle.timefd_editor.specs.declared.position.Position.{Position}
-use Rattle.timefd_editor.specs.declared.position.Range.{Range}
-use Rattle.timefd_editor.specs.Actions.{AreActionsOf}
-use Rattle.timefd_editor.specs.Findings.{AreFindingsOf}
-use Rattle.timefd_editor.specs.Hovers.{IsShownAt}
-use Rattle.timefd_editor.specs.Positions.{index_of}
+use Rattle.timefd_lsp.specs.declared.editor.action.Action.{Action}
+use Rattle.timefd_lsp.specs.declared.editor.action.Wanted.{Wanted}
+use Rattle.timefd_lsp.specs.declared.editor.finding.Finding.{Finding}
+use Rattle.timefd_lsp.specs.declared.editor.hovered.Hover.{Hover}
+use Rattle.timefd_lsp.specs.declared.editor.position.Position.{Position}
+use Rattle.timefd_lsp.specs.declared.editor.position.Range.{Range}
+use Rattle.timefd_lsp.specs.Editor.Actions.{AreActionsOf}
+use Rattle.timefd_lsp.specs.Editor.Findings.{AreFindingsOf}
+use Rattle.timefd_lsp.specs.Editor.Hovers.{IsShownAt}
+use Rattle.timefd_lsp.specs.Editor.Positions.{index_of}
 use Rattle.timefd_lint_sources.specs.declared.reported.Finder.{Finder}
 use Rattle.timefd_lint_sources.specs.declared.reported.Finder.TheVariants as finders
 use Rattle.timefd_lint_sources.specs.declared.reported.Source.{Source}

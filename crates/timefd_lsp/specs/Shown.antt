@@ -2,16 +2,16 @@
 use Rattle.std.specs.Prelude.{ℕ, Bool, true, false, List, codes, map, string_bytes}
 use Rattle.serde_json.specs.Data.{Data, boolean, number, unsigned, string, array, object, item, no_items, member, no_members}
 use Rattle.serde_json.specs.View.{items_of}
-use Rattle.timefd_editor.specs.declared.action.Action.{Action}
-use Rattle.timefd_editor.specs.declared.action.ActionKind.{ActionKind}
-use Rattle.timefd_editor.specs.declared.action.ActionKind.TheVariants.{QuickFix, Guess, Rewrite, FixAll}
-use Rattle.timefd_editor.specs.declared.action.Edit.{Edit}
-use Rattle.timefd_editor.specs.declared.finding.Finding.{Finding}
-use Rattle.timefd_editor.specs.declared.finding.Severity.{Severity}
-use Rattle.timefd_editor.specs.declared.finding.Severity.TheVariants.{Error, Warning}
-use Rattle.timefd_editor.specs.declared.hovered.Hover.{Hover}
-use Rattle.timefd_editor.specs.declared.position.Position.{Position}
-use Rattle.timefd_editor.specs.declared.position.Range.{Range}
+use Rattle.timefd_lsp.specs.declared.editor.action.Action.{Action}
+use Rattle.timefd_lsp.specs.declared.editor.action.ActionKind.{ActionKind}
+use Rattle.timefd_lsp.specs.declared.editor.action.ActionKind.TheVariants.{QuickFix, Guess, Rewrite, FixAll}
+use Rattle.timefd_lsp.specs.declared.editor.action.Edit.{Edit}
+use Rattle.timefd_lsp.specs.declared.editor.finding.Finding.{Finding}
+use Rattle.timefd_lsp.specs.declared.editor.finding.Severity.{Severity}
+use Rattle.timefd_lsp.specs.declared.editor.finding.Severity.TheVariants.{Error, Warning}
+use Rattle.timefd_lsp.specs.declared.editor.hovered.Hover.{Hover}
+use Rattle.timefd_lsp.specs.declared.editor.position.Position.{Position}
+use Rattle.timefd_lsp.specs.declared.editor.position.Range.{Range}
 
 abbrev pub position_data : Position → Data
 position_data position = object (member (codes "character") (number (unsigned position.character))

@@ -2,7 +2,7 @@
 use Rattle.std.specs.Prelude.{ℕ, List, Bool, true, false, ◌||◌, Option, Some, None, codes, bytes_eq, option_and_then}
 use Rattle.serde_json.specs.Data.{Data, Items, no_items, item}
 use Rattle.serde_json.specs.Find.{as_array, as_str, pointer}
-use Rattle.timefd_editor.specs.declared.action.Wanted.{Wanted}
+use Rattle.timefd_lsp.specs.declared.editor.action.Wanted.{Wanted}
 
 -- A kind asks for itself, and for each kind below it. All kinds are below the empty one.
 abbrev pub asks_for_fixes : List ℕ → Bool

@@ -6,11 +6,11 @@ ghost use Rattle.timefd_lsp.specs.Replies.{refusal_of};
 ghost use Rattle.timefd_lsp.specs.Servers as spec;
 
 use crate::documents::Documents;
+use crate::editor::{Position, Range, Wanted, actions, hover, index_of};
 use crate::message::Request;
 use crate::reply::{Answer, Refusal};
 use crate::server::{Phase, Server, Settings, source_of};
 use std::alloc::{AllocError, Global};
-use timefd_editor::{Position, Range, Wanted, actions, hover, index_of};
 
 /// The answer to a request.
 pub fn answer_to(

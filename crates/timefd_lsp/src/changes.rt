@@ -4,11 +4,11 @@ ghost use Rattle.std.specs.Prelude.{◌≡◌, IfOk, map, option_map, string_byt
 ghost use Rattle.serde_json.specs.View.{items_view, view};
 ghost use Rattle.timefd_lsp.specs.Changes as spec;
 
+use crate::editor::{Range, replaced};
 use crate::envelope::text_at;
 use crate::params::{changes_of, range_in};
 use serde_json::Value;
 use std::alloc::{AllocError, Global};
-use timefd_editor::{Range, replaced};
 
 /// A change of a document.
 #[derive(Drop)]

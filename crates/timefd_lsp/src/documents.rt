@@ -7,7 +7,7 @@ ghost use Rattle.timefd_lsp.specs.Documents.{with_text};
 
 use std::alloc::AllocError;
 use std::collections::BTreeMap;
-use timefd_keys::{Format, format_named};
+use timefd_sources::keys::{Format, format_named};
 
 /// How the descriptions in a document are found.
 #[derive(Clone, Copy, Debug, PartialEq, Eq)]

@@ -6,6 +6,7 @@ mod answering;
 mod changes;
 mod content;
 mod documents;
+pub mod editor;
 mod envelope;
 mod frame;
 mod head;

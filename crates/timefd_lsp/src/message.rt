@@ -5,12 +5,12 @@ ghost use Rattle.serde_json.specs.View.{view};
 ghost use Rattle.timefd_lsp.specs.Messages as spec;
 
 use crate::changes::{Change, changes_in};
+use crate::editor::{Position, Range, Wanted};
 use crate::envelope::{Envelope, Id, envelope_of};
 use crate::params::{position_in, range_of, text_by, uri_of};
 use crate::wanted::wanted_in;
 use serde_json::Value;
 use std::alloc::{AllocError, Global};
-use timefd_editor::{Position, Range, Wanted};
 
 /// What a request asks for.
 #[derive(Drop)]

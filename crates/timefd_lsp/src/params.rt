@@ -4,8 +4,8 @@ ghost use Rattle.std.specs.Prelude.{◌≡◌, option_map};
 ghost use Rattle.serde_json.specs.View.{items_view, view};
 ghost use Rattle.timefd_lsp.specs.Params as spec;
 
+use crate::editor::{Position, Range};
 use serde_json::Value;
-use timefd_editor::{Position, Range};
 
 /// The text at a JSON pointer. `None` if there is none.
 pub fn text_by<'a>(value: &'a Value, path: &str) -> Option<&'a str>

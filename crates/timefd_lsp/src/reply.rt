@@ -3,8 +3,8 @@
 ghost use Rattle.std.specs.Prelude.{◌≡◌};
 ghost use Rattle.timefd_lsp.specs.Replies as spec;
 
+use crate::editor::{Action, Finding, Hover};
 use crate::envelope::Id;
-use timefd_editor::{Action, Finding, Hover};
 
 /// Why a request is refused.
 #[derive(Clone, Copy, Debug, PartialEq, Eq)]

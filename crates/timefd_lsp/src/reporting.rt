@@ -6,11 +6,11 @@ ghost use Rattle.timefd_lsp.specs.Servers as spec;
 
 use crate::changes::{Change, after_all};
 use crate::documents::{Document, Documents, Kind, change, close, kind_of, open};
+use crate::editor::{Finding, findings};
 use crate::message::Notification;
 use crate::reply::Reply;
 use crate::server::{Phase, Server, Settings, Step, source_of};
 use std::alloc::{AllocError, Global};
-use timefd_editor::{Finding, findings};
 
 /// What a notification leads to. Before `initialize` and after `shutdown` only `exit` leads to anything. An
 /// `Err` says that memory ran out.

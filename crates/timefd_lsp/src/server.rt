@@ -10,8 +10,8 @@ use crate::message::Message;
 use crate::reply::{Answer, Refusal, Reply};
 use crate::reporting::reported;
 use std::alloc::{AllocError, Global};
-use timefd_keys::Key;
 use timefd_lint_sources::{Finder, Source};
+use timefd_sources::keys::Key;
 use timefd_warnings::Levels;
 
 /// Which descriptions of a document are checked, and which warnings are reported.

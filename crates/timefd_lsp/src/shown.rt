@@ -4,9 +4,9 @@ ghost use Rattle.std.specs.Prelude.{◌≡◌, IfOk};
 ghost use Rattle.serde_json.specs.View.{view};
 ghost use Rattle.timefd_lsp.specs.Shown as spec;
 
+use crate::editor::{Action, ActionKind, Edit, Finding, Hover, Position, Range, Severity};
 use serde_json::{Map, Value, json};
 use std::alloc::{AllocError, Global};
-use timefd_editor::{Action, ActionKind, Edit, Finding, Hover, Position, Range, Severity};
 
 fn position_value(alloc: Global, position: Position) -> Result<Value, AllocError>
     ensures { IfOk result (λ value. view value ≡ spec.position_data position) }

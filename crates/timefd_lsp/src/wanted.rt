@@ -4,8 +4,8 @@ ghost use Rattle.std.specs.Prelude.{◌≡◌, option_map};
 ghost use Rattle.serde_json.specs.View.{items_view, view};
 ghost use Rattle.timefd_lsp.specs.WantedKinds as spec;
 
+use crate::editor::Wanted;
 use serde_json::Value;
-use timefd_editor::Wanted;
 
 /// Which actions are wanted: those whose kinds are in the list `only`, or below one of these, as
 /// `source.fixAll` is below `source`. If there is no such list, fixes and rewrites are wanted.

@@ -6,3 +6,5 @@ pub mod Weekdays
 pub mod Instants
 pub mod Display
 pub mod Laws
+pub mod Fields
+pub mod Reading

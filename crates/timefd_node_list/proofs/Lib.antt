@@ -8,3 +8,4 @@ pub mod WalkLemmas
 pub mod TurnLemmas
 pub mod LeafLemmas
 pub mod OwnerLemmas
+pub mod ItemLemmas

@@ -6,3 +6,4 @@ pub mod Views
 pub mod Turns
 pub mod Leaves
 pub mod LeafMeaning
+pub mod Item

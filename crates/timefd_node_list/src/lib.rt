@@ -4,6 +4,7 @@
 
 mod debug;
 pub mod in_turn;
+pub mod item;
 pub mod leaves;
 pub mod members;
 pub mod node;

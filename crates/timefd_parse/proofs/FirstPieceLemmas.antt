@@ -18,7 +18,7 @@ use Rattle.timefd_language.specs.Grammar.{Spells, nesting_limit, no_pieces, spel
 use Rattle.timefd_language.specs.Strftime.{SpellsStrftime, no_directives, directives_text, ill_text, ill_fault}
 use Rattle.timefd_language.proofs.LawLemmas.{one_answer_law}
 use Rattle.timefd_language.proofs.StrftimeReader.{strftime_one_answer_law}
-use Rattle.timefd_strftime.specs.StrftimeReading as strftime
+use Rattle.timefd_language.specs.Directives.StrftimeReading as strftime
 use Rattle.timefd_parse.specs.declared.language.Language.{Language}
 use Rattle.timefd_parse.specs.declared.language.Language.TheVariants.{Version, Strftime}
 use Rattle.timefd_parse.specs.FirstPiece.{LeadsIn, EndsWith, IsAfterFirst, IsFirst, BeginsList}

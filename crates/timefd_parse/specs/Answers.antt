@@ -1,7 +1,7 @@
 -- How the answer of a public call relates to the text.
 use Rattle.std.specs.Prelude.{ℕ, ◌≡◌, ◌≤◌, List, map, IsTrue, ⊤}
 use Rattle.timefd_component.specs.Tree.{Text, Tree, pack}
-use Rattle.timefd_format_item.specs.Meaning.{item_tree}
+use Rattle.timefd_node_list.specs.Item.Meaning.{item_tree}
 use Rattle.timefd_items.specs.Description.{description_tree}
 use Rattle.timefd_fault.specs.Faults.{fault_of}
 use Rattle.timefd_component.specs.Reserved.{reserve}

@@ -16,7 +16,7 @@ use std::alloc::Global;
 use timefd_fault::BorrowedParseError;
 use timefd_fault::parse_error::ParseError;
 use timefd_language::description_version::DescriptionVersion;
-use timefd_strftime::count_strftime;
+use timefd_language::strftime::count_strftime;
 
 /// The language of a text. `time` has a call for each; this type is this port's own.
 #[derive(Debug, Clone, Copy, PartialEq, Eq)]

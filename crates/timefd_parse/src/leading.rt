@@ -17,7 +17,7 @@ use timefd_fault::BorrowedParseError;
 use timefd_fault::borrowed_parse_error::borrowed;
 use timefd_items::DescriptionBuilder;
 use timefd_language::description_version::DescriptionVersion;
-use timefd_strftime::after_first_directive;
+use timefd_language::strftime::after_first_directive;
 
 /// The first piece of a text, as it is written, and what follows it. A piece is a literal up to the
 /// next escape or bracket, an escape, a `]`, a bracket with all that it holds, or a directive of

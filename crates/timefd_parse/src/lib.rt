@@ -40,7 +40,7 @@ pub use piece::Piece;
 pub use read::next_piece;
 pub use timefd_fault::{BorrowedFault, BorrowedParseError, Excerpt, FaultKind, ParseError, Rule};
 pub use timefd_items::{BorrowedFormatItem, FormatDescriptionV3, InvalidFormatDescription};
-pub use timefd_language::{DescriptionVersion, laws};
-pub use timefd_strftime::{
+pub use timefd_language::strftime::{
     StrftimeTables, count_strftime, parse_strftime_all_borrowed, parse_strftime_borrowed,
 };
+pub use timefd_language::{DescriptionVersion, laws};

@@ -4,7 +4,7 @@ ghost use Rattle.std.specs.Prelude.{◌≡◌, Bool, List, IsTrue};
 ghost use Rattle.timefd_component.specs.Modern.{modern};
 ghost use Rattle.timefd_component.specs.Tree as spec;
 ghost use Rattle.timefd_component.specs.Tree.{Tree};
-ghost use Rattle.timefd_format_item.specs.Meaning.{item_tree};
+ghost use Rattle.timefd_node_list.specs.Item.Meaning.{item_tree};
 ghost use Rattle.timefd_parse.specs.Pieces.{IsPiece};
 
 use timefd_component::reserved::reserved_bytes;

@@ -8,10 +8,10 @@ use crate::fields::{one, three, two};
 use crate::language::language_of;
 use crate::trees::reading::{described, sentence};
 use std::alloc::Global;
+use timefd_convert::printing::{PrintError, print_v3};
 use timefd_convert::{ConvertError, convert, strftime_to_v3};
 use timefd_lift::{v1_to_v2, v2_to_v3};
 use timefd_parse::ParseError;
-use timefd_print::{PrintError, print_v3};
 
 /// What is asked about a text. If the text is refused, the answer is the fault's sentence.
 #[derive(Clone, Copy)]

@@ -10,3 +10,4 @@ pub mod FoundLemmas
 pub mod GrammarLemmas
 pub mod WrittenLemmas
 pub mod InsideLemmas
+pub mod KeysLemmas

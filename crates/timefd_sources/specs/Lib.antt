@@ -29,3 +29,4 @@ pub mod Looks
 pub mod Chrono
 pub mod Grammar
 pub mod Written
+pub mod Keys

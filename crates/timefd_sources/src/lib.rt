@@ -17,6 +17,7 @@ pub mod dialect;
 mod escape;
 mod flow;
 mod frames;
+pub mod keys;
 pub mod known;
 pub mod laws;
 pub mod line;

@@ -3,8 +3,8 @@
 use std::alloc::Global;
 use std::process::Abort;
 use timefd_component::Component;
-use timefd_format_item::BorrowedFormatItem;
 use timefd_modifier::{Hour, Hour24};
+use timefd_node_list::item::BorrowedFormatItem;
 use timefd_warnings::{Description, Style, Warning, warns};
 
 fn is_deprecated(rt: &impl Abort, alloc: Global, component: Component) -> bool {

@@ -1,11 +1,11 @@
 -- The parts determine a date in the same ways in which the reader finds one.
 use Rattle.std.proofs.Common.{ℕ, ◌≡◌, Bool, true, false, ◌&&◌, ◌||◌, if◌then◌else◌, is_some, Option, Some, None, Result, Ok, Err, refl, ◌∙◌}
 use Rattle.std.specs.Prelude.{is_ok}
-use Rattle.timefd_read_dates.specs.declared.fields.Fields.{Fields}
-use Rattle.timefd_read_dates.specs.declared.fields.Signed.{Signed}
-use Rattle.timefd_read_moment.specs.declared.part.DatePart.{DatePart}
-use Rattle.timefd_read_moment.specs.Ways.{calendar, ordinal, iso_week, sunday_week, monday_week, or_else, lack, unless}
-use Rattle.timefd_read_moment.specs.Years.{years_read}
+use Rattle.timefd_moment.specs.declared.fields.fields.Fields.{Fields}
+use Rattle.timefd_moment.specs.declared.fields.fields.Signed.{Signed}
+use Rattle.timefd_moment.specs.declared.reading.part.DatePart.{DatePart}
+use Rattle.timefd_moment.specs.Reading.Ways.{calendar, ordinal, iso_week, sunday_week, monday_week, or_else, lack, unless}
+use Rattle.timefd_moment.specs.Reading.Years.{years_read}
 use Rattle.timefd_warnings.specs.declared.field.Field.{Field}
 use Rattle.timefd_warnings.specs.Dates.{shows_month, shows_weekday}
 use Rattle.timefd_warnings.specs.Reads.{IsReadOf, DeterminedAsRead}

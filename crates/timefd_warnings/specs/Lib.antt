@@ -13,3 +13,4 @@ pub mod Twice
 pub mod Warns
 pub mod Levels
 pub mod Laws
+pub mod Settling

@@ -2,7 +2,7 @@
 -- and the first of alternatives.
 use Rattle.std.specs.Prelude.{List}
 use Rattle.timefd_component.specs.Tree.{Tree, trees}
-use Rattle.timefd_format_item.specs.Meaning.{item_trees}
+use Rattle.timefd_node_list.specs.Item.Meaning.{item_trees}
 use Rattle.timefd_node_list.specs.Leaves.{leaves, leaves_all}
 use Rattle.timefd_node_list.specs.Views.{view_tree}
 use Rattle.timefd_warnings.specs.declared.parts.Description.{Description}

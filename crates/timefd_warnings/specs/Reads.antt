@@ -1,8 +1,8 @@
 -- What a reader finds in a text that these parts wrote, and which of it determines a date.
 use Rattle.std.specs.Prelude.{◌≡◌, is_ok, is_some, List}
 use Rattle.timefd_component.specs.Tree.{Tree}
-use Rattle.timefd_read_dates.specs.declared.fields.Fields.{Fields}
-use Rattle.timefd_read_moment.specs.Ways.{date_way}
+use Rattle.timefd_moment.specs.declared.fields.fields.Fields.{Fields}
+use Rattle.timefd_moment.specs.Reading.Ways.{date_way}
 use Rattle.timefd_warnings.specs.declared.field.Field.{Field}
 use Rattle.timefd_warnings.specs.Dates.{determines_date, shows_month, shows_weekday}
 use Rattle.timefd_warnings.specs.Sought.{shows}

@@ -11,6 +11,7 @@ pub mod laws;
 mod levels;
 mod mark;
 mod parts;
+pub mod settled;
 mod sought;
 mod twice;
 mod warned;

@@ -2,7 +2,7 @@
 
 ghost use Rattle.std.specs.Prelude.{◌≡◌};
 ghost use Rattle.timefd_component.specs.Tree.{trees};
-ghost use Rattle.timefd_format_item.specs.Meaning.{item_tree, item_trees};
+ghost use Rattle.timefd_node_list.specs.Item.Meaning.{item_tree, item_trees};
 ghost use Rattle.timefd_node_list.specs.LeafMeaning.{leaf_tree};
 ghost use Rattle.timefd_node_list.specs.Leaves.{leaves, leaves_all};
 ghost use Rattle.timefd_node_list.specs.Views.{view_tree};
@@ -11,7 +11,7 @@ ghost use Rattle.timefd_warnings.specs.Sought as spec;
 
 use crate::field::Field;
 use crate::sought::{Amount, Scan, Sought};
-use timefd_format_item::BorrowedFormatItem;
+use timefd_node_list::item::BorrowedFormatItem;
 use timefd_node_list::{Leaf, View};
 
 /// A description that was read, borrowed.

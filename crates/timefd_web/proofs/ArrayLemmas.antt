@@ -9,11 +9,11 @@ use Rattle.json.specs.Tree.{items_tokens, items_depth}
 use Rattle.json.specs.Value.{items_of}
 use Rattle.json.proofs.Printed.Utf8.{IsUtf8-are_ascii}
 use Rattle.timefd_component.specs.Tree.{Text}
-use Rattle.timefd_json_laws.specs.Logs.{All}
-use Rattle.timefd_json_laws.proofs.Fields.{then}
-use Rattle.timefd_json_laws.proofs.Lists.{AreMembers, no_members, more_members}
-use Rattle.timefd_json_laws.proofs.Pieces.{Lexes}
-use Rattle.timefd_json_laws.proofs.Results.{IsNext}
+use Rattle.timefd_web.specs.JsonLaws.Logs.{All}
+use Rattle.timefd_web.proofs.JsonLawLemmas.Fields.{then}
+use Rattle.timefd_web.proofs.JsonLawLemmas.Lists.{AreMembers, no_members, more_members}
+use Rattle.timefd_web.proofs.JsonLawLemmas.Pieces.{Lexes}
+use Rattle.timefd_web.proofs.JsonLawLemmas.Results.{IsNext}
 use Rattle.timefd_web.specs.Records.{after_comma, listed}
 
 -- The text is an array of these values.

@@ -7,9 +7,9 @@ use Rattle.std.specs.declared.alloc.Global.{Global}
 use Rattle.std.specs.declared.vec.Vec.{Vec}
 use Rattle.std.specs.Str.Lines.{lines}
 use Rattle.timefd_component.specs.Tree.{Text}
-use Rattle.timefd_guess.specs.Candidates.{all_entries}
-use Rattle.timefd_guess.specs.Found.{AreGuesses, ReadsBack, texts}
-use Rattle.timefd_guess.specs.declared.guessing.Guess.{Guess}
+use Rattle.timefd_description.specs.Guessing.Candidates.{all_entries}
+use Rattle.timefd_description.specs.Guessing.Found.{AreGuesses, ReadsBack, texts}
+use Rattle.timefd_description.specs.declared.guessing.guessing.Guess.{Guess}
 use Rattle.timefd_web.specs.Guesses.{Guessed, guesses_object}
 
 texts_map : (all : List (Bor Text)) → texts all ≡ map (λ text. text.now) all

@@ -13,3 +13,4 @@ pub mod ValueLemmas
 pub mod ReportFronts
 pub mod ReportValueLemmas
 pub mod ObjectLemmas
+pub mod JsonLawLemmas

@@ -8,8 +8,8 @@ use Rattle.json.proofs.Printed.Numbers.{in_word-ended}
 use Rattle.json.proofs.Printed.Utf8.{IsUtf8-are_ascii}
 use Rattle.std.specs.Prelude.{cond}
 use Rattle.timefd_component.specs.Tree.{Text}
-use Rattle.timefd_json_laws.proofs.Fronts.{first_key, next_key}
-use Rattle.timefd_json_laws.proofs.Pieces.{Lexes, Opens}
+use Rattle.timefd_web.proofs.JsonLawLemmas.Fronts.{first_key, next_key}
+use Rattle.timefd_web.proofs.JsonLawLemmas.Pieces.{Lexes, Opens}
 
 -- A key whose value is true or false, and the key after that.
 abbrev pub two_keys : Text → Bool → Text → List Lexeme

@@ -11,21 +11,21 @@ use Rattle.json.specs.Value.{items_of}
 use Rattle.timefd_component.specs.Tree.{Text}
 use Rattle.timefd_explain.specs.declared.explain.Explanation.{Explanation}
 use Rattle.timefd_explain.specs.declared.node.Node.{Node}
-use Rattle.timefd_json_laws.specs.Logs.{All}
-use Rattle.timefd_json_laws.specs.Meaning.{IsJson}
-use Rattle.timefd_json_laws.specs.Objects.{IsNumber64, text_member}
-use Rattle.timefd_json_laws.proofs.Distinct.{distinct_keys, unique_keys}
-use Rattle.timefd_json_laws.proofs.Fields.{text_lexed, number_lexed, strings, numbers, then}
-use Rattle.timefd_json_laws.proofs.Fronts as common
-use Rattle.timefd_json_laws.proofs.Fronts.{first_key, next_key}
-use Rattle.timefd_json_laws.proofs.Means.{means_of, tokens_of}
-use Rattle.timefd_json_laws.proofs.Pieces.{Lexes, closed, no_piece}
-use Rattle.timefd_json_laws.proofs.Results.{IsNext}
+use Rattle.timefd_web.specs.JsonLaws.Logs.{All}
+use Rattle.timefd_web.specs.JsonLaws.Meaning.{IsJson}
+use Rattle.timefd_web.specs.JsonLaws.Objects.{IsNumber64, text_member}
+use Rattle.timefd_web.proofs.JsonLawLemmas.Distinct.{distinct_keys, unique_keys}
+use Rattle.timefd_web.proofs.JsonLawLemmas.Fields.{text_lexed, number_lexed, strings, numbers, then}
+use Rattle.timefd_web.proofs.JsonLawLemmas.Fronts as common
+use Rattle.timefd_web.proofs.JsonLawLemmas.Fronts.{first_key, next_key}
+use Rattle.timefd_web.proofs.JsonLawLemmas.Means.{means_of, tokens_of}
+use Rattle.timefd_web.proofs.JsonLawLemmas.Pieces.{Lexes, closed, no_piece}
+use Rattle.timefd_web.proofs.JsonLawLemmas.Results.{IsNext}
 use Rattle.timefd_moment.specs.Display.{moment_text}
 use Rattle.timefd_moment.specs.declared.moment.Moment.{Moment}
-use Rattle.timefd_read_dates.specs.declared.fault.ReadError.{ReadError}
-use Rattle.timefd_read_moment.specs.Sentences.{sentence}
-use Rattle.timefd_read_moment.specs.declared.error.ValueError.{ValueError}
+use Rattle.timefd_moment.specs.declared.fields.fault.ReadError.{ReadError}
+use Rattle.timefd_moment.specs.Reading.Sentences.{sentence}
+use Rattle.timefd_moment.specs.declared.reading.error.ValueError.{ValueError}
 use Rattle.timefd_web.specs.declared.later.Later.{Later}
 use Rattle.timefd_web.specs.Objects.{accepted_object, kind_name, node, optional, refusal}
 use Rattle.timefd_web.specs.Readings.{component_in, moment_object, no_description, sentence_here, unread_object, value_object}

@@ -13,17 +13,17 @@ use Rattle.timefd_dialect.specs.declared.limits.Limits.{Limits}
 use Rattle.timefd_dialect.specs.declared.reading.Converted.{Converted}
 use Rattle.timefd_dialect.specs.declared.reason.Reason.{Reason}
 use Rattle.timefd_dialect.specs.declared.trapping.Found.{Found}
-use Rattle.timefd_guess.specs.declared.guessing.Guess.{Guess}
-use Rattle.timefd_json_laws.specs.Logs.{All}
-use Rattle.timefd_json_laws.specs.Meaning.{IsJson}
-use Rattle.timefd_json_laws.specs.Objects.{IsNumber64}
-use Rattle.timefd_json_laws.proofs.Distinct.{distinct_keys, unique_keys}
-use Rattle.timefd_json_laws.proofs.Fields.{text_lexed, number_lexed, strings, numbers, then}
-use Rattle.timefd_json_laws.proofs.Fronts as common
-use Rattle.timefd_json_laws.proofs.Fronts.{first_key, next_key}
-use Rattle.timefd_json_laws.proofs.Means.{means_of, tokens_of}
-use Rattle.timefd_json_laws.proofs.Pieces.{Lexes, closed, no_piece}
-use Rattle.timefd_json_laws.proofs.Results.{IsNext}
+use Rattle.timefd_description.specs.declared.guessing.guessing.Guess.{Guess}
+use Rattle.timefd_web.specs.JsonLaws.Logs.{All}
+use Rattle.timefd_web.specs.JsonLaws.Meaning.{IsJson}
+use Rattle.timefd_web.specs.JsonLaws.Objects.{IsNumber64}
+use Rattle.timefd_web.proofs.JsonLawLemmas.Distinct.{distinct_keys, unique_keys}
+use Rattle.timefd_web.proofs.JsonLawLemmas.Fields.{text_lexed, number_lexed, strings, numbers, then}
+use Rattle.timefd_web.proofs.JsonLawLemmas.Fronts as common
+use Rattle.timefd_web.proofs.JsonLawLemmas.Fronts.{first_key, next_key}
+use Rattle.timefd_web.proofs.JsonLawLemmas.Means.{means_of, tokens_of}
+use Rattle.timefd_web.proofs.JsonLawLemmas.Pieces.{Lexes, closed, no_piece}
+use Rattle.timefd_web.proofs.JsonLawLemmas.Results.{IsNext}
 use Rattle.timefd_web.specs.Conversions.{converted_object, format_object, lacking_object, limit_fields, merged_object, reason_fields, refused_object, trap_object}
 use Rattle.timefd_web.specs.Guesses.{guess_object, guesses_object}
 use Rattle.timefd_web.specs.Records.{listed}

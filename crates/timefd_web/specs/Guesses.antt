@@ -3,9 +3,9 @@ use Rattle.std.specs.Prelude.{ℕ, ◌≡◌, ◌++◌, All, List, [], codes, le
 use Rattle.std.specs.Str.Lines.{lines}
 use Rattle.timefd_component.specs.Tree.{Text}
 use Rattle.timefd_drawing.specs.Json.{text_field, number_field}
-use Rattle.timefd_guess.specs.Candidates.{all_entries}
-use Rattle.timefd_guess.specs.Found.{AreGuesses, ReadsBack}
-use Rattle.timefd_guess.specs.declared.guessing.Guess.{Guess}
+use Rattle.timefd_description.specs.Guessing.Candidates.{all_entries}
+use Rattle.timefd_description.specs.Guessing.Found.{AreGuesses, ReadsBack}
+use Rattle.timefd_description.specs.declared.guessing.guessing.Guess.{Guess}
 use Rattle.timefd_web.specs.Records.{listed}
 
 -- a description, and how many of the texts don't show which number is the day and which is the month

@@ -10,3 +10,4 @@ pub mod OtherAnswers
 pub mod Values
 pub mod ReportValues
 pub mod Numbers
+pub mod JsonLaws

@@ -9,11 +9,11 @@ use Rattle.timefd_moment.specs.Display.{moment_text}
 use Rattle.timefd_moment.specs.declared.moment.Moment.{Moment}
 use Rattle.timefd_parse.specs.declared.language.Language.{Language}
 use Rattle.timefd_parse.specs.Language.{SpellsIn, FaultIn}
-use Rattle.timefd_read_dates.specs.declared.fault.ReadError.{ReadError}
-use Rattle.timefd_read_dates.specs.declared.fault.Reason.{Reason}
-use Rattle.timefd_read_dates.specs.declared.fault.Reason.TheVariants as for
-use Rattle.timefd_read_moment.specs.Sentences.{sentence}
-use Rattle.timefd_read_moment.specs.declared.error.ValueError.{ValueError}
+use Rattle.timefd_moment.specs.declared.fields.fault.ReadError.{ReadError}
+use Rattle.timefd_moment.specs.declared.fields.fault.Reason.{Reason}
+use Rattle.timefd_moment.specs.declared.fields.fault.Reason.TheVariants as for
+use Rattle.timefd_moment.specs.Reading.Sentences.{sentence}
+use Rattle.timefd_moment.specs.declared.reading.error.ValueError.{ValueError}
 use Rattle.timefd_description.specs.ReadAnswers.{IsReadAs, IsRefusedFor, fields_in}
 use Rattle.timefd_description.specs.Sentences.{reason_sentence}
 use Rattle.timefd_description.specs.declared.read_error.ReadTextError.{ReadTextError}

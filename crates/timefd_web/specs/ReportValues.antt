@@ -6,14 +6,14 @@ use Rattle.json.specs.Json.{Json, null, object, no_members, member}
 use Rattle.timefd_component.specs.Tree.{Text}
 use Rattle.timefd_explain.specs.declared.explain.Explanation.{Explanation}
 use Rattle.timefd_explain.specs.declared.node.Node.{Node}
-use Rattle.timefd_json_laws.specs.Logs.{All}
-use Rattle.timefd_json_laws.specs.Meaning.{IsJson}
-use Rattle.timefd_json_laws.specs.Objects.{text_member, number_member, IsNumber64}
+use Rattle.timefd_web.specs.JsonLaws.Logs.{All}
+use Rattle.timefd_web.specs.JsonLaws.Meaning.{IsJson}
+use Rattle.timefd_web.specs.JsonLaws.Objects.{text_member, number_member, IsNumber64}
 use Rattle.timefd_moment.specs.Display.{moment_text}
 use Rattle.timefd_moment.specs.declared.moment.Moment.{Moment}
-use Rattle.timefd_read_dates.specs.declared.fault.ReadError.{ReadError}
-use Rattle.timefd_read_moment.specs.Sentences.{sentence}
-use Rattle.timefd_read_moment.specs.declared.error.ValueError.{ValueError}
+use Rattle.timefd_moment.specs.declared.fields.fault.ReadError.{ReadError}
+use Rattle.timefd_moment.specs.Reading.Sentences.{sentence}
+use Rattle.timefd_moment.specs.declared.reading.error.ValueError.{ValueError}
 use Rattle.timefd_web.specs.declared.later.Later.{Later}
 use Rattle.timefd_web.specs.Objects.{accepted_object, kind_name, refusal}
 use Rattle.timefd_web.specs.Readings.{component_in, moment_object, no_description, sentence_here, unread_object, value_object}

@@ -9,10 +9,10 @@ use Rattle.timefd_dialect.specs.declared.error.Refusal.{Refusal}
 use Rattle.timefd_dialect.specs.declared.limits.Limits.{Limits}
 use Rattle.timefd_dialect.specs.declared.reading.Converted.{Converted}
 use Rattle.timefd_dialect.specs.declared.trapping.Found.{Found}
-use Rattle.timefd_guess.specs.declared.guessing.Guess.{Guess}
-use Rattle.timefd_json_laws.specs.Logs.{All}
-use Rattle.timefd_json_laws.specs.Meaning.{IsJson}
-use Rattle.timefd_json_laws.specs.Objects.{text_member, number_member, IsNumber64}
+use Rattle.timefd_description.specs.declared.guessing.guessing.Guess.{Guess}
+use Rattle.timefd_web.specs.JsonLaws.Logs.{All}
+use Rattle.timefd_web.specs.JsonLaws.Meaning.{IsJson}
+use Rattle.timefd_web.specs.JsonLaws.Objects.{text_member, number_member, IsNumber64}
 use Rattle.timefd_web.specs.Conversions.{converted_object, format_object, lacking_object, merged_object, refused_object}
 use Rattle.timefd_web.specs.Guesses.{guesses_object}
 

@@ -2,13 +2,13 @@
 
 ghost use Rattle.std.specs.Prelude.{◌≡◌, ℕ, IfOk};
 ghost use Rattle.std.specs.Str.Lines.{lines};
-ghost use Rattle.timefd_guess.specs.Found.{texts};
+ghost use Rattle.timefd_description.specs.Guessing.Found.{texts};
 ghost use Rattle.timefd_web.specs.Guesses as spec;
 
 use crate::records::{Record, push_list};
 use std::alloc::{AllocError, Global};
+use timefd_description::guessing::{Guess, guesses};
 use timefd_drawing::json::{push_number, push_text};
-use timefd_guess::{Guess, guesses};
 
 /// The descriptions that the lines of a text may be written by, likeliest first, as a JSON object. An
 /// `Err` says that memory ran out, and nothing about the text.

@@ -8,6 +8,7 @@ mod exports;
 mod fields;
 mod formats;
 mod guessing;
+pub mod json_laws;
 mod later;
 pub mod laws;
 mod nodes;

@@ -9,9 +9,9 @@ use timefd_description::{ReadTextError, read_text, reason_sentence};
 use timefd_drawing::json::{push_number, push_text};
 use timefd_format::component_name;
 use timefd_moment::Moment;
+use timefd_moment::fields::{ReadError, Reason};
+use timefd_moment::reading::ValueError;
 use timefd_parse::Language;
-use timefd_read_dates::{ReadError, Reason};
-use timefd_read_moment::ValueError;
 
 /// The moment that a whole text shows by a description, as a JSON object, or why it shows none. An
 /// `Err` says that memory ran out, and nothing about the texts.

@@ -3,9 +3,9 @@ use Rattle.std.proofs.Common.{ℕ, suc, ◌≡◌, ◌∙◌, ◌-◌, ◌<◌, 
 use Rattle.std.proofs.lemmas.List.{get_or-map, take-map}
 use Rattle.timefd_component.specs.Tree.{Text, Tree, compound, literal, no_trees, trees}
 use Rattle.timefd_parse.specs.declared.parsing.BorrowedOutput.{BorrowedOutput}
-use Rattle.timefd_read_dates.specs.declared.fault.ReadError.{ReadError}
-use Rattle.timefd_read_dates.specs.declared.fields.Fields.{Fields}
-use Rattle.timefd_read_dates.specs.Reads.{Fills}
+use Rattle.timefd_moment.specs.declared.fields.fault.ReadError.{ReadError}
+use Rattle.timefd_moment.specs.declared.fields.fields.Fields.{Fields}
+use Rattle.timefd_moment.specs.Fields.Reads.{Fills}
 use Rattle.timefd_write.specs.Expected.{IsExpected, IsExpectedBy, IsLiteral, IsStop, is_stop, stops}
 use Rattle.timefd_write.specs.ReadBack.{tree_of}
 

@@ -2,9 +2,9 @@
 use Rattle.std.proofs.Common.{◌≡◌, Bool, List, [], ◌∷◌, ◌++◌, Option, codes, sym, ap, subst, ◌∙◌, append_assoc, append-nil}
 use Rattle.std.specs.Io.KnownBytes.{Appends}
 use Rattle.timefd_component.specs.Tree.{Text}
-use Rattle.timefd_guess.specs.declared.guessing.Guess.{Guess}
-use Rattle.timefd_guess.specs.Candidates.{all_entries}
-use Rattle.timefd_guess.specs.Found.{AreGuesses}
+use Rattle.timefd_description.specs.declared.guessing.guessing.Guess.{Guess}
+use Rattle.timefd_description.specs.Guessing.Candidates.{all_entries}
+use Rattle.timefd_description.specs.Guessing.Found.{AreGuesses}
 use Rattle.timefd_write.specs.Guessed.{WritesGuesses, guess_lines, is_any}
 
 pub writes : (texts : List Text) (before after : Option Text) (lines : Text)

@@ -7,7 +7,7 @@ use Rattle.std.specs.declared.string.String.{String}
 use denote.Ref.{Bor}
 use Rattle.timefd_component.specs.Tree.{Text}
 use Rattle.timefd_diagnosis.specs.Words.{texts}
-use Rattle.timefd_guess.specs.Found as guess
+use Rattle.timefd_description.specs.Guessing.Found as guess
 use Rattle.timefd_rewrite.specs.Lines.{AreLinesOf, IsNextLine, without_newline}
 use Rattle.timefd_streams.specs.Words.{borrowed_bytes, bytes_of}
 use Rattle.timefd_write.specs.declared.guess_run.GuessEnd.{GuessEnd}

@@ -20,3 +20,5 @@ pub mod ExpectedLemmas
 pub mod MomentLemmas
 pub mod MessageLemmas
 pub mod PlainLemmas
+pub mod CompletingLemmas
+pub mod JiffLemmas

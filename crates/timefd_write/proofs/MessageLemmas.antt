@@ -2,7 +2,7 @@
 use Rattle.std.proofs.Common.{ℕ, ◌≡◌, inl, inr, Option, refl, subst}
 use Rattle.jiff_core.specs.declared.error.Error.{Error}
 use Rattle.timefd_component.specs.Tree.{Text}
-use Rattle.timefd_read_dates.specs.declared.fault.ReadError.{ReadError}
+use Rattle.timefd_moment.specs.declared.fields.fault.ReadError.{ReadError}
 use Rattle.timefd_description.specs.Sentences.{unread_sentence}
 use Rattle.timefd_write.specs.declared.moment.MomentError.TheVariants as fails
 use Rattle.timefd_write.specs.declared.source.Source.{Source}

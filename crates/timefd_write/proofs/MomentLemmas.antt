@@ -7,8 +7,8 @@ use Rattle.jiff_tz.specs.declared.db.TimeZoneDatabase.{TimeZoneDatabase}
 use Rattle.jiff_tz.specs.declared.timezone.TimeZone.{TimeZone}
 use Rattle.jiff_tz.specs.Database.{IsNoZone, stored}
 use Rattle.timefd_component.specs.Tree.{Text}
-use Rattle.timefd_jiff.specs.declared.annotated.Annotated.{Annotated}
-use Rattle.timefd_jiff.specs.Annotated.{IsReadAnnotated}
+use Rattle.timefd_write.specs.declared.from_jiff.annotated.Annotated.{Annotated}
+use Rattle.timefd_write.specs.FromJiff.Annotated.{IsReadAnnotated}
 use Rattle.timefd_moment.specs.declared.moment.Moment.{Moment}
 use Rattle.timefd_write.specs.declared.moment.MomentError.{MomentError}
 use Rattle.timefd_write.specs.declared.moment.MomentError.TheVariants as fails

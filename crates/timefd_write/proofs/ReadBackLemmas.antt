@@ -5,10 +5,10 @@ use Rattle.timefd_moment.specs.declared.moment.Moment.{Moment}
 use Rattle.timefd_node_list.specs.declared.leaves.Leaf.{Leaf}
 use Rattle.timefd_node_list.specs.LeafMeaning.{leaf_tree}
 use Rattle.timefd_parse.specs.declared.parsing.BorrowedOutput.{BorrowedOutput}
-use Rattle.timefd_read_dates.specs.Reads.{fields_of}
-use Rattle.timefd_read_dates.specs.Short.{fields_with}
-use Rattle.timefd_read_dates.specs.declared.short.Numbers.{Numbers}
-use Rattle.timefd_read_moment.specs.Values.{IsMomentOf}
+use Rattle.timefd_moment.specs.Fields.Reads.{fields_of}
+use Rattle.timefd_moment.specs.Fields.Short.{fields_with}
+use Rattle.timefd_moment.specs.declared.fields.short.Numbers.{Numbers}
+use Rattle.timefd_moment.specs.Reading.Values.{IsMomentOf}
 use Rattle.timefd_write.specs.ReadBack.{IsMadeOf, IsOfFields, IsReadBack, IsWhole}
 
 pub by_numbers : (o : BorrowedOutput) (leaves : List Leaf) (text : Text) (n : Numbers) (r : Option Moment)

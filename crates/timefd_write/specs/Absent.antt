@@ -6,8 +6,8 @@ use Rattle.timefd_moment.specs.declared.component_range.ComponentRange.{Componen
 use Rattle.timefd_moment.specs.declared.component_range.ComponentRange.TheVariants as of
 use Rattle.timefd_moment.specs.Faults.{date_fault}
 use Rattle.timefd_moment.specs.Signed.{signed}
-use Rattle.timefd_read_dates.specs.declared.fields.Fields.{Fields}
-use Rattle.timefd_read_dates.specs.declared.fields.Signed.{Signed}
+use Rattle.timefd_moment.specs.declared.fields.fields.Fields.{Fields}
+use Rattle.timefd_moment.specs.declared.fields.fields.Signed.{Signed}
 use Rattle.timefd_write.specs.declared.absent.AbsentDay.{AbsentDay}
 
 abbrev pub signed_year : Signed → ℤ

@@ -7,7 +7,7 @@ use Rattle.jiff_tz.specs.declared.timezone.TimeZone.{TimeZone}
 use Rattle.jiff_tz.specs.Database.{IsZoneNamed, stored}
 use Rattle.jiff_tz.specs.Zone.{offset_at}
 use Rattle.timefd_component.specs.Tree.{Text}
-use Rattle.timefd_jiff.specs.Zones.{IsAhead, instant}
+use Rattle.timefd_write.specs.FromJiff.Zones.{IsAhead, instant}
 use Rattle.timefd_moment.specs.declared.moment.Moment.{Moment}
 use Rattle.timefd_moment.specs.declared.offset.UtcOffset.{UtcOffset}
 use Rattle.timefd_moment.specs.declared.unix_time.UnixTime.{UnixTime}

@@ -2,13 +2,13 @@
 use Rattle.std.specs.Prelude.{ℕ, suc, ◌≡◌, ◌<◌, Bool, true, false, List, length, map, take, get_or, Result, Ok, Err}
 use denote.Ref.{Bor}
 use Rattle.timefd_component.specs.Tree.{Text, Tree, Trees, compound, literal, no_trees, trees}
-use Rattle.timefd_format_item.specs.Meaning.{item_tree}
+use Rattle.timefd_node_list.specs.Item.Meaning.{item_tree}
 use Rattle.timefd_node_list.specs.LeafMeaning.{leaf_tree}
 use Rattle.timefd_parse.specs.declared.parsing.BorrowedOutput.{BorrowedOutput}
-use Rattle.timefd_read_dates.specs.declared.fault.ReadError.{ReadError}
-use Rattle.timefd_read_dates.specs.declared.fault.Reason.{Reason}
-use Rattle.timefd_read_dates.specs.declared.fault.Reason.TheVariants as for
-use Rattle.timefd_read_dates.specs.Reads.{fields_of}
+use Rattle.timefd_moment.specs.declared.fields.fault.ReadError.{ReadError}
+use Rattle.timefd_moment.specs.declared.fields.fault.Reason.{Reason}
+use Rattle.timefd_moment.specs.declared.fields.fault.Reason.TheVariants as for
+use Rattle.timefd_moment.specs.Fields.Reads.{fields_of}
 use Rattle.timefd_write.specs.declared.expected.Parts.{Parts}
 use Rattle.timefd_write.specs.declared.expected.Parts.TheVariants as parts
 use Rattle.timefd_write.specs.declared.source.Source.{Source}

@@ -2,9 +2,9 @@
 use Rattle.std.specs.Prelude.{ℕ, ◌≡◌, ◌++◌, Bool, true, false, List, [], ◌∷◌, codes, decimal, length, Option}
 use Rattle.std.specs.Io.KnownBytes.{Appends}
 use Rattle.timefd_component.specs.Tree.{Text}
-use Rattle.timefd_guess.specs.Candidates.{all_entries}
-use Rattle.timefd_guess.specs.Found.{AreGuesses}
-use Rattle.timefd_guess.specs.declared.guessing.Guess.{Guess}
+use Rattle.timefd_description.specs.Guessing.Candidates.{all_entries}
+use Rattle.timefd_description.specs.Guessing.Found.{AreGuesses}
+use Rattle.timefd_description.specs.declared.guessing.guessing.Guess.{Guess}
 
 abbrev pub guess_line : Guess → Text
 guess_line guess = guess.description.now ++ codes "\n"

@@ -25,3 +25,5 @@ pub mod Converted
 pub mod ToRead
 pub mod Guessed
 pub mod GuessRuns
+pub mod Completing
+pub mod FromJiff

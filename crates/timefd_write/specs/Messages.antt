@@ -6,8 +6,8 @@ use Rattle.timefd_drawing.specs.Shown.{safe}
 use Rattle.timefd_format.specs.declared.unshown.Unshown.{Unshown}
 use Rattle.timefd_format.specs.Sentences.{unshown_sentence}
 use Rattle.timefd_moment.specs.Display.{offset_text}
-use Rattle.timefd_read_dates.specs.declared.fault.ReadError.{ReadError}
-use Rattle.timefd_read_moment.specs.Sentences.{sentence}
+use Rattle.timefd_moment.specs.declared.fields.fault.ReadError.{ReadError}
+use Rattle.timefd_moment.specs.Reading.Sentences.{sentence}
 use Rattle.timefd_description.specs.Sentences.{unread_sentence}
 use Rattle.timefd_write.specs.declared.asked.OptionError.{OptionError}
 use Rattle.timefd_write.specs.declared.asked.OptionError.TheVariants as errors

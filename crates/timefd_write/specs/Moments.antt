@@ -5,10 +5,10 @@ use Rattle.jiff_core.specs.declared.error.Error.{Error}
 use Rattle.jiff_fmt.specs.Temporal.{PiecesParts, parse_pieces}
 use Rattle.jiff_tz.specs.declared.db.TimeZoneDatabase.{TimeZoneDatabase}
 use Rattle.timefd_component.specs.Tree.{Text}
-use Rattle.timefd_jiff.specs.declared.annotated.Annotated.{Annotated}
-use Rattle.timefd_jiff.specs.declared.annotated.Annotation.{Annotation}
-use Rattle.timefd_jiff.specs.declared.annotated.Annotation.TheVariants.{Named, Offset}
-use Rattle.timefd_jiff.specs.Annotated.{AreAnnotated}
+use Rattle.timefd_write.specs.declared.from_jiff.annotated.Annotated.{Annotated}
+use Rattle.timefd_write.specs.declared.from_jiff.annotated.Annotation.{Annotation}
+use Rattle.timefd_write.specs.declared.from_jiff.annotated.Annotation.TheVariants.{Named, Offset}
+use Rattle.timefd_write.specs.FromJiff.Annotated.{AreAnnotated}
 use Rattle.timefd_moment.specs.declared.moment.Moment.{Moment}
 use Rattle.timefd_write.specs.declared.moment.MomentError.{MomentError}
 use Rattle.timefd_write.specs.declared.moment.MomentError.TheVariants as fails

@@ -2,7 +2,7 @@
 use Rattle.std.specs.Prelude.{◌≡◌, Bool, true, false, List, map, Option, Some, None, Result, Ok, Err, ⊤}
 use denote.Ref.{Bor}
 use Rattle.timefd_component.specs.Tree.{Text, Tree, compound, trees}
-use Rattle.timefd_format_item.specs.Meaning.{item_trees}
+use Rattle.timefd_node_list.specs.Item.Meaning.{item_trees}
 use Rattle.timefd_items.specs.Description.{description_tree}
 use Rattle.timefd_lint_warnings.specs.Found.{output_parts}
 use Rattle.timefd_moment.specs.declared.moment.Moment.{Moment}
@@ -10,18 +10,18 @@ use Rattle.timefd_node_list.specs.declared.leaves.Leaf.{Leaf}
 use Rattle.timefd_node_list.specs.LeafMeaning.{leaf_tree}
 use Rattle.timefd_parse.specs.declared.parsing.BorrowedOutput.{BorrowedOutput}
 use Rattle.timefd_parse.specs.declared.parsing.BorrowedOutput.TheVariants.{Items, Description}
-use Rattle.timefd_partial.specs.declared.moments.PartialError.{PartialError}
-use Rattle.timefd_partial.specs.declared.moments.PartialError.TheVariants as partial
-use Rattle.timefd_partial.specs.Completed.{IsCompleted}
-use Rattle.timefd_partial.specs.Given.{are_given}
-use Rattle.timefd_read_dates.specs.declared.fault.ReadError.{ReadError}
-use Rattle.timefd_read_dates.specs.declared.fields.Fields.{Fields}
-use Rattle.timefd_read_dates.specs.Reads.{fields_of}
-use Rattle.timefd_read_moment.specs.declared.error.ValueError.{ValueError}
-use Rattle.timefd_read_moment.specs.declared.error.ValueError.TheVariants as error
-use Rattle.timefd_read_moment.specs.declared.part.Part.{Part}
-use Rattle.timefd_read_moment.specs.declared.part.Part.TheVariants as part
-use Rattle.timefd_read_moment.specs.Values.{IsMomentOf}
+use Rattle.timefd_write.specs.declared.completing.moments.PartialError.{PartialError}
+use Rattle.timefd_write.specs.declared.completing.moments.PartialError.TheVariants as partial
+use Rattle.timefd_write.specs.Completing.Completed.{IsCompleted}
+use Rattle.timefd_write.specs.Completing.Given.{are_given}
+use Rattle.timefd_moment.specs.declared.fields.fault.ReadError.{ReadError}
+use Rattle.timefd_moment.specs.declared.fields.fields.Fields.{Fields}
+use Rattle.timefd_moment.specs.Fields.Reads.{fields_of}
+use Rattle.timefd_moment.specs.declared.reading.error.ValueError.{ValueError}
+use Rattle.timefd_moment.specs.declared.reading.error.ValueError.TheVariants as error
+use Rattle.timefd_moment.specs.declared.reading.part.Part.{Part}
+use Rattle.timefd_moment.specs.declared.reading.part.Part.TheVariants as part
+use Rattle.timefd_moment.specs.Reading.Values.{IsMomentOf}
 use Rattle.timefd_write.specs.Absent.{absent_day}
 use Rattle.timefd_write.specs.declared.absent.AbsentDay.{AbsentDay}
 use Rattle.timefd_write.specs.declared.moment.MomentError.{MomentError}

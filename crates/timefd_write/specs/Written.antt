@@ -11,7 +11,7 @@ use Rattle.timefd_format.specs.declared.unshown.Unshown.{Unshown}
 use Rattle.timefd_format.specs.declared.write.FormatError.{FormatError}
 use Rattle.timefd_format.specs.declared.write.FormatError.TheVariants as lacks
 use Rattle.timefd_format.specs.Written.{written, written_all}
-use Rattle.timefd_format_item.specs.Meaning.{item_trees}
+use Rattle.timefd_node_list.specs.Item.Meaning.{item_trees}
 use Rattle.timefd_items.specs.Description.{description_tree}
 use Rattle.timefd_moment.specs.declared.moment.Moment.{Moment}
 use Rattle.timefd_parse.specs.declared.parsing.BorrowedOutput.{BorrowedOutput}

@@ -4,8 +4,8 @@ ghost use Rattle.std.specs.Prelude.{◌≡◌, ◌≤◌, IfOk, string_bytes};
 ghost use Rattle.timefd_write.specs.Absent as spec;
 
 use std::alloc::{AllocError, Global};
+use timefd_moment::fields::{Fields, Signed};
 use timefd_moment::{ComponentRange, Date};
-use timefd_read_dates::{Fields, Signed};
 
 /// A day that its month doesn't have: day 31 of February 2026, for example.
 #[derive(Clone, Copy)]

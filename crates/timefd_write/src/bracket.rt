@@ -6,10 +6,10 @@ ghost use Rattle.timefd_write.specs.Brackets as spec;
 ghost use Rattle.timefd_write.specs.Brackets.{HasOffsetOf, IsCompared, IsInAgreement};
 
 use crate::conflict::Conflict;
+use crate::from_jiff::{Error, offset_in_zone};
 use crate::moment::MomentError;
 use crate::zone::instant_of;
 use jiff_tz::{TimeZone, TimeZoneDatabase};
-use timefd_jiff::{Error, offset_in_zone};
 use timefd_moment::{Moment, UnixTime, UtcOffset};
 
 /// Whether a word ends with a closing bracket.

@@ -1,12 +1,12 @@
 //! The current moment.
 
 ghost use Rattle.std.specs.Prelude.{IfSome};
-ghost use Rattle.timefd_jiff.specs.Zones.{IsOnClock, instant};
+ghost use Rattle.timefd_write.specs.FromJiff.Zones.{IsOnClock, instant};
 ghost use Rattle.timefd_moment.specs.declared.unix_time.UnixTime.{UnixTime as Instant};
 
+use crate::from_jiff::moment_in_zone;
 use jiff_tz::TimeZone;
 use std::time::{Clock, SystemTime};
-use timefd_jiff::moment_in_zone;
 use timefd_moment::{Moment, UnixTime};
 
 /// What a clock in the zone shows now. `None` if the clock can't be read, or is set before 1970.

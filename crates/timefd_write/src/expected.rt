@@ -3,7 +3,7 @@
 ghost use Rattle.std.specs.Prelude.{◌≡◌, ◌≤◌, ◌<◌, IfSome, length, map, take};
 ghost use Rattle.timefd_component.specs.Tree.{literal};
 ghost use Rattle.timefd_node_list.specs.LeafMeaning.{leaf_tree};
-ghost use Rattle.timefd_format_item.specs.Meaning.{item_tree};
+ghost use Rattle.timefd_node_list.specs.Item.Meaning.{item_tree};
 ghost use Rattle.timefd_write.specs.Expected as spec;
 ghost use Rattle.timefd_write.specs.Expected.{IsExpected, IsExpectedBy, IsExpectedIn, IsLiteral, IsStop};
 ghost use Rattle.timefd_write.specs.ReadBack.{AreLeavesOf};
@@ -11,10 +11,10 @@ ghost use Rattle.timefd_write.specs.Sources.{AreLeavesIn};
 
 use crate::source::{Source, SourceKind};
 use std::str;
-use timefd_format_item::BorrowedFormatItem;
+use timefd_moment::fields::{NO_FIELDS, ReadError, Reason, fill_item_fields, fill_leaf_fields};
 use timefd_node_list::Leaf;
+use timefd_node_list::item::BorrowedFormatItem;
 use timefd_parse::BorrowedOutput;
-use timefd_read_dates::{NO_FIELDS, ReadError, Reason, fill_item_fields, fill_leaf_fields};
 
 // The parts of a description, in order.
 #[derive(Clone, Copy)]

@@ -1,14 +1,14 @@
 //! The descriptions that texts may be written by.
 
 ghost use Rattle.std.specs.Prelude.{◌≡◌, IfOk, string_bytes};
-ghost use Rattle.timefd_guess.specs.Found.{texts};
+ghost use Rattle.timefd_description.specs.Guessing.Found.{texts};
 ghost use Rattle.timefd_write.specs.Guessed as spec;
 
 use crate::outcome::RunError;
 use crate::report::report;
 use std::alloc::{AllocError, Global};
 use std::io::Write;
-use timefd_guess::{Guess, guesses};
+use timefd_description::guessing::{Guess, guesses};
 
 /// Writes the descriptions that all the texts may be written by, one a line, and returns whether there is
 /// any. Unless the run is quiet, `errors` gets a note on how many texts don't show which number is the day

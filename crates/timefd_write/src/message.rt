@@ -13,7 +13,7 @@ use std::alloc::{AllocError, Global};
 use timefd_description::unread_sentence;
 use timefd_drawing::shown::safe;
 use timefd_format::Unshown;
-use timefd_read_dates::{ReadError, Reason};
+use timefd_moment::fields::{ReadError, Reason};
 
 /// How a run reports what is wrong with descriptions.
 #[derive(Clone, Copy)]

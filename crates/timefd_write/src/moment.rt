@@ -5,13 +5,13 @@ ghost use Rattle.timefd_write.specs.Moments.{IsChecked, IsNamed, IsWritten};
 use crate::absent::AbsentDay;
 use crate::bracket::{closes_once, ends_in_bracket, in_agreement};
 use crate::conflict::Conflict;
+use crate::from_jiff::{Annotated, Annotation, Error, read_annotated};
 use crate::names::Names;
 use crate::seconds::{after_at, moment_at};
 use jiff_tz::TimeZoneDatabase;
-use timefd_jiff::{Annotated, Annotation, Error, read_annotated};
 use timefd_moment::Moment;
-use timefd_read_dates::ReadError;
-use timefd_read_moment::ValueError;
+use timefd_moment::fields::ReadError;
+use timefd_moment::reading::ValueError;
 
 /// Why a word names no moment.
 #[derive(Clone, Copy)]

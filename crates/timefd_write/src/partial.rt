@@ -4,13 +4,13 @@ ghost use Rattle.std.specs.Prelude.{◌≡◌};
 ghost use Rattle.timefd_write.specs.ReadBack as spec;
 ghost use Rattle.timefd_write.specs.ReadBack.{IsOfPart, IsOfPartIf, now};
 
+use crate::completing::{PartialError, are_given, completed};
 use crate::description::borrowed;
 use crate::moment::MomentError;
 use timefd_moment::Moment;
+use timefd_moment::fields::Fields;
+use timefd_moment::reading::{Part, ValueError};
 use timefd_parse::BorrowedOutput;
-use timefd_partial::{PartialError, are_given, completed};
-use timefd_read_dates::Fields;
-use timefd_read_moment::{Part, ValueError};
 
 /// A moment that agrees with what was read, if the description to write by shows no other part of a date.
 /// Otherwise an `Err` says that this part was not read; it is the first that a whole date lacks.

@@ -1,7 +1,7 @@
 //! The moment that a text shows, read by a description.
 
 ghost use Rattle.std.specs.Prelude.{◌≡◌, IfOk, IfSome};
-ghost use Rattle.timefd_read_dates.specs.Reads.{Fills, fields_of};
+ghost use Rattle.timefd_moment.specs.Fields.Reads.{Fills, fields_of};
 ghost use Rattle.timefd_write.specs.Absent.{absent_day};
 ghost use Rattle.timefd_write.specs.ReadBack as spec;
 ghost use Rattle.timefd_write.specs.ReadBack.{AreLeavesOf, IsMadeOf, IsOfRead, IsReadBack, IsWhole, now};
@@ -11,13 +11,13 @@ use crate::moment::MomentError;
 use crate::partial::partial_moment;
 use std::alloc::{AllocError, Global};
 use timefd_moment::Moment;
-use timefd_node_list::Leaf;
-use timefd_parse::BorrowedOutput;
-use timefd_read_dates::{
+use timefd_moment::fields::{
     Fields, NO_FIELDS, ReadError, fill_fields, fill_item_fields, fill_leaf_fields, leaves_in_turn,
     numbers_shown,
 };
-use timefd_read_moment::{Part, ValueError, moment, moment_of_numbers};
+use timefd_moment::reading::{Part, ValueError, moment, moment_of_numbers};
+use timefd_node_list::Leaf;
+use timefd_parse::BorrowedOutput;
 
 /// The components and literals of a description, if it is only a sequence of those. They are found once, so
 /// that many texts can be read by them. An `Err` says that memory ran out.

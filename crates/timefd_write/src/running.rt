@@ -3,6 +3,7 @@
 use crate::asked::Request;
 use crate::converted::{Described, limits_sentence, own_description, refused_sentence};
 use crate::end::RunEnd;
+use crate::from_jiff::Error;
 use crate::language::Languages;
 use crate::message::Manner;
 use crate::names::Names;
@@ -18,7 +19,6 @@ use jiff_tz::TimeZone;
 use std::alloc::AllocError;
 use std::io::{BufReader, BufWriter, IsTerminal, Write};
 use timefd_dialect::DialectError;
-use timefd_jiff::Error;
 use timefd_streams::shows_colors;
 
 // How many bytes of the standard input are read at once.

@@ -4,9 +4,9 @@ ghost use Rattle.std.specs.Prelude.{◌≡◌};
 ghost use Rattle.timefd_write.specs.Zones as spec;
 ghost use Rattle.timefd_write.specs.Zones.{IsInZone};
 
+use crate::from_jiff::moment_in_zone;
 use crate::moment::MomentError;
 use jiff_tz::TimeZone;
-use timefd_jiff::moment_in_zone;
 use timefd_moment::{Moment, UnixTime};
 
 /// The instant of a moment. `None` if its date, its time or its offset isn't known.

@@ -5,13 +5,13 @@ ghost use Rattle.jiff_tz.specs.Database.{zone_count};
 ghost use Rattle.timefd_write.specs.KnownZones as spec;
 
 use crate::clock::moment_now;
+use crate::from_jiff::Error;
 use crate::names::Now;
 use crate::nearest::{nearest_name, unknown_zone_sentence};
 use jiff_tz::{SystemTimeZone, TimeZone, TimeZoneDatabase};
 use std::alloc::{AllocError, Global};
 use std::io::{ErrorKind, Read};
 use std::{env, fs};
-use timefd_jiff::Error;
 
 // Where systems keep their time zones.
 const FOLDERS: [&str; 3] = [

@@ -10,9 +10,9 @@ use std::alloc::Global;
 use timefd_format::format_items;
 use timefd_items::BorrowedFormatItem;
 use timefd_moment::Moment;
+use timefd_moment::fields::Fields;
+use timefd_moment::reading::{date, offset, time};
 use timefd_parse::{Language, StrftimeTables, parse_strftime_borrowed};
-use timefd_read_dates::Fields;
-use timefd_read_moment::{date, offset, time};
 
 /// What is asked of both.
 #[derive(Clone, Copy)]

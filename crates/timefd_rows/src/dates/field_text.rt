@@ -2,7 +2,7 @@
 
 use crate::fault::RowFault;
 use std::alloc::Global;
-use timefd_read_dates::{Fields, ReadError, Reason, Signed};
+use timefd_moment::fields::{Fields, ReadError, Reason, Signed};
 
 /// The fields, or what doesn't read and where.
 pub fn fields_text(alloc: Global, answer: Result<Fields, ReadError>) -> Result<String, RowFault> {

@@ -7,12 +7,12 @@ use super::writing::description_of;
 use crate::fault::RowFault;
 use crate::language::{fault_of, language_of};
 use std::alloc::Global;
+use timefd_moment::fields::{
+    Fields, NO_FIELDS, ReadError, fill_leaf_fields, leaves_in_turn, read_fields, read_item_fields,
+};
 use timefd_parse::{
     BorrowedOutput, DescriptionVersion, Language, StrftimeTables, parse, parse_borrowed,
     parse_strftime_borrowed,
-};
-use timefd_read_dates::{
-    Fields, NO_FIELDS, ReadError, fill_leaf_fields, leaves_in_turn, read_fields, read_item_fields,
 };
 
 /// What is asked about a description and a text.

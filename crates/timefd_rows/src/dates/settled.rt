@@ -7,7 +7,7 @@ use std::alloc::Global;
 use timefd_parse::{
     BorrowedOutput, Language, StrftimeTables, parse_borrowed, parse_strftime_borrowed,
 };
-use timefd_settled::{are_settled, is_settled};
+use timefd_warnings::settled::{are_settled, is_settled};
 
 /// The answer to `settled LANGUAGES DESCRIPTION`.
 pub fn answer(alloc: Global, fields: &[&str]) -> Result<String, RowFault> {

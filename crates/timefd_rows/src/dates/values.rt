@@ -3,8 +3,8 @@
 use crate::fault::RowFault;
 use std::alloc::Global;
 use std::fmt::Display;
-use timefd_read_dates::{Fields, ReadError};
-use timefd_read_moment::{ValueError, date, date_time, instant, moment, offset, time};
+use timefd_moment::fields::{Fields, ReadError};
+use timefd_moment::reading::{ValueError, date, date_time, instant, moment, offset, time};
 
 /// What fields determine.
 #[derive(Clone, Copy)]

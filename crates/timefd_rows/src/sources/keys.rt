@@ -4,7 +4,7 @@ use crate::fault::RowFault;
 use crate::fields::one;
 use crate::sources::shown::all_shown;
 use std::alloc::{AllocError, Global};
-use timefd_keys::{Format, Key, descriptions_by, format_named, key_fault, key_of};
+use timefd_sources::keys::{Format, Key, descriptions_by, format_named, key_fault, key_of};
 use timefd_sources::{Description, index_in_source};
 
 fn format_of(word: &str) -> Result<Format, RowFault> {

@@ -5,9 +5,11 @@ use crate::fields::{three, two};
 use crate::language::language_of;
 use crate::sources::shown::text_of;
 use std::alloc::Global;
+use timefd_lint_sources::rewriting::{
+    Change, NewSource, count_refused, count_rewritten, rewrite_source,
+};
 use timefd_parse::{DescriptionVersion, ParseError};
 use timefd_rewrite::{Fixes, fixed};
-use timefd_rewrite_sources::{Change, NewSource, count_refused, count_rewritten, rewrite_source};
 
 fn fixes_of(word: &str) -> Result<Fixes, RowFault> {
     match word {

@@ -4,10 +4,10 @@ use crate::fault::RowFault;
 use crate::fields::{one, three, two};
 use crate::sources::text_of;
 use std::alloc::{AllocError, Global};
-use timefd_editor::{
+use timefd_lint_sources::{Finder, Source};
+use timefd_lsp::editor::{
     Action, Finding, Position, Range, Wanted, actions, findings, hover, index_of, position_of,
 };
-use timefd_lint_sources::{Finder, Source};
 use timefd_lsp::{Settings, serve};
 use timefd_streams::{FromReader, ToWriter};
 use timefd_warnings::{Level, Levels};

@@ -1,6 +1,6 @@
 use Rattle.std.proofs.Common.{◌∙◌, IfSome, length, map, true, refl, sym, ap, subst, arith}
 use Rattle.std.proofs.lemmas.List.{length-map}
-use Rattle.timefd_format_item.specs.Meaning.{item_tree}
+use Rattle.timefd_node_list.specs.Item.Meaning.{item_tree}
 use Rattle.timefd_component.specs.Reserved.{reserve}
 use Rattle.timefd_component.specs.Tree.{compound, optional, first, trees}
 use Rattle.timefd_items.proofs.BytesLemmas.{bytes_step}

@@ -1,8 +1,8 @@
 use Rattle.std.proofs.Common.{◌≡◌, ◌++◌, drop, string_bytes}
 use Rattle.timefd_component.specs.Tree.{trees}
 use Rattle.timefd_convert.specs.Leaves.{AreLeafItems}
-use Rattle.timefd_format_item.specs.Meaning.{item_trees}
-use Rattle.timefd_print.specs.Printed.{printed_all}
+use Rattle.timefd_node_list.specs.Item.Meaning.{item_trees}
+use Rattle.timefd_convert.specs.Printing.Printed.{printed_all}
 use Rattle.timefd_convert.proofs.item.push_members.Given as goal
 
 -- what is printed so far and the members that are left give the text of all members

@@ -4,8 +4,8 @@ use Rattle.timefd_language.specs.declared.description_version.DescriptionVersion
 use Rattle.timefd_language.specs.Grammar.{no_pieces, Spells, nesting_limit}
 use Rattle.timefd_language.proofs.LawLemmas.{one_answer_law}
 use Rattle.timefd_parse.specs.Answers.{IsOutput}
-use Rattle.timefd_print.specs.Answers.{IsMemory}
-use Rattle.timefd_print.specs.Printed.{printed}
+use Rattle.timefd_convert.specs.Printing.Answers.{IsMemory}
+use Rattle.timefd_convert.specs.Printing.Printed.{printed}
 use Rattle.timefd_convert.proofs.ItemLemmas.{no_bytes}
 use Rattle.timefd_convert.proofs.normal.normalize_v3_borrowed.Goals as goal
 

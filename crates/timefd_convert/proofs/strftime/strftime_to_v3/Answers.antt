@@ -1,6 +1,6 @@
 use Rattle.timefd_fault.proofs.OwnedLemmas.{owned_fault, owned_memory}
 use Rattle.timefd_language.proofs.PlacedLemmas.{owned_placed}
-use Rattle.timefd_strftime.proofs.DirectiveLemmas.{owned_strftime}
+use Rattle.timefd_language.proofs.DirectiveLemmas.DirectiveLemmas.{owned_strftime}
 use Rattle.timefd_convert.proofs.strftime.strftime_to_v3.Goals as goal
 
 pub returns-in-Err-clause-fault : goal.returns-in-Err-clause-fault

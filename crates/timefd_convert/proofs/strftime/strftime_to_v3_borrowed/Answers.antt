@@ -4,9 +4,9 @@ use Rattle.timefd_convert.specs.Laws.{SpellsFlat}
 use Rattle.timefd_convert.specs.Leaves.{AreShallowItems}
 use Rattle.timefd_convert.proofs.ItemLemmas.{spelled_items, none_spelled, no_items}
 use Rattle.timefd_convert.proofs.LengthLemmas.{printed-length}
-use Rattle.timefd_format_item.specs.Meaning.{item_trees}
+use Rattle.timefd_node_list.specs.Item.Meaning.{item_trees}
 use Rattle.timefd_language.specs.Grammar.{nesting_limit}
-use Rattle.timefd_print.specs.Printed.{printed_all}
+use Rattle.timefd_convert.specs.Printing.Printed.{printed_all}
 use Rattle.timefd_convert.proofs.strftime.strftime_to_v3_borrowed.Goals as goal
 
 pub printed-requires : goal.printed-requires

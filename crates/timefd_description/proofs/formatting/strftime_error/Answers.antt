@@ -1,4 +1,4 @@
-use Rattle.timefd_strftime.proofs.DirectiveLemmas.{one}
+use Rattle.timefd_language.proofs.DirectiveLemmas.DirectiveLemmas.{one}
 use Rattle.timefd_description.proofs.formatting.strftime_error.Goals as goal
 
 pub returns-in-Ok-clause-refused : goal.returns-in-Ok-clause-refused

@@ -2,8 +2,8 @@ use Rattle.std.proofs.Common.{◌∷◌, ◌++◌, ◌∙◌, [], ap, arith, sub
 use Rattle.std.proofs.lemmas.List.{map-append}
 use Rattle.std.proofs.lemmas.Result.{err_from_is_err_and}
 use Rattle.timefd_language.proofs.ModernPieces.{strftime_modernity_law}
-use Rattle.timefd_strftime.proofs.DirectiveLemmas.{IsNext, all_read, continues_more, fault_after}
-use Rattle.timefd_strftime.specs.PieceMeaning.{piece_tree}
+use Rattle.timefd_language.proofs.DirectiveLemmas.DirectiveLemmas.{IsNext, all_read, continues_more, fault_after}
+use Rattle.timefd_language.specs.Directives.PieceMeaning.{piece_tree}
 use Rattle.timefd_description.proofs.ModernLemmas.{list_modern}
 use Rattle.timefd_description.proofs.strftime.directives.Goals as goal
 use Rattle.timefd_description.specs.Modern.{modern_tree}

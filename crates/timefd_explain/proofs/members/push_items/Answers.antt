@@ -1,5 +1,5 @@
 use Rattle.std.proofs.Common.{arith}
-use Rattle.timefd_format_item.specs.Meaning.{item_tree, item_trees}
+use Rattle.timefd_node_list.specs.Item.Meaning.{item_tree, item_trees}
 use Rattle.timefd_explain.proofs.ExampleLemmas.{examples_more}
 use Rattle.timefd_explain.proofs.ShownLemmas.{each_string}
 use Rattle.timefd_explain.proofs.StandLemmas.{listed_at_first, listed_at_more, span_is}

@@ -1,5 +1,5 @@
 use Rattle.std.proofs.Common.{ℕ, ◌≡◌, drop}
-use Rattle.timefd_format_item.specs.Meaning.{item_trees}
+use Rattle.timefd_node_list.specs.Item.Meaning.{item_trees}
 use Rattle.timefd_explain.specs.Examples.{Examples}
 use Rattle.timefd_explain.specs.Parts.{capped}
 use Rattle.timefd_explain.proofs.StandLemmas.{ListedAt}

@@ -1,5 +1,5 @@
 use Rattle.std.proofs.Common.{◌∙◌, ◌∷◌, [], IsTrue, ap, subst, sym}
-use Rattle.timefd_format_item.specs.Meaning.{item_trees}
+use Rattle.timefd_node_list.specs.Item.Meaning.{item_trees}
 use Rattle.timefd_language.specs.Strings.{are_of_strings}
 use Rattle.timefd_fault.specs.Reported.{MemoryAlone}
 use Rattle.timefd_explain.proofs.piece.directive_piece.Goals as goal

@@ -1,5 +1,5 @@
 use Rattle.std.proofs.Common.{◌∙◌, ap}
-use Rattle.timefd_format_item.specs.Meaning.{item_tree}
+use Rattle.timefd_node_list.specs.Item.Meaning.{item_tree}
 use Rattle.timefd_items.proofs.BytesLemmas.{first_tree}
 use Rattle.timefd_explain.proofs.ShownLemmas.{compound_tree, no_bytes, optional_tree}
 use Rattle.timefd_explain.proofs.piece.item_what.Goals as goal

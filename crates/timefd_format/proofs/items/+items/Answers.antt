@@ -1,6 +1,6 @@
 use Rattle.std.proofs.Common.{◌≡◌, ◌+◌, ◌-◌, map, drop, subst, arith}
 use Rattle.timefd_component.specs.Tree.{trees}
-use Rattle.timefd_format_item.specs.Meaning.{item_tree}
+use Rattle.timefd_node_list.specs.Item.Meaning.{item_tree}
 use Rattle.timefd_format.specs.Writes.{Writes}
 use Rattle.timefd_format.specs.Written.{written_all}
 use Rattle.timefd_format.proofs.WalkLemmas.{one_more, writes_in}

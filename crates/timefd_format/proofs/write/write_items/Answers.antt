@@ -1,6 +1,6 @@
 use Rattle.std.proofs.Common.{length, subst}
 use Rattle.timefd_component.specs.Tree.{trees}
-use Rattle.timefd_format_item.specs.Meaning.{item_trees}
+use Rattle.timefd_node_list.specs.Item.Meaning.{item_trees}
 use Rattle.timefd_format.specs.declared.cursor.WriteCursor.TheVariants as cursor
 use Rattle.timefd_format.specs.Writes.{Writes}
 use Rattle.timefd_format.specs.Written.{written_all}

@@ -1,7 +1,7 @@
 use Rattle.std.proofs.Common.{ap, rules, sym, ◌≡◌, ◌∙◌}
 use Rattle.std.specs.Prelude.{Some, string_bytes}
 use Rattle.std.specs.BTreeMap.{get_by_text}
-use Rattle.timefd_editor.specs.Positions.{index_of}
+use Rattle.timefd_lsp.specs.Editor.Positions.{index_of}
 use Rattle.timefd_lsp.proofs.AnswerLemmas.{actions_of}
 use Rattle.timefd_lsp.proofs.answering.actions_in.Goals as goal
 

@@ -1,4 +1,4 @@
-use Rattle.timefd_strftime.proofs.DirectiveLemmas.{is_invalid}
+use Rattle.timefd_language.proofs.DirectiveLemmas.DirectiveLemmas.{is_invalid}
 use Rattle.timefd_parse.proofs.ParseLemmas.{borrowed_assigned, borrowed_spelled, borrowed_refused}
 use Rattle.timefd_parse.proofs.counting.error_of.Goals as goal
 

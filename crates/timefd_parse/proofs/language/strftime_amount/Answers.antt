@@ -1,4 +1,4 @@
-use Rattle.timefd_strftime.proofs.DirectiveLemmas.{counted_once, counted_unrefused, one}
+use Rattle.timefd_language.proofs.DirectiveLemmas.DirectiveLemmas.{counted_once, counted_unrefused, one}
 use Rattle.timefd_parse.proofs.language.strftime_amount.Goals as goal
 
 pub returns-in-Ok-clause-spelled : goal.returns-in-Ok-clause-spelled

@@ -1,6 +1,6 @@
 use Rattle.std.proofs.Common.{◌≡◌, ◌≤◌, length, map, take}
 use Rattle.timefd_component.specs.Tree.{trees}
-use Rattle.timefd_format_item.specs.Meaning.{item_tree}
+use Rattle.timefd_node_list.specs.Item.Meaning.{item_tree}
 use Rattle.timefd_node_list.specs.Leaves.{leaves_all}
 use Rattle.timefd_warnings.specs.Sought.{with_parts}
 use Rattle.timefd_warnings.proofs.parts.+parts.Given as goal

@@ -1,8 +1,8 @@
 use Rattle.std.proofs.Common.{rules, ◌≡◌, Ok, map}
 use Rattle.timefd_component.specs.Tree.{compound, trees}
 use Rattle.timefd_node_list.specs.LeafMeaning.{leaf_tree}
-use Rattle.timefd_read_dates.specs.Reads.{fields_of}
-use Rattle.timefd_read_dates.specs.Short.{fields_with}
+use Rattle.timefd_moment.specs.Fields.Reads.{fields_of}
+use Rattle.timefd_moment.specs.Fields.Short.{fields_with}
 use Rattle.timefd_write.specs.ReadBack.{IsMadeOf}
 use Rattle.timefd_write.proofs.ReadBackLemmas.{by_numbers}
 use Rattle.timefd_write.proofs.read_back.moment_shown.Goals as goal

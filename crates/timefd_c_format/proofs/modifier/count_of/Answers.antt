@@ -1,5 +1,0 @@
-use Rattle.timefd_c_format.proofs.CountLemmas.{counted}
-use Rattle.timefd_c_format.proofs.modifier.count_of.Goals as goal
-
-pub returns : goal.returns
-returns c = counted c.args.number c.new.result c.new.ensures

@@ -1,5 +1,0 @@
-//! Laws on what is written as JSON and as SARIF: it is JSON by the definition of the toolchain's `json`, and
-//! the texts in it read back. Each law is the contract of a function with an empty body.
-#![tactic(auto)]
-
-pub mod laws;

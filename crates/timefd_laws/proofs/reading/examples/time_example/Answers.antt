@@ -1,0 +1,5 @@
+use Rattle.timefd_laws.proofs.ReadingLemmas.ExampleLemmas as lemmas
+use Rattle.timefd_laws.proofs.reading.examples.time_example.Goals as goal
+
+pub returns : goal.returns
+returns c = lemmas.time_example

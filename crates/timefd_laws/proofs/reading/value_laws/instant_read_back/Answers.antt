@@ -1,0 +1,5 @@
+use Rattle.timefd_laws.proofs.ReadingLemmas.ValueBackLemmas as lemmas
+use Rattle.timefd_laws.proofs.reading.value_laws.instant_read_back.Goals as goal
+
+pub returns : goal.returns
+returns c = lemmas.instant_read_back

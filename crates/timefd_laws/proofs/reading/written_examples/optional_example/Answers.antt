@@ -1,0 +1,5 @@
+use Rattle.timefd_laws.proofs.ReadingLemmas.ExampleLemmas as lemmas
+use Rattle.timefd_laws.proofs.reading.written_examples.optional_example.Goals as goal
+
+pub returns : goal.returns
+returns c = lemmas.optional_example

@@ -1,6 +1,0 @@
-use Rattle.toml.proofs.Views.{table_get}
-use Rattle.std.specs.Prelude.{codes}
-use Rattle.timefd_lint_config.proofs.config.value_of_keys.Goals as goal
-
-pub returns : goal.returns
-returns c = table_get c.get.result (codes "keys") c.args.document.now.entries c.get.ensures.value

@@ -1,0 +1,177 @@
+-- What a file of settings says.
+use Rattle.std.specs.Prelude.{ℤ, pos, ◌==◌, Option, Some, None, Result, Ok, Err, Bool, ◌||◌, List, [], ◌∷◌, ◌++◌, codes, bytes_eq, length, map, if◌then◌else◌, string_bytes}
+use Rattle.std.specs.Ordering.{int_eq}
+use Rattle.timefd_sources.specs.declared.dialect.Dialect.{Dialect}
+use Rattle.timefd_sources.specs.declared.dialect.Dialect.TheVariants.{One, Two, Three}
+use Rattle.timefd_sources.specs.Bytes.{Text}
+use Rattle.timefd_sources.specs.Keys.Keys.{Named}
+use Rattle.timefd_sources.specs.Dialects.{dialect_named}
+use Rattle.toml.specs.Data.{Data, string, integer, float, boolean, datetime, array, table, Items, no_items, item, Members, no_members, member, get_member}
+use Rattle.toml.specs.Parse.{parse_document}
+use Rattle.timefd_lint_options.specs.declared.config.config.Config.{Config}
+use Rattle.timefd_lint_options.specs.declared.config.error.ConfigError.{ConfigError}
+use Rattle.timefd_lint_options.specs.declared.config.error.ConfigError.TheVariants as error
+use Rattle.timefd_lint_options.specs.declared.config.keys.OwnedKey.{OwnedKey}
+use Rattle.timefd_lint_options.specs.declared.config.language.ValueFault.{ValueFault}
+use Rattle.timefd_lint_options.specs.declared.config.language.ValueFault.TheVariants as no_language
+
+-- what is wrong with a text
+pub data Fault : Type 0 where
+  NotToml : Fault
+  UnknownName : Text → Fault
+  NotATable : Fault
+  EmptyName : Fault
+  WrongType : Text → Fault
+  UnknownLanguage : Text → Fault
+  NotAList : Fault
+  NotAPattern : Fault
+
+-- what an error says about the text: nothing if memory ran out
+abbrev pub fault : ConfigError → Option Fault
+fault error.Memory = None
+fault (error.NotToml why) = Some NotToml
+fault (error.UnknownName name) = Some (UnknownName (string_bytes name))
+fault error.NotATable = Some NotATable
+fault error.EmptyName = Some EmptyName
+fault (error.WrongType name) = Some (WrongType (string_bytes name))
+fault (error.UnknownLanguage name) = Some (UnknownLanguage (string_bytes name))
+fault error.NotAList = Some NotAList
+fault error.NotAPattern = Some NotAPattern
+
+-- a key by the bytes of its name
+abbrev pub named : OwnedKey → Named
+named key = record { name = string_bytes key.name; dialect = key.dialect }
+
+abbrev pub named_all : List OwnedKey → List Named
+named_all keys = map named keys
+
+-- the language that a number names
+abbrev pub dialect_numbered : ℤ → Option Dialect
+dialect_numbered number =
+    if int_eq number (pos 1) then Some One
+    else if int_eq number (pos 2) then Some Two
+    else if int_eq number (pos 3) then Some Three
+    else None
+
+abbrev pub known : Option Dialect → Result Dialect ValueFault
+known (Some dialect) = Ok dialect
+known None = Err no_language.UnknownLanguage
+
+-- the language that a value names, or why it names none
+abbrev pub dialect_valued : Data → Result Dialect ValueFault
+dialect_valued (integer number) = known (dialect_numbered number)
+dialect_valued (string word) = known (dialect_named word)
+dialect_valued (float number) = Err no_language.WrongType
+dialect_valued (boolean value) = Err no_language.WrongType
+dialect_valued (datetime value) = Err no_language.WrongType
+dialect_valued (array items) = Err no_language.WrongType
+dialect_valued (table _) = Err no_language.WrongType
+
+abbrev pub key_by : Text → Result Dialect ValueFault → Result Named Fault
+key_by name (Ok dialect) = Ok (record { name = name; dialect = dialect })
+key_by name (Err no_language.WrongType) = Err (WrongType name)
+key_by name (Err no_language.UnknownLanguage) = Err (UnknownLanguage name)
+
+-- the key with this name and value
+abbrev pub key_of : Text → Data → Result Named Fault
+key_of name value =
+    if length name == 0 then Err EmptyName else key_by name (dialect_valued value)
+
+abbrev pub in_front : Named → Result (List Named) Fault → Result (List Named) Fault
+in_front key (Ok keys) = Ok (key ∷ keys)
+in_front key (Err fault) = Err fault
+
+abbrev pub with_key : Result Named Fault → Result (List Named) Fault → Result (List Named) Fault
+with_key (Ok key) after = in_front key after
+with_key (Err fault) after = Err fault
+
+-- the keys of a table, or what is wrong with the first entry that isn't a key
+abbrev pub keys_in : Members → Result (List Named) Fault
+keys_in no_members = Ok []
+keys_in (member name value rest) = with_key (key_of name value) (keys_in rest)
+
+abbrev pub is_known : Text → Bool
+is_known name = bytes_eq name (codes "keys") || bytes_eq name (codes "exclude")
+
+-- the first name that has no meaning here
+abbrev pub unknown_name : Members → Option Text
+unknown_name no_members = None
+unknown_name (member name value rest) =
+    if is_known name then unknown_name rest else Some name
+
+abbrev pub keys_at : Option Data → Result (List Named) Fault
+keys_at None = Ok []
+keys_at (Some (table rows)) = keys_in rows
+keys_at (Some (string word)) = Err NotATable
+keys_at (Some (integer number)) = Err NotATable
+keys_at (Some (float number)) = Err NotATable
+keys_at (Some (boolean value)) = Err NotATable
+keys_at (Some (datetime value)) = Err NotATable
+keys_at (Some (array items)) = Err NotATable
+
+-- a pattern, followed by a line feed
+abbrev pub pattern_line : Data → Option Text
+pattern_line (string pattern) = Some (pattern ++ 10 ∷ [])
+pattern_line (integer number) = None
+pattern_line (float number) = None
+pattern_line (boolean value) = None
+pattern_line (datetime value) = None
+pattern_line (array items) = None
+pattern_line (table rows) = None
+
+abbrev pub pushed : Text → Option Text → Option Text
+pushed text None = None
+pushed text (Some line) = Some (text ++ line)
+
+abbrev pub before : Text → Result Text Fault → Result Text Fault
+before line (Ok lines) = Ok (line ++ lines)
+before line (Err fault) = Err fault
+
+abbrev pub with_line : Option Text → Result Text Fault → Result Text Fault
+with_line (Some line) after = before line after
+with_line None after = Err NotAPattern
+
+-- the patterns of a list, a line each
+abbrev pub patterns_in : Items → Result Text Fault
+patterns_in no_items = Ok []
+patterns_in (item value rest) = with_line (pattern_line value) (patterns_in rest)
+
+abbrev pub exclude_at : Option Data → Result Text Fault
+exclude_at None = Ok []
+exclude_at (Some (array items)) = patterns_in items
+exclude_at (Some (string word)) = Err NotAList
+exclude_at (Some (integer number)) = Err NotAList
+exclude_at (Some (float number)) = Err NotAList
+exclude_at (Some (boolean value)) = Err NotAList
+exclude_at (Some (datetime value)) = Err NotAList
+exclude_at (Some (table rows)) = Err NotAList
+
+-- what a file says: keys, and the patterns of what is passed over, a line each
+pub record Said : Type 0 where
+  pub keys : List Named
+  pub exclude : Text
+
+abbrev pub said : Config → Said
+said config = record { keys = named_all config.keys.items; exclude = string_bytes config.exclude }
+
+abbrev pub both : Result (List Named) Fault → Result Text Fault → Result Said Fault
+both (Err fault) exclude = Err fault
+both (Ok keys) (Err fault) = Err fault
+both (Ok keys) (Ok exclude) = Ok (record { keys = keys; exclude = exclude })
+
+abbrev pub unless_unknown : Option Text → Result Said Fault → Result Said Fault
+unless_unknown (Some name) config = Err (UnknownName name)
+unless_unknown None config = config
+
+-- What a document says: it has the table `keys` and the list `exclude`, or one of the two, or nothing.
+abbrev pub config_of_document : Members → Result Said Fault
+config_of_document document = unless_unknown (unknown_name document)
+    (both (keys_at (get_member (codes "keys") document)) (exclude_at (get_member (codes "exclude") document)))
+
+abbrev pub config_of_parsed : Option Members → Result Said Fault
+config_of_parsed (Some document) = config_of_document document
+config_of_parsed None = Err NotToml
+
+-- what a text says
+abbrev pub config_of : Text → Result Said Fault
+config_of text = config_of_parsed (parse_document text)

@@ -1,0 +1,38 @@
+//! Why a text isn't a file of settings.
+
+ghost use Rattle.std.specs.Prelude.{◌≡◌};
+ghost use Rattle.timefd_lint_options.specs.declared.config.error.ConfigError.TheVariants.{Memory};
+
+use std::alloc::AllocError;
+use toml::de;
+
+/// Why a text isn't a file of settings.
+#[derive(Drop)]
+pub enum ConfigError {
+    /// Memory ran out.
+    Memory,
+    /// It isn't TOML, for this reason.
+    NotToml(de::Error),
+    /// A table or a key of this name has no meaning here.
+    UnknownName(String),
+    /// `keys` isn't a table.
+    NotATable,
+    /// A key has no name.
+    EmptyName,
+    /// The value of the key with this name is neither a number nor a string.
+    WrongType(String),
+    /// The value of the key with this name is a number or a string, but not a language.
+    UnknownLanguage(String),
+    /// `exclude` isn't a list.
+    NotAList,
+    /// The list `exclude` has an item that isn't a string.
+    NotAPattern,
+}
+
+impl From<AllocError> for ConfigError {
+    ghost from_gives = { λ _ error. error ≡ Memory };
+
+    fn from(_: AllocError) -> Self {
+        ConfigError::Memory
+    }
+}

@@ -1,0 +1,55 @@
+-- What the linter says of a format of another language.
+use Rattle.std.specs.Prelude.{ℕ, ◌≡◌, Bool, true, false, List, [], flat_map, length}
+use Rattle.timefd_component.specs.Tree.{Text}
+use Rattle.timefd_diagnosis.specs.declared.span.Span.{Span}
+use Rattle.timefd_dialect.specs.declared.dialect.Dialect.{Dialect}
+use Rattle.timefd_dialect.specs.declared.reason.Reason.{Reason}
+use Rattle.timefd_dialect.specs.declared.trapping.Found.{Found}
+use Rattle.timefd_dialect.specs.Reading.{Piece, Means, RefusedAt}
+use Rattle.timefd_dialect.specs.Reasons as reasons
+use Rattle.timefd_dialect.specs.Traps.{AreTraps}
+use Rattle.timefd_dialect.specs.TrapWords as traps
+use Rattle.timefd_drawing.specs.declared.draw.Style.{Style}
+use Rattle.timefd_drawing.specs.declared.position.Origin.{Origin}
+use Rattle.timefd_lint_warnings.specs.declared.dialects.judging.Judgement.{Judgement}
+use Rattle.timefd_lint_warnings.specs.declared.dialects.judging.Judgement.TheVariants.{Converted, Refused}
+use Rattle.timefd_lint_warnings.specs.Dialects.Drawn.{drawn}
+use Rattle.timefd_warnings.specs.declared.levels.Level.TheVariants.{Warned, Denied}
+
+-- the message on a part that is refused: an error where the part begins
+abbrev pub refusal_drawn : Style → Origin → Text → Reason → ℕ → Text
+refusal_drawn style origin text reason index =
+    drawn style origin text Denied (reasons.name reason) (reasons.sentence reason) (reasons.cure reason)
+    (record { start = index; end = index })
+
+-- the message on a trap: a warning on the directive
+abbrev pub trap_drawn : Style → Origin → Text → Found → Text
+trap_drawn style origin text f =
+    drawn style origin text Warned (traps.name f.trap) (traps.sentence f.trap) (traps.cure f.trap)
+    (record { start = f.start; end = f.end })
+
+-- a message on each trap, in order, if traps are reported; nothing else
+abbrev pub AreTrapsDrawn : Bool → Style → Origin → Dialect → Text → ℕ → Text → Type 0
+AreTrapsDrawn false style origin dialect text count message = (count ≡ 0) × (message ≡ [])
+AreTrapsDrawn true style origin dialect text count message =
+    (found : List Found) × AreTraps dialect text found × (count ≡ length found)
+    × (message ≡ flat_map (trap_drawn style origin text) found)
+
+abbrev pub IsRefusalDrawn : Style → Origin → Dialect → Text → Text → Type 0
+IsRefusalDrawn style origin dialect text message =
+    (reason : Reason) × (index : ℕ) × RefusedAt dialect text reason index
+    × (message ≡ refusal_drawn style origin text reason index)
+
+-- the traps of a format that isn't refused
+abbrev pub IsTrapped : Style → Origin → Bool → Dialect → Text → Judgement → Text → Type 0
+IsTrapped style origin reports dialect text (Converted count) message =
+    AreTrapsDrawn reports style origin dialect text count message
+IsTrapped style origin reports dialect text Refused message = ⊥
+
+-- A format is converted if it means something, and its traps are reported. Else the part that is refused is.
+abbrev pub IsJudged : Style → Origin → Bool → Dialect → Text → Judgement → Text → Type 0
+IsJudged style origin reports dialect text (Converted count) message =
+    ((ps : List Piece) × Means dialect text ps)
+    × AreTrapsDrawn reports style origin dialect text count message
+IsJudged style origin reports dialect text Refused message =
+    IsRefusalDrawn style origin dialect text message

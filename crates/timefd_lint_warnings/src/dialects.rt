@@ -1,0 +1,13 @@
+//! What the linter says of formats of other languages: which are refused and why, what in them is suspect, and a message on
+//! each in every form.
+
+mod codes;
+mod cut;
+mod finding;
+mod human;
+mod judging;
+mod lines;
+
+pub use codes::{all_reasons, all_traps, names_are_read, reason_named, trap_named};
+pub use finding::{Finding, drawn};
+pub use judging::{Judged, Judgement, judge};

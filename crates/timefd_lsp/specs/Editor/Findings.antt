@@ -1,0 +1,57 @@
+-- All that is wrong in a document.
+use Rattle.std.specs.Prelude.{◌≡◌, Bool, true, false, List, [], ◌++◌, Option}
+use Rattle.timefd_component.specs.Tree.{Text}
+use Rattle.timefd_diagnosis.specs.declared.diagnostic.Diagnostic.{Diagnostic}
+use Rattle.timefd_drawing.specs.HelpText.{help_text}
+use Rattle.timefd_drawing.specs.Sarif.{with_help}
+use Rattle.timefd_fault.specs.Codes.{code_of, name_of}
+use Rattle.timefd_drawing.specs.Sentence.{reported_sentence}
+use Rattle.timefd_lsp.specs.declared.editor.finding.Finding.{Finding}
+use Rattle.timefd_lsp.specs.declared.editor.finding.Severity.TheVariants.{Error}
+use Rattle.timefd_lsp.specs.Editor.Each.{AreOf}
+use Rattle.timefd_lsp.specs.Editor.Finding.{AreWarnings, IsNote, IsOne}
+use Rattle.timefd_fault.specs.Faults.{fault_of}
+use Rattle.timefd_lint_sources.specs.declared.reported.End.{End}
+use Rattle.timefd_lint_sources.specs.declared.reported.End.TheVariants.{PassedOver, Accepted, Refused, NotText, UnreadCall, UnreadValue}
+use Rattle.timefd_lint_sources.specs.declared.reported.Source.{Source}
+use Rattle.timefd_lint_sources.specs.Judged.{AreDiagnosedOf, IsEndOf}
+use Rattle.timefd_lint_sources.specs.Reported.{AreJudgedIn}
+use Rattle.timefd_sources.specs.declared.description.Description.{Description}
+use Rattle.timefd_sources.specs.Found.{index_in_source}
+use Rattle.timefd_warnings.specs.declared.levels.Levels.{Levels}
+
+-- the words for a fault: the linter's sentence, and what helps
+abbrev pub fault_words : Bool → Diagnostic → Text
+fault_words further g = with_help (reported_sentence further (fault_of g.fault)) (help_text g.help)
+
+-- A fault is at its bytes, with these words.
+abbrev pub IsFault : Text → Description → Bool → Diagnostic → List Finding → Type 0
+IsFault text d further g found =
+    IsOne text (index_in_source d g.span.start) (index_in_source d g.span.end) Error
+    (name_of (code_of (fault_of g.fault).kind)) (fault_words further g) found
+
+-- the first fault, followed by the further ones
+abbrev pub AreFaults : Text → Description → Diagnostic → List Diagnostic → List Finding → Type 0
+AreFaults text d g further found = (one : List Finding) × (rest : List Finding)
+    × IsFault text d false g one × AreOf (IsFault text d true) further rest × (found ≡ one ++ rest)
+
+-- What is wrong with a description, by how its check ended.
+abbrev pub AreBy : Text → Description → End → List Finding → Type 0
+AreBy text d PassedOver found = found ≡ []
+AreBy text d (Accepted warned) found = AreWarnings text d warned found
+AreBy text d Refused found = (g : Diagnostic) × (further : List Diagnostic)
+    × AreDiagnosedOf d g further × AreFaults text d g further found
+AreBy text d NotText found = IsNote text d found
+AreBy text d UnreadCall found = ⊥
+AreBy text d UnreadValue found = ⊥
+
+pub record AreOn (levels : Option Levels) (text : Text) (d : Description) (found : List Finding) : Type 0 where
+  pub end : End
+  pub is : IsEndOf levels d end
+  pub reported : AreBy text d end found
+
+-- All that is wrong with the descriptions in a source, one after another.
+pub record AreFindingsOf (levels : Option Levels) (s : Source) (found : List Finding) : Type 0 where
+  pub descriptions : List Description
+  pub judged : AreJudgedIn s descriptions
+  pub reported : AreOf (AreOn levels s.text.now) descriptions found

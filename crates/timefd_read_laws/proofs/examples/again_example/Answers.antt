@@ -1,5 +1,0 @@
-use Rattle.timefd_read_laws.proofs.ExampleLemmas as lemmas
-use Rattle.timefd_read_laws.proofs.examples.again_example.Goals as goal
-
-pub returns : goal.returns
-returns c = lemmas.again_example

@@ -1,5 +1,0 @@
-use Rattle.timefd_read_laws.proofs.FaultLemmas as lemmas
-use Rattle.timefd_read_laws.proofs.fault_laws.fields_exactly.Goals as goal
-
-pub returns : goal.returns
-returns c = lemmas.fields_exactly

@@ -1,5 +1,0 @@
-use Rattle.timefd_read_laws.proofs.StampedBackLemmas as lemmas
-use Rattle.timefd_read_laws.proofs.stamped_laws.stamped_time_read_back.Goals as goal
-
-pub returns : goal.returns
-returns c = lemmas.stamped_time_read_back

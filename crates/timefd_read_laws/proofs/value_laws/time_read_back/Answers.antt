@@ -1,5 +1,0 @@
-use Rattle.timefd_read_laws.proofs.ValueBackLemmas as lemmas
-use Rattle.timefd_read_laws.proofs.value_laws.time_read_back.Goals as goal
-
-pub returns : goal.returns
-returns c = lemmas.time_read_back

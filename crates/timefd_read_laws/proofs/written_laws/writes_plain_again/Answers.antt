@@ -1,5 +1,0 @@
-use Rattle.timefd_read_laws.proofs.WrittenLemmas as lemmas
-use Rattle.timefd_read_laws.proofs.written_laws.writes_plain_again.Goals as goal
-
-pub returns : goal.returns
-returns c = lemmas.writes_plain_again

@@ -1,5 +1,0 @@
-use Rattle.timefd_read_moment.proofs.StampLawLemmas.{stamped_time_back}
-use Rattle.timefd_read_moment.proofs.stamp_laws.stamped_time_back.Goals as goal
-
-pub returns : goal.returns
-returns c = stamped_time_back

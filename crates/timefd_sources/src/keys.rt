@@ -1,0 +1,23 @@
+//! String values of keys in files of TOML, JSON and YAML, as format descriptions.
+
+mod bytes;
+mod comment;
+mod escape;
+mod format;
+mod found;
+mod key;
+mod letter;
+mod lies;
+mod name;
+mod number;
+mod passing;
+mod reading;
+mod scalar;
+mod spot;
+mod step;
+mod style;
+mod visit;
+
+pub use format::{Format, format_named};
+pub use found::{Values, descriptions_by, values_by};
+pub use key::{Key, KeyFault, dialect_of, key_fault, key_of};

@@ -1,8 +1,0 @@
-use Rattle.std.proofs.Common.{[]}
-use Rattle.timefd_strftime.proofs.DirectiveLemmas.{continues_first, fault_after, borrowed_strftime_fault}
-use Rattle.timefd_strftime.proofs.first.after_first_directive.Goals as goal
-
-pub returns-in-Err-clause-fault : goal.returns-in-Err-clause-fault
-returns-in-Err-clause-fault c =
-    borrowed_strftime_fault c.args.s.now c.in-Err.fault c.of.result
-    (fault_after _ _ [] _ (continues_first c.args.s.now) c.in-Err.ensures) c.of.ensures
