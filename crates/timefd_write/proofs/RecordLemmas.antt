@@ -1,5 +1,5 @@
 -- A record, read line after line.
-use Rattle.std.proofs.Common.{ℕ, ◌≡◌, ◌≢◌, ◌<◌, ◌++◌, Bool, true, false, ◌&&◌, not, ◌==◌, List, [], ◌∷◌, length, take, drop, ◌-◌, Option, Some, None, IfSome, refl, sym, ap, subst, ◌∙◌, arith, append-nil, length-append, if◌then◌else◌}
+use Rattle.std.proofs.Common.{ℕ, ◌≡◌, ◌≢◌, ◌<◌, ◌≤◌, ◌++◌, cond, Bool, true, false, ◌&&◌, not, ◌==◌, List, [], ◌∷◌, length, take, drop, ◌-◌, Option, Some, None, IfSome, refl, sym, ap, subst, ◌∙◌, arith, append-nil, length-append, if◌then◌else◌}
 use Rattle.std.specs.Prelude.{⊤}
 use Rattle.std.proofs.lemmas.Bool.Decides.{nat_tests}
 use Rattle.std.proofs.lemmas.List.{append_assoc}
@@ -14,6 +14,7 @@ use Rattle.timefd_write.specs.declared.quoting.Quoting.{Quoting}
 use Rattle.timefd_write.specs.declared.quoting.Quoting.TheVariants.{Start, Bare, Inside, Closed}
 use Rattle.timefd_write.specs.declared.records.RecordRead.{RecordRead}
 use Rattle.timefd_write.specs.declared.records.RecordRead.TheVariants as reads
+use Rattle.timefd_write.specs.Failures.{IsSourceAfterLine, IsSourceAfterRecord}
 use Rattle.timefd_write.specs.Fields.{after, after_all, is_inside}
 use Rattle.timefd_write.specs.Records.{IsNextRecord, IsRecordRead, at_end, ends_record, is_open, left_from, record_from}
 use Rattle.timefd_write.specs.Written.{IsReadMore}
@@ -276,6 +277,26 @@ row_ended old left new row longer q r answer so_far read is answer_is =
     let at : IsReadMore left new row longer lines.End = subst (IsReadMore left new row longer) is read in
     subst (IsRecordRead old new longer) (sym answer_is)
     (subst (λ t. IsRecordRead old new t (at_end t q)) (sym at.1) (ended old left new row q so_far at.0 at.2))
+
+-- The source after the last record.
+
+last_counted : (old new : ℕ) (failed is_open : Bool) → new < old
+    → IsSourceAfterRecord old new failed (cond is_open reads.Open (reads.Record 1))
+last_counted old new failed true fewer = fewer
+last_counted old new failed false fewer = fewer
+
+counted_at_end : (old new : ℕ) (failed : Bool) (row : Text) (q : Quoting) → new < old
+    → IsSourceAfterRecord old new failed (at_end row q)
+counted_at_end old new failed [] q fewer = tt
+counted_at_end old new failed (b ∷ bs) q fewer = last_counted old new failed (is_inside q) fewer
+
+pub end_counted : (old left new : ℕ) (failed : Bool) (row : Text) (q : Quoting) (r : LineRead)
+    (answer : RecordRead) → left ≤ old → IsSourceAfterLine left new failed r → r ≡ lines.End
+    → answer ≡ at_end row q → IsSourceAfterRecord old new failed answer
+end_counted old left new failed row q r answer few read is answer_is =
+    let fewer : new < left = subst (IsSourceAfterLine left new failed) is read in
+    subst (IsSourceAfterRecord old new failed) (sym answer_is)
+    (counted_at_end old new failed row q (omega (arith, few, fewer)))
 
 -- The bytes after those that were there before.
 pub piece_of : (row longer d : Text) (from : ℕ) → d ≡ longer → from ≡ length row

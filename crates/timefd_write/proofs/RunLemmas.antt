@@ -59,6 +59,12 @@ both_assoc a b c =
     (or_assoc a.is_refused b.is_refused c.is_refused) (or_assoc a.not_text b.not_text c.not_text)
     (or_assoc a.has_failed b.has_failed c.has_failed)
 
+-- No read failed in either part.
+pub both_read : (a b sum : Tally) → sum ≡ both a b → a.has_failed ≡ false → b.has_failed ≡ false
+    → sum.has_failed ≡ false
+both_read a b sum is first second =
+    ap (λ t. t.has_failed) is ∙ (ap (λ f. f || b.has_failed) first ∙ second)
+
 -- Running the rest after what is done runs all.
 abbrev pub Completes : Otherwise → Source → BorrowedOutput → List Text → List Text → Option Text
     → Option Text → Tally → Type 0

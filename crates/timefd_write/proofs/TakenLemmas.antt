@@ -1,9 +1,9 @@
 -- Batches that are taken from a reader.
-use Rattle.std.proofs.Common.{ℕ, zero, suc, ◌≡◌, ◌∙◌, ◌++◌, ◌≤◌, [], ◌∷◌, length, take, drop, cond, Option, Some, None, Result, Ok, Err, IfOk, IfSome, refl, sym, ap, subst, arith, append_assoc, eq-eqb, length-append, true, false, Bool, List}
-use Rattle.std.proofs.BufReadLemmas.{Consumes_shown, take_through-append, drop_through-append}
+use Rattle.std.proofs.Common.{ℕ, zero, suc, ◌≡◌, ◌∙◌, ◌++◌, ◌<◌, ◌≤◌, [], ◌∷◌, length, take, drop, cond, Option, Some, None, Result, Ok, Err, IfOk, IfSome, refl, sym, ap, subst, arith, append_assoc, eq-eqb, length-append, true, false, Bool, List}
+use Rattle.std.proofs.BufReadLemmas.{take_through-append, drop_through-append}
 use Rattle.std.proofs.KnownBytes.{Appends-nil, Consumes-kept, Consumes-nil}
 use Rattle.std.specs.Io.{StartsWith}
-use Rattle.std.specs.Io.BufRead.{DropsConsumable, take_through, drop_through}
+use Rattle.std.specs.Io.BufRead.{take_through, drop_through}
 use Rattle.std.specs.Io.KnownBytes.{Appends, Consumes, IsAtEnd, Keeps}
 use Rattle.timefd_component.specs.Tree.{Text}
 use Rattle.timefd_format.specs.declared.unshown.Unshown.{Unshown}
@@ -22,7 +22,8 @@ use Rattle.timefd_write.specs.declared.outcome.Outcome.TheVariants as came
 use Rattle.timefd_write.specs.declared.outcome.RunError.{RunError}
 use Rattle.timefd_write.specs.declared.outcome.Tally.{Tally}
 use Rattle.timefd_write.specs.declared.source.Source.{Source}
-use Rattle.timefd_write.specs.Batches.{AreLinesShown, IsBatch, IsNext, IsShownAs, IsTaken, IsUnread, IsWholeLine, with_newline}
+use Rattle.timefd_write.specs.Batches.{AreLinesShown, IsBatch, IsNext, IsShownAs, IsTaken, IsWholeLine, with_newline}
+use Rattle.timefd_write.specs.Failures.{IsSourceAfterBatch, IsSourceAfterNext}
 use Rattle.timefd_write.specs.Tallies.{at_end, both, tally_of}
 use Rattle.timefd_write.specs.Written.{AppendsIn, IsRead, IsTallyOf, RunsOn, RunsOver, written_of}
 use Rattle.timefd_write.proofs.RunLemmas.{CompletesLines, line_more, lines_fail, no_line_left, none_more}
@@ -234,34 +235,50 @@ nothing_next otherwise source o old mid new before between after t (Ok n) is tak
     kept_next otherwise source o old mid new before after n nothing.1
     (subst (λ b. IsNext otherwise source o mid new b after n) nothing.0 next)
 
--- What `fill_buf`, a write and `consume` do together.
+-- What `fill`, a write and `consume` do together.
 
-pub unread_taken : (source : Source) (o : BorrowedOutput) (old new before after : Option Text)
-    (r : Result Taken RunError) → IfOk r IsUnread → Keeps old new → after ≡ before
-    → IfOk r (IsTaken source o old new before after)
-unread_taken source o old new before after (Err e) unread kept same = tt
-unread_taken source o old new before after (Ok (takes.Lines n)) unread kept same = absurd unread
-unread_taken source o old new before after (Ok takes.Nothing) unread kept same = (same, kept)
-unread_taken source o old new before after (Ok takes.End) unread kept same = absurd unread
-unread_taken source o old new before after (Ok takes.Failed) unread kept same = same
-
-pub end_shown : (old : Option Text) (text : Text) → IfSome old (λ xs. length text ≡ 0 → xs ≡ [])
+pub end_shown : (old : Option Text) (text buffer : Text) → (buffer ≡ [] → IsAtEnd old) → text ≡ buffer
     → length text ≡ 0 → IsAtEnd old
-end_shown None text end none = tt
-end_shown (Some xs) text end none = end none
+end_shown old [] buffer end is none = end (sym is)
+end_shown old (b ∷ bs) buffer end is none = absurd (omega (arith, none))
+
+kept_consumed : (old mid new : Option Text) (bytes : Text) → Keeps old mid → Consumes mid new bytes
+    → Consumes old new bytes
+kept_consumed None mid new bytes kept consumed = tt
+kept_consumed (Some x) None new bytes kept consumed = absurd kept
+kept_consumed (Some x) (Some y) None bytes kept consumed = absurd consumed
+kept_consumed (Some x) (Some y) (Some z) bytes kept consumed = sym kept ∙ consumed
 
 pub batch_taken : (source : Source) (o : BorrowedOutput) (old mid new before after : Option Text)
-    (buffered : Option ℕ) (text room : Text) (batch : Batch) → IsBatch source o text room batch
-    → 1 ≤ batch.line_count → IfSome old (λ xs. StartsWith xs text)
-    → IfSome old (λ xs. length text ≡ 0 → xs ≡ []) → Keeps old mid
-    → IfSome old (λ _. IfSome buffered (λ k. length text ≤ k)) → DropsConsumable mid new buffered batch.read
+    (text buffer room : Text) (batch : Batch) → IsBatch source o text room batch → 1 ≤ batch.line_count
+    → Keeps old mid → text ≡ buffer → Consumes mid new (take batch.read buffer)
     → Appends before after (take batch.written room)
     → IsTaken source o old new before after (takes.Lines batch.line_count)
-batch_taken source o old mid new before after buffered text room batch is some front end kept fits drops sent = (
+batch_taken source o old mid new before after text buffer room batch of_batch some kept is consumed sent = (
   take batch.read text,
   take batch.written room,
   some,
-  is.0,
-  (Consumes_shown old mid new buffered text batch.read is.2 front end kept fits drops).0,
+  of_batch.0,
+  kept_consumed old mid new (take batch.read text) kept
+      (subst (λ b. Consumes mid new (take batch.read b)) (sym is) consumed),
   sent,
 )
+
+-- What the source is after the next lines, if no batch of them was taken.
+pub source_after : (old mid new : ℕ) (failed failed_first : Bool) (t : Taken) (r : Result Next RunError)
+    → t ≡ takes.Nothing → IsSourceAfterBatch old mid failed_first t → IfOk r (IsSourceAfterNext mid new failed)
+    → IfOk r (IsSourceAfterNext old new failed)
+source_after old mid new failed failed_first t (Err e) is first after = tt
+source_after old mid new failed failed_first t (Ok (nexts.Lines n)) is first after =
+    let few : mid ≤ old = subst (λ x. IsSourceAfterBatch old mid failed_first x) is first in omega (arith, few, after)
+source_after old mid new failed failed_first t (Ok (nexts.Line tally)) is first after =
+    let few : mid ≤ old = subst (λ x. IsSourceAfterBatch old mid failed_first x) is first in
+    (omega (arith, few, after.0), after.1)
+source_after old mid new failed failed_first t (Ok nexts.End) is first after = tt
+source_after old mid new failed failed_first t (Ok nexts.Failed) is first after = after
+
+-- A line that was looked at is no failed read.
+pub line_read : (old new : ℕ) (failed : Bool) (tally : Tally) (n : Next) → n ≡ nexts.Line tally
+    → IsSourceAfterNext old new failed n → tally.has_failed ≡ false
+line_read old new failed tally n is after =
+    (subst (λ x. IsSourceAfterNext old new failed x) is after).1

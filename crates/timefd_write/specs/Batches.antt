@@ -72,13 +72,6 @@ IsTaken source o old new before after takes.Nothing = (after ≡ before) × Keep
 IsTaken source o old new before after takes.End = (after ≡ before) × IsAtEnd old
 IsTaken source o old new before after takes.Failed = after ≡ before
 
--- A read that failed takes no line.
-abbrev pub IsUnread : Taken → Type 0
-IsUnread (takes.Lines n) = ⊥
-IsUnread takes.Nothing = ⊤
-IsUnread takes.End = ⊥
-IsUnread takes.Failed = ⊤
-
 -- What the next lines do: those of a batch, or one that is looked at by itself.
 abbrev pub IsNext : Otherwise → Source → BorrowedOutput → Option Text → Option Text → Option Text → Option Text
     → Next → Type 0

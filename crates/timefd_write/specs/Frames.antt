@@ -1,5 +1,5 @@
 -- What is written of a text and around it, and what is written instead of it.
-use Rattle.std.specs.Prelude.{ℕ, ◌≡◌, Bool, ◌||◌, nat_eq, List, [], ◌∷◌, ◌++◌, codes, Option, if◌then◌else◌, ⊤}
+use Rattle.std.specs.Prelude.{ℕ, ◌≡◌, Bool, ◌||◌, nat_eq, List, [], ◌∷◌, ◌++◌, codes, Option, if◌then◌else◌, IsTrue, ⊤}
 use Rattle.std.specs.Io.KnownBytes.{Appends}
 use Rattle.std.specs.List.{list_any, starts_with}
 use Rattle.timefd_component.specs.Tree.{Text}
@@ -57,14 +57,19 @@ Replaces otherwise.Keep frame text before after = Appends before after (kept fra
 Replaces otherwise.Empty frame text before after = Appends before after (emptied frame)
 Replaces otherwise.Fail frame text before after = ⊥
 
--- A run ends early at a moment without a text only if `--else fail` asks for that.
-abbrev pub EndsOnlyAsAsked : Otherwise → RunError → Type 0
-EndsOnlyAsAsked o stops.Memory = ⊤
-EndsOnlyAsAsked o stops.Write = ⊤
-EndsOnlyAsAsked o stops.Refused = o ≡ otherwise.Fail
+-- A run ends early only if memory ran out, or if the output has failed, or at a moment without a text, where
+-- `--else fail` asks for that.
+abbrev pub EndsOnlyAsAsked : Otherwise → Bool → RunError → Type 0
+EndsOnlyAsAsked o failed stops.Memory = ⊤
+EndsOnlyAsAsked o failed stops.Write = IsTrue failed
+EndsOnlyAsAsked o failed stops.Refused = o ≡ otherwise.Fail
 
--- Memory ran out, or a write failed.
-abbrev pub IsFailure : RunError → Type 0
-IsFailure stops.Memory = ⊤
-IsFailure stops.Write = ⊤
-IsFailure stops.Refused = ⊥
+-- Memory ran out, or the output has failed.
+abbrev pub IsFailure : Bool → RunError → Type 0
+IsFailure failed stops.Memory = ⊤
+IsFailure failed stops.Write = IsTrue failed
+IsFailure failed stops.Refused = ⊥
+
+-- The output has failed.
+abbrev pub IsWriteFailure : Bool → RunError → Type 0
+IsWriteFailure failed error = (error ≡ stops.Write) × IsTrue failed

@@ -1,5 +1,5 @@
 -- How a run ends that looks for a description.
-use Rattle.std.specs.Prelude.{◌≡◌, ◌≢◌, ◌⊎◌, ◌++◌, Bool, true, false, List, [], ◌∷◌, map, Option, None, Some, IsUtf8, ⊤}
+use Rattle.std.specs.Prelude.{◌≡◌, ◌≢◌, ◌⊎◌, ◌++◌, Bool, true, false, List, [], ◌∷◌, map, Option, None, Some, IsTrue, IsUtf8, ⊤}
 use Rattle.std.specs.Io.KnownBytes.{Keeps}
 use Rattle.timefd_component.specs.Tree.{Text}
 use Rattle.timefd_rewrite.specs.Lines.{AreLinesOf, without_newline}
@@ -16,6 +16,16 @@ GuessesOver texts before after ends.NotText = ⊥
 GuessesOver texts before after ends.Memory = ⊤
 GuessesOver texts before after ends.Read = ⊥
 GuessesOver texts before after ends.Write = ⊤
+
+-- A run ends with a failed read or write only if the input or the output has failed.
+abbrev pub FailsOnlyIf : Bool → Bool → GuessEnd → Type 0
+FailsOnlyIf input_failed output_failed ends.Found = ⊤
+FailsOnlyIf input_failed output_failed ends.NotFound = ⊤
+FailsOnlyIf input_failed output_failed ends.NoText = ⊤
+FailsOnlyIf input_failed output_failed ends.NotText = ⊤
+FailsOnlyIf input_failed output_failed ends.Memory = ⊤
+FailsOnlyIf input_failed output_failed ends.Read = IsTrue input_failed
+FailsOnlyIf input_failed output_failed ends.Write = IsTrue output_failed
 
 -- The texts are all lines of the input, each without its newline.
 abbrev pub AreTextsOf : Option Text → List Text → Type 0

@@ -10,6 +10,7 @@ pub mod Absent
 pub mod ReadBack
 pub mod Sources
 pub mod Tallies
+pub mod Failures
 pub mod Expected
 pub mod Reports
 pub mod Messages

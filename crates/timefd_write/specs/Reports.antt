@@ -1,5 +1,5 @@
 -- What people see of the messages of a run.
-use Rattle.std.specs.Prelude.{Bool, true, false, Option, ◌++◌, chars, codes, ⊤}
+use Rattle.std.specs.Prelude.{Bool, true, false, Option, ◌++◌, chars, codes, IsTrue}
 use Rattle.std.specs.Io.KnownBytes.{Appends}
 use denote.Ref.{Bor}
 use Rattle.timefd_component.specs.Tree.{Text}
@@ -11,11 +11,11 @@ use Rattle.timefd_write.specs.declared.report.Reported.{Reported}
 use Rattle.timefd_write.specs.declared.report.Reported.TheVariants.{Seen, Failed}
 
 -- The message is written as people see it, and all of that is seen: a terminal gets no character that it would
--- obey or hide, except for newlines and, in a message with colours, those. Nothing is known once a write fails.
-abbrev pub ReachesPeople : Bool → Text → Option Text → Option Text → Reported → Type 0
-ReachesPeople colored message before after Seen =
+-- obey or hide, except for newlines and, in a message with colours, those. If it isn't seen, the stream has failed.
+abbrev pub ReachesPeople : Bool → Text → Option Text → Option Text → Bool → Reported → Type 0
+ReachesPeople colored message before after failed Seen =
     Appends before after (for_people colored message) × AllSeen colored (chars (for_people colored message))
-ReachesPeople colored message before after Failed = ⊤
+ReachesPeople colored message before after failed Failed = IsTrue failed
 
 -- a sentence in a line of its own, after the name of the program
 abbrev pub line_of : Text → Text

@@ -67,8 +67,8 @@ warned_text colored read written w =
 abbrev pub IsNamed : Text → Origin → Type 0
 IsNamed name origin = (origin.file.now ≡ name) × (origin.line ≡ 1)
 
--- People see them, unless a write fails.
-abbrev pub ReportsWarnings : Bool → reported.Warned → Option Text → Option Text → Reported → Type 0
-ReportsWarnings colored warned before after r =
+-- People see them, unless the stream has failed.
+abbrev pub ReportsWarnings : Bool → reported.Warned → Option Text → Option Text → Bool → Reported → Type 0
+ReportsWarnings colored warned before after failed r =
     (read : Origin) × (written : Origin) × IsNamed (codes "<read>") read × IsNamed (codes "<description>") written
-    × ReachesPeople colored (warned_text colored read written warned) before after r
+    × ReachesPeople colored (warned_text colored read written warned) before after failed r

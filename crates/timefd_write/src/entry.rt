@@ -1,6 +1,6 @@
 //! One text that should be a moment, and what becomes of it.
 
-ghost use Rattle.std.specs.Prelude.{◌≡◌, IfErr, IfOk};
+ghost use Rattle.std.specs.Prelude.{◌≡◌, false, IfErr, IfOk};
 ghost use Rattle.timefd_write.specs.Frames.{EndsOnlyAsAsked, IsFailure};
 ghost use Rattle.timefd_write.specs.ReadBack.{AreLeavesOf};
 ghost use Rattle.timefd_write.specs.Sources.{AreLeavesIn};
@@ -15,12 +15,12 @@ use crate::outcome::{Outcome, RunError, Tally};
 use crate::report::report;
 use crate::source::{Source, moment_in};
 use std::alloc::Global;
-use std::io::Write;
 use std::str;
 use timefd_format::Unshown;
 use timefd_moment::Moment;
 use timefd_node_list::Leaf;
 use timefd_parse::BorrowedOutput;
+use timefd_streams::Sink;
 
 /// Takes one text and returns what it adds to the tally. Writes its moment; or reports why there is none,
 /// with the number of its line, and writes what `--else` asks for instead. The leaves are those of the source
@@ -29,7 +29,7 @@ use timefd_parse::BorrowedOutput;
 ///
 /// `Err(RunError::Refused)` says that there is no moment, and that `--else` asks for the end of the run.
 /// Other errors say that memory ran out or that the output failed.
-pub fn tally_one<W: Write, E: Write>(
+pub fn tally_one<W: Sink, E: Sink>(
     alloc: Global,
     source: &Source<'_>,
     source_leaves: Option<&[Leaf<'_>]>,
@@ -45,7 +45,8 @@ pub fn tally_one<W: Write, E: Write>(
     requires written { AreLeavesOf description.now leaves }
     ensures one { IfOk result (IsTallyOf otherwise source.now description.now entry.entry.frame entry.entry.text.now
         (W.contents output.old) (W.contents output.new)) }
-    ensures ends { IfErr result (EndsOnlyAsAsked otherwise) }
+    ensures read { IfOk result (λ tally. tally.has_failed ≡ false) }
+    ensures ends { IfErr result (EndsOnlyAsAsked otherwise (W.has_failed output.new)) }
 {
     let outcome = write_one(
         alloc,
@@ -64,7 +65,7 @@ pub fn tally_one<W: Write, E: Write>(
 
 // Writes the moment that a text names or shows, or reports why there is none.
 #[inline(always)]
-fn write_one<W: Write, E: Write>(
+fn write_one<W: Sink, E: Sink>(
     alloc: Global,
     source: &Source<'_>,
     source_leaves: Option<&[Leaf<'_>]>,
@@ -80,7 +81,7 @@ fn write_one<W: Write, E: Write>(
     requires written { AreLeavesOf description.now leaves }
     ensures one { IfOk result (IsOne otherwise source.now description.now entry.entry.frame entry.entry.text.now
         (W.contents output.old) (W.contents output.new)) }
-    ensures ends { IfErr result (EndsOnlyAsAsked otherwise) }
+    ensures ends { IfErr result (EndsOnlyAsAsked otherwise (W.has_failed output.new)) }
 {
     let Ok(text) = str::from_utf8(entry.text) else {
         report(alloc, errors, NOT_TEXT.as_bytes())?;
@@ -110,7 +111,7 @@ fn write_one<W: Write, E: Write>(
 }
 
 // Writes the moment of a text, or reports which component can't show it.
-fn write_moment<W: Write, E: Write>(
+fn write_moment<W: Sink, E: Sink>(
     alloc: Global,
     moment: Moment,
     description: &BorrowedOutput<'_>,
@@ -125,7 +126,7 @@ fn write_moment<W: Write, E: Write>(
     requires { AreLeavesOf description.now leaves }
     ensures one { IfOk result (IsOneOfMoment otherwise entry.entry.frame entry.entry.text.now moment description.now
         (W.contents output.old) (W.contents output.new)) }
-    ensures ends { IfErr result (EndsOnlyAsAsked otherwise) }
+    ensures ends { IfErr result (EndsOnlyAsAsked otherwise (W.has_failed output.new)) }
 {
     match write_in(
         alloc,
@@ -148,7 +149,7 @@ fn write_moment<W: Write, E: Write>(
 
 // Writes a moment where its text belongs. `Some` is the component that can't show it; nothing is written
 // then.
-fn write_in<W: Write>(
+fn write_in<W: Sink>(
     alloc: Global,
     moment: Moment,
     description: &BorrowedOutput<'_>,
@@ -160,7 +161,7 @@ fn write_in<W: Write>(
     requires { AreLeavesOf description.now leaves }
     ensures sent { IfOk result (IsSent frame.entry (written_of moment description.now)
         (W.contents output.old) (W.contents output.new)) }
-    ensures error { IfErr result IsFailure }
+    ensures error { IfErr result (IsFailure (W.has_failed output.new)) }
 {
     match frame {
         Frame::Line => write_line(alloc, moment, description, leaves, room, output),

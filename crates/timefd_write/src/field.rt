@@ -4,9 +4,8 @@ ghost use Rattle.std.specs.Prelude.{◌≡◌, ◌++◌, IfErr, IfOk, OnOk};
 ghost use Rattle.std.specs.Io.KnownBytes.{Appends};
 ghost use Rattle.std.specs.List.{list_any};
 ghost use Rattle.timefd_write.specs.declared.frame.Frame.TheVariants as frames;
-ghost use Rattle.timefd_write.specs.declared.outcome.RunError.TheVariants as stops;
 ghost use Rattle.timefd_write.specs.Frames as spec;
-ghost use Rattle.timefd_write.specs.Frames.{IsFailure};
+ghost use Rattle.timefd_write.specs.Frames.{IsFailure, IsWriteFailure};
 ghost use Rattle.timefd_write.specs.ReadBack.{AreLeavesOf};
 ghost use Rattle.timefd_write.specs.Written.{IsSent, written_of};
 
@@ -14,17 +13,17 @@ use crate::frame::{Cell, send};
 use crate::line::{shown, text_in, text_in_front};
 use crate::outcome::RunError;
 use std::alloc::Global;
-use std::io::Write;
 use timefd_format::{FormatError, TextError, Unshown};
 use timefd_moment::Moment;
 use timefd_node_list::Leaf;
 use timefd_parse::BorrowedOutput;
+use timefd_streams::Sink;
 
 /// Writes the record of a field with the moment's text instead of the field. `Some` is the component
 /// that can't show the moment; nothing is written then. If the room is too small, memory is allocated
 /// for the text.
 #[tactic(auto, using(crate::proofs::LineLemmas::field_sent))]
-pub fn write_field<W: Write>(
+pub fn write_field<W: Sink>(
     alloc: Global,
     moment: Moment,
     description: &BorrowedOutput<'_>,
@@ -36,7 +35,7 @@ pub fn write_field<W: Write>(
     requires { AreLeavesOf description.now leaves }
     ensures sent { IfOk result (IsSent (frames.Field cell.entry) (written_of moment description.now)
         (W.contents output.old) (W.contents output.new)) }
-    ensures error { IfErr result IsFailure }
+    ensures error { IfErr result (IsFailure (W.has_failed output.new)) }
 {
     if let Some(end) = text_in_front(&moment, description, leaves, room) {
         send_field(cell, &room[..end], output)?;
@@ -53,7 +52,7 @@ pub fn write_field<W: Write>(
 }
 
 // Writes the record with a text that is too long for the room: it gets memory of its own.
-fn write_long_field<W: Write>(
+fn write_long_field<W: Sink>(
     alloc: Global,
     moment: Moment,
     description: &BorrowedOutput<'_>,
@@ -62,7 +61,7 @@ fn write_long_field<W: Write>(
 ) -> Result<Option<Unshown>, RunError>
     ensures sent { IfOk result (IsSent (frames.Field cell.entry) (written_of moment description.now)
         (W.contents output.old) (W.contents output.new)) }
-    ensures error { IfErr result IsFailure }
+    ensures error { IfErr result (IsFailure (W.has_failed output.new)) }
 {
     match shown(alloc, moment, description) {
         Ok(text) => {
@@ -76,10 +75,10 @@ fn write_long_field<W: Write>(
 
 // Writes the record with this text as its field.
 #[tactic(auto, using(crate::proofs::FrameLemmas::in_turn))]
-fn send_field<W: Write>(cell: Cell<'_>, text: &[u8], output: &mut W) -> Result<(), RunError>
+fn send_field<W: Sink>(cell: Cell<'_>, text: &[u8], output: &mut W) -> Result<(), RunError>
     ensures sent { OnOk result (Appends (W.contents output.old) (W.contents output.new)
         (spec.framed (frames.Field cell.entry) text.now)) }
-    ensures error { IfErr result (λ error. error ≡ stops.Write) }
+    ensures error { IfErr result (IsWriteFailure (W.has_failed output.new)) }
 {
     send(cell.front, output)?;
     send_text(cell.field, text, output)?;
@@ -87,10 +86,10 @@ fn send_field<W: Write>(cell: Cell<'_>, text: &[u8], output: &mut W) -> Result<(
 }
 
 // Writes a text instead of a field, in quotes if the field had some or the text needs them.
-fn send_text<W: Write>(field: &[u8], text: &[u8], output: &mut W) -> Result<(), RunError>
+fn send_text<W: Sink>(field: &[u8], text: &[u8], output: &mut W) -> Result<(), RunError>
     ensures sent { OnOk result (Appends (W.contents output.old) (W.contents output.new)
         (spec.field_of field.now text.now)) }
-    ensures error { IfErr result (λ error. error ≡ stops.Write) }
+    ensures error { IfErr result (IsWriteFailure (W.has_failed output.new)) }
 {
     if field.starts_with(b"\"") || any_wants_quotes(text) {
         send_quoted(text, output)
@@ -122,10 +121,10 @@ fn wants_quotes(byte: u8) -> bool
 }
 
 #[tactic(auto, using(crate::proofs::FrameLemmas::in_turn))]
-fn send_quoted<W: Write>(text: &[u8], output: &mut W) -> Result<(), RunError>
+fn send_quoted<W: Sink>(text: &[u8], output: &mut W) -> Result<(), RunError>
     ensures sent { OnOk result (Appends (W.contents output.old) (W.contents output.new)
         (spec.quoted text.now)) }
-    ensures error { IfErr result (λ error. error ≡ stops.Write) }
+    ensures error { IfErr result (IsWriteFailure (W.has_failed output.new)) }
 {
     send(b"\"", output)?;
     send_doubled(text, output)?;
@@ -134,10 +133,10 @@ fn send_quoted<W: Write>(text: &[u8], output: &mut W) -> Result<(), RunError>
 
 // Writes a text with each quote doubled.
 #[tactic(auto, using(crate::proofs::FrameLemmas::one_more, crate::proofs::FrameLemmas::none_left))]
-fn send_doubled<W: Write>(text: &[u8], output: &mut W) -> Result<(), RunError>
+fn send_doubled<W: Sink>(text: &[u8], output: &mut W) -> Result<(), RunError>
     ensures sent { OnOk result (Appends (W.contents output.old) (W.contents output.new)
         (spec.doubled text.now)) }
-    ensures error { IfErr result (λ error. error ≡ stops.Write) }
+    ensures error { IfErr result (IsWriteFailure (W.has_failed output.new)) }
 {
     let mut rest = text;
     'bytes: while let [byte, more @ ..] = rest {
@@ -148,10 +147,10 @@ fn send_doubled<W: Write>(text: &[u8], output: &mut W) -> Result<(), RunError>
 }
 
 // Writes a byte; a quote is written twice.
-fn send_byte<W: Write>(byte: u8, output: &mut W) -> Result<(), RunError>
+fn send_byte<W: Sink>(byte: u8, output: &mut W) -> Result<(), RunError>
     ensures sent { OnOk result (Appends (W.contents output.old) (W.contents output.new)
         (spec.doubled_byte byte)) }
-    ensures error { IfErr result (λ error. error ≡ stops.Write) }
+    ensures error { IfErr result (IsWriteFailure (W.has_failed output.new)) }
 {
     if byte == b'"' {
         send(b"\"\"", output)

@@ -2,15 +2,14 @@
 
 ghost use Rattle.std.specs.Prelude.{◌≡◌, ◌++◌, IfErr, OnOk};
 ghost use Rattle.std.specs.Io.KnownBytes.{Appends};
-ghost use Rattle.timefd_write.specs.declared.outcome.RunError.TheVariants as stops;
 ghost use Rattle.timefd_write.specs.declared.otherwise.Otherwise.TheVariants as otherwise;
 ghost use Rattle.timefd_write.specs.declared.frame.Frame.TheVariants as frames;
 ghost use Rattle.timefd_write.specs.Frames as spec;
-ghost use Rattle.timefd_write.specs.Frames.{EndsOnlyAsAsked, Replaces};
+ghost use Rattle.timefd_write.specs.Frames.{EndsOnlyAsAsked, IsWriteFailure, Replaces};
 
 use crate::otherwise::Otherwise;
 use crate::outcome::RunError;
-use std::io::Write;
+use timefd_streams::{Failed, Sink};
 
 /// A field of a record of comma-separated values, byte for byte, with what is before and after it.
 #[derive(Clone, Copy)]
@@ -44,22 +43,22 @@ pub struct Entry<'a> {
 }
 
 /// Writes some bytes.
-pub fn send<W: Write>(bytes: &[u8], output: &mut W) -> Result<(), RunError>
+pub fn send<W: Sink>(bytes: &[u8], output: &mut W) -> Result<(), RunError>
     ensures sent { OnOk result (Appends (W.contents output.old) (W.contents output.new) bytes.now) }
-    ensures error { IfErr result (λ error. error ≡ stops.Write) }
+    ensures error { IfErr result (IsWriteFailure (W.has_failed output.new)) }
 {
-    match output.write_all(bytes) {
+    match output.put_all(bytes) {
         Ok(()) => Ok(()),
-        Err(_) => Err(RunError::Write),
+        Err(Failed) => Err(RunError::Write),
     }
 }
 
 // Writes these pieces, one after another.
 #[tactic(auto, using(crate::proofs::FrameLemmas::in_turn))]
-fn send_both<W: Write>(first: &[u8], second: &[u8], output: &mut W) -> Result<(), RunError>
+fn send_both<W: Sink>(first: &[u8], second: &[u8], output: &mut W) -> Result<(), RunError>
     ensures sent { OnOk result (Appends (W.contents output.old) (W.contents output.new)
         (first.now ++ second.now)) }
-    ensures error { IfErr result (λ error. error ≡ stops.Write) }
+    ensures error { IfErr result (IsWriteFailure (W.has_failed output.new)) }
 {
     send(first, output)?;
     send(second, output)
@@ -67,14 +66,14 @@ fn send_both<W: Write>(first: &[u8], second: &[u8], output: &mut W) -> Result<()
 
 /// Writes what the option `--else` asks for instead of a moment. `Err(RunError::Refused)` says that it
 /// asks for the end of the run; nothing is written then.
-pub fn replace<W: Write>(
+pub fn replace<W: Sink>(
     otherwise: Otherwise,
     entry: Entry<'_>,
     output: &mut W,
 ) -> Result<(), RunError>
     ensures replaced { OnOk result (Replaces otherwise entry.entry.frame entry.entry.text.now (W.contents output.old)
         (W.contents output.new)) }
-    ensures ends { IfErr result (EndsOnlyAsAsked otherwise) }
+    ensures ends { IfErr result (EndsOnlyAsAsked otherwise (W.has_failed output.new)) }
 {
     match otherwise {
         Otherwise::Nothing => Ok(()),
@@ -85,10 +84,10 @@ pub fn replace<W: Write>(
 }
 
 // Writes the text as it was read.
-fn keep<W: Write>(entry: Entry<'_>, output: &mut W) -> Result<(), RunError>
+fn keep<W: Sink>(entry: Entry<'_>, output: &mut W) -> Result<(), RunError>
     ensures sent { OnOk result (Appends (W.contents output.old) (W.contents output.new)
         (spec.kept entry.entry.frame entry.entry.text.now)) }
-    ensures error { IfErr result (λ error. error ≡ stops.Write) }
+    ensures error { IfErr result (IsWriteFailure (W.has_failed output.new)) }
 {
     match entry.frame {
         Frame::Line => send_both(entry.text, b"\n", output),
@@ -97,10 +96,10 @@ fn keep<W: Write>(entry: Entry<'_>, output: &mut W) -> Result<(), RunError>
 }
 
 // Writes an empty line, or a record whose field is empty.
-fn empty<W: Write>(frame: Frame<'_>, output: &mut W) -> Result<(), RunError>
+fn empty<W: Sink>(frame: Frame<'_>, output: &mut W) -> Result<(), RunError>
     ensures sent { OnOk result (Appends (W.contents output.old) (W.contents output.new)
         (spec.emptied frame.entry)) }
-    ensures error { IfErr result (λ error. error ≡ stops.Write) }
+    ensures error { IfErr result (IsWriteFailure (W.has_failed output.new)) }
 {
     match frame {
         Frame::Line => send(b"\n", output),
@@ -110,10 +109,10 @@ fn empty<W: Write>(frame: Frame<'_>, output: &mut W) -> Result<(), RunError>
 
 // Writes a record with these bytes as its field.
 #[tactic(auto, using(crate::proofs::FrameLemmas::in_turn))]
-fn send_around<W: Write>(cell: Cell<'_>, field: &[u8], output: &mut W) -> Result<(), RunError>
+fn send_around<W: Sink>(cell: Cell<'_>, field: &[u8], output: &mut W) -> Result<(), RunError>
     ensures sent { OnOk result (Appends (W.contents output.old) (W.contents output.new)
         (cell.entry.front.now ++ (field.now ++ cell.entry.after.now))) }
-    ensures error { IfErr result (λ error. error ≡ stops.Write) }
+    ensures error { IfErr result (IsWriteFailure (W.has_failed output.new)) }
 {
     send(cell.front, output)?;
     send_both(field, cell.after, output)

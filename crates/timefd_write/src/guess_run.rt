@@ -1,9 +1,10 @@
 //! The run that `--guess` asks for.
 
-ghost use Rattle.std.specs.Prelude.{◌≡◌, ◌++◌, ◌∷◌, [], IfErr, IfOk, OnOk};
+ghost use Rattle.std.specs.Prelude.{◌≡◌, ◌++◌, ◌∷◌, [], false, IfErr, IfOk, OnOk};
 ghost use Rattle.timefd_diagnosis.specs.Words.{texts};
 ghost use Rattle.timefd_rewrite.specs.Lines.{without_newline};
 ghost use Rattle.timefd_streams.specs.Words.{bytes_of};
+ghost use Rattle.timefd_write.specs.Failures.{IsSourceAfterLine};
 ghost use Rattle.timefd_write.specs.GuessRuns as spec;
 ghost use Rattle.timefd_write.specs.Written.{IsRead};
 
@@ -12,10 +13,9 @@ use crate::guessed::write_guesses;
 use crate::lines::{LineRead, read_line};
 use crate::outcome::RunError;
 use std::alloc::{AllocError, Global};
-use std::io::{BufRead, Write};
 use std::str;
 use timefd_rewrite::without_newline;
-use timefd_streams::borrowed;
+use timefd_streams::{BufferedSource, Failed, Sink, borrowed};
 
 /// How a run ends that looks for a description.
 #[derive(Clone, Copy)]
@@ -50,7 +50,7 @@ impl From<AllocError> for GuessEnd {
 /// Writes the descriptions that the words may be written by. Without words, the lines of the input are the
 /// texts.
 #[tactic(auto, using(crate::proofs::GuessRunLemmas::of_words, crate::proofs::GuessRunLemmas::of_input))]
-pub fn guess_end<I: BufRead, W: Write, E: Write>(
+pub fn guess_end<I: BufferedSource, W: Sink, E: Sink>(
     alloc: Global,
     request: GuessRequest,
     words: &[&str],
@@ -58,8 +58,9 @@ pub fn guess_end<I: BufRead, W: Write, E: Write>(
     output: &mut W,
     errors: &mut E,
 ) -> GuessEnd
-    ensures { spec.IsGuessRun (texts words.now) (I.remaining input.old) (W.contents output.old)
+    ensures run { spec.IsGuessRun (texts words.now) (I.remaining input.old) (W.contents output.old)
         (W.contents output.new) result }
+    ensures failed { spec.FailsOnlyIf (I.has_failed input.new) (W.has_failed output.new) result }
 {
     if !words.is_empty() {
         return end_of(alloc, request, words, output, errors);
@@ -71,15 +72,16 @@ pub fn guess_end<I: BufRead, W: Write, E: Write>(
 }
 
 // Writes the descriptions that the lines of the input may be written by.
-fn lines_end<W: Write, E: Write>(
+fn lines_end<W: Sink, E: Sink>(
     alloc: Global,
     request: GuessRequest,
     lines: &[String],
     output: &mut W,
     errors: &mut E,
 ) -> GuessEnd
-    ensures { spec.GuessesOver (bytes_of lines.now) (W.contents output.old) (W.contents output.new)
+    ensures guesses { spec.GuessesOver (bytes_of lines.now) (W.contents output.old) (W.contents output.new)
         result }
+    ensures failed { spec.FailsOnlyIf false (W.has_failed output.new) result }
 {
     match borrowed(alloc, lines) {
         Ok(words) => end_of(alloc, request, &words, output, errors),
@@ -88,26 +90,28 @@ fn lines_end<W: Write, E: Write>(
 }
 
 // The lines of the input, each without its newline.
-fn input_lines<I: BufRead>(alloc: Global, input: &mut I) -> Result<Vec<String>, GuessEnd>
+fn input_lines<I: BufferedSource>(alloc: Global, input: &mut I) -> Result<Vec<String>, GuessEnd>
     ensures lines { IfOk result (λ texts. spec.AreTextsOf (I.remaining input.old) (bytes_of texts.items)) }
     ensures end { IfErr result (spec.IsUnreadEnd (I.remaining input.old)) }
+    ensures failed { IfErr result (spec.FailsOnlyIf (I.has_failed input.new) false) }
 {
     let mut texts = Vec::new(alloc);
     let mut bytes = Vec::new(alloc);
-    'lines: for _ in 0..u64::MAX {
+    'lines: loop {
         match next_line(input, &mut bytes)? {
             LineRead::Line => push_line(alloc, &bytes, &mut texts)?,
             LineRead::End => return Ok(texts),
             LineRead::Failed => return Err(GuessEnd::Read),
         }
     }
-    Err(GuessEnd::Read)
 }
 
 // Reads one more line instead of these bytes.
-fn next_line<I: BufRead>(input: &mut I, bytes: &mut Vec<u8>) -> Result<LineRead, GuessEnd>
+fn next_line<I: BufferedSource>(input: &mut I, bytes: &mut Vec<u8>) -> Result<LineRead, GuessEnd>
     ensures read { IfOk result (IsRead (I.remaining input.old) (I.remaining input.new)
         bytes.new.items) }
+    ensures source { IfOk result (IsSourceAfterLine (I.calls_left input.old) (I.calls_left input.new)
+        (I.has_failed input.new)) }
     ensures memory { IfErr result (λ end. end ≡ GuessEnd.Memory) }
 {
     match read_line(input, bytes) {
@@ -134,14 +138,15 @@ fn push_line(alloc: Global, line: &[u8], texts: &mut Vec<String>) -> Result<(), 
 
 // Writes the descriptions that the texts may be written by.
 #[tactic(auto, using(crate::proofs::GuessRunLemmas::flushed, crate::proofs::GuessRunLemmas::no_texts))]
-fn end_of<W: Write, E: Write>(
+fn end_of<W: Sink, E: Sink>(
     alloc: Global,
     request: GuessRequest,
     words: &[&str],
     output: &mut W,
     errors: &mut E,
 ) -> GuessEnd
-    ensures { spec.GuessesOver (texts words.now) (W.contents output.old) (W.contents output.new) result }
+    ensures guesses { spec.GuessesOver (texts words.now) (W.contents output.old) (W.contents output.new) result }
+    ensures failed { spec.FailsOnlyIf false (W.has_failed output.new) result }
 {
     if words.is_empty() {
         return GuessEnd::NoText;
@@ -154,8 +159,9 @@ fn end_of<W: Write, E: Write>(
 }
 
 // How a run ends, once what it wrote is passed on.
-fn flushed_end<W: Write>(is_found: bool, output: &mut W) -> GuessEnd
-    ensures { spec.IsFlushedEnd is_found (W.contents output.old) (W.contents output.new) result }
+fn flushed_end<W: Sink>(is_found: bool, output: &mut W) -> GuessEnd
+    ensures end { spec.IsFlushedEnd is_found (W.contents output.old) (W.contents output.new) result }
+    ensures failed { spec.FailsOnlyIf false (W.has_failed output.new) result }
 {
     match output.flush() {
         Ok(()) => {
@@ -165,6 +171,6 @@ fn flushed_end<W: Write>(is_found: bool, output: &mut W) -> GuessEnd
                 GuessEnd::NotFound
             }
         }
-        Err(_) => GuessEnd::Write,
+        Err(Failed) => GuessEnd::Write,
     }
 }

@@ -1,37 +1,39 @@
 //! The descriptions that texts may be written by.
 
-ghost use Rattle.std.specs.Prelude.{◌≡◌, IfOk, string_bytes};
+ghost use Rattle.std.specs.Prelude.{◌≡◌, IfErr, IfOk, string_bytes};
 ghost use Rattle.timefd_description.specs.Guessing.Found.{texts};
+ghost use Rattle.timefd_write.specs.Frames.{IsFailure};
 ghost use Rattle.timefd_write.specs.Guessed as spec;
 
 use crate::outcome::RunError;
 use crate::report::report;
 use std::alloc::{AllocError, Global};
-use std::io::Write;
 use timefd_description::guessing::{Guess, guesses};
+use timefd_streams::{Failed, Sink};
 
 /// Writes the descriptions that all the texts may be written by, one a line, and returns whether there is
 /// any. Unless the run is quiet, `errors` gets a note on how many texts don't show which number is the day
 /// and which is the month.
 #[tactic(auto, using(crate::proofs::GuessLemmas::writes))]
-pub fn write_guesses<W: Write, E: Write>(
+pub fn write_guesses<W: Sink, E: Sink>(
     alloc: Global,
     is_quiet: bool,
     words: &[&str],
     output: &mut W,
     errors: &mut E,
 ) -> Result<bool, RunError>
-    ensures { IfOk result (spec.WritesGuesses (texts words.now) (W.contents output.old)
+    ensures guesses { IfOk result (spec.WritesGuesses (texts words.now) (W.contents output.old)
         (W.contents output.new)) }
+    ensures error { IfErr result (IsFailure (W.has_failed output.new)) }
 {
     let found = guesses(alloc, words)?;
     if !is_quiet {
         report_undecided(alloc, &found, words.len(), errors)?;
     }
     let lines = guess_lines(alloc, &found)?;
-    match output.write_all(lines.as_bytes()) {
+    match output.put_all(lines.as_bytes()) {
         Ok(()) => Ok(is_any(&found)),
-        Err(_) => Err(RunError::Write),
+        Err(Failed) => Err(RunError::Write),
     }
 }
 
@@ -62,7 +64,7 @@ fn guess_lines(alloc: Global, found: &[Guess]) -> Result<String, AllocError>
 
 // Reports how many texts leave open which number is the day and which is the month, for the first description
 // that has such texts.
-fn report_undecided<E: Write>(
+fn report_undecided<E: Sink>(
     alloc: Global,
     found: &[Guess],
     count: usize,

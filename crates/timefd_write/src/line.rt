@@ -10,7 +10,6 @@ ghost use Rattle.timefd_format.specs.Answers.{AreBytes};
 use crate::frame::send;
 use crate::outcome::RunError;
 use std::alloc::{AllocError, Global};
-use std::io::Write;
 use timefd_format::{
     FormatError, TextError, Unshown, append_leaves, append_literal, format, format_items,
     write_description, write_items, write_leaves,
@@ -18,6 +17,7 @@ use timefd_format::{
 use timefd_moment::Moment;
 use timefd_node_list::Leaf;
 use timefd_parse::BorrowedOutput;
+use timefd_streams::Sink;
 
 /// The text of the moment by the description, in memory of its own.
 pub fn shown(
@@ -99,7 +99,7 @@ fn line_in(
 /// Writes the line of a moment. `Some` is the component that can't show the moment; nothing is written
 /// then. If the room is too small, memory is allocated for the line.
 #[tactic(auto, using(crate::proofs::LineLemmas::line_sent))]
-pub fn write_line<W: Write>(
+pub fn write_line<W: Sink>(
     alloc: Global,
     moment: Moment,
     description: &BorrowedOutput<'_>,
@@ -110,7 +110,7 @@ pub fn write_line<W: Write>(
     requires { AreLeavesOf description.now leaves }
     ensures sent { IfOk result (IsSent frames.Line (written_of moment description.now)
         (W.contents output.old) (W.contents output.new)) }
-    ensures error { IfErr result IsFailure }
+    ensures error { IfErr result (IsFailure (W.has_failed output.new)) }
 {
     if let Some(end) = line_in_front(&moment, description, leaves, room) {
         send(&room[..end], output)?;
@@ -167,7 +167,7 @@ fn line_in_front(
 }
 
 // Writes a line that is too long for the room: it gets memory of its own.
-fn write_long_line<W: Write>(
+fn write_long_line<W: Sink>(
     alloc: Global,
     moment: Moment,
     description: &BorrowedOutput<'_>,
@@ -175,7 +175,7 @@ fn write_long_line<W: Write>(
 ) -> Result<Option<Unshown>, RunError>
     ensures sent { IfOk result (IsSent frames.Line (written_of moment description.now)
         (W.contents output.old) (W.contents output.new)) }
-    ensures error { IfErr result IsFailure }
+    ensures error { IfErr result (IsFailure (W.has_failed output.new)) }
 {
     match line_of(alloc, moment, description) {
         Ok(line) => {

@@ -2,6 +2,7 @@
 
 ghost use Rattle.std.specs.Prelude.{◌≡◌, IfErr, IfOk, length};
 ghost use Rattle.timefd_write.specs.Batches.{IsNext};
+ghost use Rattle.timefd_write.specs.Failures.{IsSourceAfterLine, IsSourceAfterNext, IsUnreadOnlyIf};
 ghost use Rattle.timefd_write.specs.Frames.{EndsOnlyAsAsked};
 ghost use Rattle.timefd_write.specs.ReadBack.{AreLeavesOf};
 ghost use Rattle.timefd_write.specs.Sources.{AreLeavesIn};
@@ -16,10 +17,10 @@ use crate::outcome::{RunError, Tally};
 use crate::read_back::leaves_of;
 use crate::source::{Source, source_leaves};
 use std::alloc::{AllocError, Global};
-use std::io::{BufRead, ErrorKind, Write};
 use timefd_node_list::Leaf;
 use timefd_parse::BorrowedOutput;
 use timefd_rewrite::without_newline;
+use timefd_streams::{BufferedError, BufferedSource, Sink};
 
 // How many bytes are reserved for a line: this many for items, whose length isn't known, and at most
 // `MOST_ROOM` for a description.
@@ -43,9 +44,14 @@ pub enum LineRead {
 
 /// Reads one more line and appends it with its newline to these bytes. An `Err` says that memory ran out.
 #[tactic(auto, using(crate::proofs::ReadLemmas::one_line, crate::proofs::ReadLemmas::no_line))]
-pub fn read_more<R: BufRead>(reader: &mut R, bytes: &mut Vec<u8>) -> Result<LineRead, RunError>
+pub fn read_more<R: BufferedSource>(
+    reader: &mut R,
+    bytes: &mut Vec<u8>,
+) -> Result<LineRead, RunError>
     ensures read { IfOk result (IsReadMore (R.remaining reader.old) (R.remaining reader.new)
         bytes.old.items bytes.new.items) }
+    ensures source { IfOk result (IsSourceAfterLine (R.calls_left reader.old) (R.calls_left reader.new)
+        (R.has_failed reader.new)) }
     ensures memory { IfErr result (λ error. error ≡ RunError.Memory) }
 {
     match reader.read_until(b'\n', bytes) {
@@ -56,21 +62,21 @@ pub fn read_more<R: BufRead>(reader: &mut R, bytes: &mut Vec<u8>) -> Result<Line
                 Ok(LineRead::Line)
             }
         }
-        Err(error) => {
-            if error.kind() == ErrorKind::OutOfMemory {
-                Err(RunError::Memory)
-            } else {
-                Ok(LineRead::Failed)
-            }
-        }
+        Err(BufferedError::Memory) => Err(RunError::Memory),
+        Err(BufferedError::Failed(_)) => Ok(LineRead::Failed),
     }
 }
 
 /// Reads one more line instead of these bytes. An `Err` says that memory ran out.
 #[tactic(auto, using(crate::proofs::ReadLemmas::whole_line))]
-pub fn read_line<R: BufRead>(reader: &mut R, bytes: &mut Vec<u8>) -> Result<LineRead, RunError>
+pub fn read_line<R: BufferedSource>(
+    reader: &mut R,
+    bytes: &mut Vec<u8>,
+) -> Result<LineRead, RunError>
     ensures read { IfOk result (IsRead (R.remaining reader.old) (R.remaining reader.new)
         bytes.new.items) }
+    ensures source { IfOk result (IsSourceAfterLine (R.calls_left reader.old) (R.calls_left reader.new)
+        (R.has_failed reader.new)) }
     ensures memory { IfErr result (λ error. error ≡ RunError.Memory) }
 {
     bytes.clear();
@@ -100,7 +106,7 @@ fn room_of(description: &BorrowedOutput<'_>) -> usize
 /// Writes a line for each line of the reader: the moment that it names or shows. Lines without a moment are
 /// reported, and the others are still written.
 #[tactic(auto, using(crate::proofs::LineLemmas::borrowed_in, crate::proofs::LineLemmas::borrowed_of))]
-pub fn write_lines<R: BufRead, W: Write, E: Write>(
+pub fn write_lines<R: BufferedSource, W: Sink, E: Sink>(
     alloc: Global,
     source: &Source<'_>,
     description: &BorrowedOutput<'_>,
@@ -111,7 +117,8 @@ pub fn write_lines<R: BufRead, W: Write, E: Write>(
 ) -> Result<Tally, RunError>
     ensures runs { IfOk result (RunsOver otherwise source.now description.now (R.remaining reader.old)
         (W.contents output.old) (W.contents output.new)) }
-    ensures ends { IfErr result (EndsOnlyAsAsked otherwise) }
+    ensures unread { IfOk result (IsUnreadOnlyIf (R.has_failed reader.new)) }
+    ensures ends { IfErr result (EndsOnlyAsAsked otherwise (W.has_failed output.new)) }
 {
     let read = source_leaves(alloc, source)?;
     let written = leaves_of(alloc, description)?;
@@ -129,8 +136,8 @@ pub fn write_lines<R: BufRead, W: Write, E: Write>(
 }
 
 // Writes those lines by the leaves of both descriptions, if they have some.
-#[tactic(auto, using(crate::proofs::RunLemmas::lines_start, crate::proofs::TakenLemmas::batch_more, crate::proofs::TakenLemmas::next_more, crate::proofs::TakenLemmas::next_ends, crate::proofs::TakenLemmas::next_fails, crate::proofs::RunLemmas::lines_fail))]
-fn write_by<R: BufRead, W: Write, E: Write>(
+#[tactic(auto, using(crate::proofs::RunLemmas::lines_start, crate::proofs::TakenLemmas::batch_more, crate::proofs::TakenLemmas::next_more, crate::proofs::TakenLemmas::next_ends, crate::proofs::TakenLemmas::next_fails))]
+fn write_by<R: BufferedSource, W: Sink, E: Sink>(
     alloc: Global,
     source: &Source<'_>,
     source_leaves: Option<&[Leaf<'_>]>,
@@ -145,14 +152,15 @@ fn write_by<R: BufRead, W: Write, E: Write>(
     requires written { AreLeavesOf description.now leaves }
     ensures runs { IfOk result (RunsOver otherwise source.now description.now (R.remaining reader.old)
         (W.contents output.old) (W.contents output.new)) }
-    ensures ends { IfErr result (EndsOnlyAsAsked otherwise) }
+    ensures unread { IfOk result (IsUnreadOnlyIf (R.has_failed reader.new)) }
+    ensures ends { IfErr result (EndsOnlyAsAsked otherwise (W.has_failed output.new)) }
 {
     let mut tally = Tally::at_end(false);
     let mut line: u64 = 1;
     let mut bytes = Vec::new(alloc);
     let mut room = line_room(alloc, description)?;
     let mut space = batch_room(alloc)?;
-    'lines: for _ in 1..u64::MAX {
+    'lines: loop {
         match write_next(
             alloc,
             source,
@@ -177,7 +185,6 @@ fn write_by<R: BufRead, W: Write, E: Write>(
             Next::Failed => return Ok(tally.and(Tally::at_end(true))),
         }
     }
-    Ok(tally.and(Tally::at_end(true)))
 }
 
 /// What came next.
@@ -195,8 +202,8 @@ pub enum Next {
 
 // Writes the next lines in a batch. If that can't be done with the first of them, which has this number, it is
 // looked at by itself.
-#[tactic(auto, using(crate::proofs::TakenLemmas::lines_next, crate::proofs::TakenLemmas::end_next, crate::proofs::TakenLemmas::failed_next, crate::proofs::TakenLemmas::nothing_next))]
-fn write_next<R: BufRead, W: Write, E: Write>(
+#[tactic(auto, using(crate::proofs::TakenLemmas::lines_next, crate::proofs::TakenLemmas::end_next, crate::proofs::TakenLemmas::failed_next, crate::proofs::TakenLemmas::nothing_next, crate::proofs::TakenLemmas::source_after))]
+fn write_next<R: BufferedSource, W: Sink, E: Sink>(
     alloc: Global,
     source: &Source<'_>,
     source_leaves: Option<&[Leaf<'_>]>,
@@ -215,7 +222,9 @@ fn write_next<R: BufRead, W: Write, E: Write>(
     requires written { AreLeavesOf description.now leaves }
     ensures next { IfOk result (IsNext otherwise source.now description.now (R.remaining reader.old)
         (R.remaining reader.new) (W.contents output.old) (W.contents output.new)) }
-    ensures ends { IfErr result (EndsOnlyAsAsked otherwise) }
+    ensures source { IfOk result (IsSourceAfterNext (R.calls_left reader.old) (R.calls_left reader.new)
+        (R.has_failed reader.new)) }
+    ensures ends { IfErr result (EndsOnlyAsAsked otherwise (W.has_failed output.new)) }
 {
     match take_batch(
         source,
@@ -248,7 +257,7 @@ fn write_next<R: BufRead, W: Write, E: Write>(
 
 // Reads one more line, which has this number, and writes the moment that it names or shows.
 #[tactic(auto, using(crate::proofs::TakenLemmas::line_looked, crate::proofs::TakenLemmas::no_line_looked))]
-fn write_line_by_itself<R: BufRead, W: Write, E: Write>(
+fn write_line_by_itself<R: BufferedSource, W: Sink, E: Sink>(
     alloc: Global,
     source: &Source<'_>,
     source_leaves: Option<&[Leaf<'_>]>,
@@ -266,7 +275,9 @@ fn write_line_by_itself<R: BufRead, W: Write, E: Write>(
     requires written { AreLeavesOf description.now leaves }
     ensures next { IfOk result (IsNext otherwise source.now description.now (R.remaining reader.old)
         (R.remaining reader.new) (W.contents output.old) (W.contents output.new)) }
-    ensures ends { IfErr result (EndsOnlyAsAsked otherwise) }
+    ensures source { IfOk result (IsSourceAfterNext (R.calls_left reader.old) (R.calls_left reader.new)
+        (R.has_failed reader.new)) }
+    ensures ends { IfErr result (EndsOnlyAsAsked otherwise (W.has_failed output.new)) }
 {
     match read_line(reader, bytes)? {
         LineRead::Line => {

@@ -63,7 +63,7 @@ use status::{
 use std::alloc::AllocError;
 use std::io::{BufReader, BufWriter};
 use std::process::ExitCode;
-use timefd_streams::{WordsError, all_words, borrowed};
+use timefd_streams::{FromBufReader, ToWriter, WordsError, all_words, borrowed};
 
 // Does what the words after the program's name ask for, and returns the status.
 fn words_status(rt: &HostRuntime, words: &[&str]) -> u8 {
@@ -96,19 +96,19 @@ fn guess_status(rt: &HostRuntime, request: GuessRequest, texts: &[&str]) -> u8 {
 
 // Looks for a description of the texts, or of the lines of the standard input if there are none.
 fn end_of_guess(rt: &HostRuntime, request: GuessRequest, texts: &[&str]) -> GuessEnd {
-    let Ok(mut output) = BufWriter::new(rt.alloc(), rt.stdout()) else {
+    let Ok(output) = BufWriter::new(rt.alloc(), rt.stdout()) else {
         return GuessEnd::Memory;
     };
-    let Ok(mut input) = BufReader::new(rt.alloc(), rt.stdin()) else {
+    let Ok(input) = BufReader::new(rt.alloc(), rt.stdin()) else {
         return GuessEnd::Memory;
     };
     guess_end(
         rt.alloc(),
         request,
         texts,
-        &mut input,
-        &mut output,
-        &mut rt.stderr(),
+        &mut FromBufReader::new(input),
+        &mut ToWriter::new(output),
+        &mut ToWriter::new(rt.stderr()),
     )
 }
 

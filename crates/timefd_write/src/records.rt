@@ -1,13 +1,14 @@
 //! Records of comma-separated values, read one after another.
 
 ghost use Rattle.std.specs.Prelude.{◌≡◌, IfErr, IfOk};
+ghost use Rattle.timefd_write.specs.Failures.{IsSourceAfterRecord};
 ghost use Rattle.timefd_write.specs.Records as spec;
 ghost use Rattle.timefd_write.specs.Records.{IsRecordRead};
 
 use crate::lines::{LineRead, read_more};
 use crate::outcome::RunError;
 use crate::quoting::Quoting;
-use std::io::BufRead;
+use timefd_streams::BufferedSource;
 
 /// What reading a record came to.
 #[derive(Clone, Copy)]
@@ -23,15 +24,22 @@ pub enum RecordRead {
 }
 
 /// Replaces these bytes with one more record, with its newline. An `Err` says that memory ran out.
-#[tactic(auto, using(crate::proofs::RecordLemmas::starts, crate::proofs::RecordLemmas::line_more, crate::proofs::RecordLemmas::row_done, crate::proofs::RecordLemmas::row_ended))]
-pub fn read_record<R: BufRead>(reader: &mut R, row: &mut Vec<u8>) -> Result<RecordRead, RunError>
+#[tactic(auto, using(crate::proofs::RecordLemmas::starts, crate::proofs::RecordLemmas::line_more, crate::proofs::RecordLemmas::row_done, crate::proofs::RecordLemmas::row_ended, crate::proofs::RecordLemmas::end_counted))]
+pub fn read_record<R: BufferedSource>(
+    reader: &mut R,
+    row: &mut Vec<u8>,
+) -> Result<RecordRead, RunError>
     ensures read { IfOk result (IsRecordRead (R.remaining reader.old) (R.remaining reader.new)
         row.new.items) }
+    ensures source { IfOk result (IsSourceAfterRecord (R.calls_left reader.old) (R.calls_left reader.new)
+        (R.has_failed reader.new)) }
     ensures memory { IfErr result (λ error. error ≡ RunError.Memory) }
 {
     row.clear();
     let mut quoting = Quoting::Start;
-    'lines: for count in 1..u64::MAX {
+    let mut count: u64 = 0;
+    'lines: loop {
+        count = count.saturating_add(1);
         let from = row.len();
         match read_more(reader, row)? {
             LineRead::Line => {
@@ -44,7 +52,6 @@ pub fn read_record<R: BufRead>(reader: &mut R, row: &mut Vec<u8>) -> Result<Reco
             LineRead::Failed => return Ok(RecordRead::Failed),
         }
     }
-    Ok(RecordRead::Failed)
 }
 
 // What the end of the input means after these bytes of a record.

@@ -2,6 +2,7 @@
 
 ghost use Rattle.std.specs.Prelude.{IfErr, IfOk};
 ghost use Rattle.timefd_diagnosis.specs.Words.{texts};
+ghost use Rattle.timefd_write.specs.Failures.{IsUnreadEndOnlyIf, IsUnreadOnlyIf};
 ghost use Rattle.timefd_write.specs.Frames.{EndsOnlyAsAsked};
 ghost use Rattle.timefd_write.specs.Runs.{IsInputRun, IsRun, IsRunFrom, IsRunOf};
 
@@ -19,15 +20,15 @@ use crate::table::write_table;
 use crate::warned::{WRITTEN, report_warnings, warned_by};
 use crate::words::write_words;
 use std::alloc::Global;
-use std::io::{BufRead, Write};
 use timefd_parse::{BorrowedOutput, StrftimeTables};
+use timefd_streams::{BufferedSource, Sink};
 
 /// Writes the moments that the words name, by the description, one a line. Without words, the moments
 /// come from the input. If there is a description to read by, the moments are texts of it.
 ///
 /// If a description is refused, its fault is written to `errors`, and nothing to the output.
 /// Otherwise `errors` gets the warnings about the descriptions first.
-pub fn run<I: BufRead, W: Write, E: Write>(
+pub fn run<I: BufferedSource, W: Sink, E: Sink>(
     alloc: Global,
     clocks: Clocks<'_>,
     manner: Manner,
@@ -41,7 +42,8 @@ pub fn run<I: BufRead, W: Write, E: Write>(
     output: &mut W,
     errors: &mut E,
 ) -> Result<RunEnd, RunError>
-    ensures ends { IfErr result (EndsOnlyAsAsked otherwise) }
+    ensures ends { IfErr result (EndsOnlyAsAsked otherwise (W.has_failed output.new)) }
+    ensures unread { IfOk result (IsUnreadEndOnlyIf (I.has_failed input.new)) }
     ensures run { IfOk result (IsRun column.entry otherwise clocks.entry manner.is_quiet languages read.entry description.now
         (texts words.now) (I.remaining input.old) (W.contents output.old)
         (W.contents output.new)) }
@@ -74,7 +76,7 @@ pub fn run<I: BufRead, W: Write, E: Write>(
 }
 
 // Reports the warnings about the descriptions, and writes the moments that the words name or show.
-fn run_from<I: BufRead, W: Write, E: Write>(
+fn run_from<I: BufferedSource, W: Sink, E: Sink>(
     alloc: Global,
     source: &Source<'_>,
     manner: Manner,
@@ -87,7 +89,8 @@ fn run_from<I: BufRead, W: Write, E: Write>(
     output: &mut W,
     errors: &mut E,
 ) -> Result<RunEnd, RunError>
-    ensures ends { IfErr result (EndsOnlyAsAsked otherwise) }
+    ensures ends { IfErr result (EndsOnlyAsAsked otherwise (W.has_failed output.new)) }
+    ensures unread { IfOk result (IsUnreadEndOnlyIf (I.has_failed input.new)) }
     ensures run { IfOk result (IsRunFrom column.entry otherwise source.now manner.is_quiet languages description.now
         (texts words.now) (I.remaining input.old) (W.contents output.old)
         (W.contents output.new)) }
@@ -125,7 +128,7 @@ fn run_from<I: BufRead, W: Write, E: Write>(
 }
 
 // Writes the moments of the words, or those of the input.
-fn write_all<I: BufRead, W: Write, E: Write>(
+fn write_all<I: BufferedSource, W: Sink, E: Sink>(
     alloc: Global,
     source: &Source<'_>,
     description: &BorrowedOutput<'_>,
@@ -136,7 +139,8 @@ fn write_all<I: BufRead, W: Write, E: Write>(
     output: &mut W,
     errors: &mut E,
 ) -> Result<Tally, RunError>
-    ensures ends { IfErr result (EndsOnlyAsAsked otherwise) }
+    ensures ends { IfErr result (EndsOnlyAsAsked otherwise (W.has_failed output.new)) }
+    ensures unread { IfOk result (IsUnreadOnlyIf (I.has_failed input.new)) }
     ensures run { IfOk result (IsRunOf column.entry otherwise source.now description.now (texts words.now) (I.remaining input.old)
         (W.contents output.old) (W.contents output.new)) }
 {
@@ -157,7 +161,7 @@ fn write_all<I: BufRead, W: Write, E: Write>(
 }
 
 // Writes the moments of the input: one from each line, or from a column.
-fn write_input<I: BufRead, W: Write, E: Write>(
+fn write_input<I: BufferedSource, W: Sink, E: Sink>(
     alloc: Global,
     source: &Source<'_>,
     description: &BorrowedOutput<'_>,
@@ -167,9 +171,10 @@ fn write_input<I: BufRead, W: Write, E: Write>(
     output: &mut W,
     errors: &mut E,
 ) -> Result<Tally, RunError>
+    ensures unread { IfOk result (IsUnreadOnlyIf (I.has_failed input.new)) }
     ensures run { IfOk result (IsInputRun column.entry otherwise source.now description.now (I.remaining input.old)
         (W.contents output.old) (W.contents output.new)) }
-    ensures ends { IfErr result (EndsOnlyAsAsked otherwise) }
+    ensures ends { IfErr result (EndsOnlyAsAsked otherwise (W.has_failed output.new)) }
 {
     match column {
         Some(column) => write_table(

@@ -17,9 +17,9 @@ use crate::to_read::{description_to_read, reading_limits_sentence};
 use crate::zones::{Zones, now_of};
 use jiff_tz::TimeZone;
 use std::alloc::AllocError;
-use std::io::{BufReader, BufWriter, IsTerminal, Write};
+use std::io::{BufReader, BufWriter, IsTerminal};
 use timefd_dialect::DialectError;
-use timefd_streams::shows_colors;
+use timefd_streams::{Failed, FromBufReader, Sink, ToWriter, shows_colors};
 
 // How many bytes of the standard input are read at once.
 const BUFFER: usize = 65_536;
@@ -130,7 +130,7 @@ fn not_converted(rt: &HostRuntime, error: DialectError) -> u8 {
 // all of them.
 fn report_limits(rt: &HostRuntime, description: &Described<'_>) -> Result<(), AllocError> {
     if let Some(sentence) = limits_sentence(rt.alloc(), description.limits())? {
-        report_sentence(rt.alloc(), &mut rt.stderr(), &sentence)?;
+        report_sentence(rt.alloc(), &mut ToWriter::new(rt.stderr()), &sentence)?;
     }
     Ok(())
 }
@@ -138,7 +138,7 @@ fn report_limits(rt: &HostRuntime, description: &Described<'_>) -> Result<(), Al
 // Reports the moments for which texts of a format are read, unless that's all of them.
 fn report_reading_limits(rt: &HostRuntime, read: &Described<'_>) -> Result<(), AllocError> {
     if let Some(sentence) = reading_limits_sentence(rt.alloc(), read.limits())? {
-        report_sentence(rt.alloc(), &mut rt.stderr(), &sentence)?;
+        report_sentence(rt.alloc(), &mut ToWriter::new(rt.stderr()), &sentence)?;
     }
     Ok(())
 }
@@ -151,9 +151,10 @@ fn described_status(
     written: &Described<'_>,
     moments: &[&str],
 ) -> u8 {
-    let Ok(mut output) = BufWriter::new(rt.alloc(), rt.stdout()) else {
+    let Ok(output) = BufWriter::new(rt.alloc(), rt.stdout()) else {
         return no_memory(rt);
     };
+    let mut output = ToWriter::new(output);
     let progress = Progress::new(rt);
     let end = run_to(
         rt,
@@ -170,11 +171,11 @@ fn described_status(
         (Ok(end), Ok(())) => end_status(rt, end.status()),
         (Err(RunError::Memory), _) => no_memory(rt),
         (Err(RunError::Refused), Ok(())) => REFUSED,
-        (Err(RunError::Write), _) | (_, Err(_)) => write_failed(rt),
+        (Err(RunError::Write), _) | (_, Err(Failed)) => write_failed(rt),
     }
 }
 
-fn run_to<W: Write>(
+fn run_to<W: Sink>(
     rt: &HostRuntime,
     request: Request<'_>,
     clocks: Clocks<'_>,
@@ -185,7 +186,7 @@ fn run_to<W: Write>(
     output: &mut W,
 ) -> Result<RunEnd, RunError> {
     let input = Watched::new(progress, rt.stdin());
-    let Ok(mut input) = BufReader::with_capacity(rt.alloc(), BUFFER, input) else {
+    let Ok(input) = BufReader::with_capacity(rt.alloc(), BUFFER, input) else {
         return Err(RunError::Memory);
     };
     run(
@@ -201,9 +202,9 @@ fn run_to<W: Write>(
         request.otherwise,
         request.column,
         moments,
-        &mut input,
+        &mut FromBufReader::new(input),
         output,
-        &mut rt.stderr(),
+        &mut ToWriter::new(rt.stderr()),
     )
 }
 

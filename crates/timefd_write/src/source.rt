@@ -14,10 +14,10 @@ use crate::warned::READ;
 use crate::zone::in_zone;
 use jiff_tz::TimeZone;
 use std::alloc::{AllocError, Global};
-use std::io::Write;
 use timefd_moment::Moment;
 use timefd_node_list::Leaf;
 use timefd_parse::{BorrowedOutput, Language, StrftimeTables};
+use timefd_streams::Sink;
 
 /// What the words of a run are.
 #[derive(Drop)]
@@ -48,7 +48,7 @@ pub struct Clocks<'a> {
 
 /// What the words of a run are: texts of the description that `--read` gives, or names. `None` if that
 /// description is refused; its fault is then written to `errors`. An `Err` says that memory ran out.
-pub fn source_of<'a, E: Write>(
+pub fn source_of<'a, E: Sink>(
     alloc: Global,
     clocks: Clocks<'a>,
     is_colored: bool,

@@ -5,6 +5,7 @@ use crate::report::{report, report_sentence};
 use crate::usage;
 use std::alloc::AllocError;
 use std::io::Write;
+use timefd_streams::ToWriter;
 
 /// Something was refused: a description, a moment or a column.
 pub(crate) const REFUSED: u8 = 1;
@@ -25,7 +26,7 @@ const MEMORY_RAN_OUT: &str = "timefd_format: memory ran out\n";
 
 /// Shows people a sentence on the standard error, and returns the status.
 pub(crate) fn reported(rt: &HostRuntime, status: u8, sentence: &str) -> u8 {
-    match report_sentence(rt.alloc(), &mut rt.stderr(), sentence) {
+    match report_sentence(rt.alloc(), &mut ToWriter::new(rt.stderr()), sentence) {
         Ok(_) => status,
         Err(AllocError) => no_memory(rt),
     }
@@ -33,7 +34,11 @@ pub(crate) fn reported(rt: &HostRuntime, status: u8, sentence: &str) -> u8 {
 
 /// Reports that memory ran out, which takes none, and returns the status.
 pub(crate) fn no_memory(rt: &HostRuntime) -> u8 {
-    let _ = report(rt.alloc(), &mut rt.stderr(), MEMORY_RAN_OUT.as_bytes());
+    let _ = report(
+        rt.alloc(),
+        &mut ToWriter::new(rt.stderr()),
+        MEMORY_RAN_OUT.as_bytes(),
+    );
     NO_MEMORY
 }
 

@@ -1,6 +1,7 @@
 //! A table of comma-separated values, with one column rewritten.
 
 ghost use Rattle.std.specs.Prelude.{◌≡◌, false, IfErr, IfOk, OnOk};
+ghost use Rattle.timefd_write.specs.Failures.{IsUnreadOnlyIf};
 ghost use Rattle.timefd_write.specs.Frames.{EndsOnlyAsAsked};
 ghost use Rattle.timefd_write.specs.ReadBack.{AreLeavesOf};
 ghost use Rattle.timefd_write.specs.Records.{is_open};
@@ -22,16 +23,16 @@ use crate::records::{RecordRead, read_record};
 use crate::report::report;
 use crate::source::{Source, source_leaves};
 use std::alloc::Global;
-use std::io::{BufRead, Write};
 use timefd_node_list::Leaf;
 use timefd_parse::BorrowedOutput;
 use timefd_rewrite::without_newline;
+use timefd_streams::{BufferedSource, Sink};
 
 /// Writes the records of a reader, one after another. In each, one field is replaced with its moment's
 /// text, and every other byte stays as it is. A field that isn't a moment is reported with the number
 /// of its line, and what `--else` asks for is written instead.
 #[tactic(auto, using(crate::proofs::LineLemmas::borrowed_in, crate::proofs::LineLemmas::borrowed_of))]
-pub fn write_table<R: BufRead, W: Write, E: Write>(
+pub fn write_table<R: BufferedSource, W: Sink, E: Sink>(
     alloc: Global,
     source: &Source<'_>,
     description: &BorrowedOutput<'_>,
@@ -43,7 +44,8 @@ pub fn write_table<R: BufRead, W: Write, E: Write>(
 ) -> Result<Tally, RunError>
     ensures table { IfOk result (IsTable otherwise source.now description.now column.entry
         (R.remaining reader.old) (W.contents output.old) (W.contents output.new)) }
-    ensures ends { IfErr result (EndsOnlyAsAsked otherwise) }
+    ensures unread { IfOk result (IsUnreadOnlyIf (R.has_failed reader.new)) }
+    ensures ends { IfErr result (EndsOnlyAsAsked otherwise (W.has_failed output.new)) }
 {
     let read = source_leaves(alloc, source)?;
     let written = leaves_of(alloc, description)?;
@@ -77,7 +79,7 @@ pub fn write_table<R: BufRead, W: Write, E: Write>(
 }
 
 // Writes the table by the column that the first record gives this name.
-fn write_named<R: BufRead, W: Write, E: Write>(
+fn write_named<R: BufferedSource, W: Sink, E: Sink>(
     alloc: Global,
     source: &Source<'_>,
     source_leaves: Option<&[Leaf<'_>]>,
@@ -93,7 +95,8 @@ fn write_named<R: BufRead, W: Write, E: Write>(
     requires written { AreLeavesOf description.now leaves }
     ensures table { IfOk result (IsNamedTable otherwise source.now description.now name.now
         (R.remaining reader.old) (W.contents output.old) (W.contents output.new)) }
-    ensures ends { IfErr result (EndsOnlyAsAsked otherwise) }
+    ensures unread { IfOk result (IsUnreadOnlyIf (R.has_failed reader.new)) }
+    ensures ends { IfErr result (EndsOnlyAsAsked otherwise (W.has_failed output.new)) }
 {
     let mut header = Vec::new(alloc);
     let lines = match read_record(reader, &mut header)? {
@@ -132,8 +135,8 @@ fn write_named<R: BufRead, W: Write, E: Write>(
 }
 
 // Writes the records from a line on. The field to replace is the one after `count` others.
-#[tactic(auto, using(crate::proofs::TableLemmas::starts, crate::proofs::TableLemmas::row_more, crate::proofs::TableLemmas::row_open, crate::proofs::TableLemmas::rows_end, crate::proofs::TableLemmas::records_fail))]
-fn write_records<R: BufRead, W: Write, E: Write>(
+#[tactic(auto, using(crate::proofs::TableLemmas::starts, crate::proofs::TableLemmas::row_more, crate::proofs::TableLemmas::row_open, crate::proofs::TableLemmas::rows_end, crate::proofs::TableLemmas::records_fail, crate::proofs::RunLemmas::both_read))]
+fn write_records<R: BufferedSource, W: Sink, E: Sink>(
     alloc: Global,
     source: &Source<'_>,
     source_leaves: Option<&[Leaf<'_>]>,
@@ -150,14 +153,15 @@ fn write_records<R: BufRead, W: Write, E: Write>(
     requires written { AreLeavesOf description.now leaves }
     ensures runs { IfOk result (RunsRecordsOver otherwise source.now description.now count
         (R.remaining reader.old) (W.contents output.old) (W.contents output.new)) }
-    ensures ends { IfErr result (EndsOnlyAsAsked otherwise) }
+    ensures unread { IfOk result (IsUnreadOnlyIf (R.has_failed reader.new)) }
+    ensures ends { IfErr result (EndsOnlyAsAsked otherwise (W.has_failed output.new)) }
 {
     let mut tally = Tally::at_end(false);
     let mut line = first_line;
     let mut row = Vec::new(alloc);
     let mut text = Vec::new(alloc);
     let mut room = line_room(alloc, description)?;
-    'records: for _ in 0..u64::MAX {
+    'records: loop {
         match read_record(reader, &mut row)? {
             RecordRead::Record(lines) => {
                 let one = tally_record(
@@ -186,12 +190,11 @@ fn write_records<R: BufRead, W: Write, E: Write>(
             RecordRead::Failed => return Ok(tally.and(Tally::at_end(true))),
         }
     }
-    Ok(tally.and(Tally::at_end(true)))
 }
 
 // Writes a record, and returns what it adds to the tally.
 #[tactic(auto, using(crate::proofs::TableLemmas::of_cell))]
-fn tally_record<W: Write, E: Write>(
+fn tally_record<W: Sink, E: Sink>(
     alloc: Global,
     source: &Source<'_>,
     source_leaves: Option<&[Leaf<'_>]>,
@@ -211,7 +214,8 @@ fn tally_record<W: Write, E: Write>(
     requires closed { is_open row.now ≡ false }
     ensures one { IfOk result (IsRecord otherwise source.now description.now count row.now
         (W.contents output.old) (W.contents output.new)) }
-    ensures ends { IfErr result (EndsOnlyAsAsked otherwise) }
+    ensures read { IfOk result (λ tally. tally.has_failed ≡ false) }
+    ensures ends { IfErr result (EndsOnlyAsAsked otherwise (W.has_failed output.new)) }
 {
     if without_newline(row).is_empty() {
         send(row, output)?;
@@ -247,7 +251,7 @@ fn tally_record<W: Write, E: Write>(
 }
 
 // Writes the rest of an input whose quotes aren't closed, and returns what it adds to the tally.
-fn tally_open<W: Write, E: Write>(
+fn tally_open<W: Sink, E: Sink>(
     alloc: Global,
     otherwise: Otherwise,
     line: u64,
@@ -258,7 +262,7 @@ fn tally_open<W: Write, E: Write>(
     ensures replaced { OnOk result (ReplacesRecord otherwise row.now (W.contents output.old)
         (W.contents output.new)) }
     ensures tally { IfOk result (λ tally. tally ≡ refused) }
-    ensures ends { IfErr result (EndsOnlyAsAsked otherwise) }
+    ensures ends { IfErr result (EndsOnlyAsAsked otherwise (W.has_failed output.new)) }
 {
     let message = open_message(alloc, line)?;
     report(alloc, errors, message.as_bytes())?;
@@ -267,14 +271,10 @@ fn tally_open<W: Write, E: Write>(
 }
 
 // Writes what `--else` asks for instead of a record that has no such field.
-fn replace_record<W: Write>(
-    otherwise: Otherwise,
-    row: &[u8],
-    output: &mut W,
-) -> Result<(), RunError>
+fn replace_record<W: Sink>(otherwise: Otherwise, row: &[u8], output: &mut W) -> Result<(), RunError>
     ensures replaced { OnOk result (ReplacesRecord otherwise row.now (W.contents output.old)
         (W.contents output.new)) }
-    ensures ends { IfErr result (EndsOnlyAsAsked otherwise) }
+    ensures ends { IfErr result (EndsOnlyAsAsked otherwise (W.has_failed output.new)) }
 {
     match otherwise {
         Otherwise::Nothing => Ok(()),

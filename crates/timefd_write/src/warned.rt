@@ -10,10 +10,10 @@ use crate::language::Languages;
 use crate::report::{Reported, report_drawn};
 use crate::source::{Source, SourceKind};
 use std::alloc::{AllocError, Global};
-use std::io::Write;
 use timefd_drawing::{Format, Origin, Style};
 use timefd_lint_warnings::messages;
 use timefd_parse::{BorrowedOutput, Language};
+use timefd_streams::Sink;
 use timefd_warnings::{Description, Level, Levels, Style as Spelling, Warning, warns};
 
 /// What messages call the description of `--read`.
@@ -33,14 +33,14 @@ pub struct Warned {
 }
 
 /// Shows people the warnings about both descriptions. An `Err` says that memory ran out.
-pub fn report_warnings<E: Write>(
+pub fn report_warnings<E: Sink>(
     alloc: Global,
     is_colored: bool,
     warned: Warned,
     errors: &mut E,
 ) -> Result<Reported, AllocError>
     ensures { IfOk result (spec.ReportsWarnings is_colored warned (E.contents errors.old)
-        (E.contents errors.new)) }
+        (E.contents errors.new) (E.has_failed errors.new)) }
 {
     let read = named(READ);
     let written = named(WRITTEN);

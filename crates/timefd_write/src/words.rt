@@ -1,6 +1,6 @@
 //! The moments that the arguments name, one after another.
 
-ghost use Rattle.std.specs.Prelude.{false, IfErr, IfOk};
+ghost use Rattle.std.specs.Prelude.{◌≡◌, false, IfErr, IfOk};
 ghost use Rattle.timefd_diagnosis.specs.Words.{texts};
 ghost use Rattle.timefd_write.specs.Frames.{EndsOnlyAsAsked};
 ghost use Rattle.timefd_write.specs.Written.{Runs};
@@ -11,13 +11,13 @@ use crate::otherwise::Otherwise;
 use crate::outcome::{RunError, Tally};
 use crate::source::Source;
 use std::alloc::Global;
-use std::io::Write;
 use timefd_parse::BorrowedOutput;
+use timefd_streams::Sink;
 
 /// Writes a line for each word: the moment that it names or shows. Words without a moment are reported, and
 /// the others are still written.
-#[tactic(auto, using(crate::proofs::RunLemmas::starts, crate::proofs::RunLemmas::is_done))]
-pub fn write_words<W: Write, E: Write>(
+#[tactic(auto, using(crate::proofs::RunLemmas::starts, crate::proofs::RunLemmas::is_done, crate::proofs::RunLemmas::both_read))]
+pub fn write_words<W: Sink, E: Sink>(
     alloc: Global,
     source: &Source<'_>,
     description: &BorrowedOutput<'_>,
@@ -28,7 +28,8 @@ pub fn write_words<W: Write, E: Write>(
 ) -> Result<Tally, RunError>
     ensures runs { IfOk result (Runs false otherwise source.now description.now (texts words.now)
         (W.contents output.old) (W.contents output.new)) }
-    ensures ends { IfErr result (EndsOnlyAsAsked otherwise) }
+    ensures read { IfOk result (λ tally. tally.has_failed ≡ false) }
+    ensures ends { IfErr result (EndsOnlyAsAsked otherwise (W.has_failed output.new)) }
 {
     let mut tally = Tally::at_end(false);
     let mut rest = words;

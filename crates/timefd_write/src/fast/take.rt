@@ -2,7 +2,8 @@
 
 ghost use Rattle.std.specs.Prelude.{◌≡◌, IfErr, IfOk, length};
 ghost use Rattle.timefd_write.specs.Batches as spec;
-ghost use Rattle.timefd_write.specs.Batches.{IsTaken, IsUnread};
+ghost use Rattle.timefd_write.specs.Batches.{IsTaken};
+ghost use Rattle.timefd_write.specs.Failures.{IsSourceAfterBatch};
 ghost use Rattle.timefd_write.specs.Frames.{IsFailure};
 ghost use Rattle.timefd_write.specs.ReadBack.{AreLeavesOf};
 ghost use Rattle.timefd_write.specs.Sources.{AreLeavesIn};
@@ -12,9 +13,9 @@ use crate::frame::send;
 use crate::outcome::RunError;
 use crate::source::Source;
 use std::alloc::{AllocError, Global};
-use std::io::{BufRead, ErrorKind, Write};
 use timefd_node_list::Leaf;
 use timefd_parse::BorrowedOutput;
+use timefd_streams::{BufferedError, BufferedSource, Sink};
 
 // How many bytes are reserved for the lines of a batch.
 const BATCH_ROOM: usize = 65_536;
@@ -42,8 +43,8 @@ pub fn batch_room(alloc: Global) -> Result<Vec<u8>, AllocError>
 /// Takes lines from what the reader has in its buffer, and writes their moments, a line each.
 ///
 /// An `Err` says that memory ran out, or that the output failed.
-#[tactic(auto, using(crate::proofs::TakenLemmas::unread_taken, crate::proofs::TakenLemmas::end_shown))]
-pub fn take_batch<R: BufRead, W: Write>(
+#[tactic(auto, using(crate::proofs::TakenLemmas::batch_taken, crate::proofs::TakenLemmas::end_shown))]
+pub fn take_batch<R: BufferedSource, W: Sink>(
     source: &Source<'_>,
     source_leaves: Option<&[Leaf<'_>]>,
     description: &BorrowedOutput<'_>,
@@ -56,15 +57,20 @@ pub fn take_batch<R: BufRead, W: Write>(
     requires written { AreLeavesOf description.now leaves }
     ensures taken { IfOk result (IsTaken source.now description.now (R.remaining reader.old)
         (R.remaining reader.new) (W.contents output.old) (W.contents output.new)) }
-    ensures error { IfErr result IsFailure }
+    ensures source { IfOk result (IsSourceAfterBatch (R.calls_left reader.old) (R.calls_left reader.new)
+        (R.has_failed reader.new)) }
+    ensures error { IfErr result (IsFailure (W.has_failed output.new)) }
 {
     let Some(leaves) = leaves else {
         return Ok(Taken::Nothing);
     };
-    let text = match reader.fill_buf() {
-        Ok(text) => text,
-        Err(error) => return after_failure(error.kind()),
-    };
+    if let Err(error) = reader.fill() {
+        return match error {
+            BufferedError::Memory => Err(RunError::Memory),
+            BufferedError::Failed(_) => Ok(Taken::Failed),
+        };
+    }
+    let text = reader.buffer();
     if text.is_empty() {
         return Ok(Taken::End);
     }
@@ -75,16 +81,4 @@ pub fn take_batch<R: BufRead, W: Write>(
     send(&room[..batch.written], output)?;
     reader.consume(batch.read);
     Ok(Taken::Lines(batch.line_count))
-}
-
-// What a read that failed comes to. One that was interrupted is tried again with the next line.
-fn after_failure(kind: ErrorKind) -> Result<Taken, RunError>
-    ensures unread { IfOk result IsUnread }
-    ensures error { IfErr result IsFailure }
-{
-    match kind {
-        ErrorKind::OutOfMemory => Err(RunError::Memory),
-        ErrorKind::Interrupted => Ok(Taken::Nothing),
-        _ => Ok(Taken::Failed),
-    }
 }

@@ -5,7 +5,7 @@ use Rattle.timefd_write.proofs.field.send_doubled.Given as goal
 -- The bytes that were taken are written.
 abbrev pub invariant-bytes : goal.invariant-bytes
 invariant-bytes g l =
-    Completes l.fn.text l.rest (g.W.Write.contents l.fn.output) (g.W.Write.contents l.output)
+    Completes l.fn.text l.rest (g.W.Sink.contents l.fn.output) (g.W.Sink.contents l.output)
 
 abbrev pub decreases-bytes : goal.decreases-bytes
 decreases-bytes g l = length l.rest

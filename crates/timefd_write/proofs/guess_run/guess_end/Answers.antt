@@ -4,6 +4,6 @@ use Rattle.timefd_write.proofs.guess_run.guess_end.Goals as goal
 
 pub returns-in-Ok : goal.returns-in-Ok
 returns-in-Ok g c =
-    of_read c.args.words.now (g.I.Read.remaining c.args.input.now) (g.W.Write.contents c.args.output.now)
-    (g.W.Write.contents c.lines_end.new.output) c.lines_end.result c.in-Ok.lines.items c.deref.result.now
+    of_read c.args.words.now (g.I.BufferedSource.remaining c.args.input.now) (g.W.Sink.contents c.args.output.now)
+    (g.W.Sink.contents c.lines_end.new.output) c.lines_end.result c.in-Ok.lines.items c.deref.result.now
     (search rules) c.in-Ok.ensures.lines c.deref.ensures.value c.lines_end.ensures

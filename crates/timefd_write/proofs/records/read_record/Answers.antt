@@ -4,20 +4,23 @@ use Rattle.timefd_write.proofs.records.read_record.Goals as goal
 
 pub returns-then-not-is_inside-clause-read : goal.returns-then-not-is_inside-clause-read
 returns-then-not-is_inside-clause-read g c =
-    row_done (g.R.Read.remaining c.args.reader.now) (g.R.Read.remaining c.lines.reader)
-    (g.R.Read.remaining c.read_more.new.reader) c.lines.row.items c.read_more.new.bytes.items _
-    c.lines.quoting c.after_all-quoting.result c.in_ok-read_more.field-0 c.lines.count c.lines.invariant
+    row_done (g.R.BufferedSource.remaining c.args.reader.now) (g.R.BufferedSource.remaining c.lines.reader)
+    (g.R.BufferedSource.remaining c.read_more.new.reader) c.lines.row.items c.read_more.new.bytes.items _
+    c.lines.quoting c.after_all-quoting.result c.in_ok-read_more.field-0 c.lines.count c.lines.invariant.front
     c.in_ok-read_more.ensures.read c.in-Line.is
     (piece_of c.lines.row.items c.read_more.new.bytes.items c.deref.result.now c.len-from.result
     c.deref.ensures.value (search rules))
     c.after_all-quoting.ensures (search rules)
 
 pub lines-preserved : goal.lines-preserved
-lines-preserved g c =
-    line_more (g.R.Read.remaining c.args.reader.now) (g.R.Read.remaining c.lines.reader)
-    (g.R.Read.remaining c.read_more.new.reader) c.lines.row.items c.read_more.new.bytes.items _
-    c.lines.quoting c.after_all-quoting.result c.in_ok-read_more.field-0 c.lines.invariant
-    c.in_ok-read_more.ensures.read c.in-Line.is
-    (piece_of c.lines.row.items c.read_more.new.bytes.items c.deref.result.now c.len-from.result
-    c.deref.ensures.value (search rules))
-    c.after_all-quoting.ensures (search rules)
+lines-preserved g c = record {
+  front =
+      line_more (g.R.BufferedSource.remaining c.args.reader.now) (g.R.BufferedSource.remaining c.lines.reader)
+      (g.R.BufferedSource.remaining c.read_more.new.reader) c.lines.row.items c.read_more.new.bytes.items _
+      c.lines.quoting c.after_all-quoting.result c.in_ok-read_more.field-0 c.lines.invariant.front
+      c.in_ok-read_more.ensures.read c.in-Line.is
+      (piece_of c.lines.row.items c.read_more.new.bytes.items c.deref.result.now c.len-from.result
+      c.deref.ensures.value (search rules))
+      c.after_all-quoting.ensures (search rules);
+  calls = ?;
+}

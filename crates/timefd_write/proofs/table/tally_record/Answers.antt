@@ -5,8 +5,8 @@ use Rattle.timefd_write.proofs.table.tally_record.Goals as goal
 pub returns-in_ok-text_in-in-Some-clause-one : goal.returns-in_ok-text_in-in-Some-clause-one
 returns-in_ok-text_in-in-Some-clause-one g c =
     of_cell_ok c.args.otherwise c.args.source.now c.args.description.now c.args.count c.args.row.now
-    c.as_slice.result.now c.in-Some.cell (g.W.Write.contents c.args.output.now)
-    (g.W.Write.contents c.tally_one.new.output) c.tally_one.result c.requires.closed
+    c.as_slice.result.now c.in-Some.cell (g.W.Sink.contents c.args.output.now)
+    (g.W.Sink.contents c.tally_one.new.output) c.tally_one.result c.requires.closed
     (has_some c.args.row.now c.without_newline.result.now c.is_empty.result c.is_empty.ensures
     c.if-is_empty.false c.without_newline.ensures)
     c.in-Some.ensures.some (c.as_slice.ensures.value ∙ c.in_ok-text_in-in-Some.ensures)
