@@ -31,6 +31,7 @@ mod message;
 mod moment;
 mod names;
 mod nearest;
+mod next_record;
 mod otherwise;
 mod outcome;
 mod partial;

@@ -77,8 +77,8 @@ pub fn take_batch<R: BufRead, W: Write>(
     Ok(Taken::Lines(batch.line_count))
 }
 
-// What a read that failed comes to. One that was interrupted is tried again with the next line.
-fn after_failure(kind: ErrorKind) -> Result<Taken, RunError>
+/// What a read that failed comes to. One that was interrupted is tried again with the next line.
+pub fn after_failure(kind: ErrorKind) -> Result<Taken, RunError>
     ensures unread { IfOk result IsUnread }
     ensures error { IfErr result IsFailure }
 {
