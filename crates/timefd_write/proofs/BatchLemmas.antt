@@ -53,7 +53,7 @@ moment_appended source o line old new at m None is put = put
 moment_appended source o line old new at m (Some end) is put =
     let h = appended_text (with_newline (written_of m o)) old new at end put in (h.0, (m, is, h.1), h.2)
 
-end_inside : (text old new : Text) (at end : ℕ) → at ≤ length old → IsAppended text old at new end → end ≤ length new
+pub end_inside : (text old new : Text) (at end : ℕ) → at ≤ length old → IsAppended text old at new end → end ≤ length new
 end_inside text old new at end room put =
     omega (arith, put.ends, ap length put.front, length-take end new, length-append (take at old) text, length-take at old, room)
 
@@ -96,7 +96,7 @@ same_batch source o text old new batch is same = (
   omega (arith, is.3, same.same),
 )
 
-read_more : (text rest : Text) (at len : ℕ) → at ≤ length text → rest ≡ drop at text
+pub read_more : (text rest : Text) (at len : ℕ) → at ≤ length text → rest ≡ drop at text
     → take (at + len) text ≡ take at text ++ take len rest
 read_more text rest at len inside is =
     ap (take (at + len)) (sym (take-append-drop at text))

@@ -119,11 +119,11 @@ has_first_by q b bs true is more = ([], fields bs, last_of q b bs is)
 has_first_by q b bs false is more =
     (b ∷ more.0, more.1, next_of q b bs is ∙ ap (with_front (b ∷ [])) more.2)
 
-has_first : (q : Quoting) (text : Text) → HasFirst (fields_from q text)
+pub has_first : (q : Quoting) (text : Text) → HasFirst (fields_from q text)
 has_first q [] = ([], [], refl)
 has_first q (b ∷ bs) = has_first_by q b bs (ends_field q b) refl (has_first (after q b) bs)
 
-joined_more : (field : Text) (fs : List Text) → HasFirst fs
+pub joined_more : (field : Text) (fs : List Text) → HasFirst fs
     → joined (field ∷ fs) ≡ field ++ (44 ∷ joined fs)
 joined_more field fs has =
     ap (λ x. joined (field ∷ x)) has.2 ∙ ap (λ x. field ++ (44 ∷ joined x)) (sym has.2)
@@ -144,7 +144,7 @@ joined_by q b bs false is first same =
     ap joined (next_of q b bs is) ∙ ap (λ fs. joined (with_front (b ∷ []) fs)) has.2
     ∙ joined_front b has.0 has.1 ∙ ap (λ fs. b ∷ joined fs) (sym has.2) ∙ ap (λ t. b ∷ t) same
 
-joined_fields : (q : Quoting) (text : Text) → joined (fields_from q text) ≡ text
+pub joined_fields : (q : Quoting) (text : Text) → joined (fields_from q text) ≡ text
 joined_fields q [] = refl
 joined_fields q (b ∷ bs) =
     joined_by q b bs (ends_field q b) refl (joined_fields Start bs) (joined_fields (after q b) bs)
@@ -156,7 +156,7 @@ joined_rest new (Some rest) =
     joined_more new (fields rest.now) (has_first Start rest.now)
     ∙ ap (λ t. new ++ (44 ∷ t)) (joined_fields Start rest.now)
 
-has_first_with : (n : ℕ) (new : Text) (fs : List Text) → HasFirst fs → HasFirst (with_field n new fs)
+pub has_first_with : (n : ℕ) (new : Text) (fs : List Text) → HasFirst fs → HasFirst (with_field n new fs)
 has_first_with zero new fs has = (new, has.1, ap (with_field 0 new) has.2)
 has_first_with (suc n) new fs has = (has.0, with_field n new has.1, ap (with_field (suc n) new) has.2)
 

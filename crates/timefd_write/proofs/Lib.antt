@@ -20,5 +20,11 @@ pub mod ExpectedLemmas
 pub mod MomentLemmas
 pub mod MessageLemmas
 pub mod PlainLemmas
+pub mod PlainRecordLemmas
+pub mod PlainCellLemmas
+pub mod RecordBatchLemmas
+pub mod RecordTakenLemmas
+pub mod SpelledLemmas
+pub mod NameLemmas
 pub mod CompletingLemmas
 pub mod JiffLemmas

@@ -10,13 +10,11 @@ use Rattle.timefd_write.specs.declared.frame.Frame.TheVariants as frames
 use Rattle.timefd_write.specs.declared.otherwise.Otherwise.{Otherwise}
 use Rattle.timefd_write.specs.declared.outcome.RunError.{RunError}
 use Rattle.timefd_write.specs.declared.outcome.Tally.{Tally}
-use Rattle.timefd_write.specs.declared.records.RecordRead.{RecordRead}
-use Rattle.timefd_write.specs.declared.records.RecordRead.TheVariants as reads
 use Rattle.timefd_write.specs.declared.source.Source.{Source}
 use Rattle.timefd_write.specs.Fields.{IsCell, text_of}
-use Rattle.timefd_write.specs.Records.{AreRecordsOf, IsNextRecord, IsRecordRead, is_open}
-use Rattle.timefd_write.specs.Tables.{IsRecord, ReplacesRecord, RunsRecordsOn, RunsRecordsOver}
-use Rattle.timefd_write.specs.Tallies.{at_end, both, refused}
+use Rattle.timefd_write.specs.Records.{AreRecordsOf, IsNextRecord, is_open}
+use Rattle.timefd_write.specs.Tables.{IsRecord, RunsRecordsOn, RunsRecordsOver}
+use Rattle.timefd_write.specs.Tallies.{at_end, both}
 use Rattle.timefd_write.specs.Written.{IsTallyOf}
 use Rattle.timefd_write.proofs.RunLemmas.{both_assoc, none_more}
 
@@ -60,18 +58,6 @@ record_more otherwise source o n bytes left rest row before between next tally o
       (one, next, more, is, runs.2, refl),
     ))
 
--- The rest of an input whose quotes aren't closed.
-pub open_more : (otherwise : Otherwise) (source : Source) (o : BorrowedOutput) (n : ℕ)
-    (bytes left rest : Option Text) (row : Text) (before between next : Option Text)
-    (tally one sum : Tally) → Completes otherwise source o n bytes left before between tally
-    → IsNextRecord left row rest → is_open row ≡ true
-    → ReplacesRecord otherwise row between next → one ≡ refused
-    → sum ≡ both tally one → Completes otherwise source o n bytes rest before next sum
-open_more otherwise source o n bytes left rest row before between next tally one sum so_far read wide
-    replaced is is_sum =
-    record_more otherwise source o n bytes left rest row before between next tally one sum so_far read
-    (rw wide (replaced, is)) is_sum
-
 no_record_left : (left : Option Text) → IsAtEnd left → AreRecordsOf left [] false
 no_record_left None end = tt
 no_record_left (Some xs) end = end
@@ -102,41 +88,6 @@ records_fail otherwise source o n bytes left before after tally failing sum so_f
       (sym (is_sum ∙ ap (λ t. both tally t) is))
       (so_far true after (at_end true) ([], no_record_read left, (refl, refl))),
 )
-
--- A record that was read.
-pub row_more : (otherwise : Otherwise) (source : Source) (o : BorrowedOutput) (n lines : ℕ)
-    (bytes left rest : Option Text) (row : Text) (r : RecordRead) (before between next : Option Text)
-    (tally one sum : Tally) → Completes otherwise source o n bytes left before between tally
-    → IsRecordRead left rest row r → r ≡ reads.Record lines
-    → IsRecord otherwise source o n row between next one → sum ≡ both tally one
-    → Completes otherwise source o n bytes rest before next sum
-row_more otherwise source o n lines bytes left rest row r before between next tally one sum so_far read is
-    done is_sum =
-    let at : IsRecordRead left rest row (reads.Record lines) =
-    subst (IsRecordRead left rest row) is read in
-    record_more otherwise source o n bytes left rest row before between next tally one sum so_far at.0
-    done is_sum
-
--- The rest of an input whose quotes aren't closed.
-pub row_open : (otherwise : Otherwise) (source : Source) (o : BorrowedOutput) (n : ℕ)
-    (bytes left rest : Option Text) (row : Text) (r : RecordRead) (before between next : Option Text)
-    (tally one sum : Tally) → Completes otherwise source o n bytes left before between tally
-    → IsRecordRead left rest row r → r ≡ reads.Open
-    → ReplacesRecord otherwise row between next → one ≡ refused → sum ≡ both tally one
-    → Completes otherwise source o n bytes rest before next sum
-row_open otherwise source o n bytes left rest row r before between next tally one sum so_far read is
-    replaced one_is is_sum =
-    let at : IsRecordRead left rest row reads.Open = subst (IsRecordRead left rest row) is read in
-    open_more otherwise source o n bytes left rest row before between next tally one sum so_far at.0 at.1
-    replaced one_is is_sum
-
-pub rows_end : (otherwise : Otherwise) (source : Source) (o : BorrowedOutput) (n : ℕ)
-    (bytes left rest before after : Option Text) (row : Text) (r : RecordRead) (tally : Tally)
-    → Completes otherwise source o n bytes left before after tally → IsRecordRead left rest row r
-    → r ≡ reads.End → RunsRecordsOver otherwise source o n bytes before after tally
-rows_end otherwise source o n bytes left rest before after row r tally so_far read is =
-    records_end otherwise source o n bytes left before after tally so_far
-    (subst (IsRecordRead left rest row) is read)
 
 -- What the field of a record becomes.
 pub of_cell : (otherwise : Otherwise) (source : Source) (o : BorrowedOutput) (n : ℕ) (row text : Text)

@@ -52,13 +52,13 @@ next_line (Some x) (Some y) line whole consumed =
 
 -- What is between two parts that are consumed, or appended.
 
-between_consumed : (old new : Option Text) (a b : Text) → Consumes old new (a ++ b)
+pub between_consumed : (old new : Option Text) (a b : Text) → Consumes old new (a ++ b)
     → (mid : Option Text) × Consumes old mid a × Consumes mid new b
 between_consumed None new a b all = (None, tt, tt)
 between_consumed (Some x) None a b all = absurd all
 between_consumed (Some x) (Some y) a b all = (Some (b ++ y), all ∙ append_assoc a b y, refl)
 
-between_appended : (old new : Option Text) (a b : Text) → Appends old new (a ++ b)
+pub between_appended : (old new : Option Text) (a b : Text) → Appends old new (a ++ b)
     → (mid : Option Text) × Appends old mid a × Appends mid new b
 between_appended None new a b all = (None, tt, tt)
 between_appended (Some x) None a b all = absurd all

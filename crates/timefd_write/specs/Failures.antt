@@ -8,6 +8,8 @@ use Rattle.timefd_write.specs.declared.lines.LineRead.{LineRead}
 use Rattle.timefd_write.specs.declared.lines.LineRead.TheVariants as reads
 use Rattle.timefd_write.specs.declared.lines.Next.{Next}
 use Rattle.timefd_write.specs.declared.lines.Next.TheVariants as nexts
+use Rattle.timefd_write.specs.declared.next_record.NextRecords.{NextRecords}
+use Rattle.timefd_write.specs.declared.next_record.NextRecords.TheVariants as nextrecords
 use Rattle.timefd_write.specs.declared.outcome.Tally.{Tally}
 use Rattle.timefd_write.specs.declared.records.RecordRead.{RecordRead}
 use Rattle.timefd_write.specs.declared.records.RecordRead.TheVariants as records
@@ -39,6 +41,13 @@ IsSourceAfterRecord old new failed (records.Record n) = new < old
 IsSourceAfterRecord old new failed records.Open = new < old
 IsSourceAfterRecord old new failed records.End = ⊤
 IsSourceAfterRecord old new failed records.Failed = IsTrue failed
+
+-- The same of the next records.
+abbrev pub IsSourceAfterRecords : ℕ → ℕ → Bool → NextRecords → Type 0
+IsSourceAfterRecords old new failed (nextrecords.Batch n) = new < old
+IsSourceAfterRecords old new failed (nextrecords.Record tally lines) = (new < old) × (tally.has_failed ≡ false)
+IsSourceAfterRecords old new failed nextrecords.End = ⊤
+IsSourceAfterRecords old new failed nextrecords.Failed = IsTrue failed
 
 -- The input counts as unread only if it has failed.
 abbrev pub IsUnreadOnlyIf : Bool → Tally → Type 0

@@ -6,6 +6,7 @@ pub mod Zones
 pub mod KnownZones
 pub mod Brackets
 pub mod Moments
+pub mod Spelled
 pub mod Absent
 pub mod ReadBack
 pub mod Sources
@@ -20,6 +21,8 @@ pub mod Records
 pub mod Written
 pub mod Batches
 pub mod Tables
+pub mod PlainCells
+pub mod RecordBatches
 pub mod Warned
 pub mod Runs
 pub mod Converted

@@ -98,9 +98,9 @@ fn send_text<W: Sink>(field: &[u8], text: &[u8], output: &mut W) -> Result<(), R
     }
 }
 
-// Whether a byte of the text makes quotes necessary.
+/// Whether a byte of the text makes quotes necessary.
 #[tactic(auto, using(crate::proofs::FieldLemmas::nothing))]
-fn any_wants_quotes(text: &[u8]) -> bool
+pub fn any_wants_quotes(text: &[u8]) -> bool
     ensures { result ≡ list_any spec.wants_quotes text.now }
 {
     let mut rest = text;

@@ -30,6 +30,7 @@ mod lines;
 mod message;
 mod moment;
 mod names;
+mod next_record;
 mod otherwise;
 mod outcome;
 mod partial;

@@ -11,11 +11,13 @@ ghost use Rattle.timefd_write.specs.Tables.{IsNamedTable, IsRecord, IsTable, Rep
 
 use crate::column::Column;
 use crate::entry::tally_one;
+use crate::fast::take::batch_room;
 use crate::fields::{cell_after, text_in};
 use crate::frame::{Entry, Frame, send};
 use crate::header::named_in;
 use crate::lines::line_room;
 use crate::message::{no_field_message, no_header_message, open_message, unnamed_message};
+use crate::next_record::{NextRecords, write_next_records};
 use crate::otherwise::Otherwise;
 use crate::outcome::{RunError, Tally};
 use crate::read_back::leaves_of;
@@ -135,7 +137,7 @@ fn write_named<R: BufferedSource, W: Sink, E: Sink>(
 }
 
 // Writes the records from a line on. The field to replace is the one after `count` others.
-#[tactic(auto, using(crate::proofs::TableLemmas::starts, crate::proofs::TableLemmas::row_more, crate::proofs::TableLemmas::row_open, crate::proofs::TableLemmas::rows_end, crate::proofs::TableLemmas::records_fail, crate::proofs::RunLemmas::both_read))]
+#[tactic(auto, using(crate::proofs::TableLemmas::starts, crate::proofs::TableLemmas::records_fail, crate::proofs::RecordTakenLemmas::batch_more, crate::proofs::RecordTakenLemmas::next_more, crate::proofs::RecordTakenLemmas::next_ends, crate::proofs::RecordTakenLemmas::next_fails))]
 fn write_records<R: BufferedSource, W: Sink, E: Sink>(
     alloc: Global,
     source: &Source<'_>,
@@ -161,40 +163,40 @@ fn write_records<R: BufferedSource, W: Sink, E: Sink>(
     let mut row = Vec::new(alloc);
     let mut text = Vec::new(alloc);
     let mut room = line_room(alloc, description)?;
+    let mut space = batch_room(alloc)?;
     'records: loop {
-        match read_record(reader, &mut row)? {
-            RecordRead::Record(lines) => {
-                let one = tally_record(
-                    alloc,
-                    source,
-                    source_leaves,
-                    description,
-                    leaves,
-                    otherwise,
-                    count,
-                    line,
-                    &row,
-                    &mut text,
-                    &mut room,
-                    output,
-                    errors,
-                )?;
+        match write_next_records(
+            alloc,
+            source,
+            source_leaves,
+            description,
+            leaves,
+            otherwise,
+            count,
+            line,
+            &mut row,
+            &mut text,
+            &mut room,
+            &mut space,
+            reader,
+            output,
+            errors,
+        )? {
+            NextRecords::Batch(record_count) => line = line.saturating_add(record_count as u64),
+            NextRecords::Record(one, lines) => {
                 tally = tally.and(one);
                 line = line.saturating_add(lines);
             }
-            RecordRead::Open => {
-                let one = tally_open(alloc, otherwise, line, &row, output, errors)?;
-                tally = tally.and(one);
-            }
-            RecordRead::End => return Ok(tally),
-            RecordRead::Failed => return Ok(tally.and(Tally::at_end(true))),
+            NextRecords::End => return Ok(tally),
+            NextRecords::Failed => return Ok(tally.and(Tally::at_end(true))),
         }
     }
 }
 
-// Writes a record, and returns what it adds to the tally.
+/// Writes a record, and returns what it adds to the tally. `row` is the record with its newline, `text` is room for
+/// the text of its field.
 #[tactic(auto, using(crate::proofs::TableLemmas::of_cell))]
-fn tally_record<W: Sink, E: Sink>(
+pub fn tally_record<W: Sink, E: Sink>(
     alloc: Global,
     source: &Source<'_>,
     source_leaves: Option<&[Leaf<'_>]>,
@@ -250,8 +252,8 @@ fn tally_record<W: Sink, E: Sink>(
     }
 }
 
-// Writes the rest of an input whose quotes aren't closed, and returns what it adds to the tally.
-fn tally_open<W: Sink, E: Sink>(
+/// Writes the rest of an input whose quotes aren't closed, and returns what it adds to the tally.
+pub fn tally_open<W: Sink, E: Sink>(
     alloc: Global,
     otherwise: Otherwise,
     line: u64,

@@ -1,8 +1,11 @@
 //! The moment of a line, where it is found without a message.
 
 ghost use Rattle.std.specs.Prelude.{IfSome, Ok, Some};
+ghost use Rattle.timefd_write.specs.Moments.{IsNamed};
 ghost use Rattle.timefd_write.specs.Sources.{AreLeavesIn, IsFoundIn, IsMomentIn};
 
+use crate::fast::spelled::moment_spelled;
+use crate::names::Names;
 use crate::read_back::moment_shown;
 use crate::source::{Source, SourceKind, moment_in};
 use std::str;
@@ -27,8 +30,8 @@ pub fn moment_found(
     moment_of_text(source, source_leaves, description, line)
 }
 
-// The moment of a text that shows only numbers, where no time zone changes it. This needs no check that the
-// text is UTF-8.
+// The moment of a text that shows only numbers, or of a usual name, where no time zone changes it. This needs no
+// check that the text is UTF-8.
 #[inline(always)]
 fn moment_by_numbers(
     source: &Source<'_>,
@@ -57,12 +60,24 @@ fn moment_shown_by(
     ensures { IfSome result (λ moment. IsFoundIn source.now (Some description.now) line.now (Ok moment)) }
 {
     match &source.kind {
-        SourceKind::Names(_) => None,
+        SourceKind::Names(names) => moment_named_at_once(names, line),
         SourceKind::Texts(read) => {
             let moment = moment_shown(read, source_leaves, line)?;
             Some(moment)
         }
     }
+}
+
+// The moment that a usual name spells. No bracket closes it, so it names no time zone.
+#[inline(always)]
+#[tactic(auto, using(crate::proofs::NameLemmas::named))]
+fn moment_named_at_once(names: &Names<'_>, name: &[u8]) -> Option<Moment>
+    ensures { IfSome result (λ moment. IsNamed names.now name.now (Ok moment)) }
+{
+    if name.ends_with(b"]") {
+        return None;
+    }
+    moment_spelled(name)
 }
 
 #[inline(never)]
