@@ -1,3 +1,4 @@
 pub mod Streams
+pub mod Buffered
 pub mod Transfers
 pub mod Words

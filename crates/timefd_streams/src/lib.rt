@@ -3,13 +3,16 @@
 //! readers and writers is proved with the same contracts.
 #![tactic(auto)]
 
+mod buffered;
 mod color;
+mod condition;
 mod failed;
 mod sink;
 mod source;
 pub mod transfer;
 mod words;
 
+pub use buffered::{BufferedError, BufferedSource, FromBufReader};
 pub use color::shows_colors;
 pub use failed::Failed;
 pub use sink::{Sink, ToWriter};

@@ -28,6 +28,13 @@ pub trait Sink {
         ensures fails { IsErr result ↔ IsTrue (has_failed self.new) }
         ensures stays { IsTrue (has_failed self.old) → IsTrue (has_failed self.new) };
 
+    /// Writes all bytes of the buffer, without passing them on.
+    fn put_all(&mut self, buf: &[u8]) -> Result<(), Failed>
+        ensures bytes { OnOk result (Appends (contents self.old) (contents self.new) buf.now) }
+        ensures unflushed { OnOk result (0 < length buf.now → IsFalse (is_flushed self.new)) }
+        ensures fails { IsErr result ↔ IsTrue (has_failed self.new) }
+        ensures stays { IsTrue (has_failed self.old) → IsTrue (has_failed self.new) };
+
     /// Passes on all that was written.
     fn flush(&mut self) -> Result<(), Failed>
         ensures kept { OnOk result (Keeps (contents self.old) (contents self.new)) }
@@ -64,6 +71,13 @@ impl<W: Write> ToWriter<W> {
             state: State::Unflushed,
         }
     }
+
+    /// The writer, with all that was written to the sink.
+    pub fn into_inner(self) -> W
+        ensures { W.contents result ≡ ⟦<ToWriter<W> as Sink>⟧.contents self }
+    {
+        self.inner
+    }
 }
 
 impl<W: Write> Sink for ToWriter<W> {
@@ -85,6 +99,22 @@ impl<W: Write> Sink for ToWriter<W> {
                 Ok(n)
             }
             Ok(_) | Err(_) => {
+                self.state = State::Failed;
+                Err(Failed)
+            }
+        }
+    }
+
+    fn put_all(&mut self, buf: &[u8]) -> Result<(), Failed> {
+        if self.state == State::Failed {
+            return Err(Failed);
+        }
+        match self.inner.write_all(buf) {
+            Ok(()) => {
+                self.state = State::Unflushed;
+                Ok(())
+            }
+            Err(_) => {
                 self.state = State::Failed;
                 Err(Failed)
             }
