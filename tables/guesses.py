@@ -6,7 +6,7 @@ import dialect_tables
 import dialects
 
 FILE = pathlib.Path(__file__).resolve().parent / "guesses.toml"
-CRATE = "crates/timefd_guess"
+CRATE = "crates/timefd_description"
 
 
 def groups():
@@ -54,14 +54,14 @@ def code():
     listed = "".join(f"        Group::{variant(it)},\n" for it in groups())
     arms = "".join(f"            Group::{variant(it)} => {definition(it)}_rows(),\n" for it in groups())
     functions = "".join(
-        f"\n#[tactic(auto, unfolding(crate::specs::Candidates::{definition(it)}_entries))]\n"
+        f"\n#[tactic(auto, unfolding(crate::specs::Guessing::Candidates::{definition(it)}_entries))]\n"
         f"fn {definition(it)}_rows() -> &'static [Candidate]\n    ensures {{ spec.entries result.now ≡ spec.{definition(it)}_entries }}\n"
         f"{{\n    {definition(it).upper()}\n}}\n" for it in groups())
     constants = "".join(f"\nconst {definition(it).upper()}: &[Candidate] = &[\n" + "\n".join(code_row(row) for row in it["candidate"]) + "\n];\n"
                         for it in groups())
     return ("//! Descriptions that dates and times are often written by, likeliest first. `tables/write` writes them.\n\n"
-            "ghost use Rattle.std.specs.Prelude.{◌≡◌};\nghost use Rattle.timefd_guess.specs.Candidates as spec;\n\n"
-            "use crate::candidate::{Candidate, candidate};\n\n"
+            "ghost use Rattle.std.specs.Prelude.{◌≡◌};\nghost use Rattle.timefd_description.specs.Guessing.Candidates as spec;\n\n"
+            "use crate::guessing::candidate::{Candidate, candidate};\n\n"
             f"/// Where descriptions come from.\n#[derive(Clone, Copy)]\npub enum Group {{\n{variants}}}\n\n"
             "/// The groups, likeliest first.\npub fn all_groups() -> &'static [Group]\n    ensures { result.now ≡ spec.all_groups }\n"
             f"{{\n    &[\n{listed}    ]\n}}\n\n"
@@ -85,9 +85,9 @@ def specification():
             "use Rattle.std.specs.Prelude.{codes, List, [], ◌∷◌, ◌++◌, Option, Some, None}\n"
             "use denote.Ref.{Bor}\n"
             "use Rattle.timefd_component.specs.Tree.{Text}\n"
-            "use Rattle.timefd_guess.specs.declared.candidate.Candidate.{Candidate}\n"
-            "use Rattle.timefd_guess.specs.declared.candidates.Group.{Group}\n"
-            f"use Rattle.timefd_guess.specs.declared.candidates.Group.TheVariants.{{{', '.join(map(variant, groups()))}}}\n\n"
+            "use Rattle.timefd_description.specs.declared.guessing.candidate.Candidate.{Candidate}\n"
+            "use Rattle.timefd_description.specs.declared.guessing.candidates.Group.{Group}\n"
+            f"use Rattle.timefd_description.specs.declared.guessing.candidates.Group.TheVariants.{{{', '.join(map(variant, groups()))}}}\n\n"
             "-- a description, and the same one with day and month swapped\n"
             "pub record Entry : Type 0 where\n  pub text : Text\n  pub swapped : Option Text\n\n"
             "abbrev pub alone : Text → Entry\nalone text = record { text = text; swapped = None }\n\n"
@@ -110,4 +110,4 @@ def specification():
 
 def files():
     """Each file that is written whole, with its text."""
-    return {f"{CRATE}/src/candidates.rt": code(), f"{CRATE}/specs/Candidates.antt": specification()}
+    return {f"{CRATE}/src/guessing/candidates.rt": code(), f"{CRATE}/specs/Guessing/Candidates.antt": specification()}

@@ -45,13 +45,13 @@ def types(file, after, before, rows):
 
 TABLES = [
     *(imported(file, ALL) for file in (
-        "component/specs/ComponentEquality", "words/specs/Words", "language/proofs/ShortWords",
+        "component/specs/ComponentEquality", "component/specs/Bracket/Words", "language/proofs/ShortWords",
         "c_nodes/proofs/ComponentLemmas", "lift/proofs/ComponentHeads",
     )),
     *(imported(file, MODERN) for file in ("c_nodes/specs/Encoding", "c_nodes/specs/Decoding")),
     *(imported(file, TEXTS) for file in (
-        "component/specs/Reserved", "component/specs/Texts", "format/specs/Fields", "read_dates/specs/Rules",
-        "settled/specs/Bounds", "settled/specs/Settled", "warnings/specs/Fields", "warnings/specs/Widths",
+        "component/specs/Reserved", "component/specs/Texts", "format/specs/Fields", "moment/specs/Fields/Rules",
+        "warnings/specs/Settling/Bounds", "warnings/specs/Settling/Settled", "warnings/specs/Fields", "warnings/specs/Widths",
     )),
     *(imported(file, TEXTS + DEPRECATED) for file in ("format/proofs/TextLemmas", "format/proofs/Utf8Lemmas")),
     imported("component/proofs/Greatest", [it for it in TEXTS if it.shows != "Nothing"]),

@@ -93,7 +93,7 @@ COMPONENT = "crates/timefd_component/specs"
 C_NODES = "crates/timefd_c_nodes/specs"
 FORMAT = "crates/timefd_format/specs"
 NAMES_FILE = "crates/timefd_language/specs/Names.antt"
-WORDS = "crates/timefd_words/specs/Words.antt"
+WORDS = "crates/timefd_component/specs/Bracket/Words.antt"
 
 TABLES = [
     Table(

@@ -13,7 +13,7 @@ import sys
 HERE = pathlib.Path(__file__).resolve().parent
 TOP = HERE.parent.parent
 PEOPLE = set(
-    "timefd lint write c web parse items description format moment jiff read_dates read_moment convert print lift laws uses dialect guess".split()
+    "timefd lint write c web parse items description format moment convert lift laws uses dialect".split()
 )
 PREFIX, WIDE, ROW, HIGH, GAP, CHAR, PAD = "timefd_", 800, 62, 26, 16, 8, 20
 STYLE = (

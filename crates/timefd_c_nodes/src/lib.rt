@@ -3,16 +3,22 @@
 #![tactic(auto)]
 
 mod component;
-pub mod dates;
 mod fields;
-pub mod formatting;
 mod items;
 pub mod laws;
 mod node;
 mod part;
 mod position;
-pub mod reading;
 mod view;
+
+// Dates of short numbers, read by nodes at once.
+pub mod dates;
+
+// Moments written by nodes, and what dates are read by of them.
+pub mod formatting;
+
+// Texts of each language read as nodes.
+pub mod reading;
 
 pub use component::component_node;
 pub use items::write_compound;

@@ -2,11 +2,13 @@
 //! description means, as a tree of components and literals. Users take them from `timefd_items`.
 #![tactic(auto)]
 
-pub mod bracket;
 mod component;
 pub mod debug;
 pub mod laws;
 mod modern;
 pub mod reserved;
+
+// What stands in the brackets of a component.
+pub mod bracket;
 
 pub use component::Component;

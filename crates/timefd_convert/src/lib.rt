@@ -7,8 +7,10 @@ mod from_one;
 mod item;
 pub mod laws;
 mod normal;
-pub mod printing;
 mod strftime;
+
+// The normal form of a description of version 3.
+pub mod printing;
 
 pub use conversion::{Conversion, conversion_between};
 pub use converting::{ConvertError, convert, convert_by, convert_by_borrowed};

@@ -11,10 +11,12 @@ mod version;
 // A moment written, and a text read, by the text of a description.
 mod format_error;
 mod formatting;
-pub mod guessing;
 mod read_error;
 mod reading;
 mod sentence;
+
+// Which descriptions given texts of dates may have been written by.
+pub mod guessing;
 
 pub use description::Description;
 pub use format_error::FormatTextError;

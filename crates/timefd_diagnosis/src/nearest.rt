@@ -14,9 +14,9 @@ use strsim::damerau_levenshtein;
 // The nearest word so far, and how many edits away it is; one more than the edits of a near word if
 // there is none yet.
 #[derive(Clone, Copy)]
-struct Best {
+struct Best<'a> {
     edits: usize,
-    found: Option<&'static str>,
+    found: Option<&'a str>,
 }
 
 // How many edits away a word still counts as near, by its number of characters: a third of them,
@@ -31,11 +31,11 @@ fn reach_of(count: usize) -> usize
 /// several such. An edit puts in, takes away or replaces a character, or swaps two neighbours.
 /// `None` if each takes more edits than a third of this word's characters, and more than one, or if
 /// this word has fewer than two characters. An `Err` says that memory ran out.
-pub fn nearest(
+pub fn nearest<'a>(
     alloc: Global,
-    words: &'static [&'static str],
+    words: &[&'a str],
     word: &str,
-) -> Result<Option<&'static str>, AllocError>
+) -> Result<Option<&'a str>, AllocError>
     ensures { IfOk result (λ found.
         IsNearest (texts words.now) word.now (option_map (λ w. w.now) found)) }
 {
@@ -44,11 +44,7 @@ pub fn nearest(
 }
 
 // The best of all words, looked at in order.
-fn best_of_all(
-    alloc: Global,
-    words: &'static [&'static str],
-    word: &str,
-) -> Result<Best, AllocError>
+fn best_of_all<'a>(alloc: Global, words: &[&'a str], word: &str) -> Result<Best<'a>, AllocError>
     ensures { IfOk result (λ best. IsSoFar (texts words.now) word.now best.edits best.found) }
 {
     let count = char_count(word);
@@ -64,15 +60,15 @@ fn best_of_all(
 
 // The best so far, or one more word if it is better. Words that are longer or shorter by more
 // characters than the best has edits, or that lack as many, aren't compared.
-fn next_best(
+fn next_best<'a>(
     alloc: Global,
     word: &str,
     count: usize,
-    best: Best,
-    candidate: &'static str,
-) -> Result<Best, AllocError>
+    best: Best<'a>,
+    candidate: &'a str,
+) -> Result<Best<'a>, AllocError>
     requires { count ≡ length (chars word.now) }
-    ensures { IfOk result (IsNext word.now best candidate.entry) }
+    ensures { IfOk result (IsNext word.now best.entry candidate.entry) }
 {
     if best.edits <= 2 {
         return Ok(next_few(word, best, candidate));
@@ -95,9 +91,9 @@ fn next_best(
 }
 
 // The result of `next_best` if the best is at most two edits away, which takes no memory.
-fn next_few(word: &str, best: Best, candidate: &'static str) -> Best
+fn next_few<'a>(word: &str, best: Best<'a>, candidate: &'a str) -> Best<'a>
     requires { best.edits ≤ 2 }
-    ensures { IsNext word.now best candidate.entry result }
+    ensures { IsNext word.now best.entry candidate.entry result }
 {
     let few = few_edits(word, candidate);
     if few < best.edits {

@@ -10,15 +10,18 @@ pub mod help_text;
 mod human;
 pub mod json;
 pub mod laws;
-mod lines;
+pub mod lines;
 pub mod people;
 mod position;
 mod rows;
 pub mod sarif;
 mod sentence;
 pub mod shown;
+pub mod source_line;
 
 pub use counter::{Counter, counted, none_counted};
 pub use draw::{Format, Style, drawn, drawn_all, drawn_all_from, note};
-pub use position::{Origin, Position, char_position_from, position_from, position_of};
+pub use position::{
+    Line, Origin, Position, char_position_from, line_of, position_from, position_of,
+};
 pub use sentence::reported_sentence;

@@ -150,8 +150,8 @@ pub fn push_caret_line(
     )
 }
 
-// The line with the help.
-fn push_help_line(
+/// The line with the help.
+pub fn push_help_line(
     out: &mut String,
     is_colored: bool,
     margin: &str,

@@ -1,7 +1,7 @@
 //! The languages of format descriptions: what a text of each version, or of strftime, spells, and
 //! which fault any other text has. The laws of both are here too, and the tables of names, keys and
-//! values with the code that looks them up. The readers are built on this crate, in `timefd_parse`
-//! and `timefd_strftime`; users take what they need from `timefd_parse`.
+//! values with the code that looks them up, and the parser of strftime. That of the versions is in
+//! `timefd_parse`, from which users take what they need.
 #![tactic(auto)]
 
 pub mod combination;
@@ -13,8 +13,10 @@ pub mod name;
 pub mod same;
 pub mod search;
 pub mod setting;
-pub mod strftime;
 pub mod text;
 pub mod value;
+
+// The parser of strftime.
+pub mod strftime;
 
 pub use description_version::DescriptionVersion;

@@ -11,5 +11,7 @@ pub mod examples;
 pub mod modifiers;
 pub mod names;
 pub mod nests;
-pub mod reading;
 pub mod words;
+
+// What is written is read back, and which fault a text has that isn't read.
+pub mod reading;

@@ -3,6 +3,7 @@
 //! the options and the names of the faults.
 #![tactic(auto)]
 
+mod all_codes;
 mod arguments;
 mod by_hand;
 mod color;

@@ -19,7 +19,7 @@ pub fn push_other_rules(out: &mut Vec<u8>) -> Result<(), AllocError>
 }
 
 /// The traps without the one whose code a warning has too.
-fn own_traps() -> &'static [Trap]
+pub fn own_traps() -> &'static [Trap]
     ensures { result.now ≡ spec.own_traps }
 {
     &[

@@ -2,7 +2,6 @@
 #![tactic(auto)]
 
 mod asked;
-pub mod config;
 mod conflict;
 mod error;
 mod flags;
@@ -15,6 +14,9 @@ mod valued;
 mod values;
 mod word;
 mod wording;
+
+// The settings of a project, in `.timefd.toml`.
+pub mod config;
 
 pub use asked::{Asked, Options, options_of};
 pub use conflict::{is_log, lines_conflict};

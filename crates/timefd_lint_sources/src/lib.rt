@@ -12,8 +12,10 @@ mod opening;
 mod position;
 mod remark;
 mod reported;
-pub mod rewriting;
 mod source;
+
+// Sources with mended or converted descriptions.
+pub mod rewriting;
 
 pub use further::further_of;
 pub use judged::holds_item;

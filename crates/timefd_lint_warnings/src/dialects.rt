@@ -2,11 +2,9 @@
 //! each in every form.
 
 mod codes;
-mod cut;
 mod finding;
 mod human;
 mod judging;
-mod lines;
 
 pub use codes::{all_reasons, all_traps, names_are_read, reason_named, trap_named};
 pub use finding::{Finding, drawn};

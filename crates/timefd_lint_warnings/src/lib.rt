@@ -1,10 +1,13 @@
-//! What the linter reports about accepted texts: their warnings, and a message for each warning.
+//! What the linter reports about accepted texts: their warnings, and a message for each warning; and about
+//! formats of other languages.
 #![tactic(auto)]
 
-pub mod dialects;
 mod found;
 mod message;
 mod reported;
+
+// What is reported of formats of other languages.
+pub mod dialects;
 
 pub use found::{found_by, found_in};
 pub use message::{head, position};

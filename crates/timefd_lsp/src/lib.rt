@@ -6,7 +6,6 @@ mod answering;
 mod changes;
 mod content;
 mod documents;
-pub mod editor;
 mod envelope;
 mod frame;
 mod head;
@@ -20,6 +19,9 @@ mod session;
 mod shown;
 mod text;
 mod wanted;
+
+// What an editor shows: findings, actions, and what hovers.
+pub mod editor;
 
 pub use changes::{Change, after_all, changes_in};
 pub use documents::{Document, Documents, Kind, change, close, kind_of, open};

@@ -1,20 +1,24 @@
 //! Dates, times of day, offsets from UTC, instants, and moments: the parts of a value that are
-//! known.
+//! known. The reader of dates is here too.
 #![tactic(auto)]
 
 mod calendar;
 mod component_range;
 mod date;
 mod display;
-pub mod fields;
 mod from_day;
 pub mod laws;
 mod moment;
 mod offset;
-pub mod reading;
 mod time;
 mod unix_time;
 mod weekday;
+
+// The reader of dates: which fields a text gives, by a description.
+pub mod fields;
+
+// The date, the time and the offset that fields determine.
+pub mod reading;
 
 pub use component_range::ComponentRange;
 pub use date::Date;

@@ -4,7 +4,6 @@
 
 mod debug;
 pub mod in_turn;
-pub mod item;
 pub mod leaves;
 pub mod members;
 pub mod node;
@@ -12,6 +11,9 @@ pub mod node_list;
 pub mod tally;
 pub mod view;
 pub mod walk;
+
+// The items of versions 1 and 2 and of strftime.
+pub mod item;
 
 pub use in_turn::InTurn;
 pub use leaves::{Leaf, Leaves};

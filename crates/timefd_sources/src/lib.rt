@@ -1,4 +1,4 @@
-//! String literals in Rust sources, and the format descriptions among them.
+//! String literals in Rust sources, and the format descriptions among them; strings of keys in other files.
 #![tactic(auto)]
 
 mod alias;
@@ -17,7 +17,6 @@ pub mod dialect;
 mod escape;
 mod flow;
 mod frames;
-pub mod keys;
 pub mod known;
 pub mod laws;
 pub mod line;
@@ -40,6 +39,9 @@ mod value;
 pub mod version;
 mod word;
 mod written;
+
+// Strings that are values of keys, in TOML, JSON and YAML.
+pub mod keys;
 
 pub use alike::body_alike;
 pub use chrono::{is_of_chrono, is_of_jiff};

@@ -11,12 +11,14 @@ pub mod laws;
 mod levels;
 mod mark;
 mod parts;
-pub mod settled;
 mod sought;
 mod twice;
 mod warned;
 mod warning;
 mod width;
+
+// Whether what a description writes is read back by it.
+pub mod settled;
 
 pub use elsewhere::{Elsewhere, read_elsewhere};
 pub use levels::{Level, Levels};

@@ -8,7 +8,6 @@ mod exports;
 mod fields;
 mod formats;
 mod guessing;
-pub mod json_laws;
 mod later;
 pub mod laws;
 mod nodes;
@@ -19,6 +18,9 @@ mod refused;
 mod report;
 mod silence;
 mod written;
+
+// What is written as JSON is JSON.
+pub mod json_laws;
 
 pub use answer::{NO_LANGUAGE, NO_MEMORY, NOT_UTF8, OUT_OF_RANGE, REPORTED, ReportAnswer};
 pub use converting::conversion_of;

@@ -1,14 +1,11 @@
 -- The time zones that are read for a run, and what is reported about a name that none of them has.
-use Rattle.std.specs.Prelude.{◌≡◌, ◌⊎◌, ◌<◌, ◌++◌, Bool, true, false, List, chars, codes, Option, Some, None}
-use denote.Ref.{Bor}
+use Rattle.std.specs.Prelude.{◌≡◌, ◌⊎◌, ◌++◌, Bool, true, false, List, codes, Option, Some, None}
 use Rattle.jiff_tz.specs.declared.db.TimeZoneDatabase.{TimeZoneDatabase}
 use Rattle.jiff_tz.specs.declared.timezone.TimeZone.{TimeZone}
 use Rattle.jiff_tz.specs.Database.{IsInserted, IsZoneNamed, stored}
 use Rattle.timefd_component.specs.Tree.{Text}
-use Rattle.timefd_diagnosis.specs.Edits.{IsDistance}
-use Rattle.timefd_diagnosis.specs.Nearest.{IsAsFarAs, IsNearest}
+use Rattle.timefd_diagnosis.specs.Nearest.{IsNearest}
 use Rattle.timefd_drawing.specs.Shown.{safe}
-use Rattle.timefd_write.specs.declared.nearest.Best.{Best}
 use Rattle.timefd_write.specs.declared.zones.Zones.{Zones}
 
 -- Whether a name gives a zone.
@@ -28,13 +25,6 @@ IsWith before name after =
     ((after ≡ before) × ((before.is_whole ≡ true) ⊎ Gives before.database name true))
     ⊎ ((before.is_whole ≡ false) × (stored before.database name ≡ None)
     × ((Adds name before.database after.database true × (after.is_whole ≡ false)) ⊎ (after.is_whole ≡ true)))
-
--- One more name replaces the nearest one so far if it is nearer.
-abbrev pub IsNextName : Text → Best → Bor Text → Best → Type 0
-IsNextName name best candidate next =
-    ((next.edits < best.edits) × (next.found ≡ Some candidate)
-    × IsDistance (chars name) (chars candidate.now) next.edits)
-    ⊎ ((next ≡ best) × IsAsFarAs best.edits name candidate.now)
 
 -- the sentence for a name that no zone has, and what to write instead
 abbrev pub unknown_sentence : Text → Option Text → Text

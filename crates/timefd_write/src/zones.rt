@@ -7,11 +7,12 @@ ghost use Rattle.timefd_write.specs.KnownZones as spec;
 use crate::clock::moment_now;
 use crate::from_jiff::Error;
 use crate::names::Now;
-use crate::nearest::{nearest_name, unknown_zone_sentence};
+use crate::unknown_zone::unknown_zone_sentence;
 use jiff_tz::{SystemTimeZone, TimeZone, TimeZoneDatabase};
 use std::alloc::{AllocError, Global};
 use std::io::{ErrorKind, Read};
 use std::{env, fs};
+use timefd_diagnosis::nearest::nearest;
 
 // Where systems keep their time zones.
 const FOLDERS: [&str; 3] = [
@@ -88,7 +89,7 @@ impl Zones {
         ensures { IfOk result (λ text. spec.IsUnknownSentence name.now (string_bytes text)) }
     {
         let names = self.names(alloc)?;
-        let nearest = nearest_name(alloc, &names, name)?;
+        let nearest = nearest(alloc, &names, name)?;
         unknown_zone_sentence(alloc, name, nearest)
     }
 

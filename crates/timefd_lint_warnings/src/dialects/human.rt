@@ -3,14 +3,15 @@
 ghost use Rattle.std.specs.Prelude.{◌≡◌, IfOk, string_bytes};
 ghost use Rattle.timefd_lint_warnings.specs.Dialects.Drawn as spec;
 
-use crate::dialects::cut::cut_line;
 use crate::dialects::finding::Finding;
-use crate::dialects::lines::{help_line, margin, position_line, source};
 use crate::head;
 use std::alloc::{AllocError, Global};
-use timefd_drawing::{Origin, position_of};
+use timefd_drawing::lines::{push_help_line, push_position_line};
+use timefd_drawing::source_line::{margin, push_source};
+use timefd_drawing::{Origin, line_of, position_of};
 
-/// The drawing of a finding: its sentence, its place, the line with carets, and the help. An `Err` says that memory ran out.
+/// The drawing of a finding: its sentence, its position, the line with carets, and the help. An `Err` says
+/// that memory ran out.
 pub fn human(
     alloc: Global,
     is_colored: bool,
@@ -24,16 +25,17 @@ pub fn human(
 {
     let position = position_of(alloc, origin.line, text, finding.span.start)?;
     let margin = margin(alloc, position.line)?;
-    let head = head(
+    let line = line_of(text, finding.span);
+    let mut out = head(
         alloc,
         is_colored,
         finding.level,
         finding.code,
         finding.message,
     )?;
-    let place = position_line(alloc, is_colored, &margin, origin.file, position)?;
-    let line = cut_line(text, finding.span);
-    let source = source(alloc, is_colored, position.line, &margin, line)?;
-    let help = help_line(alloc, is_colored, &margin, finding.help)?;
-    format!(in alloc; "{head}{place}{source}{help}\n")
+    push_position_line(alloc, &mut out, is_colored, &margin, origin.file, position)?;
+    push_source(alloc, &mut out, is_colored, position.line, &margin, line)?;
+    push_help_line(&mut out, is_colored, &margin, finding.help)?;
+    out.push_str("\n")?;
+    Ok(out)
 }
