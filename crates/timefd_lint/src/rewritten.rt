@@ -103,7 +103,7 @@ fn rewrite_file<R: Files, E: Sink, W: Sink>(
         Ok(old) => old,
         Err(error) => return noted(alloc, options, name, error, output),
     };
-    let Some(found) = found_in(alloc, options, rewriting, name, &old.bytes, output)? else {
+    let Some(found) = found_of(alloc, options, rewriting, name, &old.bytes, output)? else {
         return Ok(Tally::new());
     };
     report(errors, &found.by_hand);
@@ -134,7 +134,7 @@ fn rewrite_file<R: Files, E: Sink, W: Sink>(
 
 // What is found in a file with these bytes. Files of lines were refused earlier if no conversion exists from
 // their language.
-fn found_in<W: Sink>(
+fn found_of<W: Sink>(
     alloc: Global,
     options: Options<'_>,
     rewriting: Rewriting,
