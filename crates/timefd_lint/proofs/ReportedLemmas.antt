@@ -1,6 +1,6 @@
 -- What is reported about texts, one after another.
-use Rattle.std.proofs.Common.{◌≡◌, Bool, true, false, ◌||◌, ◌&&◌, List, [], ◌∷◌, ◌++◌, Option, Some, None, refl, sym, ap, subst, ◌∙◌, append-nil, length-append, arith, ℕ, ◌+◌, ◌<◌, ◌≤◌, length}
-use Rattle.std.specs.Prelude.{All, IsFalse, IsTrue, IfSome}
+use Rattle.std.proofs.Common.{◌≡◌, Bool, true, false, ◌||◌, ◌&&◌, List, [], ◌∷◌, ◌++◌, Option, Some, None, refl, sym, ap, subst, ◌∙◌, append-nil, length-append, arith, ℕ, ◌+◌, ◌<◌, ◌≤◌, ◌-◌, ◌^◌, length}
+use Rattle.std.specs.Prelude.{All, IsFalse, IsTrue, IfSome, ◌⊎◌}
 use Rattle.std.specs.declared.io.ErrorKind.{ErrorKind}
 use Rattle.std.specs.Io.KnownBytes.{Appends, Keeps, IsAtEnd}
 use Rattle.std.specs.Io.BufRead.{take_through, drop_through, DropsThrough}
@@ -10,6 +10,7 @@ use Rattle.std.proofs.lemmas.List.Elements.{All-append, All-cons, All-nil}
 use Rattle.std.proofs.lemmas.List.Folds.{list_any-append}
 use Rattle.std.proofs.lemmas.Grind.{flat_map-append}
 use Rattle.std.proofs.lemmas.Bool.{true≢false, false≢true}
+use mathlib.Core.Logic.{inl, inr}
 use denote.Ref.{Bor}
 use Rattle.timefd_component.specs.Tree.{Text}
 use Rattle.timefd_drawing.specs.declared.draw.Style.{Style}
@@ -29,7 +30,7 @@ use Rattle.timefd_lint.specs.Lines.{IsEndOf, IsLineEnd}
 use Rattle.timefd_lint.specs.Failures.{note_of, unread}
 use Rattle.timefd_lint.specs.declared.failure.Failure.{Failure}
 use Rattle.timefd_lint.specs.Marks.{Notes, has_mark}
-use Rattle.timefd_lint.specs.Reported.{Says, SaysUnread, SaysOf, IsUnreadIfFailed, AreMarked, Reported, is_description, is_refused, is_not_text, is_failed, is_unread_call, is_unread_value, warnings_in, warnings_of, IsEndIn, IsReportOn, IsPosition, ArePlaced, position, one_if, count, tally_of_one, tally_of, text_in, both, messages, lines_in, lines_of, IsReadUp, IsRun, IsRunOver, IsRunOfAll, IsRunOn, IsNext}
+use Rattle.timefd_lint.specs.Reported.{Says, SaysUnread, SaysOf, IsUnreadIfFailed, AreMarked, Reported, is_description, is_refused, is_not_text, is_failed, is_unread_call, is_unread_value, warnings_in, warnings_of, IsEndIn, IsReportOn, IsPosition, ArePlaced, position, one_if, count, tally_of_one, tally_of, text_in, both, messages, lines_in, lines_of, IsReadUp, AreCountedOut, IsRun, IsRunOver, IsRunOfAll, IsRunOn, IsNext}
 
 -- A note, and the message after it.
 pub notes_and_says : (is_marked : Bool) (language : Wording) (reporting : Reporting) (origin : Origin)
@@ -77,17 +78,18 @@ and_right false true both = refl
 and_right false false both = both
 
 pub read_fails : (is_first : Bool) (language : Wording) (comment : Option (Bor Text))
-    (reporting : Reporting) (origin : Origin) (bytes rest before after : Option Text)
-    (end : TextEnd) → end ≡ Failed → SaysUnread reporting.style origin.file before after
-    → IsNext is_first language comment reporting origin bytes rest before after (Some end)
-read_fails is_first language comment reporting origin bytes rest before after end failed said = (
+    (reporting : Reporting) (origin : Origin) (bytes rest before after : Option Text) (has_failed : Bool)
+    (end : TextEnd) → end ≡ Failed → IsTrue has_failed
+    → SaysUnread reporting.style origin.file before after
+    → IsNext is_first language comment reporting origin bytes rest has_failed before after (Some end)
+read_fails is_first language comment reporting origin bytes rest before after has_failed end failed broken said = (
   [],
   λ works. absurd (true≢false (sym (ap is_failed failed) ∙ works)),
   subst (λ m. SaysOf m language reporting origin (text_in false []) end before after)
       (sym (and_false is_first))
       (subst (λ e. SaysOf false language reporting origin (text_in false []) e before after) (sym failed)
       (unread_at language reporting origin (text_in false []) before after said)),
-  λ _. said,
+  λ _. (broken, said),
 )
 
 -- The check of a text never ends with a failed file.
@@ -291,14 +293,14 @@ lines_more reported t open_end =
     ∙ ap (λ ls. lines_of reported ++ ls) (one_line t open_end))
 
 pub next_reported : (is_first : Bool) (language : Wording) (comment : Option (Bor Text)) (reporting : Reporting)
-    (origin : Origin) (bytes rest before between after : Option Text)
+    (origin : Origin) (bytes rest before between after : Option Text) (has_failed : Bool)
     (old line text : Text) (end : TextEnd) → IsLineEnd language comment reporting text end → text
     ≡ without_newline line
     → IfSome bytes (λ xs. line ≡ old ++ take_through 10 xs) → old ≡ [] → DropsThrough bytes rest 10
     → 0 < length line → Notes (is_first && has_mark line) reporting.style origin before between
     → Says language reporting origin text end between after
-    → IsNext is_first language comment reporting origin bytes rest before after (Some end)
-next_reported is_first language comment reporting origin bytes rest before between after old line text end ended
+    → IsNext is_first language comment reporting origin bytes rest has_failed before after (Some end)
+next_reported is_first language comment reporting origin bytes rest before between after has_failed old line text end ended
     is read none left some noted said = (
       line,
       λ _. (
@@ -338,15 +340,15 @@ or_right true false none = refl
 
 pub line_after : (is_first : Bool) (language : Wording) (comment : Option (Bor Text)) (reporting : Reporting)
     (origin : Origin) (file : Text) (line : ℕ)
-    (bytes rest next before between after : Option Text) (tally : Tally) (end : TextEnd)
+    (bytes rest next before between after : Option Text) (has_failed : Bool) (tally : Tally) (end : TextEnd)
     → IsPosition file line origin
     → IsRunUpTo is_first language comment reporting file line bytes rest before between tally
-    → IsNext is_first language comment reporting origin rest next between after (Some end)
+    → IsNext is_first language comment reporting origin rest next has_failed between after (Some end)
     → (both tally (tally_of_one end)).failed ≡ false
     → IsRunUpTo false language comment reporting file (line + 1) bytes next before after
     (both tally (tally_of_one end))
 unfolding run_after one_text
-line_after is_first language comment reporting origin file line bytes rest next before between after
+line_after is_first language comment reporting origin file line bytes rest next before between after has_failed
     tally end at so_far more works =
     let open_end : IsFalse (is_failed end) = or_right tally.failed (is_failed end) works in
     let is_marked : Bool = is_first && has_mark more.0 in
@@ -406,12 +408,12 @@ read_none (Some bytes) rest end left =
 
 pub at_end : (is_first : Bool) (language : Wording) (comment : Option (Bor Text)) (reporting : Reporting)
     (origin : Origin) (file : Text) (line : ℕ)
-    (bytes rest before between after next : Option Text) (tally : Tally)
+    (bytes rest before between after next : Option Text) (has_failed : Bool) (tally : Tally)
     → IsRunUpTo is_first language comment reporting file line bytes rest before between tally
-    → IsNext is_first language comment reporting origin rest next between after None
-    → IsRunOver language comment reporting file bytes next before after tally
+    → IsNext is_first language comment reporting origin rest next has_failed between after None
+    → IsRunOver language comment reporting file bytes next has_failed before after tally
 unfolding kept_after
-at_end is_first language comment reporting origin file line bytes rest before between after next tally
+at_end is_first language comment reporting origin file line bytes rest before between after next has_failed tally
     so_far end = record {
       run = kept_after language comment reporting before between after tally so_far.run end.2;
       lines = subst (λ f. AreLinesOf bytes (lines_of so_far.run.reported) f) (sym so_far.open_end)
@@ -420,6 +422,7 @@ at_end is_first language comment reporting origin file line bytes rest before be
       marks = so_far.marks;
       positions = so_far.positions;
       reasons = so_far.reasons;
+      cause = λ fails. absurd (false≢true (sym so_far.open_end ∙ fails));
     }
 
 or_true : (b : Bool) → (b || true) ≡ true
@@ -440,17 +443,28 @@ failed_one reported t failed =
     sym (flat_map-append lines_in reported (t ∷ [])
     ∙ ap (λ ls. lines_of reported ++ ls) (no_line_of t failed) ∙ append-nil (lines_of reported))
 
+counted_out : (number : ℕ) (reported : List Reported) (t : Reported) → number ≡ 1 + length reported
+    → 2 ^ 64 - 1 ≤ number → AreCountedOut (reported ++ t ∷ [])
+counted_out number reported t is many = omega (arith, is, many, length-append reported (t ∷ []))
+
+cause_of : (has_failed : Bool) (number : ℕ) (reported : List Reported) (t : Reported)
+    → number ≡ 1 + length reported → IsTrue has_failed ⊎ (2 ^ 64 - 1 ≤ number)
+    → IsTrue has_failed ⊎ AreCountedOut (reported ++ t ∷ [])
+cause_of has_failed number reported t is (inl broken) = inl broken
+cause_of has_failed number reported t is (inr many) = inr (counted_out number reported t is many)
+
 pub run_fails : (is_first : Bool) (language : Wording) (comment : Option (Bor Text)) (reporting : Reporting)
     (origin : Origin) (file : Text) (number : ℕ)
-    (bytes rest left before between after : Option Text) (tally : Tally)
+    (bytes rest left before between after : Option Text) (has_failed : Bool) (tally : Tally)
     → IsPosition file number origin
     → IsRunUpTo is_first language comment reporting file number bytes rest before between tally
+    → IsTrue has_failed ⊎ (2 ^ 64 - 1 ≤ number)
     → SaysUnread reporting.style origin.file between after
-    → IsRunOver language comment reporting file bytes left before after
+    → IsRunOver language comment reporting file bytes left has_failed before after
     (both tally (tally_of_one Failed))
 unfolding run_after one_text unread_at
-run_fails is_first language comment reporting origin file number bytes rest left before between after
-    tally at so_far said =
+run_fails is_first language comment reporting origin file number bytes rest left before between after has_failed
+    tally at so_far why said =
     let t : Reported = record {
       line = [];
       origin = origin;
@@ -474,6 +488,7 @@ run_fails is_first language comment reporting origin file number bytes rest left
       positions = placed_after file 1 number so_far.run.reported t so_far.number at so_far.positions;
       reasons = All-append (IsUnreadIfFailed reporting) so_far.run.reported (t ∷ []) so_far.reasons
           (only t (IsUnreadIfFailed reporting) (λ _. said.1));
+      cause = λ _. cause_of has_failed number so_far.run.reported t so_far.number why;
     }
 
 is_failed_alone : (end : TextEnd) → is_failed end ≡ true → end ≡ Failed
@@ -488,21 +503,21 @@ is_failed_alone Failed e = refl
 
 pub line_fails : (is_first : Bool) (language : Wording) (comment : Option (Bor Text)) (reporting : Reporting)
     (origin : Origin) (file : Text) (line : ℕ)
-    (bytes rest next before between after : Option Text) (tally : Tally) (end : TextEnd)
+    (bytes rest next before between after : Option Text) (has_failed : Bool) (tally : Tally) (end : TextEnd)
     → IsPosition file line origin
     → IsRunUpTo is_first language comment reporting file line bytes rest before between tally
-    → IsNext is_first language comment reporting origin rest next between after (Some end)
+    → IsNext is_first language comment reporting origin rest next has_failed between after (Some end)
     → (both tally (tally_of_one end)).failed ≡ true
-    → IsRunOver language comment reporting file bytes next before after
+    → IsRunOver language comment reporting file bytes next has_failed before after
     (both tally (tally_of_one end))
-line_fails is_first language comment reporting origin file line bytes rest next before between after
+line_fails is_first language comment reporting origin file line bytes rest next before between after has_failed
     tally end at so_far more fails =
     let is : end ≡ Failed = is_failed_alone end
     (or_other tally.failed (is_failed end) so_far.open_end fails) in
-    subst (λ e. IsRunOver language comment reporting file bytes next before after
+    subst (λ e. IsRunOver language comment reporting file bytes next has_failed before after
     (both tally (tally_of_one e))) (sym is)
     (run_fails is_first language comment reporting origin file line bytes rest next before between after
-    tally at so_far (more.3 (ap is_failed is)))
+    has_failed tally at so_far (inl (more.3 (ap is_failed is)).0) (more.3 (ap is_failed is)).1)
 
 -- One text, one file that can't be read, and a reader, as runs.
 pub whole_text : (bytes : Option Text) (old read text : Text) → IfSome bytes (λ all. read ≡ old ++ all)
@@ -517,14 +532,14 @@ read_to_end (Some xs) rest end = end
 
 -- all bytes of a reader, read into an empty buffer
 pub text_of_all : (language : Wording) (comment : Option (Bor Text)) (reporting : Reporting)
-    (origin : Origin) (file : Text) (bytes rest : Option Text) (old read text : Text) (before after : Option Text) (end : TextEnd)
+    (origin : Origin) (file : Text) (bytes rest : Option Text) (old read text : Text) (before after : Option Text) (has_failed : Bool) (end : TextEnd)
     (tally : Tally)
     → IfSome bytes (λ all. read ≡ old ++ all) → IsAtEnd rest → old ≡ [] → text ≡ read
     → IsEndOf language reporting text end
     → SaysOf (has_mark text) language reporting origin text end before after
     → tally ≡ tally_of_one end → IsPosition file 1 origin
-    → IsRunOfAll language comment reporting file bytes rest before after tally
-text_of_all language comment reporting origin file bytes rest old read text before after end tally all
+    → IsRunOfAll language comment reporting file bytes rest has_failed before after tally
+text_of_all language comment reporting origin file bytes rest old read text before after has_failed end tally all
     left none same ended said is at = record {
       reported = record {
         line = text;
@@ -541,14 +556,16 @@ text_of_all language comment reporting origin file bytes rest old read text befo
       found = is;
       written = said.2;
       read = λ _. read_to_end bytes rest left;
+      cause = λ fails. absurd (never_failed language reporting text end ended
+          (sym (ap (λ t. t.failed) is) ∙ fails));
     }
 
 pub none_of_all : (language : Wording) (comment : Option (Bor Text)) (reporting : Reporting)
-    (name : Bor Text) (bytes rest before after : Option Text) (end : TextEnd) (tally : Tally)
-    → end ≡ Failed → SaysUnread reporting.style name before after → tally ≡ tally_of_one end
-    → IsRunOfAll language comment reporting name.now bytes rest before after tally
+    (name : Bor Text) (bytes rest before after : Option Text) (has_failed : Bool) (end : TextEnd) (tally : Tally)
+    → end ≡ Failed → IsTrue has_failed → SaysUnread reporting.style name before after
+    → tally ≡ tally_of_one end → IsRunOfAll language comment reporting name.now bytes rest has_failed before after tally
 unfolding unread_at
-none_of_all language comment reporting name bytes rest before after end tally failed said is =
+none_of_all language comment reporting name bytes rest before after has_failed end tally failed broken said is =
     let noted : SaysOf false language reporting (position name 1) [] Failed before after =
     unread_at language reporting (position name 1) [] before after said in
     record {
@@ -572,6 +589,7 @@ none_of_all language comment reporting name bytes rest before after end tally fa
       written = noted.2;
       read = λ works. absurd (true≢false
           (sym (ap (λ t. t.failed) (is ∙ ap tally_of_one failed)) ∙ works));
+      cause = λ _. broken;
     }
 
 pub failed_run : (is_whole : Bool) (language : Wording) (comment : Option (Bor Text))
@@ -595,10 +613,10 @@ unread_run is_whole language comment reporting name before after tally said is =
     (subst (λ m. Appends before after m) said.1.1 said.2) is
 
 pub whole_run : (is_whole : Bool) (language : Wording) (comment : Option (Bor Text))
-    (reporting : Reporting) (file : Text) (bytes rest before after : Option Text) (tally : Tally)
-    → is_whole ≡ true → IsRunOfAll language comment reporting file bytes rest before after tally
+    (reporting : Reporting) (file : Text) (bytes rest before after : Option Text) (has_failed : Bool) (tally : Tally)
+    → is_whole ≡ true → IsRunOfAll language comment reporting file bytes rest has_failed before after tally
     → IsRun is_whole language comment reporting before after tally
-whole_run is_whole language comment reporting file bytes rest before after tally is run =
+whole_run is_whole language comment reporting file bytes rest before after has_failed tally is run =
     subst (λ w. IsRun w language comment reporting before after tally) (sym is) (record {
       reported = run.reported ∷ [];
       each = only run.reported (IsReportOn true language comment reporting) run.is_reported;
@@ -607,25 +625,25 @@ whole_run is_whole language comment reporting file bytes rest before after tally
     })
 
 pub lines_run : (is_whole : Bool) (language : Wording) (comment : Option (Bor Text))
-    (reporting : Reporting) (file : Text) (bytes rest before after : Option Text) (tally : Tally)
-    → is_whole ≡ false → IsRunOver language comment reporting file bytes rest before after tally
+    (reporting : Reporting) (file : Text) (bytes rest before after : Option Text) (has_failed : Bool) (tally : Tally)
+    → is_whole ≡ false → IsRunOver language comment reporting file bytes rest has_failed before after tally
     → IsRun is_whole language comment reporting before after tally
-lines_run is_whole language comment reporting file bytes rest before after tally is over =
+lines_run is_whole language comment reporting file bytes rest before after has_failed tally is over =
     subst (λ w. IsRun w language comment reporting before after tally) (sym is) over.run
 
 -- The end of the run, in the terms of the code.
 pub ends_here : (is_first : Bool) (language : Wording) (comment : Option (Bor Text)) (reporting : Reporting)
     (name : Bor Text) (line : ℕ)
-    (bytes rest next before between after : Option Text) (tally : Tally) (o : Option TextEnd)
+    (bytes rest next before between after : Option Text) (has_failed : Bool) (tally : Tally) (o : Option TextEnd)
     → o ≡ None
     → IsRunUpTo is_first language comment reporting name.now line bytes rest before between tally
-    → IsNext is_first language comment reporting (position name line) rest next between after o
-    → IsRunOver language comment reporting name.now bytes next before after tally
-ends_here is_first language comment reporting name line bytes rest next before between after tally o is
+    → IsNext is_first language comment reporting (position name line) rest next has_failed between after o
+    → IsRunOver language comment reporting name.now bytes next has_failed before after tally
+ends_here is_first language comment reporting name line bytes rest next before between after has_failed tally o is
     so_far last =
     at_end is_first language comment reporting (position name line) name.now line bytes rest before between
-    after next tally so_far
-    (subst (λ x. IsNext is_first language comment reporting (position name line) rest next between after x)
+    after next has_failed tally so_far
+    (subst (λ x. IsNext is_first language comment reporting (position name line) rest next has_failed between after x)
     is last)
 
 tally_is : (tally one all : Tally) (end : TextEnd) → one ≡ tally_of_one end → all ≡ both tally one
@@ -634,75 +652,75 @@ tally_is tally one all end is sum = sum ∙ ap (λ t. both tally t) is
 
 pub goes_on : (is_first : Bool) (language : Wording) (comment : Option (Bor Text)) (reporting : Reporting)
     (name : Bor Text) (line : ℕ)
-    (bytes rest next before between after : Option Text) (tally one all : Tally)
+    (bytes rest next before between after : Option Text) (has_failed : Bool) (tally one all : Tally)
     (o : Option TextEnd) (end : TextEnd) → o ≡ Some end
     → IsRunUpTo is_first language comment reporting name.now line bytes rest before between tally
-    → IsNext is_first language comment reporting (position name line) rest next between after o
+    → IsNext is_first language comment reporting (position name line) rest next has_failed between after o
     → one ≡ tally_of_one end → all ≡ both tally one → all.failed ≡ false
     → IsRunUpTo false language comment reporting name.now (line + 1) bytes next before after all
-goes_on is_first language comment reporting name line bytes rest next before between after tally one all
+goes_on is_first language comment reporting name line bytes rest next before between after has_failed tally one all
     o end is so_far more is_one sum works =
     let same = tally_is tally one all end is_one sum in
     subst (λ t. IsRunUpTo false language comment reporting name.now (line + 1) bytes next before after t)
     (sym same)
     (line_after is_first language comment reporting (position name line) name.now line bytes rest next
-    before between after tally end (refl, refl) so_far
-    (subst (λ x. IsNext is_first language comment reporting (position name line) rest next between after x)
+    before between after has_failed tally end (refl, refl) so_far
+    (subst (λ x. IsNext is_first language comment reporting (position name line) rest next has_failed between after x)
     is more)
     (sym (ap (λ t. t.failed) same) ∙ works))
 
 pub fails_here : (is_first : Bool) (language : Wording) (comment : Option (Bor Text)) (reporting : Reporting)
     (name : Bor Text) (line : ℕ)
-    (bytes rest next before between after : Option Text) (tally one all : Tally)
+    (bytes rest next before between after : Option Text) (has_failed : Bool) (tally one all : Tally)
     (o : Option TextEnd) (end : TextEnd) → o ≡ Some end
     → IsRunUpTo is_first language comment reporting name.now line bytes rest before between tally
-    → IsNext is_first language comment reporting (position name line) rest next between after o
+    → IsNext is_first language comment reporting (position name line) rest next has_failed between after o
     → one ≡ tally_of_one end → all ≡ both tally one → all.failed ≡ true
-    → IsRunOver language comment reporting name.now bytes next before after all
-fails_here is_first language comment reporting name line bytes rest next before between after tally one
+    → IsRunOver language comment reporting name.now bytes next has_failed before after all
+fails_here is_first language comment reporting name line bytes rest next before between after has_failed tally one
     all o end is so_far more is_one sum fails =
     let same = tally_is tally one all end is_one sum in
-    subst (λ t. IsRunOver language comment reporting name.now bytes next before after t) (sym same)
+    subst (λ t. IsRunOver language comment reporting name.now bytes next has_failed before after t) (sym same)
     (line_fails is_first language comment reporting (position name line) name.now line bytes rest next
-    before between after tally end (refl, refl) so_far
-    (subst (λ x. IsNext is_first language comment reporting (position name line) rest next between after x)
+    before between after has_failed tally end (refl, refl) so_far
+    (subst (λ x. IsNext is_first language comment reporting (position name line) rest next has_failed between after x)
     is more)
     (sym (ap (λ t. t.failed) same) ∙ fails))
 
 pub fails_last : (is_first : Bool) (language : Wording) (comment : Option (Bor Text)) (reporting : Reporting)
     (name : Bor Text) (line : ℕ)
-    (bytes rest left before between after : Option Text) (tally one all : Tally) (end : TextEnd)
+    (bytes rest left before between after : Option Text) (has_failed : Bool) (tally one all : Tally) (end : TextEnd)
     → end ≡ Failed
     → IsRunUpTo is_first language comment reporting name.now line bytes rest before between tally
-    → SaysUnread reporting.style name between after
+    → 2 ^ 64 - 1 ≤ line → SaysUnread reporting.style name between after
     → one ≡ tally_of_one end → all ≡ both tally one
-    → IsRunOver language comment reporting name.now bytes left before after all
-fails_last is_first language comment reporting name line bytes rest left before between after tally one
-    all end failed so_far said is_one sum =
-    subst (λ t. IsRunOver language comment reporting name.now bytes left before after t)
+    → IsRunOver language comment reporting name.now bytes left has_failed before after all
+fails_last is_first language comment reporting name line bytes rest left before between after has_failed tally one
+    all end failed so_far many said is_one sum =
+    subst (λ t. IsRunOver language comment reporting name.now bytes left has_failed before after t)
     (sym (tally_is tally one all end is_one sum ∙ ap (λ e. both tally (tally_of_one e)) failed))
     (run_fails is_first language comment reporting (position name line) name.now line bytes rest left before
-    between after tally (refl, refl) so_far said)
+    between after has_failed tally (refl, refl) so_far (inr many) said)
 
 pub whole_on : (is_whole : Bool) (language : Wording) (comment : Option (Bor Text))
-    (reporting : Reporting) (file : Text) (bytes rest before after : Option Text) (tally : Tally)
-    → is_whole ≡ true → IsRunOfAll language comment reporting file bytes rest before after tally
-    → IsRunOn is_whole language comment reporting file bytes rest before after tally
-whole_on is_whole language comment reporting file bytes rest before after tally is run =
-    subst (λ w. IsRunOn w language comment reporting file bytes rest before after tally) (sym is) run
+    (reporting : Reporting) (file : Text) (bytes rest before after : Option Text) (has_failed : Bool) (tally : Tally)
+    → is_whole ≡ true → IsRunOfAll language comment reporting file bytes rest has_failed before after tally
+    → IsRunOn is_whole language comment reporting file bytes rest has_failed before after tally
+whole_on is_whole language comment reporting file bytes rest before after has_failed tally is run =
+    subst (λ w. IsRunOn w language comment reporting file bytes rest has_failed before after tally) (sym is) run
 
 pub lines_on : (is_whole : Bool) (language : Wording) (comment : Option (Bor Text))
-    (reporting : Reporting) (file : Text) (bytes rest before after : Option Text) (tally : Tally)
-    → is_whole ≡ false → IsRunOver language comment reporting file bytes rest before after tally
-    → IsRunOn is_whole language comment reporting file bytes rest before after tally
-lines_on is_whole language comment reporting file bytes rest before after tally is over =
-    subst (λ w. IsRunOn w language comment reporting file bytes rest before after tally) (sym is) over
+    (reporting : Reporting) (file : Text) (bytes rest before after : Option Text) (has_failed : Bool) (tally : Tally)
+    → is_whole ≡ false → IsRunOver language comment reporting file bytes rest has_failed before after tally
+    → IsRunOn is_whole language comment reporting file bytes rest has_failed before after tally
+lines_on is_whole language comment reporting file bytes rest before after has_failed tally is over =
+    subst (λ w. IsRunOn w language comment reporting file bytes rest has_failed before after tally) (sym is) over
 
 pub run_on : (is_whole : Bool) (language : Wording) (comment : Option (Bor Text))
-    (reporting : Reporting) (file : Text) (bytes rest before after : Option Text) (tally : Tally)
-    → IsRunOn is_whole language comment reporting file bytes rest before after tally
+    (reporting : Reporting) (file : Text) (bytes rest before after : Option Text) (has_failed : Bool) (tally : Tally)
+    → IsRunOn is_whole language comment reporting file bytes rest has_failed before after tally
     → IsRun is_whole language comment reporting before after tally
-run_on true language comment reporting file bytes rest before after tally run =
-    whole_run true language comment reporting file bytes rest before after tally refl run
-run_on false language comment reporting file bytes rest before after tally run =
-    lines_run false language comment reporting file bytes rest before after tally refl run
+run_on true language comment reporting file bytes rest before after has_failed tally run =
+    whole_run true language comment reporting file bytes rest before after has_failed tally refl run
+run_on false language comment reporting file bytes rest before after has_failed tally run =
+    lines_run false language comment reporting file bytes rest before after has_failed tally refl run

@@ -1,6 +1,6 @@
 -- What is reported about sources.
 use Rattle.std.proofs.Common.{ℕ, ◌≡◌, ◌<◌, ◌≤◌, ◌+◌, Bool, true, false, ◌||◌, List, [], ◌∷◌, ◌++◌, Option, length, drop, get_or, refl, sym, ap, subst, ◌∙◌, append-nil}
-use Rattle.std.specs.Prelude.{All, IfOk, IfSome, IsUtf8, Result, Ok, Err}
+use Rattle.std.specs.Prelude.{All, IfOk, IfSome, IsTrue, IsUtf8, Result, Ok, Err}
 use Rattle.std.specs.Io.KnownBytes.{Appends, IsAtEnd}
 use Rattle.std.proofs.KnownBytes.{Appends-trans}
 use Rattle.std.proofs.lemmas.List.{append_assoc, drop_all, drop_more}
@@ -94,21 +94,22 @@ said_of_no_text finder reporting name bytes before after tally none noted = inr 
 
 -- All bytes of a reader are read into an empty buffer.
 pub source_read : (finder : Finder) (reporting : Reporting) (name : Text) (bytes rest : Option Text)
-    (old read text : Text) (before after : Option Text) (tally : Tally)
+    (old read text : Text) (before after : Option Text) (has_failed : Bool) (tally : Tally)
     → IfSome bytes (λ all. read ≡ old ++ all)
     → IsAtEnd rest → old ≡ [] → text ≡ read → IsSaid finder reporting name text before after tally
-    → IsRunOfSource finder reporting name bytes rest before after tally
-source_read finder reporting name bytes rest old read text before after tally all left none same said =
+    → IsRunOfSource finder reporting name bytes rest has_failed before after tally
+source_read finder reporting name bytes rest old read text before after has_failed tally all left none same said =
     inl (text, whole_text bytes old read text all none same, read_to_end bytes rest left, said)
 
 pub source_unread : (finder : Finder) (reporting : Reporting) (name : Bor Text)
-    (bytes rest before after : Option Text) (end : TextEnd) (tally : Tally) → end ≡ Failed
-    → SaysUnread reporting.style name before after
-    → tally ≡ tally_of_one end → IsRunOfSource finder reporting name.now bytes rest before after tally
-source_unread finder reporting name bytes rest before after end tally failed said is =
+    (bytes rest before after : Option Text) (has_failed : Bool) (end : TextEnd) (tally : Tally)
+    → end ≡ Failed → IsTrue has_failed → SaysUnread reporting.style name before after
+    → tally ≡ tally_of_one end → IsRunOfSource finder reporting name.now bytes rest has_failed before after tally
+source_unread finder reporting name bytes rest before after has_failed end tally failed broken said is =
     inr (
       name,
       refl,
+      broken,
       said,
       is ∙ ap tally_of_one failed,
     )
@@ -237,10 +238,10 @@ of_texts is_whole language comment reporting before after tally run = record {
 }
 
 pub of_source : (is_whole : Bool) (language : Wording) (comment : Option (Bor Text)) (reporting : Reporting)
-    (finder : Finder) (name : Text) (bytes rest before after : Option Text) (tally : Tally)
-    → IsRunOfSource finder reporting name bytes rest before after tally
+    (finder : Finder) (name : Text) (bytes rest before after : Option Text) (has_failed : Bool) (tally : Tally)
+    → IsRunOfSource finder reporting name bytes rest has_failed before after tally
     → IsRunOfAny is_whole language comment reporting before after tally
-of_source is_whole language comment reporting finder name bytes rest before after tally
+of_source is_whole language comment reporting finder name bytes rest before after has_failed tally
     (inl (source, all, read, inl (utf8, (s, f, by, t, (r, reported, written, found))))) =
     let on_remarks : AreLiterals is_whole language comment reporting (ends_of reported.remarks)
     (messages_of reporting.style s reported.remarks) =
@@ -256,7 +257,7 @@ of_source is_whole language comment reporting finder name bytes rest before afte
       found = found ∙ ap tally_of_ends reported.all_ends ∙ are.found [];
       written = subst (λ m. Appends before after m) (reported.all_messages ∙ are.said) written;
     }
-of_source is_whole language comment reporting finder name bytes rest before after tally
+of_source is_whole language comment reporting finder name bytes rest before after has_failed tally
     (inl (source, all, read, inr (none, (file, same, written, found)))) =
     let t : Reported = record {
       line = source;
@@ -272,8 +273,8 @@ of_source is_whole language comment reporting finder name bytes rest before afte
       found = found ∙ sym (tally_one t);
       written = subst (λ m. Appends before after m) (sym (append-nil t.message)) written;
     }
-of_source is_whole language comment reporting finder name bytes rest before after tally
-    (inr (file, same, said, found)) =
+of_source is_whole language comment reporting finder name bytes rest before after has_failed tally
+    (inr (file, same, broken, said, found)) =
     of_texts is_whole language comment reporting before after tally
     (unread_run is_whole language comment reporting file before after tally said found)
 
@@ -335,37 +336,38 @@ with_texts true is_whole language comment reporting before after tally run =
 with_texts false is_whole language comment reporting before after tally run = run
 
 pub with_source : (reads is_whole : Bool) (language : Wording) (comment : Option (Bor Text))
-    (reporting : Reporting) (finder : Finder) (name : Text) (bytes rest before after : Option Text)
-    (tally : Tally) → reads ≡ true → IsRunOfSource finder reporting name bytes rest before after tally
+    (reporting : Reporting) (finder : Finder) (name : Text) (bytes rest before after : Option Text) (has_failed : Bool)
+    (tally : Tally) → reads ≡ true → IsRunOfSource finder reporting name bytes rest has_failed before after tally
     → IsRunWith reads is_whole language comment reporting before after tally
-with_source reads is_whole language comment reporting finder name bytes rest before after tally is run =
+with_source reads is_whole language comment reporting finder name bytes rest before after has_failed tally is run =
     subst (λ r. IsRunWith r is_whole language comment reporting before after tally) (sym is)
-    (of_source is_whole language comment reporting finder name bytes rest before after tally run)
+    (of_source is_whole language comment reporting finder name bytes rest before after has_failed tally run)
 
 -- The report on a source, in a run that may have ended early.
 pub source_reported : (reads is_whole : Bool) (language : Wording) (comment : Option (Bor Text))
-    (reporting : Reporting) (finder : Finder) (name : Text) (bytes rest before after : Option Text)
+    (reporting : Reporting) (finder : Finder) (name : Text) (bytes rest before after : Option Text) (has_failed : Bool)
     (r : Result Tally RunError) → reads ≡ true
-    → IfOk r (IsRunOfSource finder reporting name bytes rest before after)
+    → IfOk r (IsRunOfSource finder reporting name bytes rest has_failed before after)
     → IfOk r (IsRunWith reads is_whole language comment reporting before after)
-source_reported reads is_whole language comment reporting finder name bytes rest before after (Ok tally) is run =
-    with_source reads is_whole language comment reporting finder name bytes rest before after tally is run
-source_reported reads is_whole language comment reporting finder name bytes rest before after (Err e) is run = tt
+source_reported reads is_whole language comment reporting finder name bytes rest before after has_failed (Ok tally) is run =
+    with_source reads is_whole language comment reporting finder name bytes rest before after has_failed tally is
+    run
+source_reported reads is_whole language comment reporting finder name bytes rest before after has_failed (Err e) is run = tt
 
 pub with_whole : (reads is_whole : Bool) (language : Wording) (comment : Option (Bor Text))
-    (reporting : Reporting) (file : Text) (bytes rest before after : Option Text) (tally : Tally)
+    (reporting : Reporting) (file : Text) (bytes rest before after : Option Text) (has_failed : Bool) (tally : Tally)
     → reads ≡ false → is_whole ≡ true
-    → IsRunOfAll language comment reporting file bytes rest before after tally
+    → IsRunOfAll language comment reporting file bytes rest has_failed before after tally
     → IsRunWith reads is_whole language comment reporting before after tally
-with_whole reads is_whole language comment reporting file bytes rest before after tally none is run =
+with_whole reads is_whole language comment reporting file bytes rest before after has_failed tally none is run =
     subst (λ r. IsRunWith r is_whole language comment reporting before after tally) (sym none)
-    (whole_run is_whole language comment reporting file bytes rest before after tally is run)
+    (whole_run is_whole language comment reporting file bytes rest before after has_failed tally is run)
 
 pub with_lines : (reads is_whole : Bool) (language : Wording) (comment : Option (Bor Text))
-    (reporting : Reporting) (file : Text) (bytes rest before after : Option Text) (tally : Tally)
+    (reporting : Reporting) (file : Text) (bytes rest before after : Option Text) (has_failed : Bool) (tally : Tally)
     → reads ≡ false → is_whole ≡ false
-    → IsRunOver language comment reporting file bytes rest before after tally
+    → IsRunOver language comment reporting file bytes rest has_failed before after tally
     → IsRunWith reads is_whole language comment reporting before after tally
-with_lines reads is_whole language comment reporting file bytes rest before after tally none is over =
+with_lines reads is_whole language comment reporting file bytes rest before after has_failed tally none is over =
     subst (λ r. IsRunWith r is_whole language comment reporting before after tally) (sym none)
-    (lines_run is_whole language comment reporting file bytes rest before after tally is over)
+    (lines_run is_whole language comment reporting file bytes rest before after has_failed tally is over)

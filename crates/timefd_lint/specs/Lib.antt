@@ -1,6 +1,7 @@
 pub mod Lines
 pub mod Reported
 pub mod Failures
+pub mod Causes
 pub mod Sources
 pub mod Files
 pub mod Summaries
@@ -13,6 +14,7 @@ pub mod ErrorPages
 pub mod Pages
 pub mod Outputs
 pub mod Rewriting
+pub mod Fates
 pub mod Counted
 pub mod Folders
 pub mod Identities

@@ -14,10 +14,11 @@ audience_of false colored = Program
 audience_of true true = InColor
 audience_of true false = WithoutColor
 
-abbrev pub without_color : Audience → Audience
-without_color InColor = WithoutColor
-without_color WithoutColor = WithoutColor
-without_color Program = Program
+-- A text without colours of its own: whoever sees colours is given what people see without them.
+abbrev pub without_colors : Audience → Text → Text
+without_colors InColor text = for_people false text
+without_colors WithoutColor text = text
+without_colors Program text = text
 
 abbrev pub IsWithoutColor : Audience → Type 0
 IsWithoutColor InColor = ⊥

@@ -1,5 +1,5 @@
 -- What a run reports about texts, one after another.
-use Rattle.std.specs.Prelude.{◌≡◌, Bool, true, false, ◌||◌, ◌&&◌, IsTrue, List, [], ◌∷◌, ◌++◌, Option, Some, None, is_some, All, IfSome, IsFalse, ⊤, ℕ, ◌+◌, nat_lt, flat_map, if◌then◌else◌}
+use Rattle.std.specs.Prelude.{◌≡◌, ◌⊎◌, ◌≤◌, ◌-◌, ◌^◌, length, Bool, true, false, ◌||◌, ◌&&◌, IsTrue, List, [], ◌∷◌, ◌++◌, Option, Some, None, is_some, All, IfSome, IsFalse, ⊤, ℕ, ◌+◌, nat_lt, flat_map, if◌then◌else◌}
 use Rattle.std.specs.List.{list_any}
 use Rattle.std.specs.Io.KnownBytes.{Appends, Keeps, IsAtEnd}
 use Rattle.std.specs.Io.Iter.{u64_saturate}
@@ -318,20 +318,28 @@ pub record IsRun (is_whole : Bool) (language : Wording) (comment : Option (Bor T
   pub found : tally ≡ tally_of reported
   pub written : Appends before after (messages reported)
 
--- The result of a run over the lines of a reader, which are the lines of a file.
+-- There are as many reports as there are numbers of lines.
+abbrev pub AreCountedOut : List Reported → Type 0
+AreCountedOut reported = 2 ^ 64 - 1 ≤ length reported
+
+-- The result of a run over the lines of a reader, which are the lines of a file. It goes to the end unless the
+-- reader has failed by then, or has more lines than are counted.
 pub record IsRunOver (language : Wording) (comment : Option (Bor Text)) (reporting : Reporting)
-    (file : Text) (bytes rest before after : Option Text) (tally : Tally) : Type 0 where
+    (file : Text) (bytes rest : Option Text) (has_failed : Bool) (before after : Option Text)
+    (tally : Tally) : Type 0 where
   pub run : IsRun false language comment reporting before after tally
   pub lines : AreLinesOf bytes (lines_of run.reported) tally.failed
   pub read : IsFalse tally.failed → IsReadUp bytes rest
   pub marks : AreMarked run.reported
   pub positions : ArePlaced file 1 run.reported
   pub reasons : All (IsUnreadIfFailed reporting) run.reported
+  pub cause : IsTrue tally.failed → IsTrue has_failed ⊎ AreCountedOut run.reported
 
 -- The result of a run over all bytes of a reader as one text. If the bytes are known, the report is about
--- that text, unless it can't be read.
+-- that text, unless it can't be read since the reader has failed.
 pub record IsRunOfAll (language : Wording) (comment : Option (Bor Text)) (reporting : Reporting)
-    (file : Text) (bytes rest before after : Option Text) (tally : Tally) : Type 0 where
+    (file : Text) (bytes rest : Option Text) (has_failed : Bool) (before after : Option Text)
+    (tally : Tally) : Type 0 where
   pub reported : Reported
   pub is_reported : IsReportOn true language comment reporting reported
   pub marked : reported.is_marked ≡ has_mark reported.line
@@ -341,24 +349,25 @@ pub record IsRunOfAll (language : Wording) (comment : Option (Bor Text)) (report
   pub found : tally ≡ tally_of_one reported.end
   pub written : Appends before after reported.message
   pub read : IsFalse tally.failed → IsReadUp bytes rest
+  pub cause : IsTrue tally.failed → IsTrue has_failed
 
 -- The result of a run over all that a reader has: as one text, or line by line.
 abbrev pub IsRunOn : Bool → Wording → Option (Bor Text) → Reporting → Text → Option Text → Option Text
-    → Option Text → Option Text → Tally → Type 0
-IsRunOn true language comment reporting file bytes rest before after tally =
-    IsRunOfAll language comment reporting file bytes rest before after tally
-IsRunOn false language comment reporting file bytes rest before after tally =
-    IsRunOver language comment reporting file bytes rest before after tally
+    → Bool → Option Text → Option Text → Tally → Type 0
+IsRunOn true language comment reporting file bytes rest has_failed before after tally =
+    IsRunOfAll language comment reporting file bytes rest has_failed before after tally
+IsRunOn false language comment reporting file bytes rest has_failed before after tally =
+    IsRunOver language comment reporting file bytes rest has_failed before after tally
 
 -- The result for the next line, the first or a later one, at its position. At the end of the bytes nothing is
--- written. If the line can't be read, the note says why.
+-- written. If the line can't be read, the reader has failed, and the note says why.
 abbrev pub IsNext : Bool → Wording → Option (Bor Text) → Reporting → Origin → Option Text → Option Text
-    → Option Text → Option Text → Option TextEnd → Type 0
-IsNext is_first language comment reporting origin bytes rest before after None =
+    → Bool → Option Text → Option Text → Option TextEnd → Type 0
+IsNext is_first language comment reporting origin bytes rest has_failed before after None =
     IsAtEnd bytes × IsReadUp bytes rest × Keeps before after
-IsNext is_first language comment reporting origin bytes rest before after (Some end) =
+IsNext is_first language comment reporting origin bytes rest has_failed before after (Some end) =
     (line : Text)
     × (IsFalse (is_failed end) → IsEndIn false language comment reporting line end
     × IsNextLine bytes line rest)
     × SaysOf (is_first && has_mark line) language reporting origin (text_in false line) end before after
-    × (IsTrue (is_failed end) → SaysUnread reporting.style origin.file before after)
+    × (IsTrue (is_failed end) → IsTrue has_failed × SaysUnread reporting.style origin.file before after)

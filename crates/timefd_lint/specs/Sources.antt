@@ -1,5 +1,5 @@
 -- What a run reports about a source of Rust, or a file with keys.
-use Rattle.std.specs.Prelude.{◌≡◌, ◌⊎◌, Bool, true, false, not, ◌&&◌, ◌||◌, ◌==◌, if◌then◌else◌, is_some, length, None, Some, List, [], ◌∷◌, ◌++◌, codes, nat_eq, Option, All, IfSome, IsFalse, IsUtf8}
+use Rattle.std.specs.Prelude.{◌≡◌, ◌⊎◌, Bool, true, false, not, ◌&&◌, ◌||◌, ◌==◌, if◌then◌else◌, is_some, length, None, Some, List, [], ◌∷◌, ◌++◌, codes, nat_eq, Option, All, IfSome, IsFalse, IsTrue, IsUtf8}
 use Rattle.std.specs.List.{ends_with}
 use Rattle.std.specs.Io.KnownBytes.{Appends}
 use denote.Ref.{Bor}
@@ -85,18 +85,18 @@ IsSaid finder reporting name bytes before after tally =
     (IsUtf8 bytes × IsReported finder reporting name bytes before after tally)
     ⊎ ((¬ IsUtf8 bytes) × IsNotText reporting name before after tally)
 
--- For a source that can't be read, the note on why is written.
-abbrev pub IsUnread : Reporting → Text → Option Text → Option Text → Tally → Type 0
-IsUnread reporting name before after tally = (file : Bor Text) × (file.now ≡ name)
-    × SaysUnread reporting.style file before after × (tally ≡ tally_of_one Failed)
+-- For a source that can't be read, since the reader has failed, the note on why is written.
+abbrev pub IsUnread : Reporting → Text → Bool → Option Text → Option Text → Tally → Type 0
+IsUnread reporting name has_failed before after tally = (file : Bor Text) × (file.now ≡ name)
+    × IsTrue has_failed × SaysUnread reporting.style file before after × (tally ≡ tally_of_one Failed)
 
 -- All bytes of a reader are the source, unless they can't be read.
-abbrev pub IsRunOfSource : Finder → Reporting → Text → Option Text → Option Text → Option Text → Option Text
-    → Tally → Type 0
-IsRunOfSource finder reporting name bytes rest before after tally =
+abbrev pub IsRunOfSource : Finder → Reporting → Text → Option Text → Option Text → Bool → Option Text
+    → Option Text → Tally → Type 0
+IsRunOfSource finder reporting name bytes rest has_failed before after tally =
     ((source : Text) × IfSome bytes (λ all. source ≡ all) × IsReadUp bytes rest
     × IsSaid finder reporting name source before after tally)
-    ⊎ IsUnread reporting name before after tally
+    ⊎ IsUnread reporting name has_failed before after tally
 
 -- The report is about a description in a source, in the line where it begins.
 pub record IsOfLiteral (reporting : Reporting) (t : Reported) : Type 0 where

@@ -23,8 +23,6 @@ pub enum FixError {
     Memory,
     /// The file fails for this reason.
     Failed(Failure),
-    /// The standard output can't be written.
-    Output,
 }
 
 impl From<AllocError> for FixError {

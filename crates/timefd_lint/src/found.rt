@@ -1,7 +1,9 @@
 //! What is found in a file that is rewritten or mended, and its new bytes.
 
-ghost use Rattle.std.specs.Prelude.{Option, Some, [], IfOk};
+ghost use Rattle.std.specs.Prelude.{◌≡◌, Bool, Option, Some, [], IfErr, IfOk};
 ghost use Rattle.timefd_component.specs.Tree.{Text};
+ghost use Rattle.timefd_lint.specs.Causes.{IsCausedBy};
+ghost use Rattle.timefd_lint.specs.declared.line.RunError.TheVariants as errors;
 ghost use Rattle.timefd_lint.specs.Rewritten.{AreCounted, IsFileRewritten};
 ghost use Rattle.timefd_lint.specs.Sources.{IsRunOfSource, finder_of};
 ghost use Rattle.timefd_lint.specs.Reported.{IsRunOver};
@@ -12,14 +14,16 @@ use crate::line::RunError;
 use crate::lines::lint_lines;
 use crate::options::Options;
 use crate::rust::lint_source;
+use crate::source::BUFFER;
 use crate::tally::Tally;
 use std::alloc::Global;
-use std::io::Write;
+use std::io::BufReader;
 use std::str;
 use timefd_lint_sources::rewriting::{
     Change, Outcome, count_refused, count_rewritten, rewrite_source,
 };
 use timefd_rewrite::{Counts, Layout, rewrite_lines};
+use timefd_streams::{BufferedSource, FromBufReader, Sink};
 
 /// What is counted in a file: lines or descriptions.
 #[derive(Clone, Copy)]
@@ -44,7 +48,7 @@ pub struct Found {
 }
 
 /// Checks the lines of a file, and rewrites those that can be rewritten.
-pub fn looked_at<W: Write>(
+pub fn looked_at<W: Sink>(
     alloc: Global,
     options: Options<'_>,
     layout: Layout,
@@ -52,14 +56,15 @@ pub fn looked_at<W: Write>(
     old: &[u8],
     writer: &mut W,
 ) -> Result<Found, RunError>
-    ensures reported { IfOk result (λ found. (rest : Option Text) × IsRunOver options.entry.language
-        options.entry.comment options.entry.reporting name.now (Some old.now) rest
-        (W.contents writer.old) (W.contents writer.new) found.tally) }
+    ensures reported { IfOk result (λ found. (rest : Option Text) × (has_failed : Bool)
+        × IsRunOver options.entry.language options.entry.comment options.entry.reporting name.now
+        (Some old.now) rest has_failed (W.contents writer.old) (W.contents writer.new) found.tally) }
     ensures rewritten { IfOk result (λ found. AreRewritten layout options.entry.comment
         (Some old.now) (Some []) (Some found.bytes.items) found.counts) }
+    ensures unwritten { IfErr result (IsCausedBy (W.has_failed writer.new)) }
 {
-    let mut lines = old;
-    let tally = lint_lines(alloc, options, name, &mut lines, writer)?;
+    let mut reader = reader_of(alloc, old)?;
+    let tally = lint_lines(alloc, options, name, &mut reader, writer)?;
     let mut lines = old;
     let mut bytes = Vec::new(alloc);
     match rewrite_lines(alloc, options.comment, layout, &mut lines, &mut bytes) {
@@ -77,7 +82,7 @@ pub fn looked_at<W: Write>(
 
 /// Checks the descriptions of a source, and mends or converts those that can be changed. A source that isn't
 /// UTF-8 has none.
-pub fn source_looked_at<W: Write>(
+pub fn source_looked_at<W: Sink>(
     alloc: Global,
     options: Options<'_>,
     change: Change,
@@ -85,13 +90,14 @@ pub fn source_looked_at<W: Write>(
     old: &[u8],
     writer: &mut W,
 ) -> Result<Found, RunError>
-    ensures reported { IfOk result (λ found. (rest : Option Text)
+    ensures reported { IfOk result (λ found. (rest : Option Text) × (has_failed : Bool)
         × IsRunOfSource (finder_of options.entry name.now) options.entry.reporting name.now
-        (Some old.now) rest (W.contents writer.old) (W.contents writer.new) found.tally) }
+        (Some old.now) rest has_failed (W.contents writer.old) (W.contents writer.new) found.tally) }
     ensures rewritten { IfOk result (λ found. IsFileRewritten change old.now found.counts found.bytes.items) }
+    ensures unwritten { IfErr result (IsCausedBy (W.has_failed writer.new)) }
 {
-    let mut bytes = old;
-    let tally = lint_source(alloc, options, name, &mut bytes, writer)?;
+    let mut reader = reader_of(alloc, old)?;
+    let tally = lint_source(alloc, options, name, &mut reader, writer)?;
     let unit = Unit::Description;
     match str::from_utf8(old) {
         Ok(source) => {
@@ -111,6 +117,18 @@ pub fn source_looked_at<W: Write>(
             bytes: Vec::new(alloc),
             by_hand: String::new(alloc),
         }),
+    }
+}
+
+// A reader of bytes in memory.
+fn reader_of<'a>(alloc: Global, bytes: &'a [u8]) -> Result<FromBufReader<&'a [u8]>, RunError>
+    ensures bytes { IfOk result (λ reader.
+        ⟦<FromBufReader<&'a [u8]> as BufferedSource>⟧.remaining reader ≡ Some bytes.now) }
+    ensures memory { IfErr result (λ e. e ≡ errors.Memory) }
+{
+    match BufReader::with_capacity(alloc, BUFFER, bytes) {
+        Ok(reader) => Ok(FromBufReader::new(reader)),
+        Err(_) => Err(RunError::Memory),
     }
 }
 

@@ -1,6 +1,6 @@
 //! One text of a file.
 
-ghost use Rattle.std.specs.Prelude.{◌≡◌, List, IfOk, OnOk};
+ghost use Rattle.std.specs.Prelude.{◌≡◌, List, IfErr, IfOk, OnOk};
 ghost use Rattle.std.specs.Io.KnownBytes.{Appends};
 ghost use Rattle.timefd_component.specs.Tree.{Tree};
 ghost use Rattle.timefd_drawing.specs.Drawing as drawing;
@@ -8,13 +8,13 @@ ghost use Rattle.timefd_language.specs.Grammar.{nesting_limit};
 ghost use Rattle.timefd_parse.specs.Language.{SpellsIn};
 ghost use Rattle.timefd_lint_sources.specs.Reported.{no_text_note};
 ghost use Rattle.timefd_lint.specs.declared.line.TextEnd.TheVariants as ends;
+ghost use Rattle.timefd_lint.specs.Causes.{IsCausedBy};
 ghost use Rattle.timefd_lint.specs.Lines.{IsEndOf, IsLineEnd, end_by};
 ghost use Rattle.timefd_lint_options.specs.declared.wording.Wording.TheVariants.{Own, Other};
 ghost use Rattle.timefd_lint.specs.Reported.{Says, WritesTree};
 
 use crate::options::Options;
 use std::alloc::{AllocError, Global};
-use std::io::Write;
 use std::str;
 use timefd_diagnosis::{Diagnostic, MOST_FURTHER, diagnose, further_faults};
 use timefd_dialect::Dialect;
@@ -26,6 +26,7 @@ use timefd_lint_warnings::dialects::{Judged, Judgement, judge};
 use timefd_lint_warnings::{found_in, messages};
 use timefd_parse::Language;
 use timefd_rewrite::is_passed_over;
+use timefd_streams::{Failed, Sink};
 use timefd_warnings::{Level, Levels};
 
 /// Why a run ends before its last text.
@@ -38,6 +39,11 @@ pub enum RunError {
 }
 
 impl From<AllocError> for RunError {
+    ghost use Rattle.std.specs.Prelude.{◌≡◌};
+    ghost use Rattle.timefd_lint.specs.declared.line.RunError.{RunError};
+
+    ghost from_gives = { λ _ e. e ≡ RunError.Memory };
+
     fn from(_: AllocError) -> RunError {
         RunError::Memory
     }
@@ -65,7 +71,7 @@ pub enum TextEnd {
 }
 
 /// Checks a line, without its newline, and writes what is wrong with it. An `Err` says why the run ends here.
-pub fn lint_line<W: Write>(
+pub fn lint_line<W: Sink>(
     alloc: Global,
     options: Options<'_>,
     origin: Origin<'_>,
@@ -76,6 +82,7 @@ pub fn lint_line<W: Write>(
         options.entry.reporting line.now) }
     ensures said { IfOk result (λ end. Says options.entry.language options.entry.reporting origin.entry
         line.now end (W.contents writer.old) (W.contents writer.new)) }
+    ensures unwritten { IfErr result (IsCausedBy (W.has_failed writer.new)) }
 {
     if is_passed_over(options.comment, line) {
         return Ok(TextEnd::PassedOver);
@@ -85,7 +92,7 @@ pub fn lint_line<W: Write>(
 
 /// Checks a text, and writes what is wrong with it. An `Err` says why the run ends here.
 #[tactic(auto, using(crate::proofs::TextLemmas::end_of_bytes, crate::proofs::TextLemmas::said_of_bytes, crate::proofs::TextLemmas::no_text_is, crate::proofs::TextLemmas::no_text_said))]
-pub fn lint_text<W: Write>(
+pub fn lint_text<W: Sink>(
     alloc: Global,
     options: Options<'_>,
     origin: Origin<'_>,
@@ -95,6 +102,7 @@ pub fn lint_text<W: Write>(
     ensures end { IfOk result (IsEndOf options.entry.language options.entry.reporting bytes.now) }
     ensures said { IfOk result (λ end. Says options.entry.language options.entry.reporting origin.entry
         bytes.now end (W.contents writer.old) (W.contents writer.new)) }
+    ensures unwritten { IfErr result (IsCausedBy (W.has_failed writer.new)) }
 {
     match str::from_utf8(bytes) {
         Ok(text) => judged(alloc, options, origin, text, writer),
@@ -104,7 +112,7 @@ pub fn lint_text<W: Write>(
 
 // Checks a text that is UTF-8.
 #[tactic(auto, using(crate::proofs::OtherLemmas::end_as, crate::proofs::OtherLemmas::said_as))]
-fn judged<W: Write>(
+fn judged<W: Sink>(
     alloc: Global,
     options: Options<'_>,
     origin: Origin<'_>,
@@ -114,6 +122,7 @@ fn judged<W: Write>(
     ensures end { IfOk result (IsEndOf options.entry.language options.entry.reporting text.now) }
     ensures said { IfOk result (λ end. Says options.entry.language options.entry.reporting origin.entry
         text.now end (W.contents writer.old) (W.contents writer.new)) }
+    ensures unwritten { IfErr result (IsCausedBy (W.has_failed writer.new)) }
 {
     match options.language {
         Wording::Own(language) => {
@@ -127,7 +136,7 @@ fn judged<W: Write>(
 
 // Checks a text of a language of `time`.
 #[tactic(auto, using(crate::proofs::TextLemmas::with_list, crate::proofs::TextLemmas::with_fault, crate::proofs::TextLemmas::fault_said))]
-fn own_judged<W: Write>(
+fn own_judged<W: Sink>(
     alloc: Global,
     language: Language,
     reporting: Reporting,
@@ -138,6 +147,7 @@ fn own_judged<W: Write>(
     ensures end { IfOk result (IsEndOf (Own language) reporting text.now) }
     ensures said { IfOk result (λ end. Says (Own language) reporting origin.entry
         text.now end (W.contents writer.old) (W.contents writer.new)) }
+    ensures unwritten { IfErr result (IsCausedBy (W.has_failed writer.new)) }
 {
     match diagnose(alloc, language, text)? {
         None => accepted(alloc, language, reporting, origin, text, writer),
@@ -158,7 +168,7 @@ fn own_judged<W: Write>(
 
 // Checks a format of another language.
 #[tactic(auto, using(crate::proofs::OtherLemmas::other_end, crate::proofs::OtherLemmas::other_said))]
-fn other_judged<W: Write>(
+fn other_judged<W: Sink>(
     alloc: Global,
     dialect: Dialect,
     reporting: Reporting,
@@ -169,6 +179,7 @@ fn other_judged<W: Write>(
     ensures end { IfOk result (IsEndOf (Other dialect) reporting text.now) }
     ensures said { IfOk result (λ end. Says (Other dialect) reporting origin.entry
         text.now end (W.contents writer.old) (W.contents writer.new)) }
+    ensures unwritten { IfErr result (IsCausedBy (W.has_failed writer.new)) }
 {
     let reports_traps = reporting.levels.is_some();
     let Judged { judgement, message } = judge(
@@ -194,7 +205,7 @@ fn end_of(judgement: Judgement) -> TextEnd
 }
 
 // Writes all that is wrong with a refused text.
-fn refused<W: Write>(
+fn refused<W: Sink>(
     alloc: Global,
     style: Style,
     origin: Origin<'_>,
@@ -206,6 +217,7 @@ fn refused<W: Write>(
     ensures end { IfOk result (λ end. end ≡ ends.Refused) }
     ensures written { OnOk result (Appends (W.contents writer.old) (W.contents writer.new)
         (drawing.drawn_all style origin.entry text.now diagnostic.now further.now)) }
+    ensures unwritten { IfErr result (IsCausedBy (W.has_failed writer.new)) }
 {
     let message = drawn_all(alloc, style, origin, text, diagnostic, further)?;
     write(writer, &message)?;
@@ -213,7 +225,7 @@ fn refused<W: Write>(
 }
 
 // Notes that a text isn't UTF-8.
-fn not_text<W: Write>(
+fn not_text<W: Sink>(
     alloc: Global,
     options: Options<'_>,
     origin: Origin<'_>,
@@ -222,6 +234,7 @@ fn not_text<W: Write>(
     ensures end { IfOk result (λ end. end ≡ ends.NotText) }
     ensures written { OnOk result (Appends (W.contents writer.old) (W.contents writer.new)
         (no_text_note options.entry.reporting.style origin.entry)) }
+    ensures unwritten { IfErr result (IsCausedBy (W.has_failed writer.new)) }
 {
     let message = note(
         alloc,
@@ -235,7 +248,7 @@ fn not_text<W: Write>(
 }
 
 // Writes the tree of an accepted text, if it is asked for, and then the warnings that are reported.
-fn accepted<W: Write>(
+fn accepted<W: Sink>(
     alloc: Global,
     language: Language,
     reporting: Reporting,
@@ -247,6 +260,7 @@ fn accepted<W: Write>(
         → IfOk result (IsEndOf (Own language) reporting text.now) }
     ensures said { IfOk result (λ end. Says (Own language) reporting origin.entry
         text.now end (W.contents writer.old) (W.contents writer.new)) }
+    ensures unwritten { IfErr result (IsCausedBy (W.has_failed writer.new)) }
 {
     write_tree(alloc, language, reporting.explains, origin, text, writer)?;
     let Some(levels) = reporting.levels else {
@@ -260,7 +274,7 @@ fn accepted<W: Write>(
 
 // Writes the tree of an accepted text, if it is asked for.
 #[tactic(auto, using(crate::proofs::AcceptedLemmas::tree_written, crate::proofs::AcceptedLemmas::no_tree))]
-fn write_tree<W: Write>(
+fn write_tree<W: Sink>(
     alloc: Global,
     language: Language,
     explains: bool,
@@ -268,8 +282,9 @@ fn write_tree<W: Write>(
     text: &str,
     writer: &mut W,
 ) -> Result<(), RunError>
-    ensures { OnOk result (WritesTree language explains origin.entry text.now
+    ensures written { OnOk result (WritesTree language explains origin.entry text.now
         (W.contents writer.old) (W.contents writer.new)) }
+    ensures unwritten { IfErr result (IsCausedBy (W.has_failed writer.new)) }
 {
     if explains {
         let tree = explained(alloc, language, origin, text)?;
@@ -279,11 +294,12 @@ fn write_tree<W: Write>(
 }
 
 /// Writes all of the bytes.
-pub fn write<W: Write>(writer: &mut W, bytes: &[u8]) -> Result<(), RunError>
-    ensures { OnOk result (Appends (W.contents writer.old) (W.contents writer.new) bytes.now) }
+pub fn write<W: Sink>(writer: &mut W, bytes: &[u8]) -> Result<(), RunError>
+    ensures written { OnOk result (Appends (W.contents writer.old) (W.contents writer.new) bytes.now) }
+    ensures unwritten { IfErr result (IsCausedBy (W.has_failed writer.new)) }
 {
-    match writer.write_all(bytes) {
+    match writer.put_all(bytes) {
         Ok(()) => Ok(()),
-        Err(_) => Err(RunError::Write),
+        Err(Failed) => Err(RunError::Write),
     }
 }

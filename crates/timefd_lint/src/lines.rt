@@ -1,8 +1,8 @@
 //! The lines of a reader, one after another.
 
-ghost use Rattle.std.specs.Prelude.{◌≡◌, IfOk, OnOk};
+ghost use Rattle.std.specs.Prelude.{◌≡◌, IfErr, IfOk, IsTrue, OnOk};
 ghost use Rattle.std.specs.Io.KnownBytes.{Appends};
-ghost use Rattle.std.specs.IoError.{error_kind};
+ghost use Rattle.timefd_lint.specs.Causes.{IsCausedBy};
 ghost use Rattle.timefd_lint.specs.Failures as failures;
 ghost use Rattle.timefd_lint.specs.Failures.{note_of};
 ghost use Rattle.timefd_lint.specs.Reported.{IsNext, IsRunOfAll, IsRunOver, SaysUnread};
@@ -14,23 +14,26 @@ use crate::mark::note_mark;
 use crate::options::Options;
 use crate::tally::Tally;
 use std::alloc::Global;
-use std::io::{BufRead, Error, ErrorKind, Read, Write};
+use std::io::ErrorKind;
 use timefd_drawing::{Origin, note};
 use timefd_rewrite::without_newline;
+use timefd_streams::{BufferedError, BufferedSource, Sink};
 
 /// Checks each line of a reader, in order, and writes what is wrong.
 #[tactic(auto, using(crate::proofs::ReportedLemmas::no_lines))]
-pub fn lint_lines<R: BufRead, W: Write>(
+pub fn lint_lines<R: BufferedSource, W: Sink>(
     alloc: Global,
     options: Options<'_>,
     name: &str,
     reader: &mut R,
     writer: &mut W,
 ) -> Result<Tally, RunError>
-    ensures { IfOk result (IsRunOver options.entry.language options.entry.comment
+    ensures reported { IfOk result (IsRunOver options.entry.language options.entry.comment
         options.entry.reporting name.now (R.remaining reader.old)
-        (R.remaining reader.new)
+        (R.remaining reader.new) (R.has_failed reader.new)
         (W.contents writer.old) (W.contents writer.new)) }
+    ensures stays { OnOk result (IsTrue (R.has_failed reader.old) → IsTrue (R.has_failed reader.new)) }
+    ensures unwritten { IfErr result (IsCausedBy (W.has_failed writer.new)) }
 {
     let mut tally = Tally::new();
     let mut bytes = Vec::new(alloc);
@@ -52,7 +55,7 @@ pub fn lint_lines<R: BufRead, W: Write>(
 
 // Checks the next line, with this buffer for it. `None` at the end of the input.
 #[tactic(auto, using(crate::proofs::ReportedLemmas::read_none))]
-fn lint_next<R: BufRead, W: Write>(
+fn lint_next<R: BufferedSource, W: Sink>(
     alloc: Global,
     options: Options<'_>,
     origin: Origin<'_>,
@@ -61,9 +64,11 @@ fn lint_next<R: BufRead, W: Write>(
     reader: &mut R,
     writer: &mut W,
 ) -> Result<Option<TextEnd>, RunError>
-    ensures { IfOk result (IsNext is_first options.entry.language options.entry.comment
+    ensures next { IfOk result (IsNext is_first options.entry.language options.entry.comment
         options.entry.reporting origin.entry (R.remaining reader.old) (R.remaining reader.new)
-        (W.contents writer.old) (W.contents writer.new)) }
+        (R.has_failed reader.new) (W.contents writer.old) (W.contents writer.new)) }
+    ensures stays { OnOk result (IsTrue (R.has_failed reader.old) → IsTrue (R.has_failed reader.new)) }
+    ensures unwritten { IfErr result (IsCausedBy (W.has_failed writer.new)) }
 {
     bytes.clear();
     match reader.read_until(b'\n', bytes) {
@@ -75,22 +80,27 @@ fn lint_next<R: BufRead, W: Write>(
             let line = without_newline(bytes);
             Ok(Some(lint_line(alloc, options, origin, line, writer)?))
         }
-        Err(error) => Ok(Some(read_error(alloc, options, origin.file, error, writer)?)),
+        Err(BufferedError::Memory) => Err(RunError::Memory),
+        Err(BufferedError::Failed(kind)) => {
+            Ok(Some(read_error(alloc, options, origin.file, kind, writer)?))
+        }
     }
 }
 
 /// Checks all bytes of a reader as one text, and writes what is wrong.
-pub fn lint_whole<R: Read, W: Write>(
+pub fn lint_whole<R: BufferedSource, W: Sink>(
     alloc: Global,
     options: Options<'_>,
     name: &str,
     reader: &mut R,
     writer: &mut W,
 ) -> Result<Tally, RunError>
-    ensures { IfOk result (IsRunOfAll options.entry.language options.entry.comment
+    ensures reported { IfOk result (IsRunOfAll options.entry.language options.entry.comment
         options.entry.reporting name.now (R.remaining reader.old)
-        (R.remaining reader.new)
+        (R.remaining reader.new) (R.has_failed reader.new)
         (W.contents writer.old) (W.contents writer.new)) }
+    ensures stays { OnOk result (IsTrue (R.has_failed reader.old) → IsTrue (R.has_failed reader.new)) }
+    ensures unwritten { IfErr result (IsCausedBy (W.has_failed writer.new)) }
 {
     let origin = Origin {
         file: name,
@@ -103,36 +113,35 @@ pub fn lint_whole<R: Read, W: Write>(
             let end = lint_text(alloc, options, origin, &bytes, writer)?;
             Ok(Tally::of(end))
         }
-        Err(error) => {
-            let end = read_error(alloc, options, name, error, writer)?;
+        Err(BufferedError::Memory) => Err(RunError::Memory),
+        Err(BufferedError::Failed(kind)) => {
+            let end = read_error(alloc, options, name, kind, writer)?;
             Ok(Tally::of(end))
         }
     }
 }
 
-/// Notes that a file can't be read. If memory ran out during the read, the run ends instead.
+/// Notes that a file can't be read, by an error of this kind.
 #[tactic(auto, using(crate::proofs::ReportedLemmas::says_unread))]
-pub fn read_error<W: Write>(
+pub fn read_error<W: Sink>(
     alloc: Global,
     options: Options<'_>,
     name: &str,
-    error: Error,
+    kind: ErrorKind,
     writer: &mut W,
 ) -> Result<TextEnd, RunError>
     ensures end { IfOk result (λ end. end ≡ ends.Failed) }
     ensures said { OnOk result (SaysUnread options.entry.reporting.style name.entry
         (W.contents writer.old) (W.contents writer.new)) }
     ensures noted { OnOk result (Appends (W.contents writer.old) (W.contents writer.new)
-        (note_of options.entry.reporting.style name.entry (failures.unread (error_kind error)))) }
+        (note_of options.entry.reporting.style name.entry (failures.unread kind))) }
+    ensures unwritten { IfErr result (IsCausedBy (W.has_failed writer.new)) }
 {
-    if error.kind() == ErrorKind::OutOfMemory {
-        return Err(RunError::Memory);
-    }
-    failed(alloc, options, name, unread(error.kind()), writer)
+    failed(alloc, options, name, unread(kind), writer)
 }
 
 /// Notes why a file fails.
-pub fn failed<W: Write>(
+pub fn failed<W: Sink>(
     alloc: Global,
     options: Options<'_>,
     name: &str,
@@ -142,6 +151,7 @@ pub fn failed<W: Write>(
     ensures end { IfOk result (λ end. end ≡ ends.Failed) }
     ensures noted { OnOk result (Appends (W.contents writer.old) (W.contents writer.new)
         (note_of options.entry.reporting.style name.entry failure)) }
+    ensures unwritten { IfErr result (IsCausedBy (W.has_failed writer.new)) }
 {
     let origin = Origin {
         file: name,

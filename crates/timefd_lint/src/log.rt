@@ -1,12 +1,13 @@
 //! A log of SARIF 2.1.0, which holds the results of a run.
 
-ghost use Rattle.std.specs.Prelude.{◌≡◌, IfOk, OnOk, drop};
+ghost use Rattle.std.specs.Prelude.{◌≡◌, IfErr, IfOk, OnOk, drop};
+ghost use Rattle.timefd_lint.specs.Causes.{IsCausedBy};
 ghost use Rattle.timefd_lint.specs.Logs as spec;
 
 use crate::line::{RunError, write};
 use crate::rules::push_rules;
 use std::alloc::{AllocError, Global};
-use std::io::Write;
+use timefd_streams::Sink;
 
 /// The part of the log before the rules: it names the program.
 const PROGRAM: &str =
@@ -54,8 +55,9 @@ fn head(alloc: Global) -> Result<Vec<u8>, AllocError>
 }
 
 /// Writes the log with these results, each of which begins with a comma. An `Err` says why the run ends here.
-pub fn write_log<W: Write>(alloc: Global, results: &[u8], writer: &mut W) -> Result<(), RunError>
-    ensures { OnOk result (spec.WritesLog results.now (W.contents writer.old) (W.contents writer.new)) }
+pub fn write_log<W: Sink>(alloc: Global, results: &[u8], writer: &mut W) -> Result<(), RunError>
+    ensures written { OnOk result (spec.WritesLog results.now (W.contents writer.old) (W.contents writer.new)) }
+    ensures unwritten { IfErr result (IsCausedBy (W.has_failed writer.new)) }
 {
     let head = head(alloc)?;
     let log = joined(alloc, &head, results, END)?;

@@ -27,6 +27,7 @@ mod page;
 mod progress;
 mod rewrite_report;
 mod rewriting;
+mod rewritten;
 mod rule;
 mod rules;
 mod run;
@@ -68,7 +69,7 @@ use timefd_lint_options::{
     Asked, OptionError, Settings, is_log, keys_of, lines_conflict, options_of, ordered,
 };
 use timefd_sources::keys::Key;
-use timefd_streams::{WordsError, all_words, borrowed};
+use timefd_streams::{Sink, ToWriter, WordsError, all_words, borrowed};
 
 // Writes a text to the standard output, and returns the status.
 fn written(rt: &HostRuntime, text: &str) -> u8 {
@@ -172,8 +173,8 @@ fn nothing_status(rt: &HostRuntime, settings: Settings<'_>) -> u8 {
     if !is_log(settings.format) {
         return end_of(rt, settings, 0, Tally::new());
     }
-    let mut output = standard_output(rt, false, rt.stdout());
-    match write_log(rt.alloc(), &[], &mut output) {
+    let mut sink = ToWriter::new(standard_output(rt, false, rt.stdout()));
+    match write_log(rt.alloc(), &[], &mut sink) {
         Ok(()) => end_of(rt, settings, 0, Tally::new()),
         Err(RunError::Memory) => no_memory(rt),
         Err(RunError::Write) => write_failed(rt),
@@ -198,9 +199,11 @@ fn run_status(rt: &HostRuntime, settings: Settings<'_>, options: Options<'_>) ->
     let Ok(writer) = BufWriter::new(rt.alloc(), rt.stdout()) else {
         return no_memory(rt);
     };
-    let mut output = standard_output(rt, options.reporting.style.is_colored, writer);
-    let end = run_in_form(rt, settings, options, &mut output);
-    match (end, output.flush()) {
+    let output = standard_output(rt, options.reporting.style.is_colored, writer);
+    let audience = output.audience;
+    let mut sink = ToWriter::new(output);
+    let end = run_in_form(rt, settings, options, audience, &mut sink);
+    match (end, sink.flush()) {
         (Ok(tally), Ok(())) => end_of(rt, settings, options.file_count(), tally),
         (Err(RunError::Memory), _) => no_memory(rt),
         (Err(RunError::Write), _) | (Ok(_), Err(_)) => write_failed(rt),

@@ -1,18 +1,19 @@
 //! A byte-order mark at the front of a file.
 
-ghost use Rattle.std.specs.Prelude.{◌≡◌, ◌&&◌, IfOk, OnOk, string_bytes};
+ghost use Rattle.std.specs.Prelude.{◌≡◌, ◌&&◌, IfErr, IfOk, OnOk, string_bytes};
+ghost use Rattle.timefd_lint.specs.Causes.{IsCausedBy};
 ghost use Rattle.timefd_lint.specs.Marks.{Notes, has_mark};
 ghost use Rattle.timefd_lint.specs.Marks as spec;
 
 use crate::line::{RunError, write};
 use crate::options::Options;
 use std::alloc::{AllocError, Global};
-use std::io::Write;
 use timefd_drawing::github::{Command, annotation};
 use timefd_drawing::json::{Entry, note_object};
 use timefd_drawing::sarif::note_result;
 use timefd_drawing::{Format, Origin, Style, note};
 use timefd_lint_warnings::{head, position};
+use timefd_streams::Sink;
 use timefd_warnings::Level;
 
 // The code of the note.
@@ -29,7 +30,7 @@ fn begins_with_mark(text: &[u8]) -> bool
 
 /// Notes a byte-order mark at the front of a text, if the text is the first of its file.
 #[tactic(auto, using(crate::proofs::MarkLemmas::noted, crate::proofs::MarkLemmas::not_noted))]
-pub fn note_mark<W: Write>(
+pub fn note_mark<W: Sink>(
     alloc: Global,
     options: Options<'_>,
     origin: Origin<'_>,
@@ -37,8 +38,9 @@ pub fn note_mark<W: Write>(
     text: &[u8],
     writer: &mut W,
 ) -> Result<(), RunError>
-    ensures { OnOk result (Notes (is_first && has_mark text.now) options.entry.reporting.style
+    ensures noted { OnOk result (Notes (is_first && has_mark text.now) options.entry.reporting.style
         origin.entry (W.contents writer.old) (W.contents writer.new)) }
+    ensures unwritten { IfErr result (IsCausedBy (W.has_failed writer.new)) }
 {
     if is_first && begins_with_mark(text) {
         let message = warning(alloc, options.reporting.style, origin)?;

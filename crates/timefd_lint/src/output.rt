@@ -1,12 +1,13 @@
 //! The standard streams, and who reads them: the only way of the program's texts to people.
 
-ghost use Rattle.std.specs.Prelude.{◌≡◌, None, OnOk};
+ghost use Rattle.std.specs.Prelude.{◌≡◌, IfOk, None, OnOk, false};
 ghost use Rattle.std.specs.Io.{WritesAtMost};
 ghost use Rattle.std.specs.Io.KnownBytes.{WriteAppends};
+ghost use Rattle.timefd_drawing.specs.People.{for_people};
 ghost use Rattle.timefd_lint.specs.Outputs.{IsShown, IsShownInColor, IsWithoutColor, known};
 ghost use Rattle.timefd_lint.specs.Outputs as spec;
 
-use std::alloc::Global;
+use std::alloc::{AllocError, Global};
 use std::io::{IsTerminal, Result, Stderr, Write};
 use timefd_drawing::people::show;
 
@@ -34,15 +35,32 @@ impl Audience {
             Audience::WithoutColor
         }
     }
+}
 
-    /// Who reads a text that has no colours of its own: an escape in it is part of what it quotes.
-    pub fn without_color(self) -> Audience
-        ensures { result ≡ spec.without_color self }
-    {
-        match self {
-            Audience::InColor | Audience::WithoutColor => Audience::WithoutColor,
-            Audience::Program => Audience::Program,
-        }
+/// A text without colours of its own, for who reads a stream that shows the colours of messages or doesn't. An
+/// `Err` says that memory ran out.
+pub fn without_colors(
+    alloc: Global,
+    audience: Audience,
+    text: Vec<u8>,
+) -> std::result::Result<Vec<u8>, AllocError>
+    ensures { IfOk result (λ plain. plain.items ≡ spec.without_colors audience text.items) }
+{
+    match audience {
+        Audience::InColor => shown_without_colors(alloc, &text),
+        Audience::WithoutColor | Audience::Program => Ok(text),
+    }
+}
+
+// What people see of a text without colours.
+fn shown_without_colors(alloc: Global, text: &[u8]) -> std::result::Result<Vec<u8>, AllocError>
+    ensures { IfOk result (λ plain. plain.items ≡ for_people false text.now) }
+{
+    let mut plain = Vec::new(alloc);
+    match show(alloc, false, text, &mut plain) {
+        Ok(()) => Ok(plain),
+        // The writer is in memory, so only memory can run out.
+        Err(_) => Err(AllocError),
     }
 }
 

@@ -7,9 +7,10 @@ use crate::output::standard_error;
 use crate::source::Source;
 use std::alloc::Global;
 use std::cell::Cell;
-use std::io::{BufReader, IsTerminal, Write};
+use std::io::{IsTerminal, Write};
 use std::rt::Files;
 use std::time::{Duration, Instant};
+use timefd_streams::FromBufReader;
 
 /// The first line of progress comes after this many milliseconds.
 const FIRST: u64 = 1000;
@@ -89,7 +90,7 @@ fn after_now(rt: &HostRuntime, milliseconds: u64) -> Option<Instant> {
 }
 
 impl Source for Watched<'_> {
-    type Opened = BufReader<<HostRuntime as Files>::File>;
+    type Opened = FromBufReader<<HostRuntime as Files>::File>;
 
     ghost opens = { λ _ _ _. ⊤ };
 

@@ -1,7 +1,8 @@
 //! A run over files.
 
-ghost use Rattle.std.specs.Prelude.{◌≡◌, ◌≢◌, [], IfOk};
-ghost use Rattle.timefd_lint.specs.Files.{IsNoted, IsRunIn, IsRunOfFile, IsRunOfName, IsRunOfNames, input_name};
+ghost use Rattle.std.specs.Prelude.{◌≡◌, ◌≢◌, [], IfErr, IfOk, IsTrue, OnOk};
+ghost use Rattle.timefd_lint.specs.Causes.{IsCausedBy};
+ghost use Rattle.timefd_lint.specs.Files.{IsNoted, IsOpenedBy, IsRunIn, IsRunOfFile, IsRunOfName, IsRunOfNames, input_name};
 ghost use Rattle.timefd_lint.specs.Sources.{IsRunWith, any_source};
 ghost use Rattle.timefd_lint.specs.Sources as sources;
 ghost use Rattle.timefd_lint.specs.Reported.{IsRun, tally_of};
@@ -14,8 +15,8 @@ use crate::rust::{is_source, lint_source};
 use crate::source::Source;
 use crate::tally::Tally;
 use std::alloc::Global;
-use std::io::{BufRead, Write};
 use timefd_lint_options::is_input;
+use timefd_streams::{BufferedSource, Sink};
 
 /// The name that reports use for the standard input.
 const INPUT: &str = "<stdin>";
@@ -24,7 +25,7 @@ const INPUT: &str = "<stdin>";
 /// that can't be read is noted, and the others are still checked. The name `-` means the standard input. A
 /// second `-` finds it already read to its end.
 #[tactic(auto, using(crate::proofs::FilesLemmas::input_alone))]
-pub fn run<S: Source, I: BufRead, W: Write>(
+pub fn run<S: Source, I: BufferedSource, W: Sink>(
     source: &S,
     alloc: Global,
     options: Options<'_>,
@@ -37,15 +38,17 @@ pub fn run<S: Source, I: BufRead, W: Write>(
 
     // If no file is named, the report is about all that the input has.
     ensures input { options.entry.files.now ≡ [] → IfOk result (IsRunIn options.entry input_name
-        (I.remaining input.old) (I.remaining input.new)
+        (I.remaining input.old) (I.remaining input.new) (I.has_failed input.new)
         (W.contents writer.old) (W.contents writer.new)) }
 
     // If some are named, the report covers each of them in order: what it had when it was opened, or why it
     // wasn't opened.
     ensures files { options.entry.files.now ≢ [] → IfOk result (IsRunOfNames
-        (S.opens source.now) (S.fails source.now) options.entry options.entry.files.now
-        (tally_of []) (I.remaining input.old) (I.remaining input.new)
+        (IsOpenedBy (S.opens source.now) S.Opened.has_failed)
+        (S.fails source.now) options.entry options.entry.files.now
+        (tally_of []) (I.remaining input.old) (I.remaining input.new) (I.has_failed input.new)
         (W.contents writer.old) (W.contents writer.new)) }
+    ensures unwritten { IfErr result (IsCausedBy (W.has_failed writer.new)) }
 {
     if options.files.is_empty() {
         lint_reader(alloc, options, INPUT, input, writer)
@@ -56,7 +59,7 @@ pub fn run<S: Source, I: BufRead, W: Write>(
 
 // Checks each named file, in order.
 #[tactic(auto, using(crate::proofs::FilesLemmas::no_name, crate::proofs::FilesLemmas::one_name, crate::proofs::FilesLemmas::all_names, crate::proofs::FilesLemmas::run_of_all))]
-fn lint_files<S: Source, I: BufRead, W: Write>(
+fn lint_files<S: Source, I: BufferedSource, W: Sink>(
     source: &S,
     alloc: Global,
     options: Options<'_>,
@@ -66,10 +69,12 @@ fn lint_files<S: Source, I: BufRead, W: Write>(
     ensures reported { IfOk result (IsRunWith (any_source options.entry options.entry.files.now)
         options.entry.is_whole options.entry.language options.entry.comment
         options.entry.reporting (W.contents writer.old) (W.contents writer.new)) }
-    ensures files { IfOk result (IsRunOfNames (S.opens source.now) (S.fails source.now)
+    ensures files { IfOk result (IsRunOfNames (IsOpenedBy (S.opens source.now) S.Opened.has_failed)
+        (S.fails source.now)
         options.entry options.entry.files.now (tally_of [])
-        (I.remaining input.old) (I.remaining input.new)
+        (I.remaining input.old) (I.remaining input.new) (I.has_failed input.new)
         (W.contents writer.old) (W.contents writer.new)) }
+    ensures unwritten { IfErr result (IsCausedBy (W.has_failed writer.new)) }
 {
     let mut tally = Tally::new();
     let mut rest = options.files;
@@ -82,7 +87,7 @@ fn lint_files<S: Source, I: BufRead, W: Write>(
 
 /// Checks all texts of a file, or all that is left of the input.
 #[tactic(auto, using(crate::proofs::FilesLemmas::input_named))]
-pub fn lint_named<S: Source, I: BufRead, W: Write>(
+pub fn lint_named<S: Source, I: BufferedSource, W: Sink>(
     source: &S,
     alloc: Global,
     options: Options<'_>,
@@ -93,9 +98,12 @@ pub fn lint_named<S: Source, I: BufRead, W: Write>(
     ensures reported { IfOk result (IsRunWith (sources.is_source options.entry name.now)
         options.entry.is_whole options.entry.language options.entry.comment
         options.entry.reporting (W.contents writer.old) (W.contents writer.new)) }
-    ensures named { IfOk result (IsRunOfName (S.opens source.now) (S.fails source.now)
+    ensures named { IfOk result (IsRunOfName (IsOpenedBy (S.opens source.now) S.Opened.has_failed)
+        (S.fails source.now)
         options.entry name.entry (I.remaining input.old) (I.remaining input.new)
-        (W.contents writer.old) (W.contents writer.new)) }
+        (I.has_failed input.new) (W.contents writer.old) (W.contents writer.new)) }
+    ensures stays { OnOk result (IsTrue (I.has_failed input.old) → IsTrue (I.has_failed input.new)) }
+    ensures unwritten { IfErr result (IsCausedBy (W.has_failed writer.new)) }
 {
     if is_input(name) {
         lint_reader(alloc, options, INPUT, input, writer)
@@ -106,7 +114,7 @@ pub fn lint_named<S: Source, I: BufRead, W: Write>(
 
 // Checks all texts of a file.
 #[tactic(auto, using(crate::proofs::FilesLemmas::opened, crate::proofs::FilesLemmas::unopened, crate::proofs::SourcesLemmas::with_texts))]
-fn lint_file<S: Source, W: Write>(
+fn lint_file<S: Source, W: Sink>(
     source: &S,
     alloc: Global,
     options: Options<'_>,
@@ -116,9 +124,10 @@ fn lint_file<S: Source, W: Write>(
     ensures reported { IfOk result (IsRunWith (sources.is_source options.entry name.now)
         options.entry.is_whole options.entry.language options.entry.comment
         options.entry.reporting (W.contents writer.old) (W.contents writer.new)) }
-    ensures file { IfOk result (IsRunOfFile (S.opens source.now name.now)
+    ensures file { IfOk result (IsRunOfFile (IsOpenedBy (S.opens source.now) S.Opened.has_failed name.now)
         (S.fails source.now name.now) options.entry name.entry
         (W.contents writer.old) (W.contents writer.new)) }
+    ensures unwritten { IfErr result (IsCausedBy (W.has_failed writer.new)) }
 {
     match source.open(alloc, name) {
         Ok(mut reader) => lint_reader(alloc, options, name, &mut reader, writer),
@@ -127,7 +136,7 @@ fn lint_file<S: Source, W: Write>(
 }
 
 // Notes why a file isn't opened.
-fn note_unopened<W: Write>(
+fn note_unopened<W: Sink>(
     alloc: Global,
     options: Options<'_>,
     name: &str,
@@ -139,6 +148,7 @@ fn note_unopened<W: Write>(
         (W.contents writer.new)) }
     ensures noted { IfOk result (IsNoted options.entry name.entry error
         (W.contents writer.old) (W.contents writer.new)) }
+    ensures unwritten { IfErr result (IsCausedBy (W.has_failed writer.new)) }
 {
     match error {
         OpenError::Memory => Err(RunError::Memory),
@@ -151,7 +161,7 @@ fn note_unopened<W: Write>(
 
 // Checks all texts of a reader.
 #[tactic(auto, using(crate::proofs::FilesLemmas::in_source, crate::proofs::FilesLemmas::in_whole, crate::proofs::FilesLemmas::in_lines, crate::proofs::SourcesLemmas::with_source, crate::proofs::SourcesLemmas::with_whole, crate::proofs::SourcesLemmas::with_lines))]
-fn lint_reader<R: BufRead, W: Write>(
+fn lint_reader<R: BufferedSource, W: Sink>(
     alloc: Global,
     options: Options<'_>,
     name: &str,
@@ -162,7 +172,9 @@ fn lint_reader<R: BufRead, W: Write>(
         options.entry.is_whole options.entry.language options.entry.comment
         options.entry.reporting (W.contents writer.old) (W.contents writer.new)) }
     ensures all { IfOk result (IsRunIn options.entry name.now (R.remaining reader.old)
-        (R.remaining reader.new) (W.contents writer.old) (W.contents writer.new)) }
+        (R.remaining reader.new) (R.has_failed reader.new) (W.contents writer.old) (W.contents writer.new)) }
+    ensures stays { OnOk result (IsTrue (R.has_failed reader.old) → IsTrue (R.has_failed reader.new)) }
+    ensures unwritten { IfErr result (IsCausedBy (W.has_failed writer.new)) }
 {
     if is_source(options, name) {
         lint_source(alloc, options, name, reader, writer)

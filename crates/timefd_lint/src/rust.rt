@@ -1,7 +1,8 @@
 //! Sources of Rust, and files with keys.
 
-ghost use Rattle.std.specs.Prelude.{◌≡◌, IfOk};
+ghost use Rattle.std.specs.Prelude.{◌≡◌, IfErr, IfOk, IsTrue, OnOk};
 ghost use Rattle.std.specs.List.{list_all};
+ghost use Rattle.timefd_lint.specs.Causes.{IsCausedBy};
 ghost use Rattle.timefd_lint.specs.Sources.{IsNotText, IsReported, IsRunOfSource, IsSaid};
 ghost use Rattle.timefd_lint.specs.Sources as spec;
 
@@ -10,11 +11,11 @@ use crate::lines::read_error;
 use crate::options::Options;
 use crate::tally::Tally;
 use std::alloc::Global;
-use std::io::{Read, Write};
 use std::str;
 use timefd_drawing::{Origin, note};
 use timefd_lint_sources::{End, Finder, Source};
 use timefd_sources::keys::format_named;
+use timefd_streams::{BufferedError, BufferedSource, Sink};
 
 /// Whether a file with this name is read as a source of Rust.
 fn is_rust(options: Options<'_>, name: &str) -> bool
@@ -59,22 +60,25 @@ fn finder_of<'a>(options: Options<'a>, name: &str) -> Finder<'a>
 
 /// Checks all bytes of a reader as a source, and writes what is wrong in it.
 #[tactic(auto, using(crate::proofs::SourcesLemmas::source_read, crate::proofs::SourcesLemmas::source_unread))]
-pub fn lint_source<R: Read, W: Write>(
+pub fn lint_source<R: BufferedSource, W: Sink>(
     alloc: Global,
     options: Options<'_>,
     name: &str,
     reader: &mut R,
     writer: &mut W,
 ) -> Result<Tally, RunError>
-    ensures { IfOk result (IsRunOfSource (spec.finder_of options.entry name.now) options.entry.reporting name.now
-        (R.remaining reader.old) (R.remaining reader.new)
+    ensures reported { IfOk result (IsRunOfSource (spec.finder_of options.entry name.now) options.entry.reporting name.now
+        (R.remaining reader.old) (R.remaining reader.new) (R.has_failed reader.new)
         (W.contents writer.old) (W.contents writer.new)) }
+    ensures stays { OnOk result (IsTrue (R.has_failed reader.old) → IsTrue (R.has_failed reader.new)) }
+    ensures unwritten { IfErr result (IsCausedBy (W.has_failed writer.new)) }
 {
     let mut bytes = Vec::new(alloc);
     match reader.read_to_end(&mut bytes) {
         Ok(_) => lint_bytes(alloc, options, name, &bytes, writer),
-        Err(error) => {
-            let end = read_error(alloc, options, name, error, writer)?;
+        Err(BufferedError::Memory) => Err(RunError::Memory),
+        Err(BufferedError::Failed(kind)) => {
+            let end = read_error(alloc, options, name, kind, writer)?;
             Ok(Tally::of(end))
         }
     }
@@ -82,15 +86,16 @@ pub fn lint_source<R: Read, W: Write>(
 
 // Checks a source, and writes what is wrong in it.
 #[tactic(auto, using(crate::proofs::SourcesLemmas::said_of_text, crate::proofs::SourcesLemmas::said_of_no_text))]
-fn lint_bytes<W: Write>(
+fn lint_bytes<W: Sink>(
     alloc: Global,
     options: Options<'_>,
     name: &str,
     bytes: &[u8],
     writer: &mut W,
 ) -> Result<Tally, RunError>
-    ensures { IfOk result (IsSaid (spec.finder_of options.entry name.now) options.entry.reporting name.now bytes.now
+    ensures said { IfOk result (IsSaid (spec.finder_of options.entry name.now) options.entry.reporting name.now bytes.now
         (W.contents writer.old) (W.contents writer.new)) }
+    ensures unwritten { IfErr result (IsCausedBy (W.has_failed writer.new)) }
 {
     match str::from_utf8(bytes) {
         Ok(text) => {
@@ -107,14 +112,15 @@ fn lint_bytes<W: Write>(
 
 // Checks a source that is UTF-8.
 #[tactic(auto, using(crate::proofs::SourcesLemmas::reported_source))]
-fn lint_text<W: Write>(
+fn lint_text<W: Sink>(
     alloc: Global,
     options: Options<'_>,
     source: Source<'_>,
     writer: &mut W,
 ) -> Result<Tally, RunError>
-    ensures { IfOk result (IsReported source.entry.finder options.entry.reporting source.entry.file.now
+    ensures reported { IfOk result (IsReported source.entry.finder options.entry.reporting source.entry.file.now
         source.entry.text.now (W.contents writer.old) (W.contents writer.new)) }
+    ensures unwritten { IfErr result (IsCausedBy (W.has_failed writer.new)) }
 {
     let report = timefd_lint_sources::lint_source(alloc, options.reporting, source)?;
     write(writer, &report.message)?;
@@ -122,14 +128,15 @@ fn lint_text<W: Write>(
 }
 
 // Notes that a source isn't UTF-8.
-fn not_text<W: Write>(
+fn not_text<W: Sink>(
     alloc: Global,
     options: Options<'_>,
     name: &str,
     writer: &mut W,
 ) -> Result<Tally, RunError>
-    ensures { IfOk result (IsNotText options.entry.reporting name.now
+    ensures noted { IfOk result (IsNotText options.entry.reporting name.now
         (W.contents writer.old) (W.contents writer.new)) }
+    ensures unwritten { IfErr result (IsCausedBy (W.has_failed writer.new)) }
 {
     let origin = Origin {
         file: name,

@@ -7,8 +7,9 @@ ghost use Rattle.timefd_lint.specs.declared.failure.OpenError.{OpenError};
 use crate::failure::{OpenError, unread};
 use std::alloc::Global;
 use std::fs::File;
-use std::io::{BufRead, BufReader};
+use std::io::BufReader;
 use std::rt::Files;
+use timefd_streams::{BufferedSource, FromBufReader};
 
 /// How many bytes are read at once.
 pub const BUFFER: usize = 65_536;
@@ -16,7 +17,7 @@ pub const BUFFER: usize = 65_536;
 /// Opens files by their names.
 pub trait Source {
     /// An opened file.
-    type Opened: BufRead + Drop;
+    type Opened: BufferedSource + Drop;
 
     // These may be the bytes of the file with this name, as far as they are known.
     ghost opens: { Self → Text → Option Text → Type 0 };
@@ -33,16 +34,16 @@ pub trait Source {
 
 // The files of the system. Nothing is known about what they hold.
 impl<R: Files> Source for R {
-    type Opened = BufReader<R::File>;
+    type Opened = FromBufReader<R::File>;
 
     ghost opens = { λ _ _ _. ⊤ };
 
     ghost fails = { λ _ _ _. ⊤ };
 
-    fn open(&self, alloc: Global, name: &str) -> Result<BufReader<R::File>, OpenError> {
+    fn open(&self, alloc: Global, name: &str) -> Result<FromBufReader<R::File>, OpenError> {
         match File::open(self, name) {
             Ok(file) => match BufReader::with_capacity(alloc, BUFFER, file) {
-                Ok(reader) => Ok(reader),
+                Ok(reader) => Ok(FromBufReader::new(reader)),
                 Err(_) => Err(OpenError::Memory),
             },
             Err(error) => Err(OpenError::Failed(unread(error.kind()))),

@@ -4,3 +4,5 @@ pub mod LineLemmas
 pub mod LayoutLemmas
 pub mod RewriteLemmas
 pub mod MendedLemmas
+pub mod DiffLemmas
+pub mod PairLemmas

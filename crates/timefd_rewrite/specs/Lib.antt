@@ -3,3 +3,4 @@ pub mod Chains
 pub mod Lines
 pub mod Layouts
 pub mod Rewriting
+pub mod Diffs

@@ -1,7 +1,12 @@
 //! Shows how a text changes when its lines are rewritten, as a unified diff with three lines of context.
 
-ghost use Rattle.std.specs.Prelude.{◌≤◌, length};
+ghost use Rattle.std.specs.Prelude.{◌≡◌, ◌≤◌, ◌<◌, ◌-◌, [], IfOk, OnOk, codes, length, string_bytes};
+ghost use Rattle.std.specs.Io.KnownBytes.{Appends};
+ghost use Rattle.std.specs.List.{list_any};
+ghost use Rattle.timefd_rewrite.specs.Diffs as spec;
 
+use crate::lines::ends_with;
+use crate::pairs::{Pair, pairs_of};
 use crate::rewrite::RewriteError;
 use std::alloc::{AllocError, Global};
 use std::io::Write;
@@ -20,196 +25,236 @@ impl From<AllocError> for RewriteError {
     }
 }
 
-// A line, and the text that replaces it.
-#[derive(Clone, Copy)]
-struct Pair<'a> {
-    old: &'a [u8],
-    new: &'a [u8],
-}
-
-// Lines that are shown together: those from `from` to before `to`.
-#[derive(Clone, Copy)]
-struct Hunk {
-    from: usize,
-    to: usize,
-}
-
 /// Writes a diff between a text and another that has a line for each of its lines. Both are shown under the
 /// same name.
+#[tactic(auto, using(crate::proofs::DiffLemmas::whole))]
 pub fn write_diff<W: Write>(
     alloc: Global,
     name: &str,
     old: &[u8],
     new: &[u8],
     writer: &mut W,
-) -> Result<(), RewriteError> {
+) -> Result<(), RewriteError>
+    ensures { OnOk result (spec.WritesDiff name.now old.now new.now (W.contents writer.old)
+        (W.contents writer.new)) }
+{
     let pairs = pairs_of(alloc, old, new)?;
-    write(
-        format!(in alloc; "--- {name}\n+++ {name}\n")?.as_bytes(),
-        writer,
-    )?;
-    let mut from = 0;
-    for _ in 0..pairs.len() {
-        let Some(hunk) = next_hunk(&pairs, from) else {
-            return Ok(());
-        };
-        write_hunk(alloc, &pairs, hunk, writer)?;
-        from = hunk.to;
+    write_names(alloc, name, writer)?;
+    write_hunks(alloc, &pairs, writer)
+}
+
+// Writes the name of the text before and after.
+fn write_names<W: Write>(alloc: Global, name: &str, writer: &mut W) -> Result<(), RewriteError>
+    ensures { OnOk result (Appends (W.contents writer.old) (W.contents writer.new)
+        (spec.file_header name.now)) }
+{
+    let names = format!(in alloc; "--- {name}\n+++ {name}\n")?;
+    write(names.as_bytes(), writer)
+}
+
+// Writes each hunk.
+#[tactic(auto, using(crate::proofs::DiffLemmas::all_left, crate::proofs::DiffLemmas::one_more, crate::proofs::DiffLemmas::none_left, crate::proofs::DiffLemmas::hunks_step, crate::proofs::DiffLemmas::hunks_end))]
+fn write_hunks<W: Write>(
+    alloc: Global,
+    pairs: &[Pair<'_>],
+    writer: &mut W,
+) -> Result<(), RewriteError>
+    ensures { OnOk result (Appends (W.contents writer.old) (W.contents writer.new)
+        (spec.hunks_from (spec.lines_of pairs.now) (length pairs.now) 0)) }
+{
+    'lines: for at in 0..pairs.len() {
+        write_hunk_at(alloc, pairs, at, writer)?;
     }
     Ok(())
 }
 
-// The lines of two texts, side by side.
-fn pairs_of<'a>(alloc: Global, old: &'a [u8], new: &'a [u8]) -> Result<Vec<Pair<'a>>, AllocError> {
-    let mut pairs = Vec::new(alloc);
-    let mut old_rest = old;
-    let mut new_rest = new;
-    for _ in 0..old.len() {
-        if old_rest.is_empty() {
-            return Ok(pairs);
-        }
-        let old_len = line_len(old_rest);
-        let new_len = line_len(new_rest);
-        pairs.push(Pair {
-            old: &old_rest[..old_len],
-            new: &new_rest[..new_len],
-        })?;
-        old_rest = &old_rest[old_len..];
-        new_rest = &new_rest[new_len..];
+// Writes the hunk that begins at a line, if one does.
+#[tactic(auto, using(crate::proofs::DiffLemmas::no_hunk, crate::proofs::DiffLemmas::a_hunk))]
+fn write_hunk_at<W: Write>(
+    alloc: Global,
+    pairs: &[Pair<'_>],
+    at: usize,
+    writer: &mut W,
+) -> Result<(), RewriteError>
+    requires { at < length pairs.now }
+    ensures { OnOk result (Appends (W.contents writer.old) (W.contents writer.new)
+        (spec.hunk_at (spec.lines_of pairs.now) at)) }
+{
+    if begins(pairs, at) {
+        let end = end_from(pairs, at);
+        write_hunk(alloc, at + 1, &pairs[at..end], writer)?;
+        return Ok(());
     }
-    Ok(pairs)
+    Ok(())
 }
 
-// How long the first line of a text is, with its newline.
-fn line_len(text: &[u8]) -> usize
-    ensures { result ≤ length text.now }
+// Whether a hunk begins at a line: it is shown, and the line before it isn't.
+fn begins(pairs: &[Pair<'_>], at: usize) -> bool
+    requires { at < length pairs.now }
+    ensures { result ≡ spec.begins (spec.lines_of pairs.now) at }
 {
-    for at in 0..text.len() {
-        if text[at] == b'\n' {
-            return at + 1;
-        }
-    }
-    text.len()
+    is_shown(pairs, at) && !(0 < at && is_shown(pairs, at - 1))
 }
 
-// How many lines at the start change, or how many don't.
-fn run_len(pairs: &[Pair<'_>], changes: bool) -> usize
-    ensures { result ≤ length pairs.now }
+// Whether a line is shown: it changes, or a line near it does.
+fn is_shown(pairs: &[Pair<'_>], at: usize) -> bool
+    requires { at < length pairs.now }
+    ensures { result ≡ spec.is_shown (spec.lines_of pairs.now) at }
 {
-    for at in 0..pairs.len() {
-        let pair = pairs[at];
-        if (pair.old != pair.new) != changes {
+    let from = at.saturating_sub(CONTEXT);
+    let rest = &pairs[from..];
+    let count = (at + CONTEXT + 1 - from).min(rest.len());
+    any_changes(&rest[..count])
+}
+
+fn any_changes(pairs: &[Pair<'_>]) -> bool
+    ensures { result ≡ list_any spec.changes (spec.lines_of pairs.now) }
+{
+    let mut rest = pairs;
+    'pairs: while let [pair, more @ ..] = rest {
+        if changes(*pair) {
+            return true;
+        }
+        rest = more;
+    }
+    false
+}
+
+fn changes(pair: Pair<'_>) -> bool
+    ensures { result ≡ spec.changes (spec.line_of pair.entry) }
+{
+    pair.old != pair.new
+}
+
+// The first line that isn't shown, from one on.
+#[tactic(auto, using(crate::proofs::DiffLemmas::goes_on, crate::proofs::DiffLemmas::ends_here, crate::proofs::DiffLemmas::ends_last))]
+fn end_from(pairs: &[Pair<'_>], from: usize) -> usize
+    requires { from < length pairs.now }
+    ensures end { result ≡ spec.end_from (spec.lines_of pairs.now) (length pairs.now - from) from }
+    ensures least { from ≤ result }
+    ensures most { result ≤ length pairs.now }
+{
+    'lines: for at in from..pairs.len() {
+        if !is_shown(pairs, at) {
             return at;
         }
     }
     pairs.len()
 }
 
-// The next line that changes, at `from` or later.
-fn next_change(pairs: &[Pair<'_>], from: usize) -> Option<usize> {
-    let rest = pairs.get(from..)?;
-    let kept = run_len(rest, false);
-    if kept < rest.len() {
-        from.checked_add(kept)
-    } else {
-        None
-    }
-}
-
-// The next hunk, at `from` or later. Changes with at most twice the context between them are shown together.
-fn next_hunk(pairs: &[Pair<'_>], from: usize) -> Option<Hunk> {
-    let first = next_change(pairs, from)?;
-    let mut last = first;
-    for _ in 0..pairs.len() {
-        match next_change(pairs, last.saturating_add(1)) {
-            Some(next) if next.saturating_sub(last) <= 2 * CONTEXT + 1 => last = next,
-            Some(_) | None => break,
-        }
-    }
-    Some(Hunk {
-        from: first.saturating_sub(CONTEXT),
-        to: last.saturating_add(CONTEXT + 1).min(pairs.len()),
-    })
-}
-
-// Writes the lines of a hunk.
+// Writes a hunk whose first line has this number.
+#[tactic(auto, using(crate::proofs::DiffLemmas::a_header))]
 fn write_hunk<W: Write>(
     alloc: Global,
+    first: usize,
     pairs: &[Pair<'_>],
-    hunk: Hunk,
     writer: &mut W,
-) -> Result<(), RewriteError> {
-    let lines = pairs.get(hunk.from..hunk.to).unwrap_or(&[]);
-    write_range(alloc, hunk.from, lines.len(), writer)?;
-    let mut done = 0;
-    for _ in 0..lines.len() {
-        let Some(rest) = lines.get(done..) else {
-            return Ok(());
-        };
-        done = done.saturating_add(write_change(rest, writer)?);
-    }
-    Ok(())
+) -> Result<(), RewriteError>
+    ensures { OnOk result (Appends (W.contents writer.old) (W.contents writer.new)
+        (spec.hunk first (spec.lines_of pairs.now))) }
+{
+    let range = range(alloc, first, pairs.len())?;
+    write_header(alloc, &range, writer)?;
+    write_body(pairs, writer)
 }
 
-// Writes the lines up to the next change, and the lines of that change: first all of them as they were, and
-// then their replacements. Returns how many lines they are.
-fn write_change<W: Write>(pairs: &[Pair<'_>], writer: &mut W) -> Result<usize, RewriteError> {
-    let kept = run_len(pairs, false);
-    write_old(b" ", pairs.get(..kept).unwrap_or(pairs), writer)?;
-    let changing = pairs.get(kept..).unwrap_or(&[]);
-    let count = run_len(changing, true);
-    let changed = changing.get(..count).unwrap_or(changing);
-    write_old(b"-", changed, writer)?;
-    write_new(changed, writer)?;
-    Ok(kept.saturating_add(count))
-}
-
-// Writes the range of a hunk, which is the same in both texts. A single line is given by its number alone.
-fn write_range<W: Write>(
-    alloc: Global,
-    from: usize,
-    count: usize,
-    writer: &mut W,
-) -> Result<(), RewriteError> {
-    let first = from.saturating_add(1);
-    let header = if count == 1 {
-        format!(in alloc; "@@ -{first} +{first} @@\n")?
+// The range of a hunk. A single line is given by its number alone.
+fn range(alloc: Global, first: usize, count: usize) -> Result<String, AllocError>
+    ensures { IfOk result (λ text. string_bytes text ≡ spec.range first count) }
+{
+    if count == 1 {
+        format!(in alloc; "{first}")
     } else {
-        format!(in alloc; "@@ -{first},{count} +{first},{count} @@\n")?
-    };
+        format!(in alloc; "{first},{count}")
+    }
+}
+
+// Writes the range of a hunk, which is the same in both texts.
+fn write_header<W: Write>(alloc: Global, range: &str, writer: &mut W) -> Result<(), RewriteError>
+    ensures { OnOk result (Appends (W.contents writer.old) (W.contents writer.new)
+        (spec.hunk_header range.now)) }
+{
+    let header = format!(in alloc; "@@ -{range} +{range} @@\n")?;
     write(header.as_bytes(), writer)
 }
 
-// Writes lines as they were, each after a mark.
-fn write_old<W: Write>(
-    mark: &[u8],
-    pairs: &[Pair<'_>],
-    writer: &mut W,
-) -> Result<(), RewriteError> {
-    for pair in pairs {
-        write_line(mark, pair.old, writer)?;
+// Writes the lines of a hunk. Of lines in turn that change, first all are written as they were, and then their
+// replacements.
+#[tactic(auto, using(crate::proofs::DiffLemmas::all_left))]
+fn write_body<W: Write>(pairs: &[Pair<'_>], writer: &mut W) -> Result<(), RewriteError>
+    ensures { OnOk result (Appends (W.contents writer.old) (W.contents writer.new)
+        (spec.body [] (spec.lines_of pairs.now))) }
+{
+    // Where the lines begin that change, but whose replacements aren't written yet.
+    let mut from = 0;
+    'lines: for at in 0..pairs.len() {
+        if write_next(&pairs[from..at], pairs[at], writer)? {
+            continue;
+        }
+        from = at + 1;
     }
+    write_added(&pairs[from..], writer)?;
     Ok(())
+}
+
+// Writes a line as it was, after the replacements of those before it if it stays. Returns whether it changes.
+#[tactic(auto, using(crate::proofs::DiffLemmas::in_turn, crate::proofs::DiffLemmas::changed_shown, crate::proofs::DiffLemmas::kept_shown))]
+fn write_next<W: Write>(
+    changed: &[Pair<'_>],
+    pair: Pair<'_>,
+    writer: &mut W,
+) -> Result<bool, RewriteError>
+    ensures is { IfOk result (λ is. is ≡ spec.changes (spec.line_of pair.entry)) }
+    ensures written { OnOk result (Appends (W.contents writer.old) (W.contents writer.new)
+        (spec.shown (spec.lines_of changed.now) (spec.line_of pair.entry))) }
+{
+    if changes(pair) {
+        write_line(b"-", pair.old, writer)?;
+        return Ok(true);
+    }
+    write_added(changed, writer)?;
+    write_line(b" ", pair.old, writer)?;
+    Ok(false)
 }
 
 // Writes the replacements of lines.
-fn write_new<W: Write>(pairs: &[Pair<'_>], writer: &mut W) -> Result<(), RewriteError> {
-    for pair in pairs {
+#[tactic(auto, using(crate::proofs::DiffLemmas::all_left, crate::proofs::DiffLemmas::one_more, crate::proofs::DiffLemmas::none_left, crate::proofs::DiffLemmas::added_more))]
+fn write_added<W: Write>(pairs: &[Pair<'_>], writer: &mut W) -> Result<(), RewriteError>
+    ensures { OnOk result (Appends (W.contents writer.old) (W.contents writer.new)
+        (spec.added (spec.lines_of pairs.now))) }
+{
+    let mut rest = pairs;
+    'pairs: while let [pair, more @ ..] = rest {
         write_line(b"+", pair.new, writer)?;
+        rest = more;
     }
     Ok(())
 }
 
-fn write_line<W: Write>(mark: &[u8], line: &[u8], writer: &mut W) -> Result<(), RewriteError> {
+#[tactic(auto, using(crate::proofs::DiffLemmas::in_turn))]
+fn write_line<W: Write>(mark: &[u8], line: &[u8], writer: &mut W) -> Result<(), RewriteError>
+    ensures { OnOk result (Appends (W.contents writer.old) (W.contents writer.new)
+        (spec.marked mark.now line.now)) }
+{
     write(mark, writer)?;
     write(line, writer)?;
-    if line.ends_with(b"\n") {
-        return Ok(());
-    }
-    write(b"\n\\ No newline at end of file\n", writer)
+    write(line_end(line), writer)
 }
 
-fn write<W: Write>(bytes: &[u8], writer: &mut W) -> Result<(), RewriteError> {
+// What stands after a line without its newline.
+fn line_end(line: &[u8]) -> &'static [u8]
+    ensures { result.now ≡ spec.line_end line.now }
+{
+    if ends_with(line, b'\n') {
+        b""
+    } else {
+        b"\n\\ No newline at end of file\n"
+    }
+}
+
+fn write<W: Write>(bytes: &[u8], writer: &mut W) -> Result<(), RewriteError>
+    ensures { OnOk result (Appends (W.contents writer.old) (W.contents writer.new) bytes.now) }
+{
     match writer.write_all(bytes) {
         Ok(()) => Ok(()),
         Err(_) => Err(RewriteError::Write),

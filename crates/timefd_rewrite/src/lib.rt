@@ -11,6 +11,7 @@ mod fixing;
 mod layout;
 mod lines;
 mod nearest;
+mod pairs;
 mod rewrite;
 
 pub use counts::{Counts, Outcome};

@@ -14,7 +14,8 @@ pub fn is_passed_over(comment: Option<&str>, line: &[u8]) -> bool
     }
 }
 
-fn ends_with(line: &[u8], byte: u8) -> bool
+/// Whether a line ends with a byte.
+pub fn ends_with(line: &[u8], byte: u8) -> bool
     ensures { result ≡ ends_with_byte byte line.now }
 {
     match line {

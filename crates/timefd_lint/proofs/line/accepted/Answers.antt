@@ -13,8 +13,8 @@ pub returns-in_default-clause-said : goal.returns-in_default-clause-said
 returns-in_default-clause-said g c =
     tree_alone c.args.language c.args.reporting c.args.origin c.args.text.now
     c.all_at.result
-    (g.W.Write.contents c.args.writer.now) (g.W.Write.contents c.write_tree.new.writer)
-    c.in_ok-write_tree.ensures c.all_at.ensures
+    (g.W.Sink.contents c.args.writer.now) (g.W.Sink.contents c.write_tree.new.writer)
+    c.in_ok-write_tree.ensures.written c.all_at.ensures
 
 pub returns-clause-end : goal.returns-clause-end
 returns-clause-end g c = λ list spelled.
@@ -27,6 +27,6 @@ pub returns-clause-said : goal.returns-clause-said
 returns-clause-said g c =
     tree_and_warnings c.args.language c.args.reporting c.args.origin c.args.text.now
     c.in_ok-found.found
-    (g.W.Write.contents c.args.writer.now) (g.W.Write.contents c.write_tree.new.writer)
-    (g.W.Write.contents c.write.new.writer) c.deref.result.now c.in_ok-write_tree.ensures
-    (c.deref.ensures.value ∙ c.in_ok-reported.ensures) c.in_ok-write.ensures
+    (g.W.Sink.contents c.args.writer.now) (g.W.Sink.contents c.write_tree.new.writer)
+    (g.W.Sink.contents c.write.new.writer) c.deref.result.now c.in_ok-write_tree.ensures.written
+    (c.deref.ensures.value ∙ c.in_ok-reported.ensures) c.in_ok-write.ensures.written

@@ -21,7 +21,7 @@ returns-in_ok-further-in-Some-clause-said g c =
     let diagnosed : IsDiagnosis language text d = search rules in
     let further : AreFurther most_further language (without language text (fault_of d.fault)) others = search rules in
     let is : IfOk c.refused.result (λ e. e ≡ Refused) = search rules in
-    let written : OnOk c.refused.result (Appends (g.W.Write.contents c.args.writer.now)
-    (g.W.Write.contents c.refused.new.writer) (drawn_all reporting.style c.args.origin text d others)) = search rules in
-    fault_said language reporting c.args.origin text d others (g.W.Write.contents c.args.writer.now)
-    (g.W.Write.contents c.refused.new.writer) c.refused.result faulty diagnosed further is written
+    let written : OnOk c.refused.result (Appends (g.W.Sink.contents c.args.writer.now)
+    (g.W.Sink.contents c.refused.new.writer) (drawn_all reporting.style c.args.origin text d others)) = search rules in
+    fault_said language reporting c.args.origin text d others (g.W.Sink.contents c.args.writer.now)
+    (g.W.Sink.contents c.refused.new.writer) c.refused.result faulty diagnosed further is written

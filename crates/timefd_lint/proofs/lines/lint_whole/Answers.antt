@@ -4,30 +4,31 @@ use Rattle.timefd_lint.specs.Reported.{position}
 use Rattle.timefd_lint.proofs.ReportedLemmas.{none_of_all, notes_and_says, text_of_all}
 use Rattle.timefd_lint.proofs.lines.lint_whole.Goals as goal
 
-pub returns-in-Ok : goal.returns-in-Ok
-returns-in-Ok g c =
-    let before = g.W.Write.contents c.args.writer.now in
-    let between = g.W.Write.contents c.note_mark.new.writer in
-    let after = g.W.Write.contents c.lint_text.new.writer in
+pub returns-in-Ok-clause-reported : goal.returns-in-Ok-clause-reported
+returns-in-Ok-clause-reported g c =
+    let before = g.W.Sink.contents c.args.writer.now in
+    let between = g.W.Sink.contents c.note_mark.new.writer in
+    let after = g.W.Sink.contents c.lint_text.new.writer in
     let text = c.deref-in-Ok.result.now in
     let origin = position c.args.name 1 in
     text_of_all c.args.options.language c.args.options.comment c.args.options.reporting origin
     c.args.name.now
-    (g.R.Read.remaining c.args.reader.now) (g.R.Read.remaining c.read_to_end.new.self)
-    c.new-bytes.result.items c.read_to_end.new.buf.items text before after c.in_ok-end-in-Ok.end
-    c.of.result c.in-Ok.ensures.bytes c.in-Ok.ensures.end c.new-bytes.ensures.items
+    (g.R.BufferedSource.remaining c.args.reader.now) (g.R.BufferedSource.remaining c.read_to_end.new.self)
+    c.new-bytes.result.items c.read_to_end.new.buf.items text before after (g.R.BufferedSource.has_failed c.read_to_end.new.self) c.in_ok-end-in-Ok.end
+    c.of.result c.in-Ok.ensures.bytes c.in-Ok.ensures.at_end c.new-bytes.ensures.items
     c.deref-in-Ok.ensures.value c.in_ok-end-in-Ok.ensures.end
     (notes_and_says (has_mark text) c.args.options.language c.args.options.reporting origin text
     c.in_ok-end-in-Ok.end before between after
     (subst (λ t. Notes (has_mark t) c.args.options.reporting.style origin before between)
-    (c.deref.ensures.value ∙ sym c.deref-in-Ok.ensures.value) c.in_ok-note_mark-in-Ok.ensures)
+    (c.deref.ensures.value ∙ sym c.deref-in-Ok.ensures.value) c.in_ok-note_mark-in-Ok.ensures.noted)
     c.in_ok-end-in-Ok.ensures.said)
     c.of.ensures (refl, refl)
 
-pub returns : goal.returns
-returns g c =
+pub returns-in-Failed-clause-reported : goal.returns-in-Failed-clause-reported
+returns-in-Failed-clause-reported g c =
     none_of_all c.args.options.language c.args.options.comment c.args.options.reporting c.args.name
-    (g.R.Read.remaining c.args.reader.now) (g.R.Read.remaining c.read_to_end.new.self)
-    (g.W.Write.contents c.args.writer.now) (g.W.Write.contents c.read_error.new.writer)
-    c.in_ok-end-in-Err.end c.of-in-Err.result c.in_ok-end-in-Err.ensures.end
-    c.in_ok-end-in-Err.ensures.said c.of-in-Err.ensures
+    (g.R.BufferedSource.remaining c.args.reader.now) (g.R.BufferedSource.remaining c.read_to_end.new.self)
+    (g.W.Sink.contents c.args.writer.now) (g.W.Sink.contents c.read_error.new.writer)
+    (g.R.BufferedSource.has_failed c.read_to_end.new.self)
+    c.in_ok-end-in-Failed.end c.of-in-Failed.result c.in_ok-end-in-Failed.ensures.end
+    c.in-Failed.ensures.fails c.in_ok-end-in-Failed.ensures.said c.of-in-Failed.ensures

@@ -5,6 +5,6 @@ pub returns-in_ok-end-in-Failed-clause-reported : goal.returns-in_ok-end-in-Fail
 returns-in_ok-end-in-Failed-clause-reported g c =
     failed_run c.args.options.is_whole c.args.options.language c.args.options.comment
     c.args.options.reporting c.args.name
-    (g.W.Write.contents c.args.writer.now) (g.W.Write.contents c.failed.new.writer)
+    (g.W.Sink.contents c.args.writer.now) (g.W.Sink.contents c.failed.new.writer)
     c.in_ok-end-in-Failed.end c.of.result _ c.in_ok-end-in-Failed.ensures.end
     c.in_ok-end-in-Failed.ensures.noted c.of.ensures
