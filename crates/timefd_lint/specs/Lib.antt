@@ -19,3 +19,4 @@ pub mod Identities
 pub mod ByHand
 pub mod Arguments
 pub mod NoCodes
+pub mod Limited

@@ -3,6 +3,7 @@
 
 pub mod dialects;
 mod found;
+mod hint;
 mod message;
 mod reported;
 
