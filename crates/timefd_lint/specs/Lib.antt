@@ -21,3 +21,4 @@ pub mod Identities
 pub mod ByHand
 pub mod Arguments
 pub mod NoCodes
+pub mod Limited

@@ -15,6 +15,7 @@ mod fix;
 mod folders;
 mod found;
 mod identity;
+mod limited;
 mod line;
 mod lines;
 mod log;

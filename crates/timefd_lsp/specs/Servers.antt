@@ -112,7 +112,7 @@ abbrev pub finder_of : Settings → Kind → Finder
 finder_of settings kinds.Rust = finders.Rust
 finder_of settings (kinds.Keys format) = finders.Keys format settings.keys
 
--- All that is wrong in a document with this text, as the crate `timefd_editor` defines it.
+-- All that is wrong in a document with this text, as `editor` defines it.
 pub record AreWrongIn (settings : Settings) (kind : Kind) (text : List ℕ) (findings : List Finding) : Type 0 where
   pub source : Source
   pub finder : source.finder ≡ finder_of settings kind

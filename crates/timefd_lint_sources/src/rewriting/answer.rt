@@ -45,11 +45,10 @@ pub fn answer_to(
 ) -> Result<Answer, AllocError>
     ensures { IfOk result (IsAnswer change source.now description.now) }
 {
-    let bytes = description.unescaped.text.as_slice();
-    let Some(layout) = layout_of(change, description.dialect, bytes) else {
+    let Some(layout) = layout_of(change, description.dialect) else {
         return Ok(Answer::Stays(Outcome::PassedOver));
     };
-    match str::from_utf8(bytes) {
+    match str::from_utf8(description.unescaped.text.as_slice()) {
         Ok(text) => laid_out(alloc, change, layout, source, description, text),
         Err(_) => Ok(Answer::Stays(Outcome::NotText)),
     }

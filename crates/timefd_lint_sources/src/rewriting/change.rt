@@ -2,9 +2,8 @@
 
 ghost use Rattle.std.specs.Prelude.{◌≡◌};
 ghost use Rattle.timefd_lint_sources.specs.Rewriting.Changes as spec;
-ghost use Rattle.timefd_lint_sources.specs.declared.rewriting.change.Change.TheVariants as variants;
 
-use crate::{is_passed_over, language_of};
+use crate::{language_of, other_of};
 use timefd_convert::{Conversion, conversion_between};
 use timefd_parse::{DescriptionVersion, Language};
 use timefd_rewrite::{Fixes, Layout};
@@ -22,13 +21,13 @@ pub enum Change {
     Normal,
 }
 
-/// How a description is laid out. `None` if it stays as it is: because only chrono or only jiff knows
-/// it, or because there is no conversion from its version, as for strftime.
-pub fn layout_of(change: Change, dialect: Dialect, text: &[u8]) -> Option<Layout>
-    ensures { result ≡ spec.layout_of change dialect text.now }
+/// How a description is laid out. `None` if it stays as it is: because it is of another language or library,
+/// or because there is no conversion from its version, as for strftime.
+pub fn layout_of(change: Change, dialect: Dialect) -> Option<Layout>
+    ensures { result ≡ spec.layout_of change dialect }
 {
     match change {
-        Change::Mended(fixes) => mending(fixes, dialect, text),
+        Change::Mended(fixes) => mending(fixes, dialect),
         Change::Least(version) => match conversion_to(dialect, version) {
             Some(conversion) => Some(Layout::Least(conversion)),
             None => None,
@@ -40,13 +39,12 @@ pub fn layout_of(change: Change, dialect: Dialect, text: &[u8]) -> Option<Layout
     }
 }
 
-fn mending(fixes: Fixes, dialect: Dialect, text: &[u8]) -> Option<Layout>
-    ensures { result ≡ spec.layout_of (variants.Mended fixes) dialect text.now }
+fn mending(fixes: Fixes, dialect: Dialect) -> Option<Layout>
+    ensures { result ≡ spec.mending fixes dialect }
 {
-    if is_passed_over(dialect, text) {
-        None
-    } else {
-        Some(Layout::Fixed(language_of(dialect), fixes))
+    match other_of(dialect) {
+        Some(_other) => None,
+        None => Some(Layout::Fixed(language_of(dialect), fixes)),
     }
 }
 
@@ -58,7 +56,16 @@ fn conversion_to(dialect: Dialect, version: DescriptionVersion) -> Option<Conver
         Dialect::One | Dialect::Two | Dialect::Three => {
             conversion_between(language_of(dialect), Language::Version(version))
         }
-        Dialect::Strftime | Dialect::Chrono | Dialect::Jiff => None,
+        Dialect::Strftime
+        | Dialect::Python
+        | Dialect::C
+        | Dialect::Gnu
+        | Dialect::Chrono
+        | Dialect::Jiff
+        | Dialect::Ruby
+        | Dialect::Java
+        | Dialect::Go
+        | Dialect::Moment => None,
     }
 }
 
