@@ -16,9 +16,9 @@ use Rattle.timefd_write.specs.Spelled.{IsSpelled}
 
 pub named : (names : Names) (word : Text) (m : Moment) → IsSpelled word m
     → ends_with nat_eq word (codes "]") ≡ false → IsNamed names word (Ok m)
-named names [] m spelled open = absurd (let digit = spelled.4 in cc)
-named names (c ∷ cs) m spelled open =
+named names [] m spelled none = absurd (let digit = spelled.4 in cc)
+named names (c ∷ cs) m spelled shut =
     let digit : is_ascii_digit c ≡ true = spelled.4 in
     let other : nat_eq c 110 ≡ false = grind (arith, nat_tests, common_steps, digit) in
-    let none : nat_eq c 64 ≡ false = grind (arith, nat_tests, common_steps, digit) in
-    rw other (rw none (rw spelled.1 (record { moment = m; zone = None }, (spelled.2, rw spelled.3 tt), rw open refl)))
+    let mark : nat_eq c 64 ≡ false = grind (arith, nat_tests, common_steps, digit) in
+    rw other (rw mark (rw spelled.1 (record { moment = m; zone = None }, (spelled.2, rw spelled.3 tt), rw shut refl)))

@@ -17,8 +17,12 @@ use Rattle.timefd_write.proofs.PlainRecordLemmas.{without_quotes}
 
 -- Without quotes, the first comma is the first comma or quote.
 
+other_by : (b : ℕ) (comma quote : Bool) → (quote ≡ true → ⊥) → (comma || quote) ≡ true → comma ≡ true
+other_by b true quote plain either = refl
+other_by b false quote plain either = absurd (plain either)
+
 other_than : (b : ℕ) → b ≢ 34 → is_byte2 44 34 b ≡ true → is_byte 44 b ≡ true
-other_than b plain either = grind (arith, nat_tests, plain, either)
+other_than b plain either = other_by b (b == 44) (b == 34) (λ is. plain (eqb-true b 34 is)) either
 
 either_of : (b : ℕ) → is_byte 44 b ≡ true → is_byte2 44 34 b ≡ true
 either_of b is = rw is refl

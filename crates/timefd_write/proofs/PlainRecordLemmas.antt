@@ -23,10 +23,14 @@ IsInner b = (b ≢ 10) × (b ≢ 34)
 pub newline_within : (text : Text) (k : ℕ) → IsFirstByte (is_byte2 10 34) text (Some k) → k + 1 ≤ length text
 newline_within text k found = omega (arith, found.0.high)
 
+either_by : (a b : Bool) → b ≡ true → (a || b) ≡ true
+either_by true b is = refl
+either_by false b is = is
+
 inner_by : (text : Text) (i : ℕ) → ¬ Passes (is_byte2 10 34) text i → IsInner (get_or text i 0)
 inner_by text i none = (
-  λ is. none (let e : (get_or text i 0 == 10) ≡ true = eq-eqb (get_or text i 0) 10 is in rw e refl),
-  λ is. none (let e : (get_or text i 0 == 34) ≡ true = eq-eqb (get_or text i 0) 34 is in grind (arith, nat_tests, e)),
+  λ is. none (rw (eq-eqb (get_or text i 0) 10 is) refl),
+  λ is. none (either_by (get_or text i 0 == 10) (get_or text i 0 == 34) (eq-eqb (get_or text i 0) 34 is)),
 )
 
 pub up_to_newline : (text : Text) (k : ℕ) → IsFirstByte (is_byte2 10 34) text (Some k) → get_or text k 0 ≡ 10
