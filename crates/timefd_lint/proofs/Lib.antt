@@ -9,3 +9,4 @@ pub mod RewrittenLemmas
 pub mod RuleLemmas
 pub mod NoCodeLemmas
 pub mod ArgumentLemmas
+pub mod FateLemmas
