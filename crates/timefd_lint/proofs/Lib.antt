@@ -10,3 +10,4 @@ pub mod RuleLemmas
 pub mod NoCodeLemmas
 pub mod ArgumentLemmas
 mod LimitedLemmas
+pub mod FateLemmas

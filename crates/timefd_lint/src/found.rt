@@ -51,6 +51,7 @@ pub struct Found {
 }
 
 /// Checks the lines of a file, and rewrites those that can be rewritten.
+#[tactic(auto, using(crate::proofs::FateLemmas::lines_of_bytes))]
 pub fn looked_at<W: Sink>(
     alloc: Global,
     options: Options<'_>,
@@ -87,6 +88,7 @@ pub fn looked_at<W: Sink>(
 
 /// Checks the descriptions of a source, and mends or converts those that can be changed. A source that isn't
 /// UTF-8 has none.
+#[tactic(auto, using(crate::proofs::FateLemmas::source_of_bytes))]
 pub fn source_looked_at<W: Sink>(
     alloc: Global,
     options: Options<'_>,

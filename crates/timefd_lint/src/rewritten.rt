@@ -135,6 +135,7 @@ fn rewrite_file<R: Files, E: Sink, W: Sink>(
 
 // What is found in a file with these bytes. Files of lines were refused earlier if no conversion exists from
 // their language.
+#[tactic(auto, using(crate::proofs::FateLemmas::in_source, crate::proofs::FateLemmas::in_lines, crate::proofs::FateLemmas::in_nothing))]
 fn found_of<W: Sink>(
     alloc: Global,
     options: Options<'_>,
@@ -190,6 +191,7 @@ fn noted<W: Sink>(
 }
 
 // Shows what changes in a file. A diff has no colours: an escape in it is one of the file.
+#[tactic(auto, using(crate::proofs::FateLemmas::shows))]
 fn show_diff<W: Sink>(
     alloc: Global,
     audience: Audience,
