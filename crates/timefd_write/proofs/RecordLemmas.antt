@@ -278,7 +278,16 @@ row_ended old left new row longer q r answer so_far read is answer_is =
     subst (IsRecordRead old new longer) (sym answer_is)
     (subst (λ t. IsRecordRead old new t (at_end t q)) (sym at.1) (ended old left new row q so_far at.0 at.2))
 
--- The source after the last record.
+-- The source after a record, and after one more line of it.
+
+pub line_counted : (old left new : ℕ) (failed : Bool) (r : LineRead) → left ≤ old
+    → IsSourceAfterLine left new failed r → r ≡ lines.Line → new < old
+line_counted old left new failed r few read is =
+    let fewer : new < left = subst (IsSourceAfterLine left new failed) is read in omega (arith, few, fewer)
+
+pub line_allowed : (old left new : ℕ) (failed : Bool) (r : LineRead) → left ≤ old
+    → IsSourceAfterLine left new failed r → r ≡ lines.Line → new ≤ old
+line_allowed old left new failed r few read is = omega (arith, line_counted old left new failed r few read is)
 
 last_counted : (old new : ℕ) (failed is_open : Bool) → new < old
     → IsSourceAfterRecord old new failed (cond is_open reads.Open (reads.Record 1))

@@ -24,7 +24,7 @@ pub enum RecordRead {
 }
 
 /// Replaces these bytes with one more record, with its newline. An `Err` says that memory ran out.
-#[tactic(auto, using(crate::proofs::RecordLemmas::starts, crate::proofs::RecordLemmas::line_more, crate::proofs::RecordLemmas::row_done, crate::proofs::RecordLemmas::row_ended, crate::proofs::RecordLemmas::end_counted))]
+#[tactic(auto, using(crate::proofs::RecordLemmas::starts, crate::proofs::RecordLemmas::line_more, crate::proofs::RecordLemmas::row_done, crate::proofs::RecordLemmas::row_ended, crate::proofs::RecordLemmas::end_counted, crate::proofs::RecordLemmas::line_counted))]
 pub fn read_record<R: BufferedSource>(
     reader: &mut R,
     row: &mut Vec<u8>,

@@ -1,5 +1,5 @@
 use Rattle.std.proofs.Common.{rules}
-use Rattle.timefd_write.proofs.RecordLemmas.{line_more, piece_of, row_done}
+use Rattle.timefd_write.proofs.RecordLemmas.{line_allowed, line_more, piece_of, row_done}
 use Rattle.timefd_write.proofs.records.read_record.Goals as goal
 
 pub returns-then-not-is_inside-clause-read : goal.returns-then-not-is_inside-clause-read
@@ -22,5 +22,8 @@ lines-preserved g c = record {
       (piece_of c.lines.row.items c.read_more.new.bytes.items c.deref.result.now c.len-from.result
       c.deref.ensures.value (search rules))
       c.after_all-quoting.ensures (search rules);
-  calls = ?;
+  calls =
+      line_allowed (g.R.BufferedSource.calls_left c.args.reader.now) (g.R.BufferedSource.calls_left c.lines.reader)
+      (g.R.BufferedSource.calls_left c.read_more.new.reader) (g.R.BufferedSource.has_failed c.read_more.new.reader)
+      c.in_ok-read_more.field-0 c.lines.invariant.calls c.in_ok-read_more.ensures.source c.in-Line.is;
 }
