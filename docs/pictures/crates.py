@@ -1,13 +1,14 @@
 #!/usr/bin/env python3
-"""Draws the crates of crates.txt, without those of tests: each above all crates that it uses. The picture is crates.svg.
+"""Draws the crates of crates.txt, each above all crates that it uses. The picture is crates.svg; docs/proof/ARCHITECTURE.md has the counts.
 
-    docs/pictures/crates.py            writes the file beside this script
-    docs/pictures/crates.py --check    fails if the file would change
+    docs/pictures/crates.py            writes the file beside this script, and the sentence with the counts
+    docs/pictures/crates.py --check    fails if one of them would change
 
 A line leads from a crate to one that it stands on, but for those that it also reaches by another. Dark boxes are programs and the
 crates that people call; the others are parts that the prover or the gate wants apart.
 """
 import pathlib
+import re
 import sys
 
 HERE = pathlib.Path(__file__).resolve().parent
@@ -15,6 +16,7 @@ TOP = HERE.parent.parent
 PEOPLE = set(
     "timefd lint write c web parse items description format moment convert lift laws uses dialect".split()
 )
+PAGE = TOP / "docs/proof/ARCHITECTURE.md"
 PREFIX, WIDE, ROW, HIGH, GAP, CHAR, PAD = "timefd_", 800, 62, 26, 16, 8, 20
 STYLE = (
     "rect{fill:#fff;stroke:#333;stroke-width:1.2}.people{fill:#1f5fa8}.page{stroke:none}line{stroke:#9aa5b1;stroke-width:1.2}"
@@ -27,7 +29,7 @@ def crates():
     found = {}
     for line in (TOP / "crates.txt").read_text().split("\n"):
         head, colon, rest = line.partition(":")
-        if colon and not head.startswith("#") and not head.split()[0].endswith("_tests"):
+        if colon and not head.startswith("#"):
             found[head.split()[0]] = rest.split()
     return {short(name): [short(it) for it in below if it in found] for name, below in found.items()}
 
@@ -103,14 +105,25 @@ def drawn():
     return "\n".join(out + ["</svg>", ""])
 
 
+def counted():
+    """The page with the crates, with its sentence on how many there are."""
+    below = crates()
+    chain = max(heights(below, {name: reach(below, name, known) for known in [{}] for name in below}).values()) + 1
+    uses = sum(map(len, below.values()))
+    sentence = f"There are {len(below)} crates, {uses} uses of one by another, and at most {chain} in a chain."
+    return re.sub(r"There are \d+ crates, .*? in a chain\.", sentence, PAGE.read_text())
+
+
 def main():
-    file, now = HERE / "crates.svg", drawn()
+    now = {HERE / "crates.svg": drawn(), PAGE: counted()}
     if "--check" not in sys.argv:
-        file.write_text(now)
-    elif not file.exists() or file.read_text() != now:
-        print("docs/pictures/crates.py: crates.svg would change: call it without --check")
-        return 1
-    return 0
+        for file, text in now.items():
+            file.write_text(text)
+        return 0
+    changed = [file.name for file, text in now.items() if not file.exists() or file.read_text() != text]
+    for name in changed:
+        print(f"docs/pictures/crates.py: {name} would change: call it without --check")
+    return bool(changed)
 
 
 if __name__ == "__main__":

@@ -2,7 +2,7 @@
 use Rattle.std.specs.Prelude.{ℕ, ◌≡◌, ◌≤◌, ◌<◌, ◌++◌, true, false, Option, Some, None, length, drop}
 use Rattle.timefd_component.specs.Tree.{Text}
 use Rattle.timefd_fault.specs.Faults.{Fault}
-use Rattle.timefd_parse.specs.declared.language.Language.{Language}
+use Rattle.timefd_language.specs.declared.language.Language.{Language}
 use Rattle.timefd_fault.specs.Codes.{code_of}
 use Rattle.timefd_diagnosis.specs.Helps.{IsHelpFor, nearest_in}
 use Rattle.timefd_diagnosis.specs.Spans.{end_of}

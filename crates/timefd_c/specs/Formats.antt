@@ -16,7 +16,7 @@ use Rattle.timefd_format.specs.Written.{written_all}
 use Rattle.timefd_moment.specs.declared.component_range.ComponentRange.{ComponentRange}
 use Rattle.timefd_moment.specs.declared.component_range.ComponentRange.TheVariants as ranges
 use Rattle.timefd_moment.specs.declared.moment.Moment.{Moment}
-use Rattle.timefd_parse.specs.declared.language.Language.{Language}
+use Rattle.timefd_language.specs.declared.language.Language.{Language}
 
 -- the number of the reason why a component shows nothing
 abbrev pub lack_number : Lack → ℕ

@@ -17,8 +17,8 @@ use Rattle.timefd_language.specs.Grammar.{nesting_limit}
 use Rattle.timefd_fault.specs.Reported.{IsFaultOrMemory}
 use Rattle.timefd_lift.specs.Answers.{HasItemsOf, IsRewritten, IsTextOrMemory}
 use Rattle.timefd_lift.specs.Modernized.{IsWrittenOf, KeepsItemsOf}
-use Rattle.timefd_parse.specs.declared.language.Language.{Language}
-use Rattle.timefd_parse.specs.declared.language.Language.TheVariants.{Version, Strftime}
+use Rattle.timefd_language.specs.declared.language.Language.{Language}
+use Rattle.timefd_language.specs.declared.language.Language.TheVariants.{Version, Strftime}
 use Rattle.timefd_parse.specs.Language.{FaultIn, IsAssignedIn}
 
 abbrev pub to_two : Language → Option Conversion

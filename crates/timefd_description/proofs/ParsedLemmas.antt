@@ -11,8 +11,8 @@ use Rattle.timefd_language.specs.Grammar.{nesting_limit}
 use Rattle.timefd_language.specs.Strftime.{SpellsStrftime, no_directives}
 use Rattle.timefd_parse.proofs.ParseLemmas.{one}
 use Rattle.timefd_parse.specs.Language.{FaultIn, SpellsIn}
-use Rattle.timefd_parse.specs.declared.language.Language.{Language}
-use Rattle.timefd_parse.specs.declared.language.Language.TheVariants.{Version, Strftime}
+use Rattle.timefd_language.specs.declared.language.Language.{Language}
+use Rattle.timefd_language.specs.declared.language.Language.TheVariants.{Version, Strftime}
 use Rattle.timefd_language.proofs.DirectiveLemmas.DirectiveLemmas.{one as strftime_one}
 use Rattle.timefd_description.specs.Parsed.{AreNodes, IsParsed}
 

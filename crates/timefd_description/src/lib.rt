@@ -1,4 +1,5 @@
-//! Format descriptions of any language, opened once, to write moments and to read texts.
+//! Format descriptions of any language, opened once, to write moments and to read texts. This crate is the way in
+//! for callers: it also passes on what they need of the crates below.
 #![tactic(auto)]
 
 // The description, and how a text of each language becomes one.
@@ -24,3 +25,16 @@ pub use formatting::format_text;
 pub use read_error::ReadTextError;
 pub use reading::{read_text, read_text_fields};
 pub use sentence::{reason_sentence, unread_sentence};
+
+// The languages, the faults of texts, and what is wrong with one.
+pub use timefd_diagnosis::{Diagnostic, diagnose};
+pub use timefd_fault::{BorrowedFault, BorrowedParseError};
+pub use timefd_language::{DescriptionVersion, Language};
+
+// A text in another language.
+pub use timefd_convert::{ConvertError, convert};
+
+// What is written and read.
+pub use timefd_format::TextError;
+pub use timefd_moment::fields::{Fields, ReadError};
+pub use timefd_moment::{Date, Moment, Time, UnixTime, UtcOffset};

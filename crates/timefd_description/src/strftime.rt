@@ -8,7 +8,7 @@ ghost use Rattle.timefd_description.specs.Parsed.{IsParsed};
 ghost use Rattle.timefd_items.specs.Builder.{built};
 ghost use Rattle.timefd_fault.specs.ReadErrors.{MemoryOr};
 ghost use Rattle.timefd_language.specs.Strftime.{SpellsStrftime};
-ghost use Rattle.timefd_parse.specs.declared.language.Language.TheVariants.{Strftime};
+ghost use Rattle.timefd_language.specs.declared.language.Language.TheVariants.{Strftime};
 ghost use Rattle.timefd_language.specs.Directives.PieceMeaning.{piece_tree};
 ghost use Rattle.timefd_language.specs.Directives.StrftimeReading.{IsStrftimeFaultIn};
 

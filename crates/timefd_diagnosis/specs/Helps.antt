@@ -5,8 +5,8 @@ use Rattle.timefd_component.specs.Tree.{Text}
 use Rattle.timefd_fault.specs.Faults.{Fault, Kind, invalid_name, invalid_modifier, invalid_combination}
 use Rattle.timefd_language.specs.declared.description_version.DescriptionVersion.{DescriptionVersion}
 use Rattle.timefd_language.specs.Bytes.{is_version_three}
-use Rattle.timefd_parse.specs.declared.language.Language.{Language}
-use Rattle.timefd_parse.specs.declared.language.Language.TheVariants.{Version, Strftime}
+use Rattle.timefd_language.specs.declared.language.Language.{Language}
+use Rattle.timefd_language.specs.declared.language.Language.TheVariants.{Version, Strftime}
 use Rattle.timefd_fault.specs.declared.code.Code.TheVariants.{InvalidModifier}
 use Rattle.timefd_diagnosis.specs.declared.help.Help.{Help}
 use Rattle.timefd_diagnosis.specs.declared.help.Help.TheVariants.{Words, LeaveOut, Advice}

@@ -6,7 +6,7 @@ use Rattle.timefd_node_list.specs.declared.item.borrowed_format_item.BorrowedFor
 use Rattle.timefd_node_list.specs.Item.Meaning.{item_tree, item_trees}
 use Rattle.timefd_language.specs.Grammar.{nesting_limit}
 use Rattle.timefd_parse.specs.Language.{SpellsIn}
-use Rattle.timefd_parse.specs.declared.language.Language.{Language}
+use Rattle.timefd_language.specs.declared.language.Language.{Language}
 use Rattle.timefd_explain.specs.declared.node.Node.{Node}
 use Rattle.timefd_explain.specs.declared.piece.Shown.{Shown}
 use Rattle.timefd_explain.specs.Parts.{all_parts, members, parts, piece, IsPiece, Adds}

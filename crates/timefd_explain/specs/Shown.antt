@@ -5,7 +5,7 @@ use Rattle.timefd_component.specs.Tree.{Text, Tree, Trees, component, literal, c
 use Rattle.timefd_language.specs.Grammar.{nesting_limit}
 use Rattle.timefd_node_list.specs.Nodes.{kept_bytes}
 use Rattle.timefd_parse.specs.Language.{SpellsIn}
-use Rattle.timefd_parse.specs.declared.language.Language.{Language}
+use Rattle.timefd_language.specs.declared.language.Language.{Language}
 use Rattle.timefd_explain.specs.Samples.{IsExample}
 use Rattle.timefd_explain.specs.declared.piece.Shown.{Shown}
 use Rattle.timefd_explain.specs.declared.piece.What.{What}

@@ -8,6 +8,7 @@ pub mod combination;
 pub mod component;
 pub mod description_version;
 pub mod key;
+pub mod language;
 pub mod laws;
 pub mod name;
 pub mod same;
@@ -20,3 +21,4 @@ pub mod value;
 pub mod strftime;
 
 pub use description_version::DescriptionVersion;
+pub use language::Language;

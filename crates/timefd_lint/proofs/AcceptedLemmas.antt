@@ -7,7 +7,7 @@ use Rattle.timefd_component.specs.Tree.{Text, Tree}
 use Rattle.timefd_drawing.specs.declared.position.Origin.{Origin}
 use Rattle.timefd_explain.specs.Lines.{IsExplained, IsExplainedIf}
 use Rattle.timefd_language.specs.Grammar.{nesting_limit}
-use Rattle.timefd_parse.specs.declared.language.Language.{Language}
+use Rattle.timefd_language.specs.declared.language.Language.{Language}
 use Rattle.timefd_parse.specs.Language.{SpellsIn}
 use Rattle.timefd_lint_options.specs.declared.wording.Wording.TheVariants.{Own}
 use Rattle.timefd_warnings.specs.declared.levels.Level.TheVariants.{Allowed}

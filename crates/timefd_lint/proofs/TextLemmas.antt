@@ -5,7 +5,7 @@ use Rattle.std.specs.Io.KnownBytes.{Appends}
 use Rattle.timefd_component.specs.Tree.{Text, Tree}
 use Rattle.timefd_fault.specs.Faults.{fault_of}
 use Rattle.timefd_language.specs.Grammar.{nesting_limit}
-use Rattle.timefd_parse.specs.declared.language.Language.{Language}
+use Rattle.timefd_language.specs.declared.language.Language.{Language}
 use Rattle.timefd_lint_options.specs.declared.wording.Wording.{Wording}
 use Rattle.timefd_lint_options.specs.declared.wording.Wording.TheVariants.{Own}
 use Rattle.timefd_parse.specs.Language.{SpellsIn, FaultIn}

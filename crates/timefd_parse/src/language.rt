@@ -1,4 +1,4 @@
-//! The languages of texts, and how much a text of each holds.
+//! How much a text of each language holds.
 
 ghost use Rattle.std.specs.Prelude.{◌≡◌, ◌≤◌, [], List, IfOk, IsFalse, IsOk, MatchResult};
 ghost use Rattle.std.specs.Result.{IfErr};
@@ -15,17 +15,9 @@ use crate::counting::{count_bytes, count_items};
 use std::alloc::Global;
 use timefd_fault::BorrowedParseError;
 use timefd_fault::parse_error::ParseError;
+use timefd_language::Language;
 use timefd_language::description_version::DescriptionVersion;
 use timefd_language::strftime::count_strftime;
-
-/// The language of a text. `time` has a call for each; this type is this port's own.
-#[derive(Debug, Clone, Copy, PartialEq, Eq)]
-pub enum Language {
-    /// The format descriptions of a version.
-    Version(DescriptionVersion),
-    /// The conversion specifications of C's `strftime`.
-    Strftime,
-}
 
 /// How much a text holds: how many items, or in version 3 how many bytes its description reserves.
 /// Descriptions may be nested at most `limit` deep; strftime nests none.

@@ -7,15 +7,15 @@ ghost use Rattle.timefd_fault.specs.BorrowedFaults.{IsBorrowedOf, IsRefusal};
 ghost use Rattle.timefd_language.specs.Grammar.{nesting_limit};
 ghost use Rattle.timefd_parse.specs.FirstPiece.{BeginsList, EndsWith, IsAfterFirst, IsFirst};
 ghost use Rattle.timefd_parse.specs.Language.{SpellsIn, FaultIn};
-ghost use Rattle.timefd_parse.specs.declared.language.Language as spec_language;
+ghost use Rattle.timefd_language.specs.declared.language.Language as spec_language;
 
-use crate::language::Language;
 use crate::parsing::NESTING_LIMIT;
 use crate::read::next_piece;
 use std::alloc::Global;
 use timefd_fault::BorrowedParseError;
 use timefd_fault::borrowed_parse_error::borrowed;
 use timefd_items::DescriptionBuilder;
+use timefd_language::Language;
 use timefd_language::description_version::DescriptionVersion;
 use timefd_language::strftime::after_first_directive;
 

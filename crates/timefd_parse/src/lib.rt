@@ -32,7 +32,7 @@ mod read;
 pub use borrowing::parse_all_borrowed;
 pub use bracket::{bracket_name, first_modifier, first_nested};
 pub use counting::error_of;
-pub use language::{Language, amount_all_borrowed, amount_within};
+pub use language::{amount_all_borrowed, amount_within};
 pub use leading::first_piece;
 pub use modifier::Modifier;
 pub use parsing::{BorrowedOutput, NESTING_LIMIT, parse, parse_borrowed, parse_borrowed_within};
@@ -43,4 +43,4 @@ pub use timefd_items::{BorrowedFormatItem, FormatDescriptionV3, InvalidFormatDes
 pub use timefd_language::strftime::{
     StrftimeTables, count_strftime, parse_strftime_all_borrowed, parse_strftime_borrowed,
 };
-pub use timefd_language::{DescriptionVersion, laws};
+pub use timefd_language::{DescriptionVersion, Language, laws};

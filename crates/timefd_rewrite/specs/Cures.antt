@@ -3,8 +3,8 @@ use Rattle.std.specs.Prelude.{ℕ, ◌≡◌, ◌++◌, codes, Option, Some, Non
 use Rattle.std.specs.Str.{IsCharBoundary}
 use Rattle.timefd_component.specs.Tree.{Text}
 use Rattle.timefd_fault.specs.Faults.{fault_of}
-use Rattle.timefd_parse.specs.declared.language.Language.{Language}
-use Rattle.timefd_parse.specs.declared.language.Language.TheVariants.{Version, Strftime}
+use Rattle.timefd_language.specs.declared.language.Language.{Language}
+use Rattle.timefd_language.specs.declared.language.Language.TheVariants.{Version, Strftime}
 use Rattle.timefd_fault.specs.declared.code.Code.{Code}
 use Rattle.timefd_fault.specs.declared.code.Code.TheVariants.{UnclosedBracket, UnknownName, InvalidModifier, MissingName, MissingModifier, InvalidEscape, UnescapedBracket, MissingSpace, MissingDescription, MissingAlternative, NestedTooDeep, SeveralDescriptions, OptionalItem, FirstItem, UnsupportedFlag, UnsupportedLetter, NestedInComponent, DuplicateModifier, RefusedModifier}
 use Rattle.timefd_diagnosis.specs.declared.diagnostic.Diagnostic.{Diagnostic}

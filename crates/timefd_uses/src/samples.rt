@@ -7,18 +7,15 @@ use crate::upgrade::upgrade;
 use crate::write::{day_alone, write_date, write_date_in};
 use std::alloc::Global;
 use std::io;
-use timefd_description::{FormatTextError, format_text};
-use timefd_format::TextError;
-use timefd_moment::Moment;
-use timefd_parse::{
-    BorrowedOutput, DescriptionVersion, FormatDescriptionV3, Language, ParseError, parse,
-    parse_borrowed,
+use timefd_description::{
+    DescriptionVersion, FormatTextError, Language, Moment, TextError, format_text,
 };
+use timefd_parse::{BorrowedOutput, FormatDescriptionV3, ParseError, parse, parse_borrowed};
 
 /// The seventh of March 2026, a Saturday, written by texts of version 3 and of strftime, and by a
 /// description.
 pub fn written(rt: &impl Print, alloc: Global) -> io::Result<()> {
-    let Ok(date) = timefd_moment::Date::from_calendar_date(2026, 3, 7) else {
+    let Ok(date) = timefd_description::Date::from_calendar_date(2026, 3, 7) else {
         return Ok(());
     };
     for text in [

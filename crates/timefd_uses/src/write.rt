@@ -9,8 +9,8 @@ ghost use Rattle.timefd_items.specs.Description.{description_tree};
 ghost use Rattle.timefd_uses.specs.Days.{day_alone};
 
 use std::alloc::Global;
-use timefd_format::{FormatError, TextError, format, write_description};
-use timefd_moment::{Date, Moment};
+use timefd_description::{Date, Moment, TextError};
+use timefd_format::{FormatError, format, write_description};
 use timefd_parse::FormatDescriptionV3;
 
 /// The moment of which only the date is known.

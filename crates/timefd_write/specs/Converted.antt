@@ -10,8 +10,8 @@ use Rattle.timefd_dialect.specs.declared.error.Refusal.{Refusal}
 use Rattle.timefd_dialect.specs.declared.reason.Reason.{Reason}
 use Rattle.timefd_dialect.specs.declared.limits.Limits.{Limits}
 use Rattle.timefd_language.specs.declared.description_version.DescriptionVersion.TheVariants.{Three}
-use Rattle.timefd_parse.specs.declared.language.Language.{Language}
-use Rattle.timefd_parse.specs.declared.language.Language.TheVariants as languages
+use Rattle.timefd_language.specs.declared.language.Language.{Language}
+use Rattle.timefd_language.specs.declared.language.Language.TheVariants as languages
 use Rattle.timefd_write.specs.declared.converted.Described.{Described}
 use Rattle.timefd_write.specs.declared.converted.Described.TheVariants.{Own, Converted}
 use Rattle.timefd_write.specs.declared.language.Wording.{Wording}

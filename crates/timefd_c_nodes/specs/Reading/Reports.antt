@@ -8,8 +8,8 @@ use Rattle.timefd_component.specs.Tree.{Text, Tree, trees, pack}
 use Rattle.timefd_node_list.specs.Nodes.{kept_bytes}
 use Rattle.timefd_node_list.specs.Views.{walked, walked_all}
 use Rattle.timefd_language.specs.declared.description_version.DescriptionVersion.TheVariants.{One, Two, Three}
-use Rattle.timefd_parse.specs.declared.language.Language.{Language}
-use Rattle.timefd_parse.specs.declared.language.Language.TheVariants.{Version, Strftime}
+use Rattle.timefd_language.specs.declared.language.Language.{Language}
+use Rattle.timefd_language.specs.declared.language.Language.TheVariants.{Version, Strftime}
 use Rattle.timefd_fault.specs.Faults.{Fault}
 use Rattle.timefd_parse.specs.Language.{FaultIn, SpellsIn, amount}
 use Rattle.timefd_c_nodes.specs.declared.node.Node.{Node}

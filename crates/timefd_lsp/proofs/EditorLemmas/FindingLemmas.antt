@@ -18,7 +18,7 @@ use Rattle.timefd_language.specs.Grammar.{nesting_limit}
 use Rattle.timefd_lint_sources.specs.declared.reported.End.TheVariants.{PassedOver, Accepted, Refused, NotText}
 use Rattle.timefd_lint_sources.specs.Judged.{is_passed_over, language_in, text_of, reported_further}
 use Rattle.timefd_lint_warnings.specs.Found.{found_by}
-use Rattle.timefd_parse.specs.declared.language.Language.{Language}
+use Rattle.timefd_language.specs.declared.language.Language.{Language}
 use Rattle.timefd_parse.specs.Language.{SpellsIn, FaultIn}
 use Rattle.timefd_sources.specs.declared.description.Description.{Description}
 use Rattle.timefd_sources.specs.Found.{index_in_source}

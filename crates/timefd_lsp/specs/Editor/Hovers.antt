@@ -14,7 +14,7 @@ use Rattle.timefd_lint_sources.specs.declared.reported.End.TheVariants.{PassedOv
 use Rattle.timefd_lint_sources.specs.declared.reported.Source.{Source}
 use Rattle.timefd_lint_sources.specs.Judged.{IsEndOf, IsJudged, language_in, text_of}
 use Rattle.timefd_lint_sources.specs.Reported.{AllFound, AreAllOf, IsFound}
-use Rattle.timefd_parse.specs.declared.language.Language.{Language}
+use Rattle.timefd_language.specs.declared.language.Language.{Language}
 use Rattle.timefd_parse.specs.Language.{SpellsIn}
 use Rattle.timefd_sources.specs.declared.description.Description.{Description}
 use Rattle.timefd_sources.specs.declared.piece.Piece.{Piece}

@@ -4,7 +4,7 @@ use Rattle.timefd_node_list.specs.Item.Meaning.{item_trees}
 use Rattle.timefd_items.specs.Description.{description_tree}
 use Rattle.timefd_language.specs.Grammar.{nesting_limit}
 use Rattle.timefd_parse.specs.Answers.{IsOutput}
-use Rattle.timefd_parse.specs.declared.language.Language.TheVariants as languages
+use Rattle.timefd_language.specs.declared.language.Language.TheVariants as languages
 use Rattle.timefd_parse.specs.Language.{FaultIn}
 use Rattle.timefd_moment.specs.Fields.Reads.{fields_of}
 use Rattle.timefd_description.proofs.ReadTextLemmas.{description_read, fault_kept, fault_reported, items_read, memory_reported, no_fault}
