@@ -1,4 +1,3 @@
-use Rattle.std.proofs.Common.{◌≡◌, ◌≤◌, length, subst, IfSome, IfOk}
 use Rattle.std.specs.Io.Buffered.{reader_buffer, reader_remaining}
 use Rattle.std.proofs.KnownBytes.{Keeps-trans}
 use Rattle.timefd_streams.proofs.BufferedLemmas.{nothing_shown}
