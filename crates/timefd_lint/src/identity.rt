@@ -1,8 +1,9 @@
 //! Which file a name leads to.
 
-ghost use Rattle.std.specs.Prelude.{◌≡◌, ◌∷◌, ◌++◌, [], OnOk};
+ghost use Rattle.std.specs.Prelude.{◌≡◌, ◌∷◌, ◌++◌, [], IfErr, OnOk};
 ghost use Rattle.std.specs.List.{list_any};
 ghost use Rattle.timefd_lint.specs.Identities as spec;
+ghost use Rattle.timefd_lint.specs.declared.line.RunError.TheVariants as errors;
 
 use crate::line::RunError;
 use std::fs;
@@ -48,7 +49,8 @@ pub fn is_among(met: &[Identity], identity: Identity) -> bool
 
 /// Adds a file to those that were met.
 pub fn meet(met: &mut Vec<Identity>, identity: Identity) -> Result<(), RunError>
-    ensures { OnOk result (met.new.items ≡ met.old.items ++ identity ∷ []) }
+    ensures added { OnOk result (met.new.items ≡ met.old.items ++ identity ∷ []) }
+    ensures memory { IfErr result (λ e. e ≡ errors.Memory) }
 {
     match met.push(identity) {
         Ok(()) => Ok(()),
