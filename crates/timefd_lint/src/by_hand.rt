@@ -162,7 +162,7 @@ fn new_literal(
 ) -> Result<Option<String>, AllocError> {
     let bytes = description.unescaped.text.as_slice();
     let (Some(layout), Ok(text)) = (
-        layout_of(change, description.dialect),
+        layout_of(change, description.dialect, bytes),
         str::from_utf8(bytes),
     ) else {
         return Ok(None);

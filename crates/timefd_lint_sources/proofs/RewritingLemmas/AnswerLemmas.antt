@@ -19,14 +19,22 @@ use Rattle.timefd_lint_sources.specs.declared.rewriting.outcome.Outcome.TheVaria
 use Rattle.timefd_lint_sources.specs.Rewriting.Changes.{layout_of, new_digit}
 use Rattle.timefd_lint_sources.specs.Rewriting.Written.{Becoming, IsAnswer, IsRewritten, IsChange, IsLaidOutBy, is_sayable, line_ends, old_line_ends}
 
-pub passed_over : (change : Change) (source : Text) (d : Description) → layout_of change d.dialect ≡ None
-    → IsAnswer change source d (Stays PassedOver)
-passed_over change source d none = (refl, none)
+pub passed_over : (change : Change) (source : Text) (d : Description) (text : Text) → text ≡ text_of d
+    → layout_of change d.dialect text ≡ None → IsAnswer change source d (Stays PassedOver)
+passed_over change source d text same none =
+    (refl, subst (λ (t : Text). layout_of change d.dialect t ≡ None) same none)
+
+laid_out : (change : Change) (d : Description) (text : Text) (layout : Layout) → text ≡ text_of d
+    → layout_of change d.dialect text ≡ Some layout → IsLaidOutBy change d layout
+laid_out change d text layout same is =
+    subst (λ (t : Text). layout_of change d.dialect t ≡ Some layout) same is
 
 pub no_text : (change : Change) (source : Text) (d : Description) (text : Text) (layout : Layout) → text ≡ text_of d
-    → layout_of change d.dialect ≡ Some layout → (¬ IsUtf8 text) → IsAnswer change source d (Stays NotText)
-no_text change source d text layout same is none =
-    (refl, (subst (λ (t : Text). ¬ IsUtf8 t) same none, (layout, is)))
+    → layout_of change d.dialect text ≡ Some layout → (¬ IsUtf8 text) → IsAnswer change source d (Stays NotText)
+no_text change source d text layout same is none = (
+  refl,
+  (subst (λ (t : Text). ¬ IsUtf8 t) same none, (layout, laid_out change d text layout same is)),
+)
 
 pub becoming : (change : Change) (d : Description) (layout : Layout) (text answer : Text) → text ≡ text_of d
     → IsLaidOutBy change d layout → IsConverted layout text answer → Becoming change d answer

@@ -1,19 +1,17 @@
 -- How the descriptions of a source are laid out, and which versions they have then.
 use Rattle.std.specs.Prelude.{ℕ, ◌==◌, Option, None, Some, option_map, if◌then◌else◌}
+use Rattle.timefd_component.specs.Tree.{Text}
 use Rattle.timefd_convert.specs.declared.conversion.Conversion.{Conversion}
 use Rattle.timefd_convert.specs.Conversions.{conversion_between}
 use Rattle.timefd_language.specs.declared.description_version.DescriptionVersion.{DescriptionVersion}
 use Rattle.timefd_language.specs.declared.description_version.DescriptionVersion.TheVariants as versions
-use Rattle.timefd_dialect.specs.declared.dialect.Dialect.{Dialect as Other}
-use Rattle.timefd_language.specs.declared.language.Language.{Language}
 use Rattle.timefd_language.specs.declared.language.Language.TheVariants as languages
-use Rattle.timefd_rewrite.specs.declared.fixes.Fixes.{Fixes}
 use Rattle.timefd_rewrite.specs.declared.layout.Layout.{Layout}
 use Rattle.timefd_rewrite.specs.declared.layout.Layout.TheVariants as layouts
 use Rattle.timefd_sources.specs.declared.dialect.Dialect.{Dialect}
 use Rattle.timefd_sources.specs.declared.dialect.Dialect.TheVariants.{One, Two, Three, Strftime, Python, C, Gnu, Chrono, Jiff, Ruby, Java, Go, Moment}
 use Rattle.timefd_sources.specs.Versions.{digit_of}
-use Rattle.timefd_lint_sources.specs.Judged.{language_of, other_of}
+use Rattle.timefd_lint_sources.specs.Judged.{is_passed_over, language_of}
 use Rattle.timefd_lint_sources.specs.declared.rewriting.change.Change.{Change}
 use Rattle.timefd_lint_sources.specs.declared.rewriting.change.Change.TheVariants.{Mended, Least, Normal}
 
@@ -33,18 +31,12 @@ conversion_to Java version = None
 conversion_to Go version = None
 conversion_to Moment version = None
 
-abbrev pub mending_of : Option Other → Fixes → Language → Option Layout
-mending_of None fixes language = Some (layouts.Fixed language fixes)
-mending_of (Some other) fixes language = None
-
--- Formats of other languages and libraries aren't fixed.
-abbrev pub mending : Fixes → Dialect → Option Layout
-mending fixes dialect = mending_of (other_of dialect) fixes (language_of dialect)
-
-abbrev pub layout_of : Change → Dialect → Option Layout
-layout_of (Mended fixes) dialect = mending fixes dialect
-layout_of (Least version) dialect = option_map layouts.Least (conversion_to dialect version)
-layout_of Normal dialect = option_map layouts.Normal (conversion_to dialect versions.Three)
+-- What only another language or library knows isn't fixed.
+abbrev pub layout_of : Change → Dialect → Text → Option Layout
+layout_of (Mended fixes) dialect text =
+    if is_passed_over dialect text then None else Some (layouts.Fixed (language_of dialect) fixes)
+layout_of (Least version) dialect text = option_map layouts.Least (conversion_to dialect version)
+layout_of Normal dialect text = option_map layouts.Normal (conversion_to dialect versions.Three)
 
 abbrev pub digit_in : DescriptionVersion → ℕ
 digit_in versions.One = 49

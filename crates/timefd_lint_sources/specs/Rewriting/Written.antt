@@ -58,7 +58,7 @@ old_line_ends source d = line_ends_in (inside source d.piece d.kind)
 
 -- how this description is laid out
 abbrev pub IsLaidOutBy : Change → Description → Layout → Type 0
-IsLaidOutBy change d layout = layout_of change d.dialect ≡ Some layout
+IsLaidOutBy change d layout = layout_of change d.dialect (text_of d) ≡ Some layout
 
 -- The text is converted to the answer, or fixed, in the language of the description.
 pub record Becoming (change : Change) (d : Description) (answer : Text) : Type 0 where
@@ -112,7 +112,7 @@ HasItem d = HoldsItem (taking d.items d.dialect) (text_of d)
 
 -- The outcome of a description, and its new digit and body if it is rewritten.
 abbrev pub IsOutcome : Change → Text → Description → Outcome → Option ℕ → Option Text → Type 0
-IsOutcome change source d PassedOver digit body = layout_of change d.dialect ≡ None
+IsOutcome change source d PassedOver digit body = layout_of change d.dialect (text_of d) ≡ None
 IsOutcome change source d Same digit body = Becoming change d (text_of d) × (new_digit change d.dialect ≡ None)
 IsOutcome change source d Rewritten digit body = IsRewritten change source d digit body
 IsOutcome change source d Refused digit body = IsUtf8 (text_of d)

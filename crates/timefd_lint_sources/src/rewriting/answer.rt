@@ -45,10 +45,11 @@ pub fn answer_to(
 ) -> Result<Answer, AllocError>
     ensures { IfOk result (IsAnswer change source.now description.now) }
 {
-    let Some(layout) = layout_of(change, description.dialect) else {
+    let bytes = description.unescaped.text.as_slice();
+    let Some(layout) = layout_of(change, description.dialect, bytes) else {
         return Ok(Answer::Stays(Outcome::PassedOver));
     };
-    match str::from_utf8(description.unescaped.text.as_slice()) {
+    match str::from_utf8(bytes) {
         Ok(text) => laid_out(alloc, change, layout, source, description, text),
         Err(_) => Ok(Answer::Stays(Outcome::NotText)),
     }

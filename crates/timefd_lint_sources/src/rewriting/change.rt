@@ -2,8 +2,9 @@
 
 ghost use Rattle.std.specs.Prelude.{◌≡◌};
 ghost use Rattle.timefd_lint_sources.specs.Rewriting.Changes as spec;
+ghost use Rattle.timefd_lint_sources.specs.declared.rewriting.change.Change.TheVariants as variants;
 
-use crate::{language_of, other_of};
+use crate::{is_passed_over, language_of};
 use timefd_convert::{Conversion, conversion_between};
 use timefd_parse::{DescriptionVersion, Language};
 use timefd_rewrite::{Fixes, Layout};
@@ -21,13 +22,13 @@ pub enum Change {
     Normal,
 }
 
-/// How a description is laid out. `None` if it stays as it is: because it is of another language or library,
-/// or because there is no conversion from its version, as for strftime.
-pub fn layout_of(change: Change, dialect: Dialect) -> Option<Layout>
-    ensures { result ≡ spec.layout_of change dialect }
+/// How a description is laid out. `None` if it stays as it is: because only another language or library knows
+/// it, or because there is no conversion from its version, as for strftime.
+pub fn layout_of(change: Change, dialect: Dialect, text: &[u8]) -> Option<Layout>
+    ensures { result ≡ spec.layout_of change dialect text.now }
 {
     match change {
-        Change::Mended(fixes) => mending(fixes, dialect),
+        Change::Mended(fixes) => mending(fixes, dialect, text),
         Change::Least(version) => match conversion_to(dialect, version) {
             Some(conversion) => Some(Layout::Least(conversion)),
             None => None,
@@ -39,12 +40,13 @@ pub fn layout_of(change: Change, dialect: Dialect) -> Option<Layout>
     }
 }
 
-fn mending(fixes: Fixes, dialect: Dialect) -> Option<Layout>
-    ensures { result ≡ spec.mending fixes dialect }
+fn mending(fixes: Fixes, dialect: Dialect, text: &[u8]) -> Option<Layout>
+    ensures { result ≡ spec.layout_of (variants.Mended fixes) dialect text.now }
 {
-    match other_of(dialect) {
-        Some(_other) => None,
-        None => Some(Layout::Fixed(language_of(dialect), fixes)),
+    if is_passed_over(dialect, text) {
+        None
+    } else {
+        Some(Layout::Fixed(language_of(dialect), fixes))
     }
 }
 
