@@ -11,8 +11,7 @@ begins text directive = starts_with nat_eq text directive
 abbrev pub begins_fraction : Text → Bool
 begins_fraction text =
     begins text (codes "f") || begins text (codes "3f") || begins text (codes "6f")
-    || begins text (codes "9f") || begins text (codes "-f") || begins text (codes "_f")
-    || begins text (codes "0f")
+    || begins text (codes "9f")
 
 abbrev pub begins_dotted : Text → Bool
 begins_dotted text =

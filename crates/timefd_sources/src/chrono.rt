@@ -11,9 +11,6 @@ fn begins_fraction(text: &[u8]) -> bool
         || text.starts_with(b"3f")
         || text.starts_with(b"6f")
         || text.starts_with(b"9f")
-        || text.starts_with(b"-f")
-        || text.starts_with(b"_f")
-        || text.starts_with(b"0f")
 }
 
 /// Whether the text after a `%` begins with the digits of a fraction of a second and a dot before them.
