@@ -14,7 +14,7 @@ returns-in-Ok-clause-reported g c =
     text_of_all c.args.options.language c.args.options.comment c.args.options.reporting origin
     c.args.name.now
     (g.R.BufferedSource.remaining c.args.reader.now) (g.R.BufferedSource.remaining c.read_to_end.new.self)
-    c.new-bytes.result.items c.read_to_end.new.buf.items text before after (g.R.BufferedSource.has_failed c.read_to_end.new.self) c.in_ok-end-in-Ok.end
+    c.new-bytes.result.items c.read_to_end.new.bytes.items text before after (g.R.BufferedSource.has_failed c.read_to_end.new.self) c.in_ok-end-in-Ok.end
     c.of.result c.in-Ok.ensures.bytes c.in-Ok.ensures.at_end c.new-bytes.ensures.items
     c.deref-in-Ok.ensures.value c.in_ok-end-in-Ok.ensures.end
     (notes_and_says (has_mark text) c.args.options.language c.args.options.reporting origin text
@@ -24,11 +24,11 @@ returns-in-Ok-clause-reported g c =
     c.in_ok-end-in-Ok.ensures.said)
     c.of.ensures (refl, refl)
 
-pub returns-in-Failed-clause-reported : goal.returns-in-Failed-clause-reported
-returns-in-Failed-clause-reported g c =
+pub returns-clause-reported : goal.returns-clause-reported
+returns-clause-reported g c =
     none_of_all c.args.options.language c.args.options.comment c.args.options.reporting c.args.name
     (g.R.BufferedSource.remaining c.args.reader.now) (g.R.BufferedSource.remaining c.read_to_end.new.self)
     (g.W.Sink.contents c.args.writer.now) (g.W.Sink.contents c.read_error.new.writer)
     (g.R.BufferedSource.has_failed c.read_to_end.new.self)
-    c.in_ok-end-in-Failed.end c.of-in-Failed.result c.in_ok-end-in-Failed.ensures.end
-    c.in-Failed.ensures.fails c.in_ok-end-in-Failed.ensures.said c.of-in-Failed.ensures
+    c.in_ok-end-in-Err-Failed.end c.of-in-Err-Failed.result c.in_ok-end-in-Err-Failed.ensures.end
+    c.in-Err-Failed.ensures.fails c.in_ok-end-in-Err-Failed.ensures.said c.of-in-Err-Failed.ensures
