@@ -16,7 +16,7 @@ use Rattle.timefd_write.specs.declared.lines.LineRead.{LineRead}
 use Rattle.timefd_write.specs.declared.lines.LineRead.TheVariants.{Line, End}
 use Rattle.timefd_write.specs.Guessed.{WritesGuesses, guess_lines}
 use Rattle.timefd_write.specs.Written.{IsRead}
-use Rattle.timefd_write.specs.GuessRuns.{AreTextsOf, GuessesOver, IsFlushedEnd, IsGuessRun, IsInputGuess, IsLineEnd, IsUnreadEnd}
+use Rattle.timefd_write.specs.GuessRuns.{AreTextsOf, FailsOnlyIf, GuessesOver, IsFlushedEnd, IsGuessRun, IsInputGuess, IsLineEnd, IsUnreadEnd}
 use Rattle.timefd_write.proofs.RunLemmas.{more_lines, no_line_left, no_line_read}
 
 same_texts : (words : List (Bor Text)) → guess.texts words ≡ texts words
@@ -145,3 +145,25 @@ pub line_refused : (bytes left rest : Option Text) (read : List Text) (line text
 line_refused bytes left rest read line text end r so_far next is_line same is =
     unread bytes left rest read line end so_far (subst (λ x. IsRead left rest line x) is_line next)
     (subst (λ l. IsLineEnd l end) same is)
+
+-- What is said of a run that reads no input, or has read it.
+
+pub output_alone : (input output : Bool) (end : GuessEnd) → FailsOnlyIf false output end
+    → FailsOnlyIf input output end
+output_alone input output ends.Found fails = tt
+output_alone input output ends.NotFound fails = tt
+output_alone input output ends.NoText fails = tt
+output_alone input output ends.NotText fails = tt
+output_alone input output ends.Memory fails = tt
+output_alone input output ends.Read fails = absurd (true≢false (sym fails))
+output_alone input output ends.Write fails = fails
+
+pub input_alone : (input output : Bool) (end : GuessEnd) → FailsOnlyIf input false end
+    → FailsOnlyIf input output end
+input_alone input output ends.Found fails = tt
+input_alone input output ends.NotFound fails = tt
+input_alone input output ends.NoText fails = tt
+input_alone input output ends.NotText fails = tt
+input_alone input output ends.Memory fails = tt
+input_alone input output ends.Read fails = fails
+input_alone input output ends.Write fails = absurd (true≢false (sym fails))

@@ -276,3 +276,9 @@ source_after old mid new failed failed_first t (Ok (nexts.Line tally)) is first 
     (omega (arith, few, after.0), after.1)
 source_after old mid new failed failed_first t (Ok nexts.End) is first after = tt
 source_after old mid new failed failed_first t (Ok nexts.Failed) is first after = after
+
+-- A line that was looked at is no failed read.
+pub line_read : (old new : ℕ) (failed : Bool) (tally : Tally) (n : Next) → n ≡ nexts.Line tally
+    → IsSourceAfterNext old new failed n → tally.has_failed ≡ false
+line_read old new failed tally n is after =
+    (subst (λ x. IsSourceAfterNext old new failed x) is after).1

@@ -49,7 +49,7 @@ impl From<AllocError> for GuessEnd {
 
 /// Writes the descriptions that the words may be written by. Without words, the lines of the input are the
 /// texts.
-#[tactic(auto, using(crate::proofs::GuessRunLemmas::of_words, crate::proofs::GuessRunLemmas::of_input))]
+#[tactic(auto, using(crate::proofs::GuessRunLemmas::of_words, crate::proofs::GuessRunLemmas::of_input, crate::proofs::GuessRunLemmas::output_alone, crate::proofs::GuessRunLemmas::input_alone))]
 pub fn guess_end<I: BufferedSource, W: Sink, E: Sink>(
     alloc: Global,
     request: GuessRequest,
