@@ -37,7 +37,7 @@ bare_by : (c : Bool) → IsOutside (cond c Start Bare)
 bare_by true = tt
 bare_by false = tt
 
-stays : (q : Quoting) (b : ℕ) → IsOutside q → b ≢ 34 → IsOutside (after q b)
+pub stays : (q : Quoting) (b : ℕ) → IsOutside q → b ≢ 34 → IsOutside (after q b)
 stays q b out plain = subst IsOutside (sym (after_outside q b out plain)) (bare_by (nat_eq b 44))
 
 shown_outside : (q : Quoting) (b : ℕ) → IsOutside q → b ≢ 34 → shown q b ≡ b ∷ []

@@ -32,7 +32,7 @@ use Rattle.timefd_write.proofs.PlainLemmas.{text_plain}
 unquoted : (field : Text) → All (λ b. b ≢ 34) field → is_quoted field ≡ false
 unquoted [] plain = refl
 unquoted (b ∷ bs) plain =
-    let e : nat_eq b 34 ≡ false = grind (arith, nat_tests, All-head (λ x. x ≢ 34) b bs plain) in rw e refl
+    let e : nat_eq 34 b ≡ false = grind (arith, nat_tests, All-head (λ x. x ≢ 34) b bs plain) in rw e refl
 
 as_it_is : (field text : Text) → All (λ b. b ≢ 34) field → list_any wants_quotes text ≡ false
     → field_of field text ≡ text

@@ -72,7 +72,7 @@ fn moment_shown_by(
 #[inline(always)]
 #[tactic(auto, using(crate::proofs::NameLemmas::named))]
 fn moment_named_at_once(names: &Names<'_>, name: &[u8]) -> Option<Moment>
-    ensures { IfSome result (λ moment. IsNamed names.now name.now (Ok moment)) }
+    ensures { IfSome result (λ moment. IsNamed names.entry.now name.now (Ok moment)) }
 {
     if name.ends_with(b"]") {
         return None;

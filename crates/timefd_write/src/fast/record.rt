@@ -59,7 +59,7 @@ fn append_cell(
     at: usize,
 ) -> Option<usize>
     requires written { IsMadeOf description.now leaves.now }
-    requires plain { All (λ b. b ≢ 34) cell.entry.field.now }
+    requires plain { All (λ b. b ≢ 34) cell.field.now }
     requires within { at ≤ length room.old }
     ensures { TriesToAppend (in_cell cell.entry (written_of moment.now description.now)) room.old at
         room.new result }
