@@ -9,5 +9,4 @@ pub mod RewrittenLemmas
 pub mod RuleLemmas
 pub mod NoCodeLemmas
 pub mod ArgumentLemmas
-mod LimitedLemmas
 pub mod FateLemmas

@@ -21,4 +21,3 @@ pub mod Identities
 pub mod ByHand
 pub mod Arguments
 pub mod NoCodes
-pub mod Limited

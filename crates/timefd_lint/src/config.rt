@@ -115,7 +115,7 @@ fn failure(alloc: Global, text: &str, error: ConfigError) -> ConfigFailure {
             about(
                 alloc,
                 &name,
-                "has no language: it is one of 1, 2, 3, \"strftime\", \"python\", \"c\", \"gnu\", \"chrono\", \"jiff\", \"ruby\", \"java\", \"go\", \"moment\"",
+                "has no language: it is one of 1, 2, 3, \"strftime\"",
             )
         }
     }

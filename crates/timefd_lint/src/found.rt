@@ -10,20 +10,19 @@ ghost use Rattle.timefd_lint.specs.Reported.{IsRunOver};
 ghost use Rattle.timefd_rewrite.specs.Rewriting.{AreRewritten};
 
 use crate::by_hand::notes;
-use crate::limited::limit_notes;
 use crate::line::RunError;
 use crate::lines::lint_lines;
 use crate::options::Options;
 use crate::rust::lint_source;
 use crate::source::BUFFER;
 use crate::tally::Tally;
-use std::alloc::{AllocError, Global};
+use std::alloc::Global;
 use std::io::BufReader;
 use std::str;
 use timefd_lint_sources::rewriting::{
     Change, Outcome, count_refused, count_rewritten, rewrite_source,
 };
-use timefd_rewrite::{Counts, LineChange, rewrite_lines};
+use timefd_rewrite::{Counts, Layout, rewrite_lines};
 use timefd_streams::{BufferedSource, FromBufReader, Sink};
 
 /// What is counted in a file: lines or descriptions.
@@ -46,8 +45,6 @@ pub struct Found {
     pub bytes: Vec<u8>,
     /// The notes on descriptions that have to be changed manually, a line each.
     pub by_hand: String,
-    /// The notes on formats that version 3 writes alike for some moments alone, a line each.
-    pub limits: String,
 }
 
 /// Checks the lines of a file, and rewrites those that can be rewritten.
@@ -55,7 +52,7 @@ pub struct Found {
 pub fn looked_at<W: Sink>(
     alloc: Global,
     options: Options<'_>,
-    change: LineChange,
+    layout: Layout,
     name: &str,
     old: &[u8],
     writer: &mut W,
@@ -63,7 +60,7 @@ pub fn looked_at<W: Sink>(
     ensures reported { IfOk result (λ found. (rest : Option Text) × (has_failed : Bool)
         × IsRunOver options.entry.language options.entry.comment options.entry.reporting name.now
         (Some old.now) rest has_failed (W.contents writer.old) (W.contents writer.new) found.tally) }
-    ensures rewritten { IfOk result (λ found. AreRewritten change options.entry.comment
+    ensures rewritten { IfOk result (λ found. AreRewritten layout options.entry.comment
         (Some old.now) (Some []) (Some found.bytes.items) found.counts) }
     ensures unwritten { IfErr result (IsCausedBy (W.has_failed writer.new)) }
 {
@@ -71,15 +68,13 @@ pub fn looked_at<W: Sink>(
     let tally = lint_lines(alloc, options, name, &mut reader, writer)?;
     let mut lines = old;
     let mut bytes = Vec::new(alloc);
-    let limits = limits_of(alloc, options, change, name, old)?;
-    match rewrite_lines(alloc, options.comment, change, &mut lines, &mut bytes) {
+    match rewrite_lines(alloc, options.comment, layout, &mut lines, &mut bytes) {
         Ok(counts) => Ok(Found {
             tally,
             unit: Unit::Line,
             counts,
             bytes,
             by_hand: String::new(alloc),
-            limits,
         }),
         // The reader and the writer are both in memory, so only memory can run out.
         Err(_) => Err(RunError::Memory),
@@ -114,7 +109,6 @@ pub fn source_looked_at<W: Sink>(
                 unit,
                 counts: counts_of(&new.outcomes),
                 by_hand: notes(alloc, change, name, source, &new.outcomes)?,
-                limits: String::new(alloc),
                 bytes: new.bytes,
             })
         }
@@ -124,7 +118,6 @@ pub fn source_looked_at<W: Sink>(
             counts: counts_of(&[]),
             bytes: Vec::new(alloc),
             by_hand: String::new(alloc),
-            limits: String::new(alloc),
         }),
     }
 }
@@ -138,20 +131,6 @@ fn reader_of<'a>(alloc: Global, bytes: &'a [u8]) -> Result<FromBufReader<&'a [u8
     match BufReader::with_capacity(alloc, BUFFER, bytes) {
         Ok(reader) => Ok(FromBufReader::new(reader)),
         Err(_) => Err(RunError::Memory),
-    }
-}
-
-// The notes on formats of another language that version 3 writes alike for some moments alone.
-fn limits_of(
-    alloc: Global,
-    options: Options<'_>,
-    change: LineChange,
-    name: &str,
-    old: &[u8],
-) -> Result<String, AllocError> {
-    match change {
-        LineChange::Own(_) => Ok(String::new(alloc)),
-        LineChange::Other(dialect) => limit_notes(alloc, options.comment, dialect, name, old),
     }
 }
 

@@ -15,7 +15,6 @@ mod fix;
 mod folders;
 mod found;
 mod identity;
-mod limited;
 mod line;
 mod lines;
 mod log;

@@ -107,7 +107,6 @@ fn rewrite_file<R: Files, E: Sink, W: Sink>(
         return Ok(Tally::new());
     };
     report(errors, &found.by_hand);
-    report(errors, &found.limits);
     let tally = found.tally.and(left_in(&found));
     let file = safe(alloc, name)?;
     match fate_of(rewriting, found.counts) {
@@ -153,7 +152,7 @@ fn found_of<W: Sink>(
         return Ok(Some(found));
     }
     match rewriting.lines {
-        Some(change) => Ok(Some(looked_at(alloc, options, change, name, old, output)?)),
+        Some(layout) => Ok(Some(looked_at(alloc, options, layout, name, old, output)?)),
         None => Ok(None),
     }
 }

@@ -172,7 +172,6 @@ fn text_end(end: End) -> TextEnd
     match end {
         End::PassedOver => TextEnd::PassedOver,
         End::Accepted(found) => TextEnd::Accepted(found),
-        End::Converted(traps) => TextEnd::Converted(traps),
         End::Refused => TextEnd::Refused,
         End::NotText => TextEnd::NotText,
         End::UnreadCall => TextEnd::UnreadCall,

@@ -69,18 +69,13 @@ lines_conflict_by (Some version) is_normal language =
 abbrev pub own_conflict : Settings → Language → Option Conflict
 own_conflict s language = lines_conflict_by (target s) s.is_normal language
 
--- Formats of other languages are rewritten in version 3 alone, and not in its normal form.
-abbrev pub other_target : Option DescriptionVersion → Bool → Option Conflict
-other_target None is_normal = None
-other_target (Some version) is_normal =
-    if is_normal || not (is_three version) then Some NoConversion else None
-
 -- what can't be done with formats of other languages
 abbrev pub other_conflict : Settings → Option Conflict
 other_conflict s =
     if s.explains then Some ExplainsOther
     else if s.fixes then Some FixesOther
-    else other_target (target s) s.is_normal
+    else if is_some (target s) then Some NoConversion
+    else None
 
 abbrev pub lines_conflict_in : Wording → Settings → Option Conflict
 lines_conflict_in (Own language) s = own_conflict s language

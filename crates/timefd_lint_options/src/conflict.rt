@@ -141,7 +141,7 @@ fn own_conflict(settings: Settings<'_>, language: Language) -> Option<Conflict>
     }
 }
 
-// What can't be done with formats of other languages. They are rewritten in version 3 alone, and not in its normal form.
+// What can't be done with formats of other languages.
 fn other_conflict(settings: Settings<'_>) -> Option<Conflict>
     ensures { result ≡ spec.other_conflict settings.entry }
 {
@@ -152,8 +152,8 @@ fn other_conflict(settings: Settings<'_>) -> Option<Conflict>
         return Some(Conflict::FixesOther);
     }
     match target(settings) {
-        Some(version) if settings.is_normal || !is_three(version) => Some(Conflict::NoConversion),
-        Some(_) | None => None,
+        Some(_) => Some(Conflict::NoConversion),
+        None => None,
     }
 }
 

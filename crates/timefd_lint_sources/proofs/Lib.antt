@@ -1,7 +1,5 @@
 mod ItemLemmas
 mod OpeningLemmas
-mod SearchLemmas
-mod OtherLemmas
 mod JudgedLemmas
 mod ReportedLemmas
 mod ReportLemmas

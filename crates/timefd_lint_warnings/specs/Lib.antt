@@ -1,4 +1,3 @@
 pub mod Found
-pub mod Hints
 pub mod Messages
 pub mod Dialects

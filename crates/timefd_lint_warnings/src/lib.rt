@@ -3,7 +3,6 @@
 #![tactic(auto)]
 
 mod found;
-mod hint;
 mod message;
 mod reported;
 

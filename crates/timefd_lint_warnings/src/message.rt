@@ -3,7 +3,6 @@
 ghost use Rattle.std.specs.Prelude.{◌≡◌, IfOk, string_bytes};
 ghost use Rattle.timefd_lint_warnings.specs.Messages as spec;
 
-use crate::hint::help_on;
 use std::alloc::{AllocError, Global};
 use timefd_drawing::github::{Command, annotation};
 use timefd_drawing::json::{Entry, push_number, push_text};
@@ -18,34 +17,24 @@ pub fn message(
     alloc: Global,
     style: Style,
     origin: Origin<'_>,
-    text: &str,
     column: usize,
     level: Level,
     warning: Warning,
 ) -> Result<Vec<u8>, AllocError>
-    ensures { IfOk result (λ reported. reported.items
-        ≡ spec.message style origin.entry text.now column level warning) }
+    ensures { IfOk result (λ reported. reported.items ≡ spec.message style origin.entry column level warning) }
 {
     match style.format {
         Format::Human => {
-            let drawing = human(
-                alloc,
-                style.is_colored,
-                origin,
-                text,
-                column,
-                level,
-                warning,
-            )?;
+            let drawing = human(alloc, style.is_colored, origin, column, level, warning)?;
             Ok(drawing.into_bytes())
         }
         Format::Short => {
             let line = short(alloc, origin, column, level, warning)?;
             Ok(line.into_bytes())
         }
-        Format::Json => json(alloc, origin, text, column, level, warning),
+        Format::Json => json(alloc, origin, column, level, warning),
         Format::Github => github(alloc, origin, column, level, warning),
-        Format::Sarif => sarif(alloc, origin, text, column, level, warning),
+        Format::Sarif => sarif(alloc, origin, column, level, warning),
     }
 }
 
@@ -92,18 +81,17 @@ fn human(
     alloc: Global,
     is_colored: bool,
     origin: Origin<'_>,
-    text: &str,
     column: usize,
     level: Level,
     warning: Warning,
 ) -> Result<String, AllocError>
     ensures { IfOk result (λ drawing. string_bytes drawing
-        ≡ spec.human is_colored origin.entry text.now column level warning) }
+        ≡ spec.human is_colored origin.entry column level warning) }
 {
     let (head, position, help) = (
         head(alloc, is_colored, level, warning.name(), warning.sentence())?,
         position(alloc, is_colored, origin, column)?,
-        help(alloc, is_colored, warning, text)?,
+        help(alloc, is_colored, warning)?,
     );
     format!(in alloc; "{head}{position}{help}\n")
 }
@@ -140,13 +128,13 @@ pub fn position(
     format!(in alloc; " {blue}-->{plain} {file}:{line}:{column}\n")
 }
 
-// `= help: WHAT TO DO`
-fn help(alloc: Global, is_colored: bool, warning: Warning, text: &str) -> Result<String, AllocError>
-    ensures { IfOk result (λ line. string_bytes line ≡ spec.help is_colored warning text.now) }
+// `= help: EXPLANATION`
+fn help(alloc: Global, is_colored: bool, warning: Warning) -> Result<String, AllocError>
+    ensures { IfOk result (λ line. string_bytes line ≡ spec.help is_colored warning) }
 {
     let (blue, plain) = (blue(is_colored), plain(is_colored));
-    let help = help_on(alloc, warning, text)?;
-    format!(in alloc; "  {blue}={plain} help: {help}\n")
+    let explanation = warning.explanation();
+    format!(in alloc; "  {blue}={plain} help: {explanation}\n")
 }
 
 // `FILE:LINE:COLUMN: warning[CODE]: SENTENCE`
@@ -198,17 +186,14 @@ fn github(
 fn sarif(
     alloc: Global,
     origin: Origin<'_>,
-    text: &str,
     column: usize,
     level: Level,
     warning: Warning,
 ) -> Result<Vec<u8>, AllocError>
-    ensures { IfOk result (λ reported. reported.items
-        ≡ spec.sarif origin.entry text.now column level warning) }
+    ensures { IfOk result (λ reported. reported.items ≡ spec.sarif origin.entry column level warning) }
 {
     let column = column as u64;
-    let help = help_on(alloc, warning, text)?;
-    let message = with_help(alloc, warning.sentence(), &help)?;
+    let message = with_help(alloc, warning.sentence(), warning.explanation())?;
     let entry = Entry {
         code: warning.name(),
         file: origin.file,
@@ -231,17 +216,15 @@ struct Words<'a> {
 fn json(
     alloc: Global,
     origin: Origin<'_>,
-    text: &str,
     column: usize,
     level: Level,
     warning: Warning,
 ) -> Result<Vec<u8>, AllocError>
-    ensures { IfOk result (λ line. line.items ≡ spec.json origin.entry text.now column level warning) }
+    ensures { IfOk result (λ line. line.items ≡ spec.json origin.entry column level warning) }
 {
-    let help = help_on(alloc, warning, text)?;
     let words = Words {
         code: warning.name(),
-        help: &help,
+        help: warning.explanation(),
         message: warning.sentence(),
         severity: severity(level),
     };

@@ -14,12 +14,11 @@ pub fn messages(
     alloc: Global,
     style: Style,
     origin: Origin<'_>,
-    text: &str,
     found: Levels,
 ) -> Result<Vec<u8>, AllocError>
-    ensures { IfOk result (λ reported. reported.items ≡ spec.messages style origin.entry text.now found) }
+    ensures { IfOk result (λ reported. reported.items ≡ spec.messages style origin.entry found) }
 {
-    messages_at(alloc, style, origin, text, 1, found)
+    messages_at(alloc, style, origin, 1, found)
 }
 
 /// A message about each warning that isn't allowed, in the order of the codes, on a text that begins
@@ -28,12 +27,10 @@ pub fn messages_at(
     alloc: Global,
     style: Style,
     origin: Origin<'_>,
-    text: &str,
     column: usize,
     found: Levels,
 ) -> Result<Vec<u8>, AllocError>
-    ensures { IfOk result (λ reported. reported.items
-        ≡ spec.messages_at style origin.entry text.now column found) }
+    ensures { IfOk result (λ reported. reported.items ≡ spec.messages_at style origin.entry column found) }
 {
     let mut out = Vec::new(alloc);
     push_all(
@@ -41,7 +38,6 @@ pub fn messages_at(
         &mut out,
         style,
         origin,
-        text,
         column,
         found,
         Warning::all(),
@@ -54,13 +50,12 @@ fn push_all(
     out: &mut Vec<u8>,
     style: Style,
     origin: Origin<'_>,
-    text: &str,
     column: usize,
     found: Levels,
     warnings: &[Warning],
 ) -> Result<(), AllocError>
     ensures { OnOk result (out.new.items
-        ≡ out.old.items ++ spec.messages_on style origin.entry text.now column found warnings.now) }
+        ≡ out.old.items ++ spec.messages_on style origin.entry column found warnings.now) }
 {
     for warning in warnings {
         push_one(
@@ -68,7 +63,6 @@ fn push_all(
             out,
             style,
             origin,
-            text,
             column,
             found.level_of(*warning),
             *warning,
@@ -83,18 +77,17 @@ fn push_one(
     out: &mut Vec<u8>,
     style: Style,
     origin: Origin<'_>,
-    text: &str,
     column: usize,
     level: Level,
     warning: Warning,
 ) -> Result<(), AllocError>
     ensures { OnOk result (out.new.items
-        ≡ out.old.items ++ spec.reported_at style origin.entry text.now column level warning) }
+        ≡ out.old.items ++ spec.reported_at style origin.entry column level warning) }
 {
     match level {
         Level::Allowed => Ok(()),
         Level::Warned | Level::Denied => {
-            let reported = message(alloc, style, origin, text, column, level, warning)?;
+            let reported = message(alloc, style, origin, column, level, warning)?;
             out.extend_from_slice(&reported)
         }
     }

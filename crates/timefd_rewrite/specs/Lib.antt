@@ -2,6 +2,5 @@ pub mod Cures
 pub mod Chains
 pub mod Lines
 pub mod Layouts
-pub mod LineChanges
 pub mod Rewriting
 pub mod Diffs

@@ -28,16 +28,7 @@ pub fn digit_of(dialect: Dialect) -> Option<u8>
         Dialect::One => Some(b'1'),
         Dialect::Two => Some(b'2'),
         Dialect::Three => Some(b'3'),
-        Dialect::Strftime
-        | Dialect::Python
-        | Dialect::C
-        | Dialect::Gnu
-        | Dialect::Chrono
-        | Dialect::Jiff
-        | Dialect::Ruby
-        | Dialect::Java
-        | Dialect::Go
-        | Dialect::Moment => None,
+        Dialect::Strftime | Dialect::Chrono | Dialect::Jiff => None,
     }
 }
 
@@ -65,18 +56,8 @@ fn is_one(dialect: Dialect) -> bool
 {
     match dialect {
         Dialect::One => true,
-        Dialect::Two
-        | Dialect::Three
-        | Dialect::Strftime
-        | Dialect::Python
-        | Dialect::C
-        | Dialect::Gnu
-        | Dialect::Chrono
-        | Dialect::Jiff
-        | Dialect::Ruby
-        | Dialect::Java
-        | Dialect::Go
-        | Dialect::Moment => false,
+        Dialect::Two | Dialect::Three | Dialect::Strftime | Dialect::Chrono | Dialect::Jiff =>
+            false,
     }
 }
 

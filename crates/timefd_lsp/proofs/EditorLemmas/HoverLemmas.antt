@@ -11,7 +11,7 @@ use Rattle.timefd_explain.specs.Examples.{Examples, HasExample}
 use Rattle.timefd_fault.specs.Faults.{fault_of}
 use Rattle.timefd_language.specs.Grammar.{nesting_limit}
 use Rattle.timefd_lint_sources.specs.declared.reported.End.{End}
-use Rattle.timefd_lint_sources.specs.declared.reported.End.TheVariants.{PassedOver, Accepted, Converted, Refused, NotText, UnreadCall, UnreadValue}
+use Rattle.timefd_lint_sources.specs.declared.reported.End.TheVariants.{PassedOver, Accepted, Refused, NotText, UnreadCall, UnreadValue}
 use Rattle.timefd_lint_sources.specs.declared.reported.Source.{Source}
 use Rattle.timefd_lint_sources.specs.Judged.{language_in, text_of}
 use Rattle.timefd_lint_sources.specs.Reported.{AllFound, AreAllOf, IsFound}
@@ -79,7 +79,6 @@ by_end : (s : Source) (d : Description) (index : â„•) (h : Hover) (end : End) â†
 by_end s d index h PassedOver found stands shown = absurd (none_is_some (sym shown))
 by_end s d index h (Accepted warned) found stands (ns, are, shown) =
     by_node s d index h ns (innermost ns (byte_at d index)) found stands are.examples refl shown
-by_end s d index h (Converted count) found stands shown = absurd shown
 by_end s d index h Refused found stands shown = absurd (none_is_some (sym shown))
 by_end s d index h NotText found stands shown = absurd (none_is_some (sym shown))
 by_end s d index h UnreadCall found stands shown = absurd shown

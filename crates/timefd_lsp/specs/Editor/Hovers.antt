@@ -10,7 +10,7 @@ use Rattle.timefd_explain.specs.Parts.{AreParts, all_parts}
 use Rattle.timefd_explain.specs.Stands.{NodesStand}
 use Rattle.timefd_language.specs.Grammar.{nesting_limit}
 use Rattle.timefd_lint_sources.specs.declared.reported.End.{End}
-use Rattle.timefd_lint_sources.specs.declared.reported.End.TheVariants.{PassedOver, Accepted, Converted, Refused, NotText, UnreadCall, UnreadValue}
+use Rattle.timefd_lint_sources.specs.declared.reported.End.TheVariants.{PassedOver, Accepted, Refused, NotText, UnreadCall, UnreadValue}
 use Rattle.timefd_lint_sources.specs.declared.reported.Source.{Source}
 use Rattle.timefd_lint_sources.specs.Judged.{IsEndOf, IsJudged, language_in, text_of}
 use Rattle.timefd_lint_sources.specs.Reported.{AllFound, AreAllOf, IsFound}
@@ -100,7 +100,6 @@ IsShownIn document d language text at found = (nodes : List Node) × AreNodesOf 
 abbrev pub IsShownBy : Text → Description → Text → ℕ → End → Option Hover → Type 0
 IsShownBy document d text at PassedOver found = found ≡ None
 IsShownBy document d text at (Accepted warned) found = IsShownIn document d (language_in d) text at found
-IsShownBy document d text at (Converted count) found = ⊥
 IsShownBy document d text at Refused found = found ≡ None
 IsShownBy document d text at NotText found = found ≡ None
 IsShownBy document d text at UnreadCall found = ⊥
