@@ -52,6 +52,6 @@ returns-clause-reported g c =
     (g.W.Sink.contents c.lines.writer) (g.W.Sink.contents c.failed.new.writer)
     (g.R.BufferedSource.has_failed c.lines.reader) c.lines.tally
     c.of-2.result c.and.result c.in_ok-end.end c.in_ok-end.ensures.end c.lines.invariant.0
-    (omega (arith, c.lines-test.false, c.lines.auto.at-end))
+    (omega (arith, c.lines-test.false))
     (_, (Other, refl), c.in_ok-end.ensures.noted)
     c.of-2.ensures c.and.ensures

@@ -1,4 +1,5 @@
 use Rattle.std.proofs.Common.{rules, ◌&&◌, ◌<◌, length, ap, subst, ◌∙◌}
+use Rattle.std.specs.Prelude.{IsTrue}
 use Rattle.timefd_rewrite.specs.Lines.{without_newline}
 use Rattle.timefd_lint.specs.Marks.{Notes, has_mark}
 use Rattle.timefd_lint.proofs.ReportedLemmas.{next_reported, read_fails}
@@ -19,11 +20,12 @@ returns-in_ok-lint_line-in-Ok-clause-next g c =
 
 pub returns-in_ok-read_error-in-Err-Failed-clause-next : goal.returns-in_ok-read_error-in-Err-Failed-clause-next
 returns-in_ok-read_error-in-Err-Failed-clause-next g c =
+    let broken : IsTrue (g.R.BufferedSource.has_failed c.read_until.new.self) = search rules in
     read_fails c.args.is_first c.args.options.language c.args.options.comment c.args.options.reporting
     c.args.origin
     (g.R.BufferedSource.remaining c.args.reader.now) (g.R.BufferedSource.remaining c.read_until.new.self)
     (g.W.Sink.contents c.args.writer.now) (g.W.Sink.contents c.read_error.new.writer)
     (g.R.BufferedSource.has_failed c.read_until.new.self)
     c.in_ok-read_error-in-Err-Failed.field-0 c.in_ok-read_error-in-Err-Failed.ensures.end
-    c.in-Err-Failed.ensures.fails
+    broken
     c.in_ok-read_error-in-Err-Failed.ensures.said

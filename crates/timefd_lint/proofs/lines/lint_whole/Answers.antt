@@ -1,4 +1,5 @@
-use Rattle.std.proofs.Common.{refl, sym, subst, ◌∙◌}
+use Rattle.std.proofs.Common.{rules, refl, sym, subst, ◌∙◌}
+use Rattle.std.specs.Prelude.{IsTrue}
 use Rattle.timefd_lint.specs.Marks.{Notes, has_mark}
 use Rattle.timefd_lint.specs.Reported.{position}
 use Rattle.timefd_lint.proofs.ReportedLemmas.{none_of_all, notes_and_says, text_of_all}
@@ -26,9 +27,10 @@ returns-in-Ok-clause-reported g c =
 
 pub returns-clause-reported : goal.returns-clause-reported
 returns-clause-reported g c =
+    let broken : IsTrue (g.R.BufferedSource.has_failed c.read_to_end.new.self) = search rules in
     none_of_all c.args.options.language c.args.options.comment c.args.options.reporting c.args.name
     (g.R.BufferedSource.remaining c.args.reader.now) (g.R.BufferedSource.remaining c.read_to_end.new.self)
     (g.W.Sink.contents c.args.writer.now) (g.W.Sink.contents c.read_error.new.writer)
     (g.R.BufferedSource.has_failed c.read_to_end.new.self)
     c.in_ok-end-in-Err-Failed.end c.of-in-Err-Failed.result c.in_ok-end-in-Err-Failed.ensures.end
-    c.in-Err-Failed.ensures.fails c.in_ok-end-in-Err-Failed.ensures.said c.of-in-Err-Failed.ensures
+    broken c.in_ok-end-in-Err-Failed.ensures.said c.of-in-Err-Failed.ensures
