@@ -1,14 +1,7 @@
 use Rattle.std.proofs.Common.{ap, ◌∙◌, ◌+◌}
 use Rattle.std.proofs.lemmas.Result.{err_from_is_err_and}
-use Rattle.timefd_rewrite.proofs.RewriteLemmas.{cut_short, none_yet, one_more, too_long}
+use Rattle.timefd_rewrite.proofs.RewriteLemmas.{one_more, too_long, cut_short}
 use Rattle.timefd_rewrite.proofs.rewrite.rewrite_lines.Goals as goal
-
-pub lines-init : goal.lines-init
-lines-init g c = record {
-  so_far = none_yet c.args.change c.args.comment (g.R.Read.remaining c.args.reader.now)
-      (g.W.Write.contents c.args.writer.now) c.new-counts.result c.new-counts.ensures;
-  turns = ap (λ x. x.lines) c.new-counts.ensures;
-}
 
 pub returns-in_err-rewrite_next-clause-cut_short :
     goal.returns-in_err-rewrite_next-clause-cut_short
