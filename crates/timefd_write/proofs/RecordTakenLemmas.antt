@@ -1,8 +1,5 @@
 -- Batches of records that are taken from a reader.
 use Rattle.std.proofs.Common.{ℕ, zero, suc, ◌≡◌, ◌∙◌, ◌++◌, ◌≤◌, ◌==◌, Bool, true, false, List, [], ◌∷◌, length, take, Option, Some, None, Result, Ok, Err, IfOk, IfSome, refl, sym, ap, subst, arith}
-use Rattle.std.proofs.BufReadLemmas.{Consumes_shown}
-use Rattle.std.specs.Io.{StartsWith}
-use Rattle.std.specs.Io.BufRead.{DropsConsumable}
 use Rattle.std.specs.Io.KnownBytes.{Appends, Consumes, IsAtEnd, Keeps}
 use Rattle.timefd_component.specs.Tree.{Text}
 use Rattle.timefd_format.specs.declared.unshown.Unshown.{Unshown}
@@ -23,7 +20,7 @@ use Rattle.timefd_write.specs.declared.outcome.Tally.{Tally}
 use Rattle.timefd_write.specs.declared.records.RecordRead.{RecordRead}
 use Rattle.timefd_write.specs.declared.records.RecordRead.TheVariants as reads
 use Rattle.timefd_write.specs.declared.source.Source.{Source}
-use Rattle.timefd_write.specs.Batches.{IsUnread}
+use Rattle.timefd_write.specs.Failures.{IsSourceAfterBatch, IsSourceAfterRecord, IsSourceAfterRecords}
 use Rattle.timefd_write.specs.Fields.{IsCell, field_after, fields}
 use Rattle.timefd_write.specs.RecordBatches.{AreRecordsShown, AreRecordsTaken, IsNextRecords, IsPlainRecord, IsRecordBatch, IsRecordShownAs, in_cell}
 use Rattle.timefd_write.specs.Records.{IsNextRecord, IsRecordRead, is_open}
@@ -33,7 +30,7 @@ use Rattle.timefd_write.specs.Written.{AppendsIn, written_of}
 use Rattle.timefd_write.proofs.PlainRecordLemmas.{is_closed, is_next}
 use Rattle.timefd_write.proofs.RunLemmas.{none_more}
 use Rattle.timefd_write.proofs.TableLemmas.{Completes, record_more, records_end, records_fail}
-use Rattle.timefd_write.proofs.TakenLemmas.{AppendsOk, between_appended, between_consumed}
+use Rattle.timefd_write.proofs.TakenLemmas.{AppendsOk, between_appended, between_consumed, kept_consumed}
 
 -- One record of a batch.
 
@@ -210,29 +207,56 @@ pub no_record_looked : (otherwise : Otherwise) (source : Source) (o : BorrowedOu
 no_record_looked otherwise source o n old new before row r is read =
     (refl, subst (λ x. IsRecordRead old new row x) is read)
 
--- What `fill_buf`, a write and `consume` do together.
-
-pub unread_taken : (source : Source) (o : BorrowedOutput) (n : ℕ) (old new before after : Option Text)
-    (r : Result Taken RunError) → IfOk r IsUnread → Keeps old new → after ≡ before
-    → IfOk r (AreRecordsTaken source o n old new before after)
-unread_taken source o n old new before after (Err e) unread kept same = tt
-unread_taken source o n old new before after (Ok (takes.Lines k)) unread kept same = absurd unread
-unread_taken source o n old new before after (Ok takes.Nothing) unread kept same = (same, kept)
-unread_taken source o n old new before after (Ok takes.End) unread kept same = absurd unread
-unread_taken source o n old new before after (Ok takes.Failed) unread kept same = same
+-- What `fill`, a write and `consume` do together.
 
 pub batch_taken : (source : Source) (o : BorrowedOutput) (n : ℕ) (old mid new before after : Option Text)
-    (buffered : Option ℕ) (text room : Text) (batch : Batch) → IsRecordBatch source o n text room batch
-    → 1 ≤ batch.line_count → IfSome old (λ xs. StartsWith xs text)
-    → IfSome old (λ xs. length text ≡ 0 → xs ≡ []) → Keeps old mid
-    → IfSome old (λ _. IfSome buffered (λ k. length text ≤ k)) → DropsConsumable mid new buffered batch.read
+    (text buffer room : Text) (batch : Batch) → IsRecordBatch source o n text room batch → 1 ≤ batch.line_count
+    → Keeps old mid → text ≡ buffer → Consumes mid new (take batch.read buffer)
     → Appends before after (take batch.written room)
     → AreRecordsTaken source o n old new before after (takes.Lines batch.line_count)
-batch_taken source o n old mid new before after buffered text room batch is some front end kept fits drops sent = (
+batch_taken source o n old mid new before after text buffer room batch of_batch some kept is consumed sent = (
   take batch.read text,
   take batch.written room,
   some,
-  is.0,
-  (Consumes_shown old mid new buffered text batch.read is.2 front end kept fits drops).0,
+  of_batch.0,
+  kept_consumed old mid new (take batch.read text) kept
+      (subst (λ b. Consumes mid new (take batch.read b)) (sym is) consumed),
   sent,
 )
+
+-- What the source is after the next records, if no batch of them was taken.
+pub source_after : (old mid new : ℕ) (failed failed_first : Bool) (t : Taken) (r : Result NextRecords RunError)
+    → t ≡ takes.Nothing → IsSourceAfterBatch old mid failed_first t → IfOk r (IsSourceAfterRecords mid new failed)
+    → IfOk r (IsSourceAfterRecords old new failed)
+source_after old mid new failed failed_first t (Err e) is first after = tt
+source_after old mid new failed failed_first t (Ok (nexts.Batch k)) is first after =
+    let few : mid ≤ old = subst (λ x. IsSourceAfterBatch old mid failed_first x) is first in omega (arith, few, after)
+source_after old mid new failed failed_first t (Ok (nexts.Record tally lines)) is first after =
+    let few : mid ≤ old = subst (λ x. IsSourceAfterBatch old mid failed_first x) is first in
+    (omega (arith, few, after.0), after.1)
+source_after old mid new failed failed_first t (Ok nexts.End) is first after = tt
+source_after old mid new failed failed_first t (Ok nexts.Failed) is first after = after
+
+-- What the source is after a record that was looked at by itself.
+
+pub source_after_record : (old new k lines : ℕ) (failed : Bool) (one : Tally) (r : RecordRead)
+    → r ≡ reads.Record k → IsSourceAfterRecord old new failed r → one.has_failed ≡ false
+    → IsSourceAfterRecords old new failed (nexts.Record one lines)
+source_after_record old new k lines failed one r is after read =
+    (subst (λ x. IsSourceAfterRecord old new failed x) is after, read)
+
+pub source_after_open : (old new lines : ℕ) (failed : Bool) (one : Tally) (r : RecordRead) → r ≡ reads.Open
+    → IsSourceAfterRecord old new failed r → one ≡ refused
+    → IsSourceAfterRecords old new failed (nexts.Record one lines)
+source_after_open old new lines failed one r is after one_is =
+    (subst (λ x. IsSourceAfterRecord old new failed x) is after, ap (λ t. t.has_failed) one_is)
+
+pub source_failed : (old new : ℕ) (failed : Bool) (r : RecordRead) → r ≡ reads.Failed
+    → IsSourceAfterRecord old new failed r → IsSourceAfterRecords old new failed nexts.Failed
+source_failed old new failed r is after = subst (λ x. IsSourceAfterRecord old new failed x) is after
+
+-- A record that was looked at is no failed read.
+pub record_read : (old new lines : ℕ) (failed : Bool) (tally : Tally) (r : NextRecords)
+    → r ≡ nexts.Record tally lines → IsSourceAfterRecords old new failed r → tally.has_failed ≡ false
+record_read old new lines failed tally r is after =
+    (subst (λ x. IsSourceAfterRecords old new failed x) is after).1

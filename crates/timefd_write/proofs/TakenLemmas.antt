@@ -242,7 +242,7 @@ pub end_shown : (old : Option Text) (text buffer : Text) → (buffer ≡ [] → 
 end_shown old [] buffer end is none = end (sym is)
 end_shown old (b ∷ bs) buffer end is none = absurd (omega (arith, none))
 
-kept_consumed : (old mid new : Option Text) (bytes : Text) → Keeps old mid → Consumes mid new bytes
+pub kept_consumed : (old mid new : Option Text) (bytes : Text) → Keeps old mid → Consumes mid new bytes
     → Consumes old new bytes
 kept_consumed None mid new bytes kept consumed = tt
 kept_consumed (Some x) None new bytes kept consumed = absurd kept

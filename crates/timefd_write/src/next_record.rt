@@ -34,7 +34,7 @@ pub enum NextRecords {
 
 /// Writes the next records in a batch. If that can't be done with the first of them, which begins in the line
 /// with this number, it is looked at by itself.
-#[tactic(auto, using(crate::proofs::RecordTakenLemmas::batch_next, crate::proofs::RecordTakenLemmas::end_next, crate::proofs::RecordTakenLemmas::failed_next, crate::proofs::RecordTakenLemmas::nothing_next))]
+#[tactic(auto, using(crate::proofs::RecordTakenLemmas::batch_next, crate::proofs::RecordTakenLemmas::end_next, crate::proofs::RecordTakenLemmas::failed_next, crate::proofs::RecordTakenLemmas::nothing_next, crate::proofs::RecordTakenLemmas::source_after))]
 pub fn write_next_records<R: BufferedSource, W: Sink, E: Sink>(
     alloc: Global,
     source: &Source<'_>,
@@ -93,7 +93,7 @@ pub fn write_next_records<R: BufferedSource, W: Sink, E: Sink>(
 }
 
 // Reads one more record, which begins in the line with this number, and writes it.
-#[tactic(auto, using(crate::proofs::RecordTakenLemmas::record_looked, crate::proofs::RecordTakenLemmas::open_looked, crate::proofs::RecordTakenLemmas::no_record_looked))]
+#[tactic(auto, using(crate::proofs::RecordTakenLemmas::record_looked, crate::proofs::RecordTakenLemmas::open_looked, crate::proofs::RecordTakenLemmas::no_record_looked, crate::proofs::RecordTakenLemmas::source_after_record, crate::proofs::RecordTakenLemmas::source_after_open, crate::proofs::RecordTakenLemmas::source_failed))]
 fn write_record_by_itself<R: BufferedSource, W: Sink, E: Sink>(
     alloc: Global,
     source: &Source<'_>,

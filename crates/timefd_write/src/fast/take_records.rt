@@ -20,7 +20,7 @@ use timefd_streams::{BufferedError, BufferedSource, Sink};
 /// place of the field after `count` others. Each record is a line.
 ///
 /// An `Err` says that memory ran out, or that the output failed.
-#[tactic(auto, using(crate::proofs::RecordTakenLemmas::unread_taken, crate::proofs::TakenLemmas::end_shown))]
+#[tactic(auto, using(crate::proofs::RecordTakenLemmas::batch_taken, crate::proofs::TakenLemmas::end_shown))]
 pub fn take_records<R: BufferedSource, W: Sink>(
     source: &Source<'_>,
     source_leaves: Option<&[Leaf<'_>]>,
