@@ -7,7 +7,8 @@ use Rattle.timefd_write.specs.Fields.{field_after, fields, joined, with_field}
 pub record IsAhead (content : Text) (n : ℕ) (text : Text) (left : ℕ) : Type 0 where
   pub front : Text
   pub whole : content ≡ front ++ text
-  pub joins : (new : Text) → joined (with_field n new (fields content)) ≡ front ++ joined (with_field left new (fields text))
+  pub joins : (new : Text) → joined (with_field n new (fields content))
+      ≡ front ++ joined (with_field left new (fields text))
   pub finds : field_after n (fields content) ≡ field_after left (fields text)
 
 -- The first field has this many bytes, and the rest is what follows it.
