@@ -1,2 +1,2 @@
-mod ConfigLemmas
-mod BorrowedLemmas
+pub mod ConfigLemmas
+pub mod BorrowedLemmas
