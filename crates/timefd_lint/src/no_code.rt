@@ -1,6 +1,7 @@
 //! A word that should be the code of an error or a warning.
 
 ghost use Rattle.std.specs.Prelude.{◌≡◌, IfOk, option_map, string_bytes};
+ghost use Rattle.timefd_diagnosis.specs.Words.{texts};
 ghost use Rattle.timefd_lint.specs.NoCodes as spec;
 
 use crate::all_codes::all_codes;
@@ -14,7 +15,15 @@ pub fn no_code_sentence(alloc: Global, name: &str) -> Result<String, AllocError>
     ensures { IfOk result (λ text. spec.IsNoCode name.now (string_bytes text)) }
 {
     let all = all_codes(alloc)?;
-    let nearest = nearest(alloc, &all, name)?;
+    none_of(alloc, &all, name)
+}
+
+// Says that none of these codes is meant.
+fn none_of(alloc: Global, all: &[&str], name: &str) -> Result<String, AllocError>
+    requires { texts all.now ≡ spec.all_codes }
+    ensures { IfOk result (λ text. spec.IsNoCode name.now (string_bytes text)) }
+{
+    let nearest = nearest(alloc, all, name)?;
     let codes = all.join(alloc, ", ")?;
     sentence(alloc, name, nearest, &codes)
 }
