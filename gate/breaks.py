@@ -123,9 +123,11 @@ def add_variants(copy, variants):
         file = copy / it.file.relative_to(TOP)
         text, found = file.read_text(), next(found for enum, found in variants_in(file, it.word) if enum == it.enum)
         file.write_text(text[: found.end()] + found.group(0).replace(it.word, "Another" + it.word, 1) + text[found.end() :])
+    # Two enums of one name, as `Dialect`, have their arms in common.
+    named = {(it.enum, it.word): it for it in variants}.values()
     for file in (copy / "crates").rglob("*.rt"):
         lines = file.read_text().split("\n")
-        for it in variants:
+        for it in named:
             lines = [joined(line, after, it) for line, after in zip(lines, [*lines[1:], ""])]
         file.write_text("\n".join(lines))
 

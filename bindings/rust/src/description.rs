@@ -9,7 +9,7 @@ use crate::error::ParseError;
 use crate::literal::Literals;
 use crate::node::{Item, Members, Nodes};
 use crate::parts::Parts;
-use crate::sys::{self, COMPOUND, RawNode, ReadAnswer};
+use crate::sys::{self, COMPOUND, NodeRoom, RawNode, ReadAnswer};
 use crate::tree::{BuildError, Tree};
 use crate::version::{Language, Version};
 
@@ -65,9 +65,10 @@ impl<'a> FormatDescription<'a> {
     /// The same for each type that names a language.
     fn parse_in(language: Language, text: &'a str) -> Result<Self, ParseError> {
         // Most texts have room on the stack. For a longer one there is room for all on the heap.
-        let mut nodes = sys::zeroed_nodes::<SHORT_NODES>();
+        let mut room = NodeRoom::<SHORT_NODES>::new();
+        let nodes = room.zeroed(wanted_nodes(language, text));
         let mut literals = [0; SHORT_LITERALS];
-        let answer = sys::read(language.number(), text, &mut nodes, &mut literals);
+        let answer = sys::read(language.number(), text, nodes, &mut literals);
         expect_accepted(language, text, answer.status)?;
         let mut long;
         let (nodes, literals) = if answer.written {
@@ -239,6 +240,17 @@ impl fmt::Debug for FormatDescription<'_> {
 /// Room on the stack for what most texts have.
 const SHORT_NODES: usize = 24;
 const SHORT_LITERALS: usize = 64;
+
+/// For how many nodes there is room before a text is read. One that has more is read twice.
+#[inline]
+fn wanted_nodes(language: Language, text: &str) -> usize {
+    match language {
+        // A component and a literal have six bytes, and nodes that nest others have more.
+        Language::Version(_) => text.len() / 3 + 2,
+        // Two bytes may stand for many components.
+        Language::Strftime => SHORT_NODES,
+    }
+}
 
 /// The error of a text with this status, unless it is accepted.
 #[inline]

@@ -1,6 +1,7 @@
 //! Dates and times written by descriptions.
 
 use alloc::string::String;
+use alloc::vec::Vec;
 use core::error::Error;
 use core::fmt;
 use core::str::from_utf8;
@@ -11,7 +12,7 @@ use crate::error::ParseError;
 use crate::lack::Lack;
 use crate::moment::Moment;
 use crate::range::{Number, RangeError};
-use crate::sys::{self, RawMoment, RawNode};
+use crate::sys::{self, FormatAnswer, RawMoment, RawNode};
 use crate::version::Language;
 use crate::write::WriteError;
 
@@ -82,6 +83,9 @@ impl Error for FormatError {}
 /// Room on the stack for what most descriptions write.
 const SHORT: usize = 128;
 
+/// What the header promises of each text.
+const IS_TEXT: &str = "what is written is text";
+
 /// Memory ran out.
 pub(crate) const NO_MEMORY: FormatError = FormatError::Parse(ParseError::OutOfMemory);
 
@@ -100,10 +104,9 @@ impl Pattern<'_> {
         let moment = moment.raw();
         let mut short = [0; SHORT];
         let len = self.write(&moment, &mut short)?;
-        if len <= SHORT {
-            buffer::string(&short[..len]).ok_or(NO_MEMORY)
-        } else {
-            self.long(&moment, len)
+        match short.get(..len) {
+            Some(text) => buffer::string(text).ok_or(NO_MEMORY),
+            None => Ok(String::from_utf8(self.long(&moment, len)?).expect(IS_TEXT)),
         }
     }
 
@@ -113,27 +116,43 @@ impl Pattern<'_> {
         moment: &Moment,
         output: impl FnOnce(&str) -> Result<(), E>,
     ) -> Result<(), WriteError<E>> {
+        self.format_bytes_to(moment, |bytes| output(from_utf8(bytes).expect(IS_TEXT)))
+    }
+
+    /// The same to an output of bytes, which needs no look at them.
+    #[inline]
+    pub(crate) fn format_bytes_to<E>(
+        self,
+        moment: &Moment,
+        output: impl FnOnce(&[u8]) -> Result<(), E>,
+    ) -> Result<(), WriteError<E>> {
         let moment = moment.raw();
         let mut short = [0; SHORT];
         let len = self.write(&moment, &mut short)?;
-        let written = if len <= SHORT {
-            output(from_utf8(&short[..len]).expect("what is written is text"))
-        } else {
-            output(&self.long(&moment, len)?)
+        let long;
+        let bytes = match short.get(..len) {
+            Some(bytes) => bytes,
+            None => {
+                long = self.long(&moment, len)?;
+                &long[..]
+            }
         };
-        written.map_err(WriteError::Output)
+        output(bytes).map_err(WriteError::Output)
     }
 
-    /// The same of so many bytes. The library is asked once more, as it has said how much room it
-    /// wants.
-    fn long(self, moment: &RawMoment, len: usize) -> Result<String, FormatError> {
+    /// The bytes of a text that is so long. The library is asked once more, as it has said how much
+    /// room it wants.
+    #[cold]
+    #[inline(never)]
+    fn long(self, moment: &RawMoment, len: usize) -> Result<Vec<u8>, FormatError> {
         let mut long = buffer::filled(len, 0).ok_or(NO_MEMORY)?;
         let written = self.write(moment, &mut long)?;
         assert_eq!(written, long.len(), "the same is written of the same moment");
-        Ok(String::from_utf8(long).expect("what is written is text"))
+        Ok(long)
     }
 
     /// The length of what is to be written, which the buffer has where it has room for all of it.
+    #[inline]
     fn write(self, moment: &RawMoment, buffer: &mut [u8]) -> Result<usize, FormatError> {
         let answer = match self {
             Self::Text(kind, text) => sys::format(kind, text, moment, buffer),
@@ -141,18 +160,27 @@ impl Pattern<'_> {
         };
         match answer.status {
             sys::ACCEPTED => Ok(answer.value),
+            _ => Err(self.error_of(&answer)),
+        }
+    }
+
+    /// Why nothing is written, by an answer.
+    #[cold]
+    #[inline(never)]
+    fn error_of(self, answer: &FormatAnswer) -> FormatError {
+        match answer.status {
             sys::UNSHOWN => {
                 let component = ComponentKind::from_number(answer.component);
-                Err(FormatError::Unshown {
+                FormatError::Unshown {
                     component: component.expect("a component of the header"),
                     lack: Lack::from_number(answer.reason).expect("a reason of the header"),
-                })
+                }
             }
             sys::OUT_OF_RANGE => {
                 let number = Number::from_number(answer.reason).expect("a number of the header");
-                Err(FormatError::OutOfRange(number))
+                FormatError::OutOfRange(number)
             }
-            status => Err(self.refused(status)),
+            status => self.refused(status),
         }
     }
 

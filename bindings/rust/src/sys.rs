@@ -15,7 +15,9 @@
 
 use alloc::alloc::{Layout, alloc};
 use alloc::boxed::Box;
+use core::mem::MaybeUninit;
 use core::ptr::NonNull;
+use core::slice;
 
 /// The version of the header that this module is written for.
 const VERSION: u32 = 2000;
@@ -60,10 +62,26 @@ pub struct RawNode {
     pub(crate) count: usize,
 }
 
-/// So many nodes that are 0, set by one `memset`.
-pub(crate) fn zeroed_nodes<const COUNT: usize>() -> [RawNode; COUNT] {
-    // SAFETY: each field is an integer, and 0 is a value of it.
-    unsafe { core::mem::zeroed() }
+/// Room on the stack for so many nodes. Nothing of it is set until it is borrowed.
+pub(crate) struct NodeRoom<const COUNT: usize>([MaybeUninit<RawNode>; COUNT]);
+
+impl<const COUNT: usize> NodeRoom<COUNT> {
+    pub(crate) const fn new() -> Self {
+        Self([const { MaybeUninit::uninit() }; COUNT])
+    }
+
+    /// The first nodes, so many or all that there are, each of them set to 0 by one `memset`.
+    #[inline]
+    pub(crate) fn zeroed(&mut self, count: usize) -> &mut [RawNode] {
+        let front = &mut self.0[..count.min(COUNT)];
+        let nodes: *mut RawNode = front.as_mut_ptr().cast();
+        // SAFETY: the pointer and the length are those of a slice that is borrowed as long as the
+        // answer, all of it is set, each field of a node is an integer, and 0 is a value of it.
+        unsafe {
+            nodes.write_bytes(0, front.len());
+            slice::from_raw_parts_mut(nodes, front.len())
+        }
+    }
 }
 
 /// These nodes in a block of their own. `None` if there is no memory for it. A `Vec` says so too, and

@@ -3,25 +3,32 @@
 use crate::buffer;
 use crate::description::FormatDescription;
 use crate::literal::ASCII;
-use crate::sys::{self, LITERAL, RawNode};
+use crate::sys::{LITERAL, NodeRoom, RawNode};
 use crate::tree::Walk;
 
 impl FormatDescription<'_> {
     /// Calls with the nodes that a walk goes over, and the bytes of their literals. It takes no
     /// memory where they are few, and `None` says that there is none.
+    #[inline]
     pub(crate) fn with_nodes<T>(
         &self,
         walk: Walk,
         call: impl FnOnce(&[RawNode], &[u8]) -> T,
     ) -> Option<T> {
-        if let Some((nodes, literals)) = self.tree.as_taken() {
-            return Some(call(nodes, literals.as_bytes()));
+        match self.tree.as_taken() {
+            Some((nodes, literals)) => Some(call(nodes, literals.as_bytes())),
+            None => self.with_copied(walk, call),
         }
+    }
+
+    /// The same with a copy of the nodes.
+    #[inline(never)]
+    fn with_copied<T>(&self, walk: Walk, call: impl FnOnce(&[RawNode], &[u8]) -> T) -> Option<T> {
         let (count, len) = (self.tree.walked_len(walk), ASCII.len() + self.text().len());
         if count <= SHORT_NODES && len <= SHORT_LITERALS {
-            let mut nodes = sys::zeroed_nodes::<SHORT_NODES>();
+            let mut room = NodeRoom::<SHORT_NODES>::new();
             let mut literals = [0; SHORT_LITERALS];
-            let (nodes, literals) = (&mut nodes[..count], &mut literals[..len]);
+            let (nodes, literals) = (room.zeroed(count), &mut literals[..len]);
             self.copy_nodes(walk, nodes, literals);
             Some(call(nodes, literals))
         } else {

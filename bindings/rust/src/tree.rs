@@ -8,7 +8,7 @@ use crate::content::{Content, Nesting};
 use crate::kept::Kept;
 use crate::links;
 use crate::literal::{ASCII, Literals};
-use crate::sys::{self, COMPONENT, LITERAL, RawNode};
+use crate::sys::{COMPONENT, LITERAL, RawNode};
 use crate::written::written;
 
 /// Why a description is not made.
@@ -68,8 +68,8 @@ impl<'a> Tree<'a> {
         let is_flat = settle(nodes, &mut literals).ok_or(BuildError::Malformed)?;
         let shape =
             if is_flat { Shape::Flat { is_ascii: literals.are_ascii() } } else { link(nodes)? };
-        let nodes = sys::boxed(nodes).ok_or(BuildError::OutOfMemory)?;
-        Ok(Self { text: Cow::Borrowed(literals.text), nodes: Kept::Own(nodes), shape })
+        let nodes = Kept::copied(nodes).ok_or(BuildError::OutOfMemory)?;
+        Ok(Self { text: Cow::Borrowed(literals.text), nodes, shape })
     }
 }
 

@@ -78,8 +78,8 @@ impl FormatDescription<'_> {
         moment: &Moment,
         output: &mut (impl std::io::Write + ?Sized),
     ) -> Result<(), WriteError<std::io::Error>> {
-        let write = |text: &str| output.write_all(text.as_bytes());
-        self.with_pattern(|pattern| pattern.format_to(moment, write))
+        let write = |bytes: &[u8]| output.write_all(bytes);
+        self.with_pattern(|pattern| pattern.format_bytes_to(moment, write))
     }
 
     /// What `Display` shows as the moment. Where the moment can't be written that is
@@ -100,6 +100,7 @@ impl FormatDescription<'_> {
 
     /// Calls with what a formatter writes of the description. It takes no memory where that is
     /// short.
+    #[inline]
     fn with_pattern<T, E: From<FormatError>>(
         &self,
         call: impl FnOnce(Pattern<'_>) -> Result<T, E>,

@@ -39,7 +39,7 @@ no_tree language explains origin text known is = (
 pub tree_and_warnings : (language : Language) (reporting : Reporting) (origin : Origin) (text : Text)
     (found : Levels) (before between after : Option Text) (reported : Text)
     → WritesTree language reporting.explains origin text before between
-    → reported ≡ warning_messages reporting.style origin found → Appends between after reported
+    → reported ≡ warning_messages reporting.style origin text found → Appends between after reported
     → Says (Own language) reporting origin text (Accepted found) before after
 tree_and_warnings language reporting origin text found before between after reported tree are written = (
   tree.0 ++ reported,
@@ -52,8 +52,8 @@ pub tree_alone : (language : Language) (reporting : Reporting) (origin : Origin)
     (found : Levels) (before after : Option Text) → WritesTree language reporting.explains origin text before after
     → found ≡ all_at Allowed → Says (Own language) reporting origin text (Accepted found) before after
 tree_alone language reporting origin text found before after tree is =
-    let none : warning_messages reporting.style origin found ≡ [] =
-    ap (warning_messages reporting.style origin) is in (
+    let none : warning_messages reporting.style origin text found ≡ [] =
+    ap (warning_messages reporting.style origin text) is in (
       tree.0,
       (tree.0, sym (append-nil tree.0) ∙ ap (λ t. tree.0 ++ t) (sym none), tree.1),
       tree.2,

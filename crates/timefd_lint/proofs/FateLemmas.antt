@@ -1,5 +1,5 @@
 -- What becomes of a file that may be rewritten.
-use Rattle.std.proofs.Common.{◌≡◌, Bool, true, false, [], Option, Some, None, refl, sym, ap, subst, ◌∙◌}
+use Rattle.std.proofs.Common.{◌≡◌, Bool, true, false, [], Option, Some, None, refl, sym, ap, string_bytes, subst, ◌∙◌}
 use Rattle.std.specs.Io.KnownBytes.{Appends}
 use Rattle.timefd_component.specs.Tree.{Text}
 use Rattle.timefd_lint_options.specs.declared.wording.Wording.{Wording}
@@ -7,13 +7,14 @@ use Rattle.timefd_lint_sources.specs.declared.reported.Finder.{Finder}
 use Rattle.timefd_lint_sources.specs.declared.reported.Reporting.{Reporting}
 use Rattle.timefd_rewrite.specs.Diffs.{WritesDiff}
 use Rattle.timefd_rewrite.specs.Rewriting.{AreRewritten}
-use Rattle.timefd_rewrite.specs.declared.layout.Layout.{Layout}
+use Rattle.timefd_rewrite.specs.declared.line_change.LineChange.{LineChange}
 use Rattle.timefd_lint.specs.declared.found.Found.{Found}
 use Rattle.timefd_lint.specs.declared.options.Options.{Options}
 use Rattle.timefd_lint.specs.declared.output.Audience.{Audience}
 use Rattle.timefd_lint.specs.declared.rewriting.Rewriting.{Rewriting}
 use Rattle.timefd_lint.specs.declared.tally.Tally.{Tally}
-use Rattle.timefd_lint.specs.Fates.{IsFoundAs, IsFoundByLayout, IsFoundIn, ShowsDiff}
+use Rattle.timefd_lint.specs.Fates.{IsFoundAs, IsFoundByChange, IsFoundIn, ShowsDiff}
+use Rattle.timefd_lint.specs.Limited.{AreNotesFor}
 use Rattle.timefd_lint.specs.Outputs.{without_colors}
 use Rattle.timefd_lint.specs.Reported.{IsRunOver}
 use Rattle.timefd_lint.specs.Rewritten.{IsFileRewritten}
@@ -48,29 +49,30 @@ pub in_source : (options : Options) (rewriting : Rewriting) (name old : Text) (b
     (found : Found) → is_source options name ≡ true
     → ((rest : Option Text) × (has_failed : Bool) × IsRunOfSource (finder_of options name) options.reporting name
     (Some old) rest has_failed before after found.tally)
-    → IsFileRewritten rewriting.sources old found.counts found.bytes.items
+    → IsFileRewritten rewriting.sources (finder_of options name) old found.counts found.bytes.items
     → IsFoundIn options rewriting name old before after (Some found)
 in_source options rewriting name old before after found is (rest, has_failed, reported) new =
     subst (λ s. IsFoundAs s options rewriting name old before after (Some found)) (sym is)
     (rest, has_failed, reported, new)
 
 pub in_lines : (options : Options) (rewriting : Rewriting) (name old : Text) (before after : Option Text)
-    (layout : Layout) (found : Found) → is_source options name ≡ false → rewriting.lines ≡ Some layout
+    (change : LineChange) (found : Found) → is_source options name ≡ false → rewriting.lines ≡ Some change
     → ((rest : Option Text) × (has_failed : Bool) × IsRunOver options.language options.comment options.reporting
     name (Some old) rest has_failed before after found.tally)
-    → AreRewritten layout options.comment (Some old) (Some []) (Some found.bytes.items) found.counts
+    → AreRewritten change options.comment (Some old) (Some []) (Some found.bytes.items) found.counts
+    → string_bytes found.by_hand ≡ [] → AreNotesFor change options.comment name old (string_bytes found.limits)
     → IsFoundIn options rewriting name old before after (Some found)
-in_lines options rewriting name old before after layout found none is (rest, has_failed, reported) new =
+in_lines options rewriting name old before after change found none is (rest, has_failed, reported) new by_hand limits =
     subst (λ s. IsFoundAs s options rewriting name old before after (Some found)) (sym none)
-    (subst (λ l. IsFoundByLayout options l name old before after (Some found)) (sym is)
-    (rest, has_failed, reported, new))
+    (subst (λ l. IsFoundByChange options l name old before after (Some found)) (sym is)
+    (rest, has_failed, reported, new, by_hand, limits))
 
 pub in_nothing : (options : Options) (rewriting : Rewriting) (name old : Text) (before : Option Text)
     → is_source options name ≡ false → rewriting.lines ≡ None
     → IsFoundIn options rewriting name old before before None
 in_nothing options rewriting name old before none is =
     subst (λ s. IsFoundAs s options rewriting name old before before None) (sym none)
-    (subst (λ l. IsFoundByLayout options l name old before before None) (sym is) refl)
+    (subst (λ l. IsFoundByChange options l name old before before None) (sym is) refl)
 
 -- A diff that is shown without colours.
 pub shows : (audience : Audience) (file old new diff plain text : Text) (before after : Option Text)

@@ -8,5 +8,11 @@ pub mod MarkLemmas
 pub mod RewrittenLemmas
 pub mod RuleLemmas
 pub mod NoCodeLemmas
+pub mod NoneOfLemmas
 pub mod ArgumentLemmas
+mod LimitedLemmas
+mod ValueNoteLemmas
 pub mod FateLemmas
+pub mod LiteralLemmas
+pub mod HandLemmas
+pub mod StoreLemmas

@@ -43,7 +43,7 @@ abbrev pub key_sentence : KeyFault → Text
 key_sentence NoEqualsSign =
     codes "write `=` and a language after the key, as in `time_format=3`"
 key_sentence EmptyName = codes "write a key before `=`, as in `time_format=3`"
-key_sentence UnknownLanguage = codes "the language is one of 1, 2, 3, strftime"
+key_sentence UnknownLanguage = codes "the language is one of 1, 2, 3, strftime, python, c, gnu, chrono, jiff, ruby, java, go, moment"
 
 abbrev pub conflict_sentence : Conflicts → Text
 conflict_sentence conflicts.ServesFiles =
@@ -61,9 +61,6 @@ conflict_sentence conflicts.LogRewritten =
 conflict_sentence conflicts.WriteWithoutVersion =
     codes
     "`--write` needs `--to 2`, `--to 3`, `--normal` or `--fix`"
-conflict_sentence conflicts.KeysRewritten =
-    codes
-    "`--key` looks at files, and doesn't go with `--to`, `--normal` and `--fix`"
 conflict_sentence conflicts.PartialWithoutWrite =
     codes
     "`--partial` goes only with `--write`"
@@ -87,7 +84,7 @@ conflict_sentence conflicts.NormalOfAnother =
     "`--normal` is the form of version 3, and doesn't go with `--to 2`"
 conflict_sentence conflicts.NoConversion =
     codes
-    "no rewriting leads there: `--language 1` goes `--to 2` or `3`, `2` and `strftime` go `--to 3`; `--normal` lays out version 3"
+    "no rewriting leads there: `--language 1` goes `--to 2` or `3`, `2`, `strftime` and formats of other libraries go `--to 3`; `--normal` lays out version 3"
 conflict_sentence conflicts.ExplainsOther =
     codes
     "`--explain` draws trees of the languages of `time`; leave it out for formats of other libraries"

@@ -5,12 +5,18 @@ use Rattle.timefd_sources.specs.declared.keys.key.Key.{Key}
 use Rattle.timefd_lint_options.specs.declared.config.keys.OwnedKey.{OwnedKey}
 use Rattle.timefd_lint_options.specs.declared.settings.Settings.{Settings}
 use Rattle.timefd_lint_options.specs.Settings.{reads_lines}
+use Rattle.timefd_warnings.specs.declared.levels.Levels.{Levels}
 use Rattle.timefd_lint.specs.declared.rewriting.Rewriting.{Rewriting}
 
 -- The keys of the file of settings count, unless files are mended or rewritten.
 abbrev pub counted_keys : Option Rewriting → List OwnedKey → List OwnedKey
 counted_keys None keys = keys
 counted_keys (Some rewriting) keys = []
+
+-- So do its levels.
+abbrev pub counted_levels : Option Rewriting → Option Levels → Option Levels
+counted_levels None levels = levels
+counted_levels (Some rewriting) levels = None
 
 -- The names of files and folders; without any the working directory, if lines would be read from a terminal and no
 -- option is about these.

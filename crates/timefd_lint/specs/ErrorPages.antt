@@ -102,4 +102,4 @@ explanation ByteOrderMark =
     "Save the file without it. It is a literal of the first description, and hides a comment mark."
 explanation UnknownLanguage =
     codes
-    "`// timefd: strftme` names no language, and checks nothing. Write one of 1, 2, 3, strftime, chrono and jiff."
+    "`// timefd: strftme` names no language, and checks nothing. Write one of 1, 2, 3, strftime, python, c, gnu, chrono, jiff, ruby, java, go and moment."

@@ -1,19 +1,26 @@
 -- What becomes of a file that may be rewritten.
-use Rattle.std.specs.Prelude.{◌≡◌, Bool, true, false, ◌&&◌, not, nat_eq, nat_lt, if◌then◌else◌, Option, Some, None, []}
+use Rattle.std.specs.Prelude.{◌≡◌, ◌⊎◌, ◌==◌, Bool, true, false, ◌&&◌, not, nat_eq, nat_lt, if◌then◌else◌, length, Option, Some, None, [], IsTrue, string_bytes}
 use Rattle.std.specs.Io.KnownBytes.{Appends}
+use denote.Ref.{Bor}
 use Rattle.timefd_component.specs.Tree.{Text}
 use Rattle.timefd_rewrite.specs.Diffs.{WritesDiff}
 use Rattle.timefd_rewrite.specs.Rewriting.{AreRewritten}
 use Rattle.timefd_rewrite.specs.declared.counts.Counts.{Counts}
-use Rattle.timefd_rewrite.specs.declared.layout.Layout.{Layout}
+use Rattle.timefd_rewrite.specs.declared.line_change.LineChange.{LineChange}
+use Rattle.timefd_lint.specs.declared.fix.FixError.{FixError}
+use Rattle.timefd_lint.specs.declared.fix.FixError.TheVariants.{Memory, Failed}
 use Rattle.timefd_lint.specs.declared.found.Found.{Found}
+use Rattle.timefd_lint.specs.declared.line.TextEnd.TheVariants as ends
 use Rattle.timefd_lint.specs.declared.options.Options.{Options}
 use Rattle.timefd_lint.specs.declared.output.Audience.{Audience}
 use Rattle.timefd_lint.specs.declared.rewriting.Rewriting.{Rewriting}
-use Rattle.timefd_lint.specs.declared.rewritten.Fate.{Fate}
-use Rattle.timefd_lint.specs.declared.rewritten.Fate.TheVariants.{Same, LeftOut, Replaced, Shown}
+use Rattle.timefd_lint.specs.declared.fate.Fate.{Fate}
+use Rattle.timefd_lint.specs.declared.fate.Fate.TheVariants.{Same, LeftOut, Replaced, Shown}
+use Rattle.timefd_lint.specs.declared.tally.Tally.{Tally}
+use Rattle.timefd_lint.specs.Failures.{note_of}
+use Rattle.timefd_lint.specs.Limited.{AreNotesFor}
 use Rattle.timefd_lint.specs.Outputs.{without_colors}
-use Rattle.timefd_lint.specs.Reported.{IsRunOver}
+use Rattle.timefd_lint.specs.Reported.{IsRunOver, both, tally_of, tally_of_one}
 use Rattle.timefd_lint.specs.Rewritten.{IsFileRewritten}
 use Rattle.timefd_lint.specs.Sources.{IsRunOfSource, finder_of, is_source}
 
@@ -34,22 +41,23 @@ abbrev pub IsFoundInSource : Options → Rewriting → Text → Text → Option 
 IsFoundInSource options rewriting name old before after found = (rest : Option Text) × (has_failed : Bool)
     × IsRunOfSource (finder_of options name) options.reporting name (Some old) rest has_failed before after
     found.tally
-    × IsFileRewritten rewriting.sources old found.counts found.bytes.items
+    × IsFileRewritten rewriting.sources (finder_of options name) old found.counts found.bytes.items
 
-abbrev pub IsFoundInLines : Options → Layout → Text → Text → Option Text → Option Text → Found → Type 0
-IsFoundInLines options layout name old before after found = (rest : Option Text) × (has_failed : Bool)
+abbrev pub IsFoundInLines : Options → LineChange → Text → Text → Option Text → Option Text → Found → Type 0
+IsFoundInLines options change name old before after found = (rest : Option Text) × (has_failed : Bool)
     × IsRunOver options.language options.comment options.reporting name (Some old) rest has_failed before after
     found.tally
-    × AreRewritten layout options.comment (Some old) (Some []) (Some found.bytes.items) found.counts
+    × AreRewritten change options.comment (Some old) (Some []) (Some found.bytes.items) found.counts
+    × (string_bytes found.by_hand ≡ []) × AreNotesFor change options.comment name old (string_bytes found.limits)
 
--- Lines are looked at if there is a layout for them.
-abbrev pub IsFoundByLayout : Options → Option Layout → Text → Text → Option Text → Option Text → Option Found
+-- Lines are looked at if there is a change for them.
+abbrev pub IsFoundByChange : Options → Option LineChange → Text → Text → Option Text → Option Text → Option Found
     → Type 0
-IsFoundByLayout options (Some layout) name old before after (Some found) =
-    IsFoundInLines options layout name old before after found
-IsFoundByLayout options (Some layout) name old before after None = ⊥
-IsFoundByLayout options None name old before after (Some found) = ⊥
-IsFoundByLayout options None name old before after None = after ≡ before
+IsFoundByChange options (Some change) name old before after (Some found) =
+    IsFoundInLines options change name old before after found
+IsFoundByChange options (Some change) name old before after None = ⊥
+IsFoundByChange options None name old before after (Some found) = ⊥
+IsFoundByChange options None name old before after None = after ≡ before
 
 abbrev pub IsFoundAs : Bool → Options → Rewriting → Text → Text → Option Text → Option Text → Option Found
     → Type 0
@@ -57,9 +65,35 @@ IsFoundAs true options rewriting name old before after (Some found) =
     IsFoundInSource options rewriting name old before after found
 IsFoundAs true options rewriting name old before after None = ⊥
 IsFoundAs false options rewriting name old before after found =
-    IsFoundByLayout options rewriting.lines name old before after found
+    IsFoundByChange options rewriting.lines name old before after found
 
 -- What is found in a file with these bytes: the name decides whether it is a source.
 abbrev pub IsFoundIn : Options → Rewriting → Text → Text → Option Text → Option Text → Option Found → Type 0
 IsFoundIn options rewriting name old before after found =
     IsFoundAs (is_source options name) options rewriting name old before after found
+
+-- The message reaches people, unless their stream has failed by then.
+abbrev pub Tells : Option Text → Option Text → Bool → Text → Type 0
+Tells before after has_failed message = Appends before after message ⊎ IsTrue has_failed
+
+-- descriptions are left that have to be changed manually
+abbrev pub left_in : Found → Tally
+left_in found = record {
+  descriptions = 0;
+  refused = 0;
+  warnings = 0;
+  unread_calls = 0;
+  unread_values = 0;
+  not_text = false;
+  failed = false;
+  is_left = not (length (string_bytes found.by_hand) == 0);
+}
+
+abbrev pub tally_in : Found → Tally
+tally_in found = both found.tally (left_in found)
+
+-- The note on why a file can't be read or replaced is written, and nothing else.
+abbrev pub IsNoted : Options → Bor Text → FixError → Option Text → Option Text → Tally → Type 0
+IsNoted options name Memory before after tally = ⊥
+IsNoted options name (Failed failure) before after tally =
+    Appends before after (note_of options.reporting.style name failure) × (tally ≡ tally_of_one ends.Failed)

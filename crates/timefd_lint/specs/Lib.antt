@@ -20,4 +20,8 @@ pub mod Folders
 pub mod Identities
 pub mod ByHand
 pub mod Arguments
+pub mod NoneOf
 pub mod NoCodes
+pub mod Limited
+pub mod Stores
+pub mod ValueNotes

@@ -39,7 +39,7 @@ IsTreeOf language explains origin text tree =
 -- reported, at its position and in the order of the codes, and nothing else.
 abbrev pub IsTreeAndWarnings : Language → Reporting → Origin → Levels → Text → Text → Type 0
 IsTreeAndWarnings language reporting origin found text message = (tree : Text)
-    × (message ≡ tree ++ warning_messages reporting.style origin found)
+    × (message ≡ tree ++ warning_messages reporting.style origin text found)
     × IsTreeOf language reporting.explains origin text tree
 
 -- The tree of a text is written, if it is asked for, and nothing else is.

@@ -4,18 +4,23 @@ use Rattle.std.specs.Fmt.{decimal}
 use Rattle.timefd_component.specs.Tree.{Text}
 use Rattle.timefd_convert.specs.declared.conversion.Conversion.{Conversion}
 use Rattle.timefd_convert.specs.Conversions.{conversion_between}
+use Rattle.timefd_dialect.specs.declared.dialect.Dialect.{Dialect}
 use Rattle.timefd_language.specs.declared.description_version.DescriptionVersion.{DescriptionVersion}
+use Rattle.timefd_language.specs.declared.description_version.DescriptionVersion.TheVariants.{One, Two, Three}
 use Rattle.timefd_language.specs.declared.language.Language.{Language}
 use Rattle.timefd_language.specs.declared.language.Language.TheVariants.{Version}
 use Rattle.timefd_rewrite.specs.declared.counts.Counts.{Counts}
-use Rattle.timefd_rewrite.specs.declared.layout.Layout.{Layout}
 use Rattle.timefd_rewrite.specs.declared.layout.Layout.TheVariants as layouts
+use Rattle.timefd_rewrite.specs.declared.line_change.LineChange.{LineChange}
+use Rattle.timefd_rewrite.specs.declared.line_change.LineChange.TheVariants as line_changes
 use Rattle.timefd_rewrite.specs.declared.fixes.Fixes.{Fixes}
 use Rattle.timefd_rewrite.specs.declared.fixes.Fixes.TheVariants.{All, Sure}
 use Rattle.timefd_lint_sources.specs.declared.rewriting.change.Change.{Change}
 use Rattle.timefd_lint_sources.specs.declared.rewriting.change.Change.TheVariants as changes
 use Rattle.timefd_lint_options.specs.declared.settings.Settings.{Settings}
 use Rattle.timefd_lint_options.specs.Settings.{target}
+use Rattle.timefd_lint_options.specs.declared.wording.Wording.{Wording}
+use Rattle.timefd_lint_options.specs.declared.wording.Wording.TheVariants.{Own, Other}
 use Rattle.timefd_lint_options.specs.Values.{language_of}
 use Rattle.timefd_lint.specs.declared.found.Unit.{Unit}
 use Rattle.timefd_lint.specs.declared.found.Unit.TheVariants.{Line, Description}
@@ -27,26 +32,32 @@ use Rattle.timefd_lint.specs.Summaries as summaries
 abbrev pub fixes_of : Settings → Fixes
 fixes_of s = if s.is_unsafe then All else Sure
 
-abbrev pub layout_by : Bool → Option Conversion → Option Layout
-layout_by is_normal None = None
-layout_by true (Some conversion) = Some (layouts.Normal conversion)
-layout_by false (Some conversion) = Some (layouts.Least conversion)
+abbrev pub change_by : Bool → Option Conversion → Option LineChange
+change_by is_normal None = None
+change_by true (Some conversion) = Some (line_changes.Own (layouts.Normal conversion))
+change_by false (Some conversion) = Some (line_changes.Own (layouts.Least conversion))
 
-abbrev pub own_layout : Bool → Language → DescriptionVersion → Option Layout
-own_layout is_normal language version =
-    layout_by is_normal (conversion_between language (Version version))
+abbrev pub own_change : Bool → Language → DescriptionVersion → Option LineChange
+own_change is_normal language version =
+    change_by is_normal (conversion_between language (Version version))
 
-abbrev pub layout_of : Bool → Option Language → DescriptionVersion → Option Layout
-layout_of is_normal (Some language) version = own_layout is_normal language version
-layout_of is_normal None version = None
+-- Formats of other languages become texts of version 3.
+abbrev pub other_change : Dialect → DescriptionVersion → Option LineChange
+other_change dialect One = None
+other_change dialect Two = None
+other_change dialect Three = Some (line_changes.Other dialect)
 
--- How lines are laid out in a version; not at all if no conversion leads there.
-abbrev pub layout_in : Settings → DescriptionVersion → Option Layout
-layout_in s version = layout_of s.is_normal (language_of s.language) version
+abbrev pub change_from : Bool → Wording → DescriptionVersion → Option LineChange
+change_from is_normal (Own language) version = own_change is_normal language version
+change_from is_normal (Other dialect) version = other_change dialect version
+
+-- How lines are changed to a version; not at all if no conversion leads there.
+abbrev pub lines_to : Settings → DescriptionVersion → Option LineChange
+lines_to s version = change_from s.is_normal s.language version
 
 -- How lines are mended; not at all if their language isn't one of `time`.
-abbrev pub mended : Option Language → Fixes → Option Layout
-mended (Some language) fixes = Some (layouts.Fixed language fixes)
+abbrev pub mended : Option Language → Fixes → Option LineChange
+mended (Some language) fixes = Some (line_changes.Own (layouts.Fixed language fixes))
 mended None fixes = None
 
 abbrev pub change_to : Settings → DescriptionVersion → Change
@@ -62,7 +73,7 @@ mending s = record {
 
 abbrev pub converting : Settings → DescriptionVersion → Rewriting
 converting s version = record {
-  lines = layout_in s version;
+  lines = lines_to s version;
   sources = change_to s version;
   writes = s.writes;
   is_partial = s.is_partial;

@@ -21,7 +21,7 @@ use Rattle.timefd_lint_sources.specs.Judged.{text_of}
 use Rattle.timefd_lint_sources.specs.Reported.{AreSeen, IsJudgedFound, IsSourceReported, no_text_note, origin_of}
 use Rattle.timefd_lint_sources.specs.Reported as literal
 use Rattle.timefd_lint.specs.declared.line.TextEnd.{TextEnd}
-use Rattle.timefd_lint.specs.declared.line.TextEnd.TheVariants.{PassedOver, Accepted, Refused, NotText, Failed, UnreadCall, UnreadValue}
+use Rattle.timefd_lint.specs.declared.line.TextEnd.TheVariants.{PassedOver, Accepted, Converted, Refused, NotText, Failed, UnreadCall, UnreadValue}
 use Rattle.timefd_lint.specs.declared.options.Options.{Options}
 use Rattle.timefd_lint.specs.declared.tally.Tally.{Tally}
 use Rattle.timefd_lint.specs.Reported.{IsReadUp, IsRun, IsReportOn, SaysUnread, Reported, both, messages, position, tally_of, tally_of_one}
@@ -55,6 +55,7 @@ any_source options (name ∷ names) = is_source options name.now || any_source o
 abbrev pub text_end : End → TextEnd
 text_end sources.PassedOver = PassedOver
 text_end (sources.Accepted found) = Accepted found
+text_end (sources.Converted traps) = Converted traps
 text_end sources.Refused = Refused
 text_end sources.NotText = NotText
 text_end sources.UnreadCall = UnreadCall

@@ -88,6 +88,15 @@ pub fn all_codes(alloc: Global) -> Result<Vec<&'static str>, AllocError>
     Ok(all)
 }
 
+/// The codes of all warnings. An `Err` says that memory ran out.
+pub fn warning_codes(alloc: Global) -> Result<Vec<&'static str>, AllocError>
+    ensures { IfOk result (λ all. texts all.items ≡ spec.warning_codes) }
+{
+    let mut codes: Vec<&'static str> = Vec::new(alloc);
+    push_codes(&mut codes, Warning::all())?;
+    Ok(codes)
+}
+
 #[tactic(auto, using(crate::proofs::NoCodeLemmas::one_more, crate::proofs::NoCodeLemmas::at_last))]
 fn push_codes<C: Coded>(all: &mut Vec<&'static str>, coded: &[C]) -> Result<(), AllocError>
     ensures { OnOk result (texts all.new.items ≡ texts all.old.items ++ map C.code coded.now) }

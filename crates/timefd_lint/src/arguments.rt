@@ -150,7 +150,9 @@ fn key_sentence(fault: KeyFault) -> &'static str
     match fault {
         KeyFault::NoEqualsSign => "write `=` and a language after the key, as in `time_format=3`",
         KeyFault::EmptyName => "write a key before `=`, as in `time_format=3`",
-        KeyFault::UnknownLanguage => "the language is one of 1, 2, 3, strftime",
+        KeyFault::UnknownLanguage => {
+            "the language is one of 1, 2, 3, strftime, python, c, gnu, chrono, jiff, ruby, java, go, moment"
+        },
     }
 }
 
@@ -168,8 +170,6 @@ fn conflict_sentence(conflict: Conflict) -> &'static str
             "`--format sarif` is one log, and doesn't go with `--to`, `--normal` and `--fix`",
         Conflict::WriteWithoutVersion =>
             "`--write` needs `--to 2`, `--to 3`, `--normal` or `--fix`",
-        Conflict::KeysRewritten =>
-            "`--key` looks at files, and doesn't go with `--to`, `--normal` and `--fix`",
         Conflict::PartialWithoutWrite => "`--partial` goes only with `--write`",
         Conflict::UnsafeWithoutFix => "`--unsafe` goes only with `--fix`",
         Conflict::FixesRewritten => "`--fix` doesn't go with `--to` and `--normal`",
@@ -180,7 +180,7 @@ fn conflict_sentence(conflict: Conflict) -> &'static str
             "`--normal` is the form of version 3, and doesn't go with `--to 2`"
         }
         Conflict::NoConversion => {
-            "no rewriting leads there: `--language 1` goes `--to 2` or `3`, `2` and `strftime` go `--to 3`; `--normal` lays out version 3"
+            "no rewriting leads there: `--language 1` goes `--to 2` or `3`, `2`, `strftime` and formats of other libraries go `--to 3`; `--normal` lays out version 3"
         }
         Conflict::ExplainsOther => {
             "`--explain` draws trees of the languages of `time`; leave it out for formats of other libraries"

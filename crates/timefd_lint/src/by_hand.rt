@@ -1,17 +1,24 @@
 //! Notes on descriptions that would be converted but have to be changed manually.
 
-ghost use Rattle.std.specs.Prelude.{◌≡◌, IfOk, [], is_some, string_bytes, true};
+ghost use Rattle.std.specs.Prelude.{◌≡◌, ◌++◌, [], IfOk, OnOk, option_map, string_bytes};
+ghost use Rattle.std.specs.List.{list_any};
 ghost use Rattle.timefd_lint.specs.ByHand as spec;
 
+mod call;
+mod literal;
+mod reason;
+mod text;
+
+use crate::by_hand::literal::literal_of;
+use crate::by_hand::reason::{reason, with_items};
+use crate::by_hand::text::new_text;
 use std::alloc::{AllocError, Global};
-use std::str;
+use timefd_drawing::position_of;
 use timefd_drawing::shown::safe;
-use timefd_drawing::{Position, position_of};
 use timefd_lint_sources::FIRST_LINE;
-use timefd_lint_sources::rewriting::{Change, Outcome, layout_of};
-use timefd_parse::{DescriptionVersion, ParseError};
-use timefd_rewrite::lay_out;
-use timefd_sources::{Description, VersionPosition, body_alike, body_end, descriptions_of, inside};
+use timefd_lint_sources::rewriting::{Change, Outcome};
+use timefd_parse::DescriptionVersion;
+use timefd_sources::{Description, descriptions_of};
 
 /// One line for each description of a source that has to be changed manually: no number says its version, its
 /// literal can't hold the converted text, or no conversion takes it. The line says where the description is,
@@ -25,30 +32,30 @@ pub fn notes(
     source: &str,
     outcomes: &[Outcome],
 ) -> Result<String, AllocError>
-    ensures { spec.is_silent change outcomes.now ≡ true → IfOk result (λ notes. string_bytes notes ≡ []) }
+    ensures { IfOk result (λ notes. spec.AreNotes change name.now source.now outcomes.now
+        (string_bytes notes)) }
 {
-    let mut reported = String::new(alloc);
     let Some(version) = version_of(change) else {
-        return Ok(reported);
+        return Ok(String::new(alloc));
     };
-    if !outcomes.iter().any(|it| wants_hand(*it)) {
-        return Ok(reported);
+    if !any_wants_hand(outcomes) {
+        return Ok(String::new(alloc));
     }
     let descriptions = descriptions_of(alloc, source)?;
-    for (description, outcome) in descriptions.iter().zip(outcomes) {
-        if wants_hand(*outcome) {
-            let Some(why) = why(alloc, change, version, source, description, *outcome)? else {
-                continue;
-            };
-            push_note(alloc, name, source, description, &why, &mut reported)?;
-        }
-    }
-    Ok(reported)
+    notes_on(
+        alloc,
+        change,
+        version,
+        name,
+        source,
+        &descriptions,
+        outcomes,
+    )
 }
 
 // The version that descriptions are converted to. `None` if the change converts nothing.
 fn version_of(change: Change) -> Option<&'static str>
-    ensures { is_some result ≡ spec.converts change }
+    ensures { option_map (λ version. version.now) result ≡ spec.version_of change }
 {
     match change {
         Change::Mended(_) => None,
@@ -56,6 +63,12 @@ fn version_of(change: Change) -> Option<&'static str>
         Change::Least(DescriptionVersion::Two) => Some("2"),
         Change::Least(DescriptionVersion::Three) | Change::Normal => Some("3"),
     }
+}
+
+fn any_wants_hand(outcomes: &[Outcome]) -> bool
+    ensures { result ≡ list_any spec.wants_hand outcomes.now }
+{
+    outcomes.iter().any(|it| wants_hand(*it))
 }
 
 fn wants_hand(outcome: Outcome) -> bool
@@ -71,162 +84,137 @@ fn wants_hand(outcome: Outcome) -> bool
     }
 }
 
-// Why a description stays. `None` if there is nothing to report.
-fn why(
+// The notes on descriptions with these outcomes, in order.
+fn notes_on(
     alloc: Global,
     change: Change,
     version: &str,
+    name: &str,
+    source: &str,
+    descriptions: &[Description],
+    outcomes: &[Outcome],
+) -> Result<String, AllocError>
+    ensures { IfOk result (λ notes. spec.AreNotesOn change version.now name.now source.now
+        descriptions.now outcomes.now [] (string_bytes notes)) }
+{
+    let mut notes = String::new(alloc);
+    let count = descriptions.len().min(outcomes.len());
+    'each: for index in 0..count {
+        push_note_on(
+            alloc,
+            change,
+            version,
+            name,
+            source,
+            &descriptions[index],
+            outcomes[index],
+            &mut notes,
+        )?;
+    }
+    Ok(notes)
+}
+
+// Appends the note on a description with this outcome, if there is one.
+fn push_note_on(
+    alloc: Global,
+    change: Change,
+    version: &str,
+    name: &str,
     source: &str,
     description: &Description,
     outcome: Outcome,
-) -> Result<Option<String>, AllocError> {
-    if let Outcome::WithItems = outcome {
-        return Ok(Some(format!(in alloc;
-            "the conversion to version {version} takes neither `[optional ..]` nor `[first ..]`"
-        )?));
+    notes: &mut String,
+) -> Result<(), AllocError>
+    ensures { OnOk result (spec.AddsNote change version.now name.now source.now description.now outcome
+        (string_bytes notes.old) (string_bytes notes.new)) }
+{
+    match outcome {
+        Outcome::WithItems => {
+            let why = with_items(alloc, version)?;
+            push_note(alloc, name, source, description, &why, notes)
+        }
+        Outcome::ByHand | Outcome::NotALiteral => {
+            push_reason(alloc, change, version, name, source, description, notes)
+        }
+        Outcome::PassedOver
+        | Outcome::Same
+        | Outcome::Rewritten
+        | Outcome::Refused
+        | Outcome::NotText => Ok(()),
     }
-    let Some(new) = new_literal(alloc, change, source, description)? else {
-        return Ok(None);
-    };
-    let new = safe(alloc, &new)?;
-    Ok(Some(reason(alloc, version, source, description, &new)?))
 }
 
+// Appends why a description stays, and what it would become. Nothing if it would become no text.
+fn push_reason(
+    alloc: Global,
+    change: Change,
+    version: &str,
+    name: &str,
+    source: &str,
+    description: &Description,
+    notes: &mut String,
+) -> Result<(), AllocError>
+    ensures { OnOk result (spec.AddsReason change version.now name.now source.now description.now
+        (string_bytes notes.old) (string_bytes notes.new)) }
+{
+    let Some(new) = new_text(alloc, change, description)? else {
+        return Ok(());
+    };
+    let literal = literal_of(alloc, source, description, &new)?;
+    let literal = safe(alloc, &literal)?;
+    let why = reason(alloc, version, source, description, &literal)?;
+    push_note(alloc, name, source, description, &why, notes)
+}
+
+// Appends the line that says where a description is, and why it stays.
 fn push_note(
     alloc: Global,
     name: &str,
     source: &str,
     description: &Description,
     why: &str,
-    reported: &mut String,
-) -> Result<(), AllocError> {
-    reported.push_str(&position(alloc, name, source, description)?)?;
-    reported.push_str(": change manually: ")?;
-    reported.push_str(why)?;
-    reported.push_str("\n")
+    notes: &mut String,
+) -> Result<(), AllocError>
+    ensures { OnOk result (string_bytes notes.new
+        ≡ string_bytes notes.old ++ spec.note name.now source.now description.now why.now) }
+{
+    let note = note(alloc, name, source, description, why)?;
+    notes.push_str(&note)
 }
 
-// Where a literal begins, as `FILE:LINE:COLUMN`.
+// The line that says where a description is, and why it stays.
+fn note(
+    alloc: Global,
+    name: &str,
+    source: &str,
+    description: &Description,
+    why: &str,
+) -> Result<String, AllocError>
+    ensures { IfOk result (λ note. string_bytes note
+        ≡ spec.note name.now source.now description.now why.now) }
+{
+    let position = position(alloc, name, source, description)?;
+    format!(in alloc; "{position}: change manually: {why}\n")
+}
+
+// Where a literal begins.
 fn position(
     alloc: Global,
     name: &str,
     source: &str,
     description: &Description,
-) -> Result<String, AllocError> {
+) -> Result<String, AllocError>
+    ensures { IfOk result (λ position. string_bytes position
+        ≡ spec.position name.now source.now description.now) }
+{
     let file = safe(alloc, name)?;
-    let Position { line, column } = position_of(
-        alloc,
-        FIRST_LINE,
-        source,
-        description.piece.start,
-    )?;
+    let at = position_of(alloc, FIRST_LINE, source, description.piece.start)?;
+    place(alloc, &file, at.line, at.column)
+}
+
+// A place in a file, as `FILE:LINE:COLUMN`.
+fn place(alloc: Global, file: &str, line: u64, column: usize) -> Result<String, AllocError>
+    ensures { IfOk result (λ place. string_bytes place ≡ spec.place file.now line column) }
+{
     format!(in alloc; "{file}:{line}:{column}")
-}
-
-// Why a description stays, and its literal in another version.
-fn reason(
-    alloc: Global,
-    version: &str,
-    source: &str,
-    description: &Description,
-    new: &str,
-) -> Result<String, AllocError> {
-    match description.version {
-        VersionPosition::Call => match call_of(source, description) {
-            Some(call) => said_by_call(alloc, version, call, new),
-            None => format!(in alloc;
-                "its call has no number for the version; in version {version} it is `{new}`"
-            ),
-        },
-        VersionPosition::Elsewhere => format!(in alloc;
-            "a comment says the version; in version {version} it is `{new}`"
-        ),
-        VersionPosition::Digit(_) | VersionPosition::Unsaid => format!(in alloc;
-            "in version {version} it is `{new}`, which has other lines or needs another literal"
-        ),
-    }
-}
-
-fn said_by_call(alloc: Global, version: &str, call: Call, new: &str) -> Result<String, AllocError> {
-    let Call { name, numbered } = call;
-    let means = format!(in alloc; "`{numbered}::<{version}>({new})` means the same")?;
-    format!(in alloc; "`{name}` has no number for the version; {means}")
-}
-
-// The literal with the converted text: of the same kind as the old one, or else with escapes.
-fn new_literal(
-    alloc: Global,
-    change: Change,
-    source: &str,
-    description: &Description,
-) -> Result<Option<String>, AllocError> {
-    let bytes = description.unescaped.text.as_slice();
-    let (Some(layout), Ok(text)) = (
-        layout_of(change, description.dialect, bytes),
-        str::from_utf8(bytes),
-    ) else {
-        return Ok(None);
-    };
-    let answer = match lay_out(alloc, layout, text) {
-        Ok(answer) => answer,
-        Err(ParseError::Invalid(_)) => return Ok(None),
-        Err(ParseError::Memory(error)) => return Err(error),
-    };
-    let body = body_alike(alloc, source, description, answer.as_bytes())?;
-    match body {
-        Some(body) => Ok(Some(quoted(alloc, source, description, &body)?)),
-        None => Ok(Some(format!(in alloc; "{answer:?}")?)),
-    }
-}
-
-// The literal as it is spelled in the source, with another body.
-fn quoted(
-    alloc: Global,
-    source: &str,
-    description: &Description,
-    body: &[u8],
-) -> Result<String, AllocError> {
-    let piece = description.piece;
-    let end = body_end(piece, description.kind);
-    let old_len = match inside(source, piece, description.kind) {
-        Some(old) => old.len(),
-        None => 0,
-    };
-    let opening = source
-        .get(piece.start..end.saturating_sub(old_len))
-        .unwrap_or("");
-    let body = str::from_utf8(body).unwrap_or("");
-    let closing = source.get(end..piece.end).unwrap_or("");
-    format!(in alloc; "{opening}{body}{closing}")
-}
-
-// A call without a number for the version, and the same call with one.
-#[derive(Clone, Copy)]
-struct Call {
-    name: &'static str,
-    numbered: &'static str,
-}
-
-// The call whose opening bracket comes right before the literal.
-fn call_of(source: &str, description: &Description) -> Option<Call> {
-    let front = source.get(..description.piece.start)?;
-    let front = front.trim_end().strip_suffix('(')?.trim_end();
-    if front.ends_with("parse_borrowed") {
-        Some(Call {
-            name: "parse_borrowed",
-            numbered: "parse_borrowed",
-        })
-    } else if front.ends_with("parse_owned") {
-        Some(Call {
-            name: "parse_owned",
-            numbered: "parse_owned",
-        })
-    } else if front.ends_with("parse") {
-        Some(Call {
-            name: "parse",
-            numbered: "parse_borrowed",
-        })
-    } else {
-        None
-    }
 }

@@ -4,6 +4,7 @@ ghost use Rattle.std.specs.Prelude.{◌≡◌};
 ghost use Rattle.timefd_lint.specs.Rewriting.{rewriting_of};
 ghost use Rattle.timefd_lint.specs.Counted as spec;
 
+use crate::no_code::{no_level_sentence, no_warning_sentence};
 use crate::rewriting::rewriting_of;
 use std::alloc::{AllocError, Global};
 use std::io::ErrorKind;
@@ -11,6 +12,7 @@ use std::{fs, str};
 use timefd_drawing::shown::safe;
 use timefd_lint_options::Settings;
 use timefd_lint_options::config::{Config, ConfigError, OwnedKey, config_of};
+use timefd_warnings::Levels;
 use toml::de;
 
 const NAME: &str = ".timefd.toml";
@@ -35,6 +37,7 @@ fn no_config(alloc: Global) -> Config {
     Config {
         keys: Vec::new(alloc),
         exclude: String::new(alloc),
+        levels: None,
     }
 }
 
@@ -57,6 +60,16 @@ pub fn counted_keys<'a>(settings: Settings<'_>, config: &'a Config) -> &'a [Owne
     match rewriting_of(settings) {
         Some(_) => &[],
         None => &config.keys,
+    }
+}
+
+/// The levels of the file of settings that count in a run: none if files are mended or rewritten.
+pub fn counted_levels(settings: Settings<'_>, config: &Config) -> Option<Levels>
+    ensures { result ≡ spec.counted_levels (rewriting_of settings.entry) config.now.levels }
+{
+    match rewriting_of(settings) {
+        Some(_) => None,
+        None => config.levels,
     }
 }
 
@@ -97,12 +110,22 @@ fn failure(alloc: Global, text: &str, error: ConfigError) -> ConfigFailure {
             about(
                 alloc,
                 &name,
-                "means nothing here: the settings are `exclude` and `[keys]`",
+                "means nothing here: the settings are `exclude`, `[keys]` and `[levels]`",
             )
         }
-        ConfigError::NotATable => wrong(alloc, "`keys` isn't a table"),
+        ConfigError::KeysNotATable => wrong(alloc, "`keys` isn't a table"),
+        ConfigError::LevelsNotATable => wrong(alloc, "`levels` isn't a table"),
         ConfigError::NotAList => wrong(alloc, "`exclude` isn't a list"),
         ConfigError::NotAPattern => wrong(alloc, "`exclude` has a pattern that isn't a string"),
+        ConfigError::UnknownWarning(name) => because(alloc, no_warning_sentence(alloc, &name)),
+        ConfigError::NoLevel(warning) => about(
+            alloc,
+            warning.name(),
+            "has no string for its level: it is one of \"allow\", \"warn\", \"deny\"",
+        ),
+        ConfigError::UnknownLevel(warning, word) => {
+            because(alloc, no_level_sentence(alloc, warning, &word))
+        }
         ConfigError::EmptyName => wrong(alloc, "a key has no name"),
         ConfigError::WrongType(name) => {
             about(
@@ -115,9 +138,17 @@ fn failure(alloc: Global, text: &str, error: ConfigError) -> ConfigFailure {
             about(
                 alloc,
                 &name,
-                "has no language: it is one of 1, 2, 3, \"strftime\"",
+                "has no language: it is one of 1, 2, 3, \"strftime\", \"python\", \"c\", \"gnu\", \"chrono\", \"jiff\", \"ruby\", \"java\", \"go\", \"moment\"",
             )
         }
+    }
+}
+
+// What is wrong, by this sentence.
+fn because(alloc: Global, sentence: Result<String, AllocError>) -> ConfigFailure {
+    match sentence {
+        Ok(sentence) => wrong(alloc, &sentence),
+        Err(AllocError) => ConfigFailure::Memory,
     }
 }
 

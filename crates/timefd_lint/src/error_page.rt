@@ -63,7 +63,7 @@ pub fn explanation(code: ErrorCode) -> &'static str
             "Save the file without it. It is a literal of the first description, and hides a comment mark."
         }
         ErrorCode::UnknownLanguage => {
-            "`// timefd: strftme` names no language, and checks nothing. Write one of 1, 2, 3, strftime, chrono and jiff."
+            "`// timefd: strftme` names no language, and checks nothing. Write one of 1, 2, 3, strftime, python, c, gnu, chrono, jiff, ruby, java, go and moment."
         }
     }
 }

@@ -1,28 +1,34 @@
 //! What is found in a file that is rewritten or mended, and its new bytes.
 
-ghost use Rattle.std.specs.Prelude.{◌≡◌, Bool, Option, Some, [], IfErr, IfOk};
+ghost use Rattle.std.specs.Prelude.{◌≡◌, Bool, Option, Some, [], IfErr, IfOk, string_bytes};
 ghost use Rattle.timefd_component.specs.Tree.{Text};
 ghost use Rattle.timefd_lint.specs.Causes.{IsCausedBy};
 ghost use Rattle.timefd_lint.specs.declared.line.RunError.TheVariants as errors;
+ghost use Rattle.timefd_lint.specs.Limited.{AreNotesFor};
 ghost use Rattle.timefd_lint.specs.Rewritten.{AreCounted, IsFileRewritten};
-ghost use Rattle.timefd_lint.specs.Sources.{IsRunOfSource, finder_of};
+ghost use Rattle.timefd_lint.specs.Sources.{IsRunOfSource};
+ghost use Rattle.timefd_lint.specs.Sources as sources;
 ghost use Rattle.timefd_lint.specs.Reported.{IsRunOver};
 ghost use Rattle.timefd_rewrite.specs.Rewriting.{AreRewritten};
 
 use crate::by_hand::notes;
+use crate::limited::limit_notes;
 use crate::line::RunError;
 use crate::lines::lint_lines;
 use crate::options::Options;
-use crate::rust::lint_source;
+use crate::rust::{finder_of, lint_source};
 use crate::source::BUFFER;
 use crate::tally::Tally;
-use std::alloc::Global;
+use crate::value_notes::{limits_of_values, unwritable};
+use std::alloc::{AllocError, Global};
 use std::io::BufReader;
 use std::str;
 use timefd_lint_sources::rewriting::{
-    Change, Outcome, count_refused, count_rewritten, rewrite_source,
+    Change, Outcome, count_refused, count_rewritten, rewrite_found,
 };
-use timefd_rewrite::{Counts, Layout, rewrite_lines};
+use timefd_lint_sources::{Finder, Source};
+use timefd_rewrite::{Counts, LineChange, rewrite_lines};
+use timefd_sources::keys::descriptions_by;
 use timefd_streams::{BufferedSource, FromBufReader, Sink};
 
 /// What is counted in a file: lines or descriptions.
@@ -45,6 +51,8 @@ pub struct Found {
     pub bytes: Vec<u8>,
     /// The notes on descriptions that have to be changed manually, a line each.
     pub by_hand: String,
+    /// The notes on formats that version 3 writes alike for some moments alone, a line each.
+    pub limits: String,
 }
 
 /// Checks the lines of a file, and rewrites those that can be rewritten.
@@ -52,7 +60,7 @@ pub struct Found {
 pub fn looked_at<W: Sink>(
     alloc: Global,
     options: Options<'_>,
-    layout: Layout,
+    change: LineChange,
     name: &str,
     old: &[u8],
     writer: &mut W,
@@ -60,29 +68,34 @@ pub fn looked_at<W: Sink>(
     ensures reported { IfOk result (λ found. (rest : Option Text) × (has_failed : Bool)
         × IsRunOver options.entry.language options.entry.comment options.entry.reporting name.now
         (Some old.now) rest has_failed (W.contents writer.old) (W.contents writer.new) found.tally) }
-    ensures rewritten { IfOk result (λ found. AreRewritten layout options.entry.comment
+    ensures rewritten { IfOk result (λ found. AreRewritten change options.entry.comment
         (Some old.now) (Some []) (Some found.bytes.items) found.counts) }
+    ensures by_hand { IfOk result (λ found. string_bytes found.by_hand ≡ []) }
+    ensures limits { IfOk result (λ found. AreNotesFor change options.entry.comment name.now old.now
+        (string_bytes found.limits)) }
     ensures unwritten { IfErr result (IsCausedBy (W.has_failed writer.new)) }
 {
     let mut reader = reader_of(alloc, old)?;
     let tally = lint_lines(alloc, options, name, &mut reader, writer)?;
     let mut lines = old;
     let mut bytes = Vec::new(alloc);
-    match rewrite_lines(alloc, options.comment, layout, &mut lines, &mut bytes) {
+    let limits = limits_of(alloc, options, change, name, old)?;
+    match rewrite_lines(alloc, options.comment, change, &mut lines, &mut bytes) {
         Ok(counts) => Ok(Found {
             tally,
             unit: Unit::Line,
             counts,
             bytes,
             by_hand: String::new(alloc),
+            limits,
         }),
         // The reader and the writer are both in memory, so only memory can run out.
         Err(_) => Err(RunError::Memory),
     }
 }
 
-/// Checks the descriptions of a source, and mends or converts those that can be changed. A source that isn't
-/// UTF-8 has none.
+/// Checks the descriptions of a source, literals of Rust or values of keys, and mends or converts those that can be
+/// changed. A source that isn't UTF-8 has none.
 #[tactic(auto, using(crate::proofs::FateLemmas::source_of_bytes))]
 pub fn source_looked_at<W: Sink>(
     alloc: Global,
@@ -93,22 +106,29 @@ pub fn source_looked_at<W: Sink>(
     writer: &mut W,
 ) -> Result<Found, RunError>
     ensures reported { IfOk result (λ found. (rest : Option Text) × (has_failed : Bool)
-        × IsRunOfSource (finder_of options.entry name.now) options.entry.reporting name.now
+        × IsRunOfSource (sources.finder_of options.entry name.now) options.entry.reporting name.now
         (Some old.now) rest has_failed (W.contents writer.old) (W.contents writer.new) found.tally) }
-    ensures rewritten { IfOk result (λ found. IsFileRewritten change old.now found.counts found.bytes.items) }
+    ensures rewritten { IfOk result (λ found. IsFileRewritten change (sources.finder_of options.entry name.now) old.now
+        found.counts found.bytes.items) }
     ensures unwritten { IfErr result (IsCausedBy (W.has_failed writer.new)) }
 {
     let mut reader = reader_of(alloc, old)?;
     let tally = lint_source(alloc, options, name, &mut reader, writer)?;
     let unit = Unit::Description;
     match str::from_utf8(old) {
-        Ok(source) => {
-            let new = rewrite_source(alloc, change, source)?;
+        Ok(text) => {
+            let source = Source {
+                file: name,
+                finder: finder_of(options, name),
+                text,
+            };
+            let new = rewrite_found(alloc, change, source)?;
             Ok(Found {
                 tally,
                 unit,
                 counts: counts_of(&new.outcomes),
-                by_hand: notes(alloc, change, name, source, &new.outcomes)?,
+                by_hand: by_hand_in(alloc, change, source, &new.outcomes)?,
+                limits: limits_in(alloc, change, source)?,
                 bytes: new.bytes,
             })
         }
@@ -118,6 +138,7 @@ pub fn source_looked_at<W: Sink>(
             counts: counts_of(&[]),
             bytes: Vec::new(alloc),
             by_hand: String::new(alloc),
+            limits: String::new(alloc),
         }),
     }
 }
@@ -131,6 +152,50 @@ fn reader_of<'a>(alloc: Global, bytes: &'a [u8]) -> Result<FromBufReader<&'a [u8
     match BufReader::with_capacity(alloc, BUFFER, bytes) {
         Ok(reader) => Ok(FromBufReader::new(reader)),
         Err(_) => Err(RunError::Memory),
+    }
+}
+
+// The notes on formats of another language that version 3 writes alike for some moments alone.
+fn limits_of(
+    alloc: Global,
+    options: Options<'_>,
+    change: LineChange,
+    name: &str,
+    old: &[u8],
+) -> Result<String, AllocError>
+    ensures { IfOk result (λ limits. AreNotesFor change options.entry.comment name.now old.now
+        (string_bytes limits)) }
+{
+    match change {
+        LineChange::Own(_) => Ok(String::new(alloc)),
+        LineChange::Other(dialect) => limit_notes(alloc, options.comment, dialect, name, old),
+    }
+}
+
+// The notes on what has to be changed manually in a source.
+fn by_hand_in(
+    alloc: Global,
+    change: Change,
+    source: Source<'_>,
+    outcomes: &[Outcome],
+) -> Result<String, AllocError> {
+    match source.finder {
+        Finder::Rust => notes(alloc, change, source.file, source.text, outcomes),
+        Finder::Keys(format, keys) => {
+            let values = descriptions_by(alloc, format, source.text, keys)?;
+            unwritable(alloc, source.file, source.text, &values, outcomes)
+        }
+    }
+}
+
+// The notes on values of keys that version 3 writes alike for some moments alone.
+fn limits_in(alloc: Global, change: Change, source: Source<'_>) -> Result<String, AllocError> {
+    match source.finder {
+        Finder::Rust => Ok(String::new(alloc)),
+        Finder::Keys(format, keys) => {
+            let values = descriptions_by(alloc, format, source.text, keys)?;
+            limits_of_values(alloc, change, source.file, source.text, &values)
+        }
     }
 }
 

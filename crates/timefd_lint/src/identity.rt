@@ -2,6 +2,7 @@
 
 ghost use Rattle.std.specs.Prelude.{◌≡◌, ◌∷◌, ◌++◌, [], IfErr, OnOk};
 ghost use Rattle.std.specs.List.{list_any};
+ghost use Rattle.std.specs.Option.{option_to_list};
 ghost use Rattle.timefd_lint.specs.Identities as spec;
 ghost use Rattle.timefd_lint.specs.declared.line.RunError.TheVariants as errors;
 
@@ -40,15 +41,36 @@ pub fn is_there<R: Files>(rt: &R, name: &str) -> bool {
     fs::symlink_metadata(rt, name).is_ok()
 }
 
-/// Whether a file was met already.
-pub fn is_among(met: &[Identity], identity: Identity) -> bool
+/// Whether the file that a name leads to was met already.
+pub fn is_met(met: &[Identity], identity: Option<Identity>) -> bool
+    ensures { result ≡ spec.is_met met.now identity }
+{
+    match identity {
+        Some(identity) => is_among(met, identity),
+        None => false,
+    }
+}
+
+// Whether a file was met already.
+fn is_among(met: &[Identity], identity: Identity) -> bool
     ensures { result ≡ list_any (spec.is_same identity) met.now }
 {
     met.iter().any(|other| identity.is(*other))
 }
 
-/// Adds a file to those that were met.
-pub fn meet(met: &mut Vec<Identity>, identity: Identity) -> Result<(), RunError>
+/// Adds the file that a name leads to, if there is one, to those that were met.
+pub fn meet_any(met: &mut Vec<Identity>, identity: Option<Identity>) -> Result<(), RunError>
+    ensures added { OnOk result (met.new.items ≡ met.old.items ++ option_to_list identity) }
+    ensures memory { IfErr result (λ e. e ≡ errors.Memory) }
+{
+    match identity {
+        Some(identity) => meet(met, identity),
+        None => Ok(()),
+    }
+}
+
+// Adds a file to those that were met.
+fn meet(met: &mut Vec<Identity>, identity: Identity) -> Result<(), RunError>
     ensures added { OnOk result (met.new.items ≡ met.old.items ++ identity ∷ []) }
     ensures memory { IfErr result (λ e. e ≡ errors.Memory) }
 {

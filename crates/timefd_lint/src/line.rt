@@ -267,7 +267,7 @@ fn accepted<W: Sink>(
         return Ok(TextEnd::Accepted(Levels::all_at(Level::Allowed)));
     };
     let found = found_in(alloc, language, text, levels)?;
-    let reported = messages(alloc, reporting.style, origin, found)?;
+    let reported = messages(alloc, reporting.style, origin, text, found)?;
     write(writer, &reported)?;
     Ok(TextEnd::Accepted(found))
 }

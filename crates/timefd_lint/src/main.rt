@@ -11,15 +11,18 @@ mod config;
 mod error_code;
 mod error_page;
 mod failure;
+mod fate;
 mod fix;
 mod folders;
 mod found;
 mod identity;
+mod limited;
 mod line;
 mod lines;
 mod log;
 mod mark;
 mod no_code;
+mod none_of;
 mod options;
 mod other_rules;
 mod output;
@@ -38,12 +41,14 @@ mod sought;
 mod source;
 mod stamp;
 mod status;
+mod store;
 mod summary;
 mod tally;
 mod usage;
+mod value_notes;
 
 use color::is_colored;
-use config::{ConfigFailure, counted_keys, read_config};
+use config::{ConfigFailure, counted_keys, counted_levels, read_config};
 use identity::is_there;
 use line::RunError;
 use log::write_log;
@@ -64,7 +69,7 @@ use std::process::ExitCode;
 use summary::summary;
 use tally::Tally;
 use timefd_lint_files::{WalkError, expanded};
-use timefd_lint_options::config::{OwnedKey, same_keys, with_keys};
+use timefd_lint_options::config::{OwnedKey, same_keys, with_keys, with_levels};
 use timefd_lint_options::{
     Asked, OptionError, Settings, is_log, keys_of, lines_conflict, options_of, ordered,
 };
@@ -119,8 +124,8 @@ fn options_status(rt: &HostRuntime, words: &[&str]) -> u8 {
     }
 }
 
-// Runs over the named files and folders, and returns the status. The keys of the arguments come first, then
-// those of the file of settings.
+// Runs over the named files and folders, and returns the status. The keys and levels of the arguments come first,
+// then those of the file of settings.
 fn keys_status(rt: &HostRuntime, settings: Settings<'_>, words: &[&str], names: &[&str]) -> u8 {
     let config = match read_config(rt, rt.alloc()) {
         Ok(config) => config,
@@ -130,6 +135,7 @@ fn keys_status(rt: &HostRuntime, settings: Settings<'_>, words: &[&str], names: 
     let Ok(keys) = keys_of(rt.alloc(), words) else {
         return no_memory(rt);
     };
+    let settings = with_levels(settings, counted_levels(settings, &config));
     match all_keys(rt.alloc(), &keys, counted_keys(settings, &config)) {
         Ok(keys) if settings.serves => session_status(rt, settings, &keys),
         Ok(keys) => names_status(rt, settings, &keys, &config.exclude, names),

@@ -5,16 +5,17 @@ ghost use Rattle.std.specs.Prelude.{◌≡◌};
 ghost use Rattle.timefd_lint.specs.Rewriting as spec;
 
 use timefd_convert::conversion_between;
-use timefd_lint_options::{Settings, target};
+use timefd_dialect::Dialect;
+use timefd_lint_options::{Settings, Wording, target};
 use timefd_lint_sources::rewriting::Change;
 use timefd_parse::{DescriptionVersion, Language};
-use timefd_rewrite::{Fixes, Layout};
+use timefd_rewrite::{Fixes, Layout, LineChange};
 
 /// How files are rewritten.
 #[derive(Clone, Copy)]
 pub struct Rewriting {
-    /// How lines are laid out. `None` if no conversion exists from their language.
-    pub lines: Option<Layout>,
+    /// How lines are changed. `None` if no conversion exists from their language.
+    pub lines: Option<LineChange>,
     /// What happens to the descriptions of sources.
     pub sources: Change,
     /// Whether the files are written back, instead of shown as changes.
@@ -34,23 +35,37 @@ fn fixes_of(settings: Settings<'_>) -> Fixes
     }
 }
 
-// How lines are laid out in a version. `None` if no conversion leads to it.
-fn layout_in(settings: Settings<'_>, version: DescriptionVersion) -> Option<Layout>
-    ensures { result ≡ spec.layout_in settings.entry version }
+// How lines are changed to a version. `None` if no conversion leads to it.
+fn lines_to(settings: Settings<'_>, version: DescriptionVersion) -> Option<LineChange>
+    ensures { result ≡ spec.lines_to settings.entry version }
 {
-    match settings.language.language() {
-        Some(language) => own_layout(settings.is_normal, language, version),
+    match settings.language {
+        Wording::Own(language) => own_change(settings.is_normal, language, version),
+        Wording::Other(dialect) => other_change(dialect, version),
+    }
+}
+
+fn own_change(
+    is_normal: bool,
+    language: Language,
+    version: DescriptionVersion,
+) -> Option<LineChange>
+    ensures { result ≡ spec.own_change is_normal language version }
+{
+    match conversion_between(language, Language::Version(version)) {
+        Some(conversion) if is_normal => Some(LineChange::Own(Layout::Normal(conversion))),
+        Some(conversion) => Some(LineChange::Own(Layout::Least(conversion))),
         None => None,
     }
 }
 
-fn own_layout(is_normal: bool, language: Language, version: DescriptionVersion) -> Option<Layout>
-    ensures { result ≡ spec.own_layout is_normal language version }
+// Formats of other languages become texts of version 3.
+fn other_change(dialect: Dialect, version: DescriptionVersion) -> Option<LineChange>
+    ensures { result ≡ spec.other_change dialect version }
 {
-    match conversion_between(language, Language::Version(version)) {
-        Some(conversion) if is_normal => Some(Layout::Normal(conversion)),
-        Some(conversion) => Some(Layout::Least(conversion)),
-        None => None,
+    match version {
+        DescriptionVersion::One | DescriptionVersion::Two => None,
+        DescriptionVersion::Three => Some(LineChange::Other(dialect)),
     }
 }
 
@@ -66,11 +81,11 @@ fn change_to(settings: Settings<'_>, version: DescriptionVersion) -> Change
 }
 
 // How lines are mended. `None` if their language isn't one of `time`.
-fn mended(language: Option<Language>, fixes: Fixes) -> Option<Layout>
+fn mended(language: Option<Language>, fixes: Fixes) -> Option<LineChange>
     ensures { result ≡ spec.mended language fixes }
 {
     match language {
-        Some(language) => Some(Layout::Fixed(language, fixes)),
+        Some(language) => Some(LineChange::Own(Layout::Fixed(language, fixes))),
         None => None,
     }
 }
@@ -93,7 +108,7 @@ fn converting(settings: Settings<'_>, version: DescriptionVersion) -> Rewriting
     ensures { result ≡ spec.converting settings.entry version }
 {
     Rewriting {
-        lines: layout_in(settings, version),
+        lines: lines_to(settings, version),
         sources: change_to(settings, version),
         writes: settings.writes,
         is_partial: settings.is_partial,

@@ -76,9 +76,10 @@ fn run_and_rewrite<W: Sink>(
     ensures unwritten { IfErr result (IsCausedBy (W.has_failed output.new)) }
 {
     if let Some(rewriting) = rewriting_of(settings) {
+        let mut store = rt;
         let mut errors = ToWriter::new(standard_error(rt));
         return rewrite_files(
-            rt,
+            &mut store,
             rt.alloc(),
             options,
             rewriting,

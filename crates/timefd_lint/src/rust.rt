@@ -46,7 +46,7 @@ pub fn are_sources(options: Options<'_>) -> bool
 }
 
 /// How the descriptions are found in a file with this name that is read as a source.
-fn finder_of<'a>(options: Options<'a>, name: &str) -> Finder<'a>
+pub fn finder_of<'a>(options: Options<'a>, name: &str) -> Finder<'a>
     ensures { result ≡ spec.finder_of options.entry name.now }
 {
     if is_rust(options, name) {
@@ -172,6 +172,7 @@ fn text_end(end: End) -> TextEnd
     match end {
         End::PassedOver => TextEnd::PassedOver,
         End::Accepted(found) => TextEnd::Accepted(found),
+        End::Converted(traps) => TextEnd::Converted(traps),
         End::Refused => TextEnd::Refused,
         End::NotText => TextEnd::NotText,
         End::UnreadCall => TextEnd::UnreadCall,

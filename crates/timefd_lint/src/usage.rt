@@ -23,15 +23,16 @@ at a terminal, it is the working directory, unless an option says how lines are 
                                annotation of GitHub, or one log of SARIF 2.1.0
   --color always|never|auto    whether the drawing is coloured; auto asks the terminal
   --comment MARK               skips the lines that begin with the mark
-  --key KEY=LANGUAGE           looks at the strings of this key in TOML, JSON and YAML; may be repeated,
-                               or stand under [keys] in a file .timefd.toml
+  --key KEY=LANGUAGE           looks at the strings of this key in TOML, JSON and YAML, in any of these
+                               languages; may be repeated, or stand under [keys] in a file .timefd.toml
   --whole                      takes a file as one text, each newline in it counted
   --source                     takes a file as a source of Rust, whatever its name
   --explain                    shows each accepted text as its tree
   --explain CODE               alone: says what the error or warning of this code means
   --warn                       reports what is suspect in an accepted text
   --deny CODE                  the same, and a text with this warning counts as refused
-  --allow CODE                 the same, but for this warning
+  --allow CODE                 the same, but for this warning; both may stand under [levels] in a file
+                               .timefd.toml
   --to 2|3                     shows what has to change of lines and literals in a later version
   --normal                     shows what would change in the normal form of version 3
   --fix                        shows what mends refused lines and literals, if that is sure

@@ -1,2 +1,3 @@
 pub mod ConfigLemmas
 pub mod BorrowedLemmas
+pub mod LevelLemmas

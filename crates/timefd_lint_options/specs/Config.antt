@@ -1,1 +1,4 @@
+pub mod Faults
+pub mod Levels
 pub mod Config
+pub mod Over

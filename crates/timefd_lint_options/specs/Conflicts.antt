@@ -7,7 +7,7 @@ use Rattle.timefd_language.specs.declared.description_version.DescriptionVersion
 use Rattle.timefd_language.specs.declared.language.Language.{Language}
 use Rattle.timefd_language.specs.declared.language.Language.TheVariants as languages
 use Rattle.timefd_lint_options.specs.declared.error.Conflict.{Conflict}
-use Rattle.timefd_lint_options.specs.declared.error.Conflict.TheVariants.{ServesFiles, ServesAlone, ExplainUndrawn, LogRewritten, KeysRewritten, WriteWithoutVersion, PartialWithoutWrite, UnsafeWithoutFix, FixesRewritten, FixesWhole, FixesNoFile, FixesInput, NormalOfAnother, NoConversion, ExplainsOther, FixesOther, RewritesWarned, RewritesWhole, RewritesNoFile, RewritesInput}
+use Rattle.timefd_lint_options.specs.declared.error.Conflict.TheVariants.{ServesFiles, ServesAlone, ExplainUndrawn, LogRewritten, WriteWithoutVersion, PartialWithoutWrite, UnsafeWithoutFix, FixesRewritten, FixesWhole, FixesNoFile, FixesInput, NormalOfAnother, NoConversion, ExplainsOther, FixesOther, RewritesWarned, RewritesWhole, RewritesNoFile, RewritesInput}
 use Rattle.timefd_lint_options.specs.declared.names.Names.{Names}
 use Rattle.timefd_lint_options.specs.declared.settings.Settings.{Settings}
 use Rattle.timefd_lint_options.specs.declared.wording.Wording.{Wording}
@@ -69,13 +69,18 @@ lines_conflict_by (Some version) is_normal language =
 abbrev pub own_conflict : Settings → Language → Option Conflict
 own_conflict s language = lines_conflict_by (target s) s.is_normal language
 
+-- Formats of other languages are rewritten in version 3 alone, and not in its normal form.
+abbrev pub other_target : Option DescriptionVersion → Bool → Option Conflict
+other_target None is_normal = None
+other_target (Some version) is_normal =
+    if is_normal || not (is_three version) then Some NoConversion else None
+
 -- what can't be done with formats of other languages
 abbrev pub other_conflict : Settings → Option Conflict
 other_conflict s =
     if s.explains then Some ExplainsOther
     else if s.fixes then Some FixesOther
-    else if is_some (target s) then Some NoConversion
-    else None
+    else other_target (target s) s.is_normal
 
 abbrev pub lines_conflict_in : Wording → Settings → Option Conflict
 lines_conflict_in (Own language) s = own_conflict s language
@@ -120,6 +125,5 @@ conflict s names =
     else if s.is_partial && not s.writes then Some PartialWithoutWrite
     else if s.is_unsafe && not s.fixes then Some UnsafeWithoutFix
     else if is_log s.format && (s.fixes || is_some (target s)) then Some LogRewritten
-    else if s.has_keys && (s.fixes || is_some (target s)) then Some KeysRewritten
     else if s.fixes then fixing_conflict s names
     else version_conflict s names (target s)

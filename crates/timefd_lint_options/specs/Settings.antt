@@ -32,7 +32,6 @@ initial = record {
   format = formats.Human;
   color = colors.Auto;
   comment = None;
-  has_keys = false;
   is_whole = false;
   is_source = false;
   explains = false;
@@ -98,7 +97,7 @@ abbrev pub with_comment : Settings → Bor Text → Option Settings
 with_comment s word = if is_empty word.now then None else Some (record s { comment = Some word })
 
 abbrev pub keyed_by : Settings → Option KeyFault → Option Settings
-keyed_by s None = Some (record s { has_keys = true })
+keyed_by s None = Some s
 keyed_by s (Some fault) = None
 
 abbrev pub with_key : Settings → Text → Option Settings

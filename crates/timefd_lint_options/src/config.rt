@@ -1,4 +1,4 @@
-//! Reads a file of settings, in TOML: keys, and what is passed over.
+//! Reads a file of settings, in TOML: keys, what is passed over, and the levels of warnings.
 
 mod borrowed;
 mod config;
@@ -6,8 +6,11 @@ mod error;
 mod exclude;
 mod keys;
 mod language;
+mod levels;
+mod over;
 
 pub use borrowed::{same_keys, with_keys};
 pub use config::{Config, config_of};
 pub use error::ConfigError;
 pub use keys::OwnedKey;
+pub use over::with_levels;

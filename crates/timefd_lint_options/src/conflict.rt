@@ -29,9 +29,6 @@ pub fn conflict(settings: Settings<'_>, names: Names) -> Option<Conflict>
     if is_log(settings.format) && (settings.fixes || target(settings).is_some()) {
         return Some(Conflict::LogRewritten);
     }
-    if settings.has_keys && (settings.fixes || target(settings).is_some()) {
-        return Some(Conflict::KeysRewritten);
-    }
     if settings.fixes {
         return fixing_conflict(settings, names);
     }
@@ -141,7 +138,7 @@ fn own_conflict(settings: Settings<'_>, language: Language) -> Option<Conflict>
     }
 }
 
-// What can't be done with formats of other languages.
+// What can't be done with formats of other languages. They are rewritten in version 3 alone, and not in its normal form.
 fn other_conflict(settings: Settings<'_>) -> Option<Conflict>
     ensures { result ≡ spec.other_conflict settings.entry }
 {
@@ -152,8 +149,8 @@ fn other_conflict(settings: Settings<'_>) -> Option<Conflict>
         return Some(Conflict::FixesOther);
     }
     match target(settings) {
-        Some(_) => Some(Conflict::NoConversion),
-        None => None,
+        Some(version) if settings.is_normal || !is_three(version) => Some(Conflict::NoConversion),
+        Some(_) | None => None,
     }
 }
 

@@ -31,8 +31,6 @@ pub enum Conflict {
     LogRewritten,
     /// `--write` without `--to`, `--normal` or `--fix`.
     WriteWithoutVersion,
-    /// Strings of keys are only checked, and stay as they are.
-    KeysRewritten,
     /// `--partial` without `--write`.
     PartialWithoutWrite,
     /// `--unsafe` without `--fix`.

@@ -28,8 +28,6 @@ pub struct Settings<'a> {
     pub color: Color,
     /// Lines that begin with this are passed over.
     pub comment: Option<&'a str>,
-    /// Whether strings of keys are checked.
-    pub has_keys: bool,
     /// Whether a whole file is one text.
     pub is_whole: bool,
     /// Whether files are read as sources of Rust, whatever their names.
@@ -68,7 +66,6 @@ impl Settings<'_> {
             format: Format::Human,
             color: Color::Auto,
             comment: None,
-            has_keys: false,
             is_whole: false,
             is_source: false,
             explains: false,

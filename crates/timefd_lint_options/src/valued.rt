@@ -83,10 +83,7 @@ fn with_key<'a>(settings: Settings<'a>, value: &str) -> Option<Settings<'a>>
 {
     match key_fault(value) {
         Some(_) => None,
-        None => Some(Settings {
-            has_keys: true,
-            ..settings
-        }),
+        None => Some(settings),
     }
 }
 

@@ -1,5 +1,7 @@
 mod ItemLemmas
 mod OpeningLemmas
+mod SearchLemmas
+mod OtherLemmas
 mod JudgedLemmas
 mod ReportedLemmas
 mod ReportLemmas

@@ -1,5 +1,5 @@
 -- What the linter reports about one description.
-use Rattle.std.proofs.Common.{ℕ, ◌≡◌, true, false, Option, Some, List, [], ◌++◌, refl, sym, subst, ap, ◌∙◌}
+use Rattle.std.proofs.Common.{ℕ, ◌≡◌, true, false, Option, None, Some, List, [], ◌++◌, inl, inr, refl, sym, subst, ap, ◌∙◌}
 use Rattle.std.specs.Prelude.{IfOk, IfSome, IsUtf8, Result, Ok, Err}
 use Rattle.std.specs.List.{flat_map}
 use Rattle.std.specs.declared.alloc.Global.{Global}
@@ -14,35 +14,70 @@ use Rattle.timefd_diagnosis.specs.Diagnoses.{IsDiagnosis}
 use Rattle.timefd_diagnosis.specs.Further.{AreDiagnosed, AreFurther, most_further, without}
 use Rattle.timefd_drawing.specs.Positions.{reported_column, line_number}
 use Rattle.timefd_explain.specs.Lines.{IsExplainedIf}
+use Rattle.timefd_dialect.specs.declared.dialect.Dialect.{Dialect as Other}
 use Rattle.timefd_sources.specs.declared.description.Description.{Description}
+use Rattle.timefd_sources.specs.declared.dialect.Dialect.{Dialect}
+use Rattle.timefd_sources.specs.declared.dialect.Dialect.TheVariants.{One, Two, Three, Strftime, Python, C, Gnu, Chrono, Jiff, Ruby, Java, Go, Moment}
 use Rattle.timefd_sources.specs.declared.known.Items.TheVariants.{Taken, Refused as RefusedItems}
 use Rattle.timefd_warnings.specs.declared.levels.Level.TheVariants.{Allowed}
 use Rattle.timefd_warnings.specs.declared.levels.Levels.{Levels}
 use Rattle.timefd_warnings.specs.Levels.{all_at}
 use Rattle.timefd_lint_warnings.specs.Messages.{messages_at}
 use Rattle.timefd_lint_sources.specs.declared.reported.End.{End}
-use Rattle.timefd_lint_sources.specs.declared.reported.End.TheVariants.{PassedOver, Accepted, Refused, NotText}
+use Rattle.timefd_lint_sources.specs.declared.reported.End.TheVariants.{Accepted, Refused, NotText}
 use Rattle.timefd_lint_sources.specs.declared.reported.Source.{Source}
 use Rattle.timefd_lint_sources.specs.declared.reported.Reporting.{Reporting}
 use Rattle.timefd_lint_sources.specs.declared.reported.Reported.{Reported}
 use Rattle.timefd_lint_warnings.specs.Found.{found_by}
-use Rattle.timefd_lint_sources.specs.Judged.{is_passed_over, language_in, text_of, reported_further, unless_item}
-use Rattle.timefd_lint_sources.specs.Reported.{IsMessageOn, IsReported, drawing_of, note_of, origin_of}
+use Rattle.timefd_lint_sources.specs.Judged.{is_passed_over, language_in, other_of, text_of, reported_further, unless_item}
+use Rattle.timefd_lint_sources.specs.Others.{IsOtherJudged}
+use Rattle.timefd_lint_sources.specs.Reported.{IsMessageOn, IsOwnReported, IsReported, IsReportedAs, drawing_of, note_of, origin_of}
 
-pub passed_over : (reporting : Reporting) (s : Source) (d : Description)
-    → is_passed_over d.dialect (text_of d) ≡ true → IsReported reporting s d PassedOver []
-passed_over reporting s d is = record { end = is; message = refl }
+-- A description of `time` isn't passed over.
+is_own : (dialect : Dialect) (text : Text) → other_of dialect ≡ None → is_passed_over dialect text ≡ false
+is_own One text is = refl
+is_own Two text is = refl
+is_own Three text is = refl
+is_own Strftime text is = refl
+is_own Python text is = cc
+is_own C text is = cc
+is_own Gnu text is = cc
+is_own Chrono text is = cc
+is_own Jiff text is = cc
+is_own Ruby text is = cc
+is_own Java text is = cc
+is_own Go text is = cc
+is_own Moment text is = cc
+
+-- It is reported as what it is.
+as_own : (reporting : Reporting) (s : Source) (d : Description) (end : End) (message : Text)
+    → other_of d.dialect ≡ None → IsOwnReported reporting s d end message → IsReported reporting s d end message
+as_own reporting s d end message own reported =
+    subst (λ o. IsReportedAs o reporting s d end message) (sym own) reported
+
+pub as_other : {E : Type 0} (reporting : Reporting) (s : Source) (d : Description) (dialect : Other) (text : Text)
+    (done : Result Reported E) → other_of d.dialect ≡ Some dialect → IsUtf8 text → text ≡ text_of d
+    → IfOk done (λ t. IsOtherJudged reporting s d dialect t.end t.message.items)
+    → IfOk done (λ t. IsReported reporting s d t.end t.message.items)
+as_other reporting s d dialect text (Ok t) other utf8 same judged =
+    subst (λ o. IsReportedAs o reporting s d t.end t.message.items) (sym other)
+    (inl (subst IsUtf8 same utf8, judged))
+as_other reporting s d dialect text (Err e) other utf8 same judged = tt
 
 pub no_text : (reporting : Reporting) (s : Source) (d : Description) (end : End) (message : Text)
-    → is_passed_over d.dialect (text_of d) ≡ false → ¬ IsUtf8 (text_of d) → end ≡ NotText
-    → message ≡ note_of reporting.style s d → IsReported reporting s d end message
-no_text reporting s d end message judges not is reported =
-    subst (λ e. IsReported reporting s d e message) (sym is)
-    (record { end = (judges, not); message = reported })
+    → ¬ IsUtf8 (text_of d) → end ≡ NotText → message ≡ note_of reporting.style s d
+    → IsReported reporting s d end message
+no_text reporting s d end message not is reported = by (other_of d.dialect) refl
+  where
+    by : (o : Option Other) → other_of d.dialect ≡ o → IsReportedAs o reporting s d end message
+    by None own =
+        subst (λ e. IsOwnReported reporting s d e message) (sym is)
+        (record { end = (is_own d.dialect (text_of d) own, not); message = reported })
+    by (Some dialect) other = inr (not, is, reported)
 
 -- The text is the description's.
 pub with_fault : (reporting : Reporting) (s : Source) (d : Description) (text : Text) (g : Diagnostic)
-    (further : List Diagnostic) (end : End) (message : Text) → is_passed_over d.dialect text ≡ false
+    (further : List Diagnostic) (end : End) (message : Text) → other_of d.dialect ≡ None
     → IsUtf8 text → text ≡ text_of d
     → FaultIn (language_in d) nesting_limit text (fault_of g.fault)
     → IsDiagnosis (language_in d) text g
@@ -50,11 +85,11 @@ pub with_fault : (reporting : Reporting) (s : Source) (d : Description) (text : 
     × (further ≡ reported_further d.items found))
     → end ≡ Refused → message ≡ drawing_of reporting.style s d g further
     → IsReported reporting s d end message
-with_fault reporting s d text g further end message judges utf8 same faulty diagnosed (found, others, those) is reported =
-    subst (λ e. IsReported reporting s d e message) (sym is)
+with_fault reporting s d text g further end message own utf8 same faulty diagnosed (found, others, those) is reported =
+    as_own reporting s d end message own (subst (λ e. IsOwnReported reporting s d e message) (sym is)
     (record {
       end = (
-        subst (λ t. is_passed_over d.dialect t ≡ false) same judges,
+        is_own d.dialect (text_of d) own,
         (
           subst IsUtf8 same utf8,
           (
@@ -76,12 +111,12 @@ with_fault reporting s d text g further end message judges utf8 same faulty diag
         },
         reported,
       );
-    })
+    }))
 
 -- The text is the description's, and finding its further faults may run out of memory.
 pub with_faults : {E : Type 0} (reporting : Reporting) (s : Source) (d : Description) (language : Language)
     (text : Text) (found : Option Diagnostic) (g : Diagnostic) (further : List Diagnostic)
-    (reported : Result Reported E) → language ≡ language_in d → is_passed_over d.dialect text ≡ false
+    (reported : Result Reported E) → language ≡ language_in d → other_of d.dialect ≡ None
     → IsUtf8 text → text ≡ text_of d → found ≡ Some g
     → IfSome found (λ x. FaultIn language nesting_limit text (fault_of x.fault))
     → IfSome found (IsDiagnosis language text)
@@ -90,40 +125,40 @@ pub with_faults : {E : Type 0} (reporting : Reporting) (s : Source) (d : Descrip
     → IfOk reported (λ t. t.end ≡ Refused)
     → IfOk reported (λ t. t.message.items ≡ drawing_of reporting.style s d g further)
     → IfOk reported (λ t. IsReported reporting s d t.end t.message.items)
-with_faults reporting s d language text found g further (Ok t) named judges utf8 same is faulty diagnosed others ended drawn =
-    with_fault reporting s d text g further t.end t.message.items judges utf8 same
+with_faults reporting s d language text found g further (Ok t) named own utf8 same is faulty diagnosed others ended drawn =
+    with_fault reporting s d text g further t.end t.message.items own utf8 same
     (subst (λ l. FaultIn l nesting_limit text (fault_of g.fault)) named
     (subst (λ o. IfSome o (λ x. FaultIn language nesting_limit text (fault_of x.fault))) is faulty))
     (subst (λ l. IsDiagnosis l text g) named
     (subst (λ o. IfSome o (IsDiagnosis language text)) is diagnosed))
     others ended drawn
-with_faults reporting s d language text found g further (Err e) named judges utf8 same is faulty diagnosed others ended drawn =
+with_faults reporting s d language text found g further (Err e) named own utf8 same is faulty diagnosed others ended drawn =
     tt
 
 pub with_list : (reporting : Reporting) (s : Source) (d : Description) (text : Text) (list : List Tree)
-    (end : End) (message : Text) → is_passed_over d.dialect text ≡ false → IsUtf8 text
+    (end : End) (message : Text) → other_of d.dialect ≡ None → IsUtf8 text
     → text ≡ text_of d → SpellsIn (language_in d) nesting_limit text list
     → end ≡ Accepted (found_by reporting.levels (language_in d) list)
     → IsMessageOn reporting s d end message → IsReported reporting s d end message
-with_list reporting s d text list end message judges utf8 same spelled is reported =
-    subst (λ e. IsReported reporting s d e message) (sym is)
+with_list reporting s d text list end message own utf8 same spelled is reported =
+    as_own reporting s d end message own (subst (λ e. IsOwnReported reporting s d e message) (sym is)
     (record {
       end = (
-        subst (λ t. is_passed_over d.dialect t ≡ false) same judges,
+        is_own d.dialect (text_of d) own,
         (
           subst IsUtf8 same utf8,
           (list, subst (λ t. SpellsIn (language_in d) nesting_limit t list) same spelled, refl),
         ),
       );
       message = subst (λ e. IsMessageOn reporting s d e message) is reported;
-    })
+    }))
 
 -- The warnings come after the tree, at the literal.
 pub tree_and_warnings : (reporting : Reporting) (s : Source) (d : Description) (found : Levels)
     (language : Language) (text tree reported message : Text) (line col : ℕ)
     → IsExplainedIf reporting.explains language s.file.now line text tree → language ≡ language_in d → text ≡ text_of d
     → line ≡ line_number 1 s.text.now d.piece.start → col ≡ reported_column reporting.style.format s.text.now d.piece.start
-    → reported ≡ messages_at reporting.style (record { file = s.file; line = line }) col found
+    → reported ≡ messages_at reporting.style (record { file = s.file; line = line }) text col found
     → message ≡ tree ++ reported → IsMessageOn reporting s d (Accepted found) message
 tree_and_warnings reporting s d found language text tree reported message line col asked named same at_line at_column are is = (
   tree,
@@ -134,8 +169,9 @@ tree_and_warnings reporting s d found language text tree reported message line c
       (subst (λ n. IsExplainedIf reporting.explains language s.file.now n text tree) at_line asked)),
   is ∙ ap (λ t. tree ++ t)
       (are
-      ∙ ap (λ l. messages_at reporting.style (record { file = s.file; line = l }) col found) at_line
-      ∙ ap (λ k. messages_at reporting.style (origin_of s d) k found) at_column),
+      ∙ ap (λ l. messages_at reporting.style (record { file = s.file; line = l }) text col found) at_line
+      ∙ ap (λ t. messages_at reporting.style (origin_of s d) t col found) same
+      ∙ ap (λ k. messages_at reporting.style (origin_of s d) (text_of d) k found) at_column),
 )
 
 -- If neither trees nor warnings are asked for, nothing is reported.

@@ -20,7 +20,7 @@ use Rattle.timefd_language.specs.declared.language.Language.TheVariants as langu
 use Rattle.timefd_parse.specs.Language.{FaultIn}
 use Rattle.timefd_sources.specs.declared.description.Description.{Description}
 use Rattle.timefd_sources.specs.declared.dialect.Dialect.{Dialect}
-use Rattle.timefd_sources.specs.declared.dialect.Dialect.TheVariants.{One, Two, Three, Strftime, Chrono, Jiff}
+use Rattle.timefd_sources.specs.declared.dialect.Dialect.TheVariants.{One, Two, Three, Strftime, Python, C, Gnu, Chrono, Jiff, Ruby, Java, Go, Moment}
 use Rattle.timefd_sources.specs.declared.known.Items.{Items}
 use Rattle.timefd_sources.specs.declared.known.Items.TheVariants.{Taken, Refused}
 
@@ -111,8 +111,15 @@ version_of One = Some versions.One
 version_of Two = Some versions.Two
 version_of Three = None
 version_of Strftime = None
+version_of Python = None
+version_of C = None
+version_of Gnu = None
 version_of Chrono = None
 version_of Jiff = None
+version_of Ruby = None
+version_of Java = None
+version_of Go = None
+version_of Moment = None
 
 abbrev pub taking : Items → Dialect → Option DescriptionVersion
 taking Taken dialect = version_of dialect

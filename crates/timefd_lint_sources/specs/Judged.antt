@@ -1,9 +1,11 @@
 -- Which outcome a description of a source has.
-use Rattle.std.specs.Prelude.{◌≡◌, Bool, false, List, [], ◌∷◌, if◌then◌else◌, Option, IsUtf8, IsTrue, IsFalse}
+use Rattle.std.specs.Prelude.{◌≡◌, Bool, true, false, List, [], ◌∷◌, if◌then◌else◌, Option, Some, None, IsUtf8, IsTrue, IsFalse}
 use Rattle.std.specs.List.{flat_map}
 use Rattle.timefd_component.specs.Tree.{Text, Tree}
 use Rattle.timefd_diagnosis.specs.declared.diagnostic.Diagnostic.{Diagnostic}
 use Rattle.timefd_diagnosis.specs.Further.{AreDiagnosed}
+use Rattle.timefd_dialect.specs.declared.dialect.Dialect as other
+use Rattle.timefd_dialect.specs.declared.dialect.Dialect.TheVariants as others
 use Rattle.timefd_fault.specs.Faults.{Fault}
 use Rattle.timefd_language.specs.Grammar.{nesting_limit}
 use Rattle.timefd_language.specs.declared.description_version.DescriptionVersion.TheVariants as versions
@@ -12,7 +14,7 @@ use Rattle.timefd_language.specs.declared.language.Language.TheVariants as langu
 use Rattle.timefd_parse.specs.Language.{SpellsIn, FaultIn}
 use Rattle.timefd_sources.specs.declared.description.Description.{Description}
 use Rattle.timefd_sources.specs.declared.dialect.Dialect.{Dialect}
-use Rattle.timefd_sources.specs.declared.dialect.Dialect.TheVariants.{One, Two, Three, Strftime, Chrono, Jiff}
+use Rattle.timefd_sources.specs.declared.dialect.Dialect.TheVariants.{One, Two, Three, Strftime, Python, C, Gnu, Chrono, Jiff, Ruby, Java, Go, Moment}
 use Rattle.timefd_sources.specs.declared.known.Items.{Items}
 use Rattle.timefd_sources.specs.declared.known.Items.TheVariants.{Taken, Refused as RefusedItems}
 use Rattle.timefd_sources.specs.Chrono.{is_of_chrono, is_of_jiff}
@@ -20,17 +22,43 @@ use Rattle.timefd_warnings.specs.declared.levels.Levels.{Levels}
 use Rattle.timefd_lint_warnings.specs.Found.{found_by}
 use Rattle.timefd_lint_sources.specs.declared.reported.End.{End}
 use Rattle.timefd_lint_sources.specs.Items.{is_of_item}
-use Rattle.timefd_lint_sources.specs.declared.reported.End.TheVariants.{PassedOver, Accepted, Refused, NotText, UnreadCall, UnreadValue}
+use Rattle.timefd_lint_sources.specs.declared.reported.End.TheVariants.{PassedOver, Accepted, Converted, Refused, NotText, UnreadCall, UnreadValue}
 
+-- the other language or library whose formats these are; none if they are of `time`
+abbrev pub other_of : Dialect → Option other.Dialect
+other_of One = None
+other_of Two = None
+other_of Three = None
+other_of Strftime = None
+other_of Python = Some others.Python
+other_of C = Some others.C
+other_of Gnu = Some others.Gnu
+other_of Chrono = Some others.Chrono
+other_of Jiff = Some others.Jiff
+other_of Ruby = Some others.Ruby
+other_of Java = Some others.Java
+other_of Go = Some others.Go
+other_of Moment = Some others.Moment
+
+-- The language of `time`. What chrono and jiff have in common with it is strftime; for all other formats that aren't of
+-- `time` it has no meaning.
 abbrev pub language_of : Dialect → Language
 language_of One = languages.Version versions.One
 language_of Two = languages.Version versions.Two
 language_of Three = languages.Version versions.Three
 language_of Strftime = languages.Strftime
+language_of Python = languages.Strftime
+language_of C = languages.Strftime
+language_of Gnu = languages.Strftime
 language_of Chrono = languages.Strftime
 language_of Jiff = languages.Strftime
+language_of Ruby = languages.Strftime
+language_of Java = languages.Strftime
+language_of Go = languages.Strftime
+language_of Moment = languages.Strftime
 
--- whether a text has directives that only chrono or only jiff knows
+-- Whether an editor passes a text over, and whether it isn't mended: one of another language or library, unless it is of
+-- chrono or jiff and has no directive that only these know.
 abbrev pub is_passed_over : Dialect → Text → Bool
 is_passed_over One text = false
 is_passed_over Two text = false
@@ -38,6 +66,13 @@ is_passed_over Three text = false
 is_passed_over Strftime text = false
 is_passed_over Chrono text = is_of_chrono text
 is_passed_over Jiff text = is_of_jiff text
+is_passed_over Python text = true
+is_passed_over C text = true
+is_passed_over Gnu text = true
+is_passed_over Ruby text = true
+is_passed_over Java text = true
+is_passed_over Go text = true
+is_passed_over Moment text = true
 
 -- what the literal of a description denotes
 abbrev pub text_of : Description → Text
@@ -67,6 +102,7 @@ IsJudged levels language text PassedOver = ⊥
 IsJudged levels language text (Accepted found) = IsUtf8 text
     × ((list : List Tree) × SpellsIn language nesting_limit text list
     × (found ≡ found_by levels language list))
+IsJudged levels language text (Converted count) = ⊥
 IsJudged levels language text Refused = IsUtf8 text
     × ((f : Fault) × FaultIn language nesting_limit text f)
 IsJudged levels language text NotText = ¬ IsUtf8 text
@@ -78,6 +114,7 @@ abbrev pub IsEndOf : Option Levels → Description → End → Type 0
 IsEndOf levels d PassedOver = IsTrue (is_passed_over d.dialect (text_of d))
 IsEndOf levels d (Accepted found) = IsFalse (is_passed_over d.dialect (text_of d))
     × IsJudged levels (language_in d) (text_of d) (Accepted found)
+IsEndOf levels d (Converted count) = ⊥
 IsEndOf levels d Refused = IsFalse (is_passed_over d.dialect (text_of d))
     × IsJudged levels (language_in d) (text_of d) Refused
 IsEndOf levels d NotText = IsFalse (is_passed_over d.dialect (text_of d))

@@ -1,6 +1,9 @@
 pub mod Items
 pub mod Judged
 pub mod Calls
+pub mod Refusing
+pub mod Search
+pub mod Others
 pub mod Remarks
 pub mod Reported
 pub mod Rewriting

@@ -35,7 +35,7 @@ ends_of (remark ∷ remarks) = one_end remark ++ ends_of remarks
 abbrev pub language_note : Style → Source → ℕ → Text
 language_note style s at =
     note style (record { file = s.file; line = line_number 1 s.text.now at }) (codes "unknown-language")
-    (codes "this comment names no language: there are 1, 2, 3, strftime, chrono and jiff")
+    (codes "this comment names no language: there are 1, 2, 3, strftime, python, c, gnu, chrono, jiff, ruby, java, go and moment")
 
 -- A call or a value is counted, and nothing more is reported about it.
 abbrev pub message_of : Style → Source → Remark → Text

@@ -1,8 +1,9 @@
 -- What the linter reports about the descriptions of a source.
 use Rattle.std.specs.List.{All}
-use Rattle.std.specs.Prelude.{ℕ, ◌≡◌, List, [], ◌∷◌, ◌++◌, codes, map}
+use Rattle.std.specs.Prelude.{ℕ, ◌≡◌, ◌⊎◌, List, [], ◌∷◌, ◌++◌, codes, map, IsUtf8, Option, Some, None}
 use Rattle.timefd_component.specs.Tree.{Text}
 use Rattle.timefd_diagnosis.specs.declared.diagnostic.Diagnostic.{Diagnostic}
+use Rattle.timefd_dialect.specs.declared.dialect.Dialect.{Dialect}
 use Rattle.timefd_drawing.specs.declared.draw.Style.{Style}
 use Rattle.timefd_drawing.specs.declared.position.Origin.{Origin}
 use Rattle.timefd_drawing.specs.Drawing.{drawn_all, note}
@@ -16,14 +17,15 @@ use Rattle.timefd_lint_warnings.specs.Messages.{messages_at}
 use Rattle.timefd_lint_sources.specs.declared.remark.Remark.{Remark}
 use Rattle.timefd_lint_sources.specs.declared.source.Report.{Report}
 use Rattle.timefd_lint_sources.specs.declared.reported.End.{End}
-use Rattle.timefd_lint_sources.specs.declared.reported.End.TheVariants.{PassedOver, Accepted, Refused, NotText, UnreadCall, UnreadValue}
+use Rattle.timefd_lint_sources.specs.declared.reported.End.TheVariants.{PassedOver, Accepted, Converted, Refused, NotText, UnreadCall, UnreadValue}
 use Rattle.timefd_lint_sources.specs.declared.reported.Finder.{Finder}
 use Rattle.timefd_lint_sources.specs.declared.reported.Finder.TheVariants.{Rust, Keys}
 use Rattle.timefd_lint_sources.specs.declared.reported.Source.{Source}
 use Rattle.timefd_lint_sources.specs.declared.reported.Reporting.{Reporting}
 use Rattle.timefd_lint_sources.specs.Calls.{call_note}
 use Rattle.timefd_lint_sources.specs.Items.{AreJudgedAs, IsJudgedAs}
-use Rattle.timefd_lint_sources.specs.Judged.{AreDiagnosedOf, IsEndOf, language_in, text_of}
+use Rattle.timefd_lint_sources.specs.Judged.{AreDiagnosedOf, IsEndOf, language_in, other_of, text_of}
+use Rattle.timefd_lint_sources.specs.Others.{IsOtherJudged}
 use Rattle.timefd_lint_sources.specs.Remarks.{AreRemarks, ends_of, messages_of}
 
 -- Where a source begins, and the line where the literal of a description begins.
@@ -56,7 +58,8 @@ IsTreeOf reporting s d tree =
 -- and that is reported, at its literal, in the order of their codes.
 abbrev pub IsTreeAndWarnings : Reporting → Source → Description → Levels → Text → Type 0
 IsTreeAndWarnings reporting s d found message = (tree : Text) × IsTreeOf reporting s d tree
-    × (message ≡ tree ++ messages_at reporting.style (origin_of s d) (column_of reporting.style s d) found)
+    × (message ≡ tree ++ messages_at reporting.style (origin_of s d) (text_of d)
+    (column_of reporting.style s d) found)
 
 -- The report on a refused description is the drawing of its first fault, the drawings of the further ones,
 -- each at its position in the source, and a note at a call that takes it by name.
@@ -78,15 +81,31 @@ note_of style s d = no_text_note style (origin_of s d)
 abbrev pub IsMessageOn : Reporting → Source → Description → End → Text → Type 0
 IsMessageOn reporting s d PassedOver message = message ≡ []
 IsMessageOn reporting s d (Accepted found) message = IsTreeAndWarnings reporting s d found message
+IsMessageOn reporting s d (Converted count) message = ⊥
 IsMessageOn reporting s d Refused message = IsDrawing reporting.style s d message
 IsMessageOn reporting s d NotText message = message ≡ note_of reporting.style s d
 IsMessageOn reporting s d UnreadCall message = ⊥
 IsMessageOn reporting s d UnreadValue message = ⊥
 
-pub record IsReported (reporting : Reporting) (s : Source) (d : Description) (came : End) (said : Text)
+-- the outcome of a description of `time`, and the message on it
+pub record IsOwnReported (reporting : Reporting) (s : Source) (d : Description) (came : End) (said : Text)
     : Type 0 where
   pub end : IsEndOf reporting.levels d came
   pub message : IsMessageOn reporting s d came said
+
+-- A format of another language or library is judged by its table, if it is UTF-8.
+abbrev pub IsOtherReported : Reporting → Source → Description → Dialect → End → Text → Type 0
+IsOtherReported reporting s d dialect end message =
+    (IsUtf8 (text_of d) × IsOtherJudged reporting s d dialect end message)
+    ⊎ ((¬ IsUtf8 (text_of d)) × (end ≡ NotText) × (message ≡ note_of reporting.style s d))
+
+abbrev pub IsReportedAs : Option Dialect → Reporting → Source → Description → End → Text → Type 0
+IsReportedAs None reporting s d end message = IsOwnReported reporting s d end message
+IsReportedAs (Some dialect) reporting s d end message = IsOtherReported reporting s d dialect end message
+
+-- A description is judged in its language, or as a format of another language or library.
+abbrev pub IsReported : Reporting → Source → Description → End → Text → Type 0
+IsReported reporting s d end message = IsReportedAs (other_of d.dialect) reporting s d end message
 
 -- The outcome of one more description, and the messages on it, come after those of the others.
 abbrev pub AddsReported : Reporting → Source → Description → List End → Text → List End → Text → Type 0

@@ -76,7 +76,7 @@ fn explained_and_warned(
     };
     let found = found_by(alloc, reporting.levels, language, text)?;
     let mut message = tree_of(alloc, reporting.explains, language, origin, text)?;
-    let reported = messages_at(alloc, reporting.style, origin, position.column, found)?;
+    let reported = messages_at(alloc, reporting.style, origin, text, position.column, found)?;
     message.extend_from_slice(&reported)?;
     Ok(Reported {
         end: End::Accepted(found),

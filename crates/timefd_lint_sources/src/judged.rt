@@ -115,6 +115,16 @@ fn version_of(dialect: Dialect) -> Option<DescriptionVersion>
     match dialect {
         Dialect::One => Some(DescriptionVersion::One),
         Dialect::Two => Some(DescriptionVersion::Two),
-        Dialect::Three | Dialect::Strftime | Dialect::Chrono | Dialect::Jiff => None,
+        Dialect::Three
+        | Dialect::Strftime
+        | Dialect::Python
+        | Dialect::C
+        | Dialect::Gnu
+        | Dialect::Chrono
+        | Dialect::Jiff
+        | Dialect::Ruby
+        | Dialect::Java
+        | Dialect::Go
+        | Dialect::Moment => None,
     }
 }

@@ -9,9 +9,12 @@ mod item;
 mod judged;
 mod language;
 mod opening;
+mod other;
 mod position;
+mod refusing;
 mod remark;
 mod reported;
+mod search;
 mod source;
 
 // Sources with mended or converted descriptions.
@@ -19,7 +22,7 @@ pub mod rewriting;
 
 pub use further::further_of;
 pub use judged::holds_item;
-pub use language::{is_passed_over, language_of};
+pub use language::{is_passed_over, language_of, other_of};
 pub use opening::is_of_item;
 pub use position::FIRST_LINE;
 pub use remark::Remark;

@@ -23,7 +23,7 @@ pub enum Remark {
 const CODE: &str = "unknown-language";
 
 const MESSAGE: &str =
-    "this comment names no language: there are 1, 2, 3, strftime, chrono and jiff";
+    "this comment names no language: there are 1, 2, 3, strftime, python, c, gnu, chrono, jiff, ruby, java, go and moment";
 
 /// The outcome of a remark, counted like that of a description.
 pub fn end_of(remark: Remark) -> End

@@ -1,6 +1,6 @@
 //! What the linter reports about one description.
 
-ghost use Rattle.std.specs.Prelude.{◌≡◌, IfOk, false, map};
+ghost use Rattle.std.specs.Prelude.{◌≡◌, IfOk, None, map};
 ghost use Rattle.timefd_drawing.specs.Counted.{IsCounted};
 ghost use Rattle.timefd_lint_sources.specs.declared.reported.End.TheVariants as ends;
 ghost use Rattle.timefd_lint_sources.specs.Judged.{text_of};
@@ -11,7 +11,8 @@ ghost use Rattle.timefd_lint_sources.specs.Reported as spec;
 use crate::accepted::accepted;
 use crate::at_call::call_note;
 use crate::further::further_of;
-use crate::language::{is_passed_over, language_of};
+use crate::language::{language_of, other_of};
+use crate::other::report_other;
 use crate::position::FIRST_LINE;
 use std::alloc::{AllocError, Global};
 use std::str;
@@ -55,11 +56,13 @@ pub struct Source<'a> {
 /// The outcome of a description.
 #[derive(Clone, Copy)]
 pub enum End {
-    /// It has directives that only chrono or only jiff knows, and isn't checked.
+    /// It is of another language or library, and an editor doesn't check it.
     PassedOver,
     /// It is valid, with the levels of its reported warnings; any other warning is allowed.
     Accepted(Levels),
-    /// It has a fault.
+    /// It is a format of another language or library and right there, with so many traps that were reported.
+    Converted(u64),
+    /// It has a fault, or it is a format of another language or library that is refused.
     Refused,
     /// It isn't UTF-8.
     NotText,
@@ -80,7 +83,7 @@ pub struct Reported {
 
 /// Checks a description of a source, and reports what is wrong with it at its position in the source. `from`
 /// says how far lines are counted. An `Err` says that memory ran out.
-#[tactic(auto, using(crate::proofs::ReportedLemmas::passed_over, crate::proofs::ReportedLemmas::no_text))]
+#[tactic(auto, using(crate::proofs::ReportedLemmas::no_text))]
 pub fn report(
     alloc: Global,
     reporting: Reporting,
@@ -92,14 +95,7 @@ pub fn report(
     ensures { IfOk result (λ reported. IsReported reporting source.entry description.now
         reported.end reported.message.items) }
 {
-    let bytes = description.unescaped.text.as_slice();
-    if is_passed_over(description.dialect, bytes) {
-        return Ok(Reported {
-            end: End::PassedOver,
-            message: Vec::new(alloc),
-        });
-    }
-    match str::from_utf8(bytes) {
+    match str::from_utf8(description.unescaped.text.as_slice()) {
         Ok(text) => judged(alloc, reporting, source, from, description, text),
         Err(_) => not_text(alloc, reporting.style, source, from, description),
     }
@@ -131,7 +127,7 @@ fn not_text(
 }
 
 // Checks a description with this text.
-#[tactic(auto, using(crate::proofs::ReportedLemmas::with_list, crate::proofs::ReportedLemmas::with_fault))]
+#[tactic(auto, using(crate::proofs::ReportedLemmas::as_other))]
 fn judged(
     alloc: Global,
     reporting: Reporting,
@@ -141,7 +137,30 @@ fn judged(
     text: &str,
 ) -> Result<Reported, AllocError>
     requires counted { IsCounted 1 source.text.now from }
-    requires judges { judging.is_passed_over description.now.dialect text.now ≡ false }
+    requires text { text.now ≡ text_of description.now }
+    ensures { IfOk result (λ reported. IsReported reporting source.entry description.now
+        reported.end reported.message.items) }
+{
+    match other_of(description.dialect) {
+        Some(dialect) => {
+            report_other(alloc, reporting, source, from, description, dialect, text)
+        }
+        None => own_judged(alloc, reporting, source, from, description, text),
+    }
+}
+
+// Checks a description of `time` with this text.
+#[tactic(auto, using(crate::proofs::ReportedLemmas::with_list, crate::proofs::ReportedLemmas::with_fault))]
+fn own_judged(
+    alloc: Global,
+    reporting: Reporting,
+    source: Source<'_>,
+    from: Counter,
+    description: &Description,
+    text: &str,
+) -> Result<Reported, AllocError>
+    requires counted { IsCounted 1 source.text.now from }
+    requires own { judging.other_of description.now.dialect ≡ None }
     requires text { text.now ≡ text_of description.now }
     ensures { IfOk result (λ reported. IsReported reporting source.entry description.now
         reported.end reported.message.items) }

@@ -1,14 +1,21 @@
-//! Rewrites the descriptions in the string literals of a Rust source: fixed, or in another version. Only what
-//! is between their quotes and the number of their version changes; every other byte of the source stays.
+//! Rewrites the descriptions in the string literals of a Rust source, or in the values of keys: fixed, or in another
+//! version. Of a literal only what is between the quotes changes, and the number of its version; of a value its string.
+//! Every other byte stays.
 
 mod answer;
 mod change;
 mod counts;
+mod found;
 mod outcome;
 mod source;
+mod value;
+mod values;
 
 pub use answer::{Answer, NewParts, answer_to};
 pub use change::{Change, layout_of, new_digit};
 pub use counts::{count_refused, count_rewritten};
+pub use found::rewrite_found;
 pub use outcome::Outcome;
 pub use source::{NewSource, rewrite_all, rewrite_source};
+pub use value::value_change;
+pub use values::rewrite_values;

@@ -134,7 +134,7 @@ pub fn descriptions_in(alloc: Global, source: Source<'_>) -> Result<Vec<Descript
 
 /// Checks these descriptions of a source, one after another, and reports on them. An `Err` says that memory
 /// ran out.
-#[tactic(auto, using(crate::proofs::ReportLemmas::at_first, crate::proofs::ReportLemmas::one_more, crate::proofs::ReportLemmas::at_last))]
+#[tactic(auto, using(crate::proofs::ReportLemmas::at_first, crate::proofs::ReportLemmas::one_more))]
 pub fn report_all(
     alloc: Global,
     reporting: Reporting,

@@ -1,3 +1,4 @@
 pub mod FoundLemmas
+pub mod HintLemmas
 pub mod SarifLemmas
 pub mod DialectLemmas

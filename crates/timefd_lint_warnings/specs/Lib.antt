@@ -1,3 +1,4 @@
 pub mod Found
+pub mod Hints
 pub mod Messages
 pub mod Dialects

@@ -11,12 +11,12 @@ use Rattle.timefd_drawing.specs.Github.{annotation}
 use Rattle.timefd_drawing.specs.Json.{text_field, number_field}
 use Rattle.timefd_drawing.specs.Sarif.{note_result, with_help}
 use Rattle.timefd_drawing.specs.Shown.{safe}
+use Rattle.timefd_lint_warnings.specs.Hints.{help_on}
 use Rattle.timefd_warnings.specs.declared.levels.Level.{Level}
 use Rattle.timefd_warnings.specs.declared.levels.Level.TheVariants.{Allowed, Warned, Denied}
 use Rattle.timefd_warnings.specs.declared.levels.Levels.{Levels}
 use Rattle.timefd_warnings.specs.declared.warning.Warning.{Warning}
 use Rattle.timefd_warnings.specs.Codes.{all, name_of, sentence_of}
-use Rattle.timefd_warnings.specs.Explanations.{explanation_of}
 use Rattle.timefd_warnings.specs.Levels.{level_of}
 
 -- the severity of a warning with this level
@@ -52,17 +52,17 @@ position colored file line column =
     codes " " ++ (blue colored ++ (codes "-->" ++ (plain colored ++ (codes " " ++ (safe file
     ++ (codes ":" ++ (decimal line ++ (codes ":" ++ (decimal column ++ codes "\n")))))))))
 
--- `= help: EXPLANATION`
-abbrev pub help : Bool → Warning → Text
-help colored w =
+-- `= help: WHAT TO DO`
+abbrev pub help : Bool → Warning → Text → Text
+help colored w text =
     codes "  " ++ (blue colored ++ (codes "=" ++ (plain colored ++ (codes " help: "
-    ++ (explanation_of w ++ codes "\n")))))
+    ++ (help_on w text ++ codes "\n")))))
 
 -- A warning is about the whole text, and so it is at the start of the text.
-abbrev pub human : Bool → Origin → ℕ → Level → Warning → Text
-human colored origin column level w =
-    head colored level (name_of w) (sentence_of w) ++ (position colored origin.file.now origin.line column ++ (help colored w
-    ++ codes "\n"))
+abbrev pub human : Bool → Origin → Text → ℕ → Level → Warning → Text
+human colored origin text column level w =
+    head colored level (name_of w) (sentence_of w) ++ (position colored origin.file.now origin.line column
+    ++ (help colored w text ++ codes "\n"))
 
 -- `FILE:LINE:COLUMN: warning[CODE]: SENTENCE`
 abbrev pub short : Origin → ℕ → Level → Warning → Text
@@ -79,9 +79,9 @@ object code column file help line message severity =
     ++ text_field (codes ",\"message\":") message ++ text_field (codes ",\"severity\":") severity
     ++ codes "}\n"
 
-abbrev pub json : Origin → ℕ → Level → Warning → Text
-json origin column level w =
-    object (name_of w) column origin.file.now (explanation_of w) origin.line (sentence_of w)
+abbrev pub json : Origin → Text → ℕ → Level → Warning → Text
+json origin text column level w =
+    object (name_of w) column origin.file.now (help_on w text) origin.line (sentence_of w)
     (severity level)
 
 -- the workflow command that annotates a warning with this level
@@ -95,36 +95,37 @@ github origin column level w =
     annotation (command level) (name_of w) origin.file.now origin.line column (sentence_of w)
 
 -- a result of SARIF
-abbrev pub sarif : Origin → ℕ → Level → Warning → Text
-sarif origin column level w =
-    note_result (name_of w) origin.file.now origin.line column (with_help (sentence_of w) (explanation_of w))
+abbrev pub sarif : Origin → Text → ℕ → Level → Warning → Text
+sarif origin text column level w =
+    note_result (name_of w) origin.file.now origin.line column (with_help (sentence_of w) (help_on w text))
     (severity level)
 
-abbrev pub message_in : Format → Bool → Origin → ℕ → Level → Warning → Text
-message_in Human colored origin column level w = human colored origin column level w
-message_in Json colored origin column level w = json origin column level w
-message_in Short colored origin column level w = short origin column level w
-message_in Github colored origin column level w = github origin column level w
-message_in Sarif colored origin column level w = sarif origin column level w
+abbrev pub message_in : Format → Bool → Origin → Text → ℕ → Level → Warning → Text
+message_in Human colored origin text column level w = human colored origin text column level w
+message_in Json colored origin text column level w = json origin text column level w
+message_in Short colored origin text column level w = short origin column level w
+message_in Github colored origin text column level w = github origin column level w
+message_in Sarif colored origin text column level w = sarif origin text column level w
 
-abbrev pub message : Style → Origin → ℕ → Level → Warning → Text
-message style origin column level w =
-    message_in style.format style.is_colored origin column level w
+-- the message about a warning on a text
+abbrev pub message : Style → Origin → Text → ℕ → Level → Warning → Text
+message style origin text column level w =
+    message_in style.format style.is_colored origin text column level w
 
 -- the message about a warning; nothing if it is allowed
-abbrev pub reported_at : Style → Origin → ℕ → Level → Warning → Text
-reported_at style origin column Allowed w = []
-reported_at style origin column Warned w = message style origin column Warned w
-reported_at style origin column Denied w = message style origin column Denied w
+abbrev pub reported_at : Style → Origin → Text → ℕ → Level → Warning → Text
+reported_at style origin text column Allowed w = []
+reported_at style origin text column Warned w = message style origin text column Warned w
+reported_at style origin text column Denied w = message style origin text column Denied w
 
-abbrev pub messages_on : Style → Origin → ℕ → Levels → List Warning → Text
-messages_on style origin column found ws =
-    flat_map (λ w. reported_at style origin column (level_of found w) w) ws
+abbrev pub messages_on : Style → Origin → Text → ℕ → Levels → List Warning → Text
+messages_on style origin text column found ws =
+    flat_map (λ w. reported_at style origin text column (level_of found w) w) ws
 
--- A message about each warning that isn't allowed, in the order of the codes: on a text that begins
+-- A message about each warning on a text that isn't allowed, in the order of the codes: on a text that begins
 -- at this column of its line, and on one that begins at the first column.
-abbrev pub messages_at : Style → Origin → ℕ → Levels → Text
-messages_at style origin column found = messages_on style origin column found all
+abbrev pub messages_at : Style → Origin → Text → ℕ → Levels → Text
+messages_at style origin text column found = messages_on style origin text column found all
 
-abbrev pub messages : Style → Origin → Levels → Text
-messages style origin found = messages_at style origin 1 found
+abbrev pub messages : Style → Origin → Text → Levels → Text
+messages style origin text found = messages_at style origin text 1 found

@@ -8,4 +8,4 @@ mod judging;
 
 pub use codes::{all_reasons, all_traps, names_are_read, reason_named, trap_named};
 pub use finding::{Finding, drawn};
-pub use judging::{Judged, Judgement, judge};
+pub use judging::{Judged, Judgement, judge, refusal_drawn, trap_drawn};

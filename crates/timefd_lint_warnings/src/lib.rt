@@ -3,6 +3,7 @@
 #![tactic(auto)]
 
 mod found;
+mod hint;
 mod message;
 mod reported;
 

@@ -3,6 +3,7 @@
 ghost use Rattle.std.specs.Prelude.{◌≡◌, IfOk, string_bytes};
 ghost use Rattle.timefd_lint_warnings.specs.Messages as spec;
 
+use crate::hint::help_on;
 use std::alloc::{AllocError, Global};
 use timefd_drawing::github::{Command, annotation};
 use timefd_drawing::json::{Entry, push_number, push_text};
@@ -17,24 +18,34 @@ pub fn message(
     alloc: Global,
     style: Style,
     origin: Origin<'_>,
+    text: &str,
     column: usize,
     level: Level,
     warning: Warning,
 ) -> Result<Vec<u8>, AllocError>
-    ensures { IfOk result (λ reported. reported.items ≡ spec.message style origin.entry column level warning) }
+    ensures { IfOk result (λ reported. reported.items
+        ≡ spec.message style origin.entry text.now column level warning) }
 {
     match style.format {
         Format::Human => {
-            let drawing = human(alloc, style.is_colored, origin, column, level, warning)?;
+            let drawing = human(
+                alloc,
+                style.is_colored,
+                origin,
+                text,
+                column,
+                level,
+                warning,
+            )?;
             Ok(drawing.into_bytes())
         }
         Format::Short => {
             let line = short(alloc, origin, column, level, warning)?;
             Ok(line.into_bytes())
         }
-        Format::Json => json(alloc, origin, column, level, warning),
+        Format::Json => json(alloc, origin, text, column, level, warning),
         Format::Github => github(alloc, origin, column, level, warning),
-        Format::Sarif => sarif(alloc, origin, column, level, warning),
+        Format::Sarif => sarif(alloc, origin, text, column, level, warning),
     }
 }
 
@@ -81,17 +92,18 @@ fn human(
     alloc: Global,
     is_colored: bool,
     origin: Origin<'_>,
+    text: &str,
     column: usize,
     level: Level,
     warning: Warning,
 ) -> Result<String, AllocError>
     ensures { IfOk result (λ drawing. string_bytes drawing
-        ≡ spec.human is_colored origin.entry column level warning) }
+        ≡ spec.human is_colored origin.entry text.now column level warning) }
 {
     let (head, position, help) = (
         head(alloc, is_colored, level, warning.name(), warning.sentence())?,
         position(alloc, is_colored, origin, column)?,
-        help(alloc, is_colored, warning)?,
+        help(alloc, is_colored, warning, text)?,
     );
     format!(in alloc; "{head}{position}{help}\n")
 }
@@ -128,13 +140,13 @@ pub fn position(
     format!(in alloc; " {blue}-->{plain} {file}:{line}:{column}\n")
 }
 
-// `= help: EXPLANATION`
-fn help(alloc: Global, is_colored: bool, warning: Warning) -> Result<String, AllocError>
-    ensures { IfOk result (λ line. string_bytes line ≡ spec.help is_colored warning) }
+// `= help: WHAT TO DO`
+fn help(alloc: Global, is_colored: bool, warning: Warning, text: &str) -> Result<String, AllocError>
+    ensures { IfOk result (λ line. string_bytes line ≡ spec.help is_colored warning text.now) }
 {
     let (blue, plain) = (blue(is_colored), plain(is_colored));
-    let explanation = warning.explanation();
-    format!(in alloc; "  {blue}={plain} help: {explanation}\n")
+    let help = help_on(alloc, warning, text)?;
+    format!(in alloc; "  {blue}={plain} help: {help}\n")
 }
 
 // `FILE:LINE:COLUMN: warning[CODE]: SENTENCE`
@@ -186,14 +198,17 @@ fn github(
 fn sarif(
     alloc: Global,
     origin: Origin<'_>,
+    text: &str,
     column: usize,
     level: Level,
     warning: Warning,
 ) -> Result<Vec<u8>, AllocError>
-    ensures { IfOk result (λ reported. reported.items ≡ spec.sarif origin.entry column level warning) }
+    ensures { IfOk result (λ reported. reported.items
+        ≡ spec.sarif origin.entry text.now column level warning) }
 {
     let column = column as u64;
-    let message = with_help(alloc, warning.sentence(), warning.explanation())?;
+    let help = help_on(alloc, warning, text)?;
+    let message = with_help(alloc, warning.sentence(), &help)?;
     let entry = Entry {
         code: warning.name(),
         file: origin.file,
@@ -216,15 +231,17 @@ struct Words<'a> {
 fn json(
     alloc: Global,
     origin: Origin<'_>,
+    text: &str,
     column: usize,
     level: Level,
     warning: Warning,
 ) -> Result<Vec<u8>, AllocError>
-    ensures { IfOk result (λ line. line.items ≡ spec.json origin.entry column level warning) }
+    ensures { IfOk result (λ line. line.items ≡ spec.json origin.entry text.now column level warning) }
 {
+    let help = help_on(alloc, warning, text)?;
     let words = Words {
         code: warning.name(),
-        help: warning.explanation(),
+        help: &help,
         message: warning.sentence(),
         severity: severity(level),
     };

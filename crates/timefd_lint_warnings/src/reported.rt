@@ -14,11 +14,12 @@ pub fn messages(
     alloc: Global,
     style: Style,
     origin: Origin<'_>,
+    text: &str,
     found: Levels,
 ) -> Result<Vec<u8>, AllocError>
-    ensures { IfOk result (λ reported. reported.items ≡ spec.messages style origin.entry found) }
+    ensures { IfOk result (λ reported. reported.items ≡ spec.messages style origin.entry text.now found) }
 {
-    messages_at(alloc, style, origin, 1, found)
+    messages_at(alloc, style, origin, text, 1, found)
 }
 
 /// A message about each warning that isn't allowed, in the order of the codes, on a text that begins
@@ -27,10 +28,12 @@ pub fn messages_at(
     alloc: Global,
     style: Style,
     origin: Origin<'_>,
+    text: &str,
     column: usize,
     found: Levels,
 ) -> Result<Vec<u8>, AllocError>
-    ensures { IfOk result (λ reported. reported.items ≡ spec.messages_at style origin.entry column found) }
+    ensures { IfOk result (λ reported. reported.items
+        ≡ spec.messages_at style origin.entry text.now column found) }
 {
     let mut out = Vec::new(alloc);
     push_all(
@@ -38,6 +41,7 @@ pub fn messages_at(
         &mut out,
         style,
         origin,
+        text,
         column,
         found,
         Warning::all(),
@@ -50,12 +54,13 @@ fn push_all(
     out: &mut Vec<u8>,
     style: Style,
     origin: Origin<'_>,
+    text: &str,
     column: usize,
     found: Levels,
     warnings: &[Warning],
 ) -> Result<(), AllocError>
     ensures { OnOk result (out.new.items
-        ≡ out.old.items ++ spec.messages_on style origin.entry column found warnings.now) }
+        ≡ out.old.items ++ spec.messages_on style origin.entry text.now column found warnings.now) }
 {
     for warning in warnings {
         push_one(
@@ -63,6 +68,7 @@ fn push_all(
             out,
             style,
             origin,
+            text,
             column,
             found.level_of(*warning),
             *warning,
@@ -77,17 +83,18 @@ fn push_one(
     out: &mut Vec<u8>,
     style: Style,
     origin: Origin<'_>,
+    text: &str,
     column: usize,
     level: Level,
     warning: Warning,
 ) -> Result<(), AllocError>
     ensures { OnOk result (out.new.items
-        ≡ out.old.items ++ spec.reported_at style origin.entry column level warning) }
+        ≡ out.old.items ++ spec.reported_at style origin.entry text.now column level warning) }
 {
     match level {
         Level::Allowed => Ok(()),
         Level::Warned | Level::Denied => {
-            let reported = message(alloc, style, origin, column, level, warning)?;
+            let reported = message(alloc, style, origin, text, column, level, warning)?;
             out.extend_from_slice(&reported)
         }
     }

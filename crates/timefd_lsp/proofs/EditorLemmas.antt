@@ -7,4 +7,5 @@ pub mod FindingLemmas
 pub mod EditLemmas
 pub mod ActionLemmas
 pub mod FixLemmas
+pub mod GoodFrontLemmas
 pub mod HoverLemmas

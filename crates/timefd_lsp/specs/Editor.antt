@@ -2,8 +2,10 @@ pub mod Actions
 pub mod AllFixes
 pub mod Each
 pub mod Edits
+pub mod FaultHovers
 pub mod Finding
 pub mod Findings
+pub mod GoodFronts
 pub mod Hovers
 pub mod Positions
 pub mod Replacing

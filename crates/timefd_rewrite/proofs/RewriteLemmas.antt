@@ -12,18 +12,13 @@ use Rattle.std.proofs.lemmas.Bool.{true≢false}
 use Rattle.std.proofs.lemmas.Bool.Decides.{Decides-eqb}
 use denote.Ref.{Bor}
 use Rattle.timefd_component.specs.Tree.{Text}
-use Rattle.timefd_fault.specs.Faults.{fault_of}
-use Rattle.timefd_fault.specs.declared.invalid_format_description.InvalidFormatDescription.{InvalidFormatDescription}
-use Rattle.timefd_fault.specs.declared.parse_error.ParseError.{ParseError}
-use Rattle.timefd_fault.specs.declared.parse_error.ParseError.TheVariants.{Invalid}
 use Rattle.timefd_rewrite.specs.declared.counts.Counts.{Counts}
 use Rattle.timefd_rewrite.specs.declared.counts.Outcome.{Outcome}
 use Rattle.timefd_rewrite.specs.declared.counts.Outcome.TheVariants.{PassedOver, Same, Rewritten, Refused, NotText, NotALine}
-use Rattle.timefd_rewrite.specs.declared.layout.Layout.{Layout}
-use Rattle.timefd_rewrite.specs.declared.layout.Layout.TheVariants.{Least, Normal, Fixed}
+use Rattle.timefd_rewrite.specs.declared.line_change.LineChange.{LineChange}
 use Rattle.timefd_rewrite.specs.declared.rewrite.RewriteError.{RewriteError}
 use Rattle.timefd_rewrite.specs.declared.rewrite.RewriteError.TheVariants.{Memory, Read, Write}
-use Rattle.timefd_rewrite.specs.Layouts.{IsConverted, IsRefusal, IsRefusedFor}
+use Rattle.timefd_rewrite.specs.LineChanges.{IsChanged, IsUnchangeable}
 use Rattle.timefd_rewrite.specs.Lines.{AreLinesUpTo, has_newline, is_passed_over, without_newline}
 use Rattle.timefd_rewrite.specs.Rewriting.{AreCutShort, AreFront, AreRewritten, AreWritten, IsNext, IsPlaced, IsUnwritten, Placed, Positions, PositionsAnswer, counts_of, is_refusing, is_rewriting, lines_of, positions_of, with_one}
 use Rattle.timefd_rewrite.proofs.LineLemmas.{all_lines, front_lines, no_line, up_to_more}
@@ -56,28 +51,28 @@ answer_placed line answer text before between after (Err e) is other one first o
     tt
 
 -- The answer for a converted text replaces the line, or the line stays.
-pub converted_placed : (layout : Layout) (comment : Option (Bor Text))
+pub converted_placed : (change : LineChange) (comment : Option (Bor Text))
     (line text string answer : Text) (before after : Option Text) (r : Result Outcome RewriteError)
     → text ≡ without_newline line → false ≡ is_passed_over comment text → string ≡ text
-    → IsConverted layout string answer
+    → IsChanged change string answer
     → IfOk r (PositionsAnswer line answer before after)
-    → IfOk r (Positions layout comment line before after)
-converted_placed layout comment line text string answer before after (Ok o) is looked_at
+    → IfOk r (Positions change comment line before after)
+converted_placed change comment line text string answer before after (Ok o) is looked_at
     same_text means reported =
-    let converted : IsConverted layout (without_newline line) answer =
-    subst (λ t. IsConverted layout t answer) (same_text ∙ is) means in
+    let converted : IsChanged change (without_newline line) answer =
+    subst (λ t. IsChanged change t answer) (same_text ∙ is) means in
     by o reported converted
   where
     by : (o : Outcome) → PositionsAnswer line answer before after o
-        → IsConverted layout (without_newline line) answer
-        → Positions layout comment line before after o
+        → IsChanged change (without_newline line) answer
+        → Positions change comment line before after o
     by PassedOver placed converted = absurd placed.1
     by Same placed converted = (
       placed.0,
       record {
         passed_over = looked_at ∙ ap (is_passed_over comment) is;
         stands = (
-          subst (IsConverted layout (without_newline line)) placed.1.0 converted,
+          subst (IsChanged change (without_newline line)) placed.1.0 converted,
           placed.1.1,
         );
       },
@@ -101,55 +96,41 @@ converted_placed layout comment line text string answer before after (Ok o) is l
       },
       placed.2,
     )
-converted_placed layout comment line text string answer before after (Err e) is looked_at
+converted_placed change comment line text string answer before after (Err e) is looked_at
     same_text means reported = tt
 
--- An error that says that a text is refused holds its fault.
-pub refused_for : (layout : Layout) (text : Text) (f : InvalidFormatDescription)
-    → IsRefusal layout text (Invalid f) → IsRefusedFor layout text (fault_of f)
-refused_for (Least conversion) text f is = is
-refused_for (Normal conversion) text f is = is
-refused_for (Fixed language fixes) text f is = is
-
 -- A line that is refused stays.
-pub refused_placed : (layout : Layout) (comment : Option (Bor Text))
+pub refused_placed : (change : LineChange) (comment : Option (Bor Text))
     (line text string : Text) (before after : Option Text) (r : Result Outcome RewriteError)
-    (e : ParseError) (f : InvalidFormatDescription)
     → text ≡ without_newline line → false ≡ is_passed_over comment text
-    → string ≡ text → IsUtf8 text
-    → e ≡ Invalid f → IsRefusal layout string e
+    → string ≡ text → IsUtf8 text → IsUnchangeable change string
     → IfOk r (λ o. o ≡ Refused) → OnOk r (Appends before after line)
-    → IfOk r (Positions layout comment line before after)
-refused_placed layout comment line text string before after (Ok o) e f is looked_at same_text
-    utf8 which refusal outcome same =
-    let fault : IsRefusedFor layout string (fault_of f) =
-    refused_for layout string f (subst (λ x. IsRefusal layout string x) which refusal) in
-    subst (λ x. Positions layout comment line before after x) (sym outcome) (
+    → IfOk r (Positions change comment line before after)
+refused_placed change comment line text string before after (Ok o) is looked_at same_text
+    utf8 refused outcome same =
+    subst (λ x. Positions change comment line before after x) (sym outcome) (
       line,
       record {
         passed_over = looked_at ∙ ap (is_passed_over comment) is;
         stands = (
           subst (λ t. IsUtf8 t) is utf8,
-          (
-            fault_of f,
-            subst (λ t. IsRefusedFor layout t (fault_of f)) (same_text ∙ is) fault,
-          ),
+          subst (λ t. IsUnchangeable change t) (same_text ∙ is) refused,
           refl,
         );
       },
       same,
     )
-refused_placed layout comment line text string before after (Err error) e f is looked_at
-    same_text utf8 which refusal outcome same = tt
+refused_placed change comment line text string before after (Err error) is looked_at
+    same_text utf8 refused outcome same = tt
 
 -- A line that isn't UTF-8 stays.
-pub no_text_placed : (layout : Layout) (comment : Option (Bor Text)) (line text : Text)
+pub no_text_placed : (change : LineChange) (comment : Option (Bor Text)) (line text : Text)
     (before after : Option Text) (r : Result Outcome RewriteError)
     → text ≡ without_newline line → false ≡ is_passed_over comment text → ¬ IsUtf8 text
     → IfOk r (λ o. o ≡ NotText) → OnOk r (Appends before after line)
-    → IfOk r (Positions layout comment line before after)
-no_text_placed layout comment line text before after (Ok o) is looked_at no_text outcome same =
-    subst (λ x. Positions layout comment line before after x) (sym outcome) (
+    → IfOk r (Positions change comment line before after)
+no_text_placed change comment line text before after (Ok o) is looked_at no_text outcome same =
+    subst (λ x. Positions change comment line before after x) (sym outcome) (
       line,
       record {
         passed_over = looked_at ∙ ap (is_passed_over comment) is;
@@ -157,21 +138,21 @@ no_text_placed layout comment line text before after (Ok o) is looked_at no_text
       },
       same,
     )
-no_text_placed layout comment line text before after (Err e) is looked_at no_text outcome
+no_text_placed change comment line text before after (Err e) is looked_at no_text outcome
     same = tt
 
 -- The lines so far, and what is left of the reader.
-pub record AreUpTo (layout : Layout) (comment : Option (Bor Text))
+pub record AreUpTo (change : LineChange) (comment : Option (Bor Text))
     (bytes rest before after : Option Text) (counts : Counts) : Type 0 where
   pub placed : List Placed
-  pub are_written : AreWritten layout comment before after placed
+  pub are_written : AreWritten change comment before after placed
   pub front : AreLinesUpTo bytes (lines_of placed) rest
   pub counted : counts ≡ counts_of placed
 
-pub none_yet : (layout : Layout) (comment : Option (Bor Text)) (bytes known : Option Text)
+pub none_yet : (change : LineChange) (comment : Option (Bor Text)) (bytes known : Option Text)
     (counts : Counts) → counts ≡ counts_of []
-    → AreUpTo layout comment bytes bytes known known counts
-none_yet layout comment bytes known counts none = record {
+    → AreUpTo change comment bytes bytes known known counts
+none_yet change comment bytes known counts none = record {
   placed = [];
   are_written =
       record { each = λ k d below. absurd (omega (arith, below)); written = Appends-nil known };
@@ -208,22 +189,22 @@ positions_more placed p =
     sym (flat_map-append (λ (q : Placed). q.position) placed (p ∷ [])
     ∙ ap (λ position. positions_of placed ++ position) (append-nil p.position))
 
-pub one_more : (layout : Layout) (comment : Option (Bor Text))
+pub one_more : (change : LineChange) (comment : Option (Bor Text))
     (bytes rest next before between after : Option Text) (counts all : Counts)
     (o : Option Outcome) (outcome : Outcome) → o ≡ Some outcome
-    → AreUpTo layout comment bytes rest before between counts
-    → IsNext layout comment rest next between after o
+    → AreUpTo change comment bytes rest before between counts
+    → IsNext change comment rest next between after o
     → all ≡ with_one counts outcome
-    → AreUpTo layout comment bytes next before after all
-one_more layout comment bytes rest next before between after counts all o outcome is so_far
+    → AreUpTo change comment bytes next before after all
+one_more change comment bytes rest next before between after counts all o outcome is so_far
     found sum =
-    let more = subst (λ x. IsNext layout comment rest next between after x) is found in
+    let more = subst (λ x. IsNext change comment rest next between after x) is found in
     let p : Placed = record { line = more.0; outcome = outcome; position = more.2.0 } in
     record {
       placed = so_far.placed ++ p ∷ [];
       are_written = record {
-        each = All-append (IsPlaced layout comment) so_far.placed (p ∷ [])
-            so_far.are_written.each (only p (IsPlaced layout comment) more.2.1);
+        each = All-append (IsPlaced change comment) so_far.placed (p ∷ [])
+            so_far.are_written.each (only p (IsPlaced change comment) more.2.1);
         written = subst (λ m. Appends before after m) (positions_more so_far.placed p)
             (Appends-trans before between after _ _ so_far.are_written.written more.2.2);
       };
@@ -233,71 +214,71 @@ one_more layout comment bytes rest next before between after counts all o outcom
     }
 
 -- At most as many lines are rewritten or refused as there are.
-pub rewritten_within : (layout : Layout) (comment : Option (Bor Text))
+pub rewritten_within : (change : LineChange) (comment : Option (Bor Text))
     (bytes rest before after : Option Text) (counts : Counts)
-    → AreUpTo layout comment bytes rest before after counts → counts.rewritten ≤ counts.lines
-rewritten_within layout comment bytes rest before after counts so_far =
+    → AreUpTo change comment bytes rest before after counts → counts.rewritten ≤ counts.lines
+rewritten_within change comment bytes rest before after counts so_far =
     rw (so_far.counted)
     (count_by-le-length (λ (q : Placed). is_rewriting q.outcome) so_far.placed)
 
-pub refused_within : (layout : Layout) (comment : Option (Bor Text))
+pub refused_within : (change : LineChange) (comment : Option (Bor Text))
     (bytes rest before after : Option Text) (counts : Counts)
-    → AreUpTo layout comment bytes rest before after counts → counts.refused ≤ counts.lines
-refused_within layout comment bytes rest before after counts so_far =
+    → AreUpTo change comment bytes rest before after counts → counts.refused ≤ counts.lines
+refused_within change comment bytes rest before after counts so_far =
     rw (so_far.counted)
     (count_by-le-length (λ (q : Placed). is_refusing q.outcome) so_far.placed)
 
 -- The end of the reader.
-kept : (layout : Layout) (comment : Option (Bor Text)) (before between after : Option Text)
-    (placed : List Placed) → AreWritten layout comment before between placed
-    → Keeps between after → AreWritten layout comment before after placed
-kept layout comment before between after placed are same = record {
+kept : (change : LineChange) (comment : Option (Bor Text)) (before between after : Option Text)
+    (placed : List Placed) → AreWritten change comment before between placed
+    → Keeps between after → AreWritten change comment before after placed
+kept change comment before between after placed are same = record {
   each = are.each;
   written = Appends-kept before between after (positions_of placed) are.written same;
 }
 
-pub at_end : (layout : Layout) (comment : Option (Bor Text))
+pub at_end : (change : LineChange) (comment : Option (Bor Text))
     (bytes rest next before between after : Option Text) (counts : Counts) (o : Option Outcome)
-    → o ≡ None → AreUpTo layout comment bytes rest before between counts
-    → IsNext layout comment rest next between after o
-    → AreRewritten layout comment bytes before after counts
-at_end layout comment bytes rest next before between after counts o is so_far found =
-    let last = subst (λ x. IsNext layout comment rest next between after x) is found in
+    → o ≡ None → AreUpTo change comment bytes rest before between counts
+    → IsNext change comment rest next between after o
+    → AreRewritten change comment bytes before after counts
+at_end change comment bytes rest next before between after counts o is so_far found =
+    let last = subst (λ x. IsNext change comment rest next between after x) is found in
     record {
       placed = so_far.placed;
       are_written =
-          kept layout comment before between after so_far.placed so_far.are_written last.1;
+          kept change comment before between after so_far.placed so_far.are_written last.1;
       all_lines = all_lines bytes rest (lines_of so_far.placed) so_far.front last.0;
       counted = so_far.counted;
     }
 
 -- A run that is cut short.
-front : (layout : Layout) (comment : Option (Bor Text))
+front : (change : LineChange) (comment : Option (Bor Text))
     (bytes rest before between after : Option Text) (counts : Counts)
-    → AreUpTo layout comment bytes rest before between counts → Keeps between after
-    → AreFront layout comment bytes before after
-front layout comment bytes rest before between after counts so_far same = record {
+    → AreUpTo change comment bytes rest before between counts → Keeps between after
+    → AreFront change comment bytes before after
+front change comment bytes rest before between after counts so_far same = record {
   placed = so_far.placed;
   are_written =
-      kept layout comment before between after so_far.placed so_far.are_written same;
+      kept change comment before between after so_far.placed so_far.are_written same;
   lines_in_front = front_lines bytes rest (lines_of so_far.placed) so_far.front;
 }
 
-pub cut_short : (layout : Layout) (comment : Option (Bor Text))
+pub cut_short : (change : LineChange) (comment : Option (Bor Text))
     (bytes rest before between after : Option Text) (counts : Counts) (e : RewriteError)
-    → AreUpTo layout comment bytes rest before between counts → IsUnwritten between after e
-    → AreCutShort layout comment bytes before after e
-cut_short layout comment bytes rest before between after counts Memory so_far same =
-    front layout comment bytes rest before between after counts so_far same
-cut_short layout comment bytes rest before between after counts Read so_far same =
-    front layout comment bytes rest before between after counts so_far same
-cut_short layout comment bytes rest before between after counts Write so_far same = tt
+    → AreUpTo change comment bytes rest before between counts → IsUnwritten between after e
+    → AreCutShort change comment bytes before after e
+cut_short change comment bytes rest before between after counts Memory so_far same =
+    front change comment bytes rest before between after counts so_far same
+cut_short change comment bytes rest before between after counts Read so_far same =
+    front change comment bytes rest before between after counts so_far same
+cut_short change comment bytes rest before between after counts Write so_far same = tt
 
-pub too_long : (layout : Layout) (comment : Option (Bor Text))
+pub too_long : (change : LineChange) (comment : Option (Bor Text))
     (bytes rest before after : Option Text) (counts : Counts)
-    → AreUpTo layout comment bytes rest before after counts
-    → AreCutShort layout comment bytes before after Read
-too_long layout comment bytes rest before after counts so_far = record {
+    → AreUpTo change comment bytes rest before after counts
+    → AreCutShort change comment bytes before after Read
+too_long change comment bytes rest before after counts so_far = record {
   placed = so_far.placed;
   are_written = so_far.are_written;
   lines_in_front = front_lines bytes rest (lines_of so_far.placed) so_far.front;

@@ -3,35 +3,30 @@ use Rattle.std.specs.Prelude.{◌≡◌, ◌≢◌, ◌+◌, Bool, true, false, 
 use Rattle.std.specs.Io.KnownBytes.{Appends, Keeps, IsAtEnd}
 use denote.Ref.{Bor}
 use Rattle.timefd_component.specs.Tree.{Text}
-use Rattle.timefd_fault.specs.Faults.{Fault}
 use Rattle.timefd_rewrite.specs.declared.counts.Counts.{Counts}
 use Rattle.timefd_rewrite.specs.declared.counts.Outcome.{Outcome}
 use Rattle.timefd_rewrite.specs.declared.counts.Outcome.TheVariants.{PassedOver, Same, Rewritten, Refused, NotText, NotALine}
-use Rattle.timefd_rewrite.specs.declared.layout.Layout.{Layout}
+use Rattle.timefd_rewrite.specs.declared.line_change.LineChange.{LineChange}
 use Rattle.timefd_rewrite.specs.declared.rewrite.RewriteError.{RewriteError}
 use Rattle.timefd_rewrite.specs.declared.rewrite.RewriteError.TheVariants.{Memory, Read, Write}
-use Rattle.timefd_rewrite.specs.Layouts.{IsConverted, IsRefusedFor}
+use Rattle.timefd_rewrite.specs.LineChanges.{IsChanged, IsUnchangeable}
 use Rattle.timefd_rewrite.specs.Lines.{AreLinesOf, IsNextLine, end_of, has_newline, is_passed_over, without_newline}
-
--- The text has a fault in the language that it is converted from, or one is left after mending.
-abbrev pub IsRefused : Layout → Text → Type 0
-IsRefused layout text = (f : Fault) × IsRefusedFor layout text f
 
 -- What replaces a line: the text that it is converted or mended to, with the line's own end, if there is such
 -- a text and it is a line. Else it is the line itself, byte by byte.
-abbrev pub StandsFor : Layout → Text → Outcome → Text → Type 0
-StandsFor layout line PassedOver position = position ≡ line
-StandsFor layout line Same position =
-    IsConverted layout (without_newline line) (without_newline line) × (position ≡ line)
-StandsFor layout line Rewritten position =
-    (answer : Text) × IsConverted layout (without_newline line) answer
+abbrev pub StandsFor : LineChange → Text → Outcome → Text → Type 0
+StandsFor change line PassedOver position = position ≡ line
+StandsFor change line Same position =
+    IsChanged change (without_newline line) (without_newline line) × (position ≡ line)
+StandsFor change line Rewritten position =
+    (answer : Text) × IsChanged change (without_newline line) answer
     × (answer ≢ without_newline line) × (has_newline answer ≡ false)
     × (position ≡ answer ++ end_of line)
-StandsFor layout line Refused position = IsUtf8 (without_newline line)
-    × IsRefused layout (without_newline line) × (position ≡ line)
-StandsFor layout line NotText position = (¬ IsUtf8 (without_newline line)) × (position ≡ line)
-StandsFor layout line NotALine position =
-    (answer : Text) × IsConverted layout (without_newline line) answer
+StandsFor change line Refused position = IsUtf8 (without_newline line)
+    × IsUnchangeable change (without_newline line) × (position ≡ line)
+StandsFor change line NotText position = (¬ IsUtf8 (without_newline line)) × (position ≡ line)
+StandsFor change line NotALine position =
+    (answer : Text) × IsChanged change (without_newline line) answer
     × (has_newline answer ≡ true) × (position ≡ line)
 
 abbrev pub is_passing_over : Outcome → Bool
@@ -66,10 +61,10 @@ pub record Placed : Type 0 where
   pub position : Text
 
 -- A line is passed over exactly if it is empty or a comment.
-pub record IsPlaced (layout : Layout) (comment : Option (Bor Text)) (p : Placed) : Type 0
+pub record IsPlaced (change : LineChange) (comment : Option (Bor Text)) (p : Placed) : Type 0
   where
     pub passed_over : is_passing_over p.outcome ≡ is_passed_over comment (without_newline p.line)
-    pub stands : StandsFor layout p.line p.outcome p.position
+    pub stands : StandsFor change p.line p.outcome p.position
 
 -- The lines, and their replacements, in order.
 abbrev pub lines_of : List Placed → List Text
@@ -94,34 +89,34 @@ with_one counts outcome = record {
 }
 
 -- The replacements of these lines are written after what was there, and nothing else is.
-pub record AreWritten (layout : Layout) (comment : Option (Bor Text))
+pub record AreWritten (change : LineChange) (comment : Option (Bor Text))
     (before after : Option Text) (placed : List Placed) : Type 0 where
-  pub each : All (IsPlaced layout comment) placed
+  pub each : All (IsPlaced change comment) placed
   pub written : Appends before after (positions_of placed)
 
 -- All lines of a reader are rewritten, and counted.
-pub record AreRewritten (layout : Layout) (comment : Option (Bor Text))
+pub record AreRewritten (change : LineChange) (comment : Option (Bor Text))
     (bytes before after : Option Text) (counts : Counts) : Type 0 where
   pub placed : List Placed
-  pub are_written : AreWritten layout comment before after placed
+  pub are_written : AreWritten change comment before after placed
   pub all_lines : AreLinesOf bytes (lines_of placed) false
   pub counted : counts ≡ counts_of placed
 
 -- Only the lines in front of a rest are rewritten.
-pub record AreFront (layout : Layout) (comment : Option (Bor Text))
+pub record AreFront (change : LineChange) (comment : Option (Bor Text))
     (bytes before after : Option Text) : Type 0 where
   pub placed : List Placed
-  pub are_written : AreWritten layout comment before after placed
+  pub are_written : AreWritten change comment before after placed
   pub lines_in_front : AreLinesOf bytes (lines_of placed) true
 
 -- If memory runs out or a read fails, nothing more is written.
-abbrev pub AreCutShort : Layout → Option (Bor Text) → Option Text → Option Text → Option Text
+abbrev pub AreCutShort : LineChange → Option (Bor Text) → Option Text → Option Text → Option Text
     → RewriteError → Type 0
-AreCutShort layout comment bytes before after Memory =
-    AreFront layout comment bytes before after
-AreCutShort layout comment bytes before after Read =
-    AreFront layout comment bytes before after
-AreCutShort layout comment bytes before after Write = ⊤
+AreCutShort change comment bytes before after Memory =
+    AreFront change comment bytes before after
+AreCutShort change comment bytes before after Read =
+    AreFront change comment bytes before after
+AreCutShort change comment bytes before after Write = ⊤
 
 -- If memory runs out or a read fails at one line, nothing is written for it.
 abbrev pub IsUnwritten : Option Text → Option Text → RewriteError → Type 0
@@ -130,11 +125,11 @@ IsUnwritten before after Read = Keeps before after
 IsUnwritten before after Write = ⊤
 
 -- The replacement of one line is written.
-abbrev pub Positions : Layout → Option (Bor Text) → Text → Option Text → Option Text → Outcome
+abbrev pub Positions : LineChange → Option (Bor Text) → Text → Option Text → Option Text → Outcome
     → Type 0
-Positions layout comment line before after outcome =
+Positions change comment line before after outcome =
     (position : Text)
-    × IsPlaced layout comment (record { line = line; outcome = outcome; position = position })
+    × IsPlaced change comment (record { line = line; outcome = outcome; position = position })
     × Appends before after position
 
 -- An answer replaces a line, with the line's end; or the line stays, if it has that text already or the
@@ -153,9 +148,9 @@ PositionsAnswer line answer before after outcome =
     (position : Text) × IsAnswer line answer outcome position × Appends before after position
 
 -- What happens with one more line. At the end of the bytes nothing is written.
-abbrev pub IsNext : Layout → Option (Bor Text) → Option Text → Option Text → Option Text
+abbrev pub IsNext : LineChange → Option (Bor Text) → Option Text → Option Text → Option Text
     → Option Text → Option Outcome → Type 0
-IsNext layout comment bytes rest before after None = IsAtEnd bytes × Keeps before after
-IsNext layout comment bytes rest before after (Some outcome) =
+IsNext change comment bytes rest before after None = IsAtEnd bytes × Keeps before after
+IsNext change comment bytes rest before after (Some outcome) =
     (line : Text) × IsNextLine bytes line rest
-    × Positions layout comment line before after outcome
+    × Positions change comment line before after outcome

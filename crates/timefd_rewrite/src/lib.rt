@@ -1,4 +1,5 @@
-//! Rewrites lines of descriptions in a later version of the language or in their normal form, or mends them:
+//! Rewrites lines of descriptions in a later version of the language or in their normal form, or formats of other languages
+//! as texts of version 3, or mends lines:
 //! then it writes the cure of one fault after another until the text is accepted. Each line keeps its end,
 //! and lines that are passed over or refused stay as they are.
 #![tactic(auto)]
@@ -9,6 +10,7 @@ mod diff;
 mod fixes;
 mod fixing;
 mod layout;
+mod line_change;
 mod lines;
 mod nearest;
 mod pairs;
@@ -19,5 +21,6 @@ pub use diff::write_diff;
 pub use fixes::Fixes;
 pub use fixing::{FIX_LIMIT, fixed};
 pub use layout::{Layout, lay_out};
+pub use line_change::{LineChange, changed_text};
 pub use lines::{is_passed_over, without_newline};
 pub use rewrite::{RewriteError, rewrite_lines};

@@ -7,12 +7,11 @@ ghost use Rattle.timefd_rewrite.specs.Rewriting.{AreCutShort, AreRewritten, IsNe
 ghost use Rattle.timefd_rewrite.specs.declared.rewrite.RewriteError.TheVariants as errors;
 
 use crate::counts::{Counts, Outcome};
-use crate::layout::{Layout, lay_out};
+use crate::line_change::{LineChange, changed_text};
 use crate::lines::{has_newline, is_passed_over, without_newline};
 use std::alloc::Global;
 use std::io::{BufRead, ErrorKind, Write};
 use std::str;
-use timefd_parse::ParseError;
 
 /// Why the lines of a reader weren't all rewritten.
 #[derive(Clone, Copy)]
@@ -31,19 +30,19 @@ pub enum RewriteError {
 pub fn rewrite_lines<R: BufRead, W: Write>(
     alloc: Global,
     comment: Option<&str>,
-    layout: Layout,
+    change: LineChange,
     reader: &mut R,
     writer: &mut W,
 ) -> Result<Counts, RewriteError>
-    ensures all { IfOk result (AreRewritten layout comment.entry (R.remaining reader.old)
+    ensures all { IfOk result (AreRewritten change comment.entry (R.remaining reader.old)
         (W.contents writer.old) (W.contents writer.new)) }
-    ensures cut_short { IfErr result (AreCutShort layout comment.entry (R.remaining reader.old)
+    ensures cut_short { IfErr result (AreCutShort change comment.entry (R.remaining reader.old)
         (W.contents writer.old) (W.contents writer.new)) }
 {
     let mut counts = Counts::new();
     let mut bytes = Vec::new(alloc);
     'lines: for _line in 0..u64::MAX {
-        match rewrite_next(alloc, comment, layout, &mut bytes, reader, writer)? {
+        match rewrite_next(alloc, comment, change, &mut bytes, reader, writer)? {
             None => return Ok(counts),
             Some(outcome) => counts = counts.with(outcome),
         }
@@ -55,12 +54,12 @@ pub fn rewrite_lines<R: BufRead, W: Write>(
 fn rewrite_next<R: BufRead, W: Write>(
     alloc: Global,
     comment: Option<&str>,
-    layout: Layout,
+    change: LineChange,
     bytes: &mut Vec<u8>,
     reader: &mut R,
     writer: &mut W,
 ) -> Result<Option<Outcome>, RewriteError>
-    ensures next { IfOk result (IsNext layout comment.entry (R.remaining reader.old)
+    ensures next { IfOk result (IsNext change comment.entry (R.remaining reader.old)
         (R.remaining reader.new) (W.contents writer.old) (W.contents writer.new)) }
     ensures unwritten { IfErr result (IsUnwritten (W.contents writer.old)
         (W.contents writer.new)) }
@@ -71,7 +70,7 @@ fn rewrite_next<R: BufRead, W: Write>(
             if count == 0 {
                 return Ok(None);
             }
-            Ok(Some(rewrite_line(alloc, comment, layout, bytes, writer)?))
+            Ok(Some(rewrite_line(alloc, comment, change, bytes, writer)?))
         }
         Err(error) => {
             if error.kind() == ErrorKind::OutOfMemory {
@@ -83,15 +82,15 @@ fn rewrite_next<R: BufRead, W: Write>(
 }
 
 // Writes the replacement of a line.
-#[tactic(auto, using(crate::proofs::RewriteLemmas::converted_placed))]
+#[tactic(auto, using(crate::proofs::RewriteLemmas::converted_placed, crate::proofs::RewriteLemmas::refused_placed))]
 fn rewrite_line<W: Write>(
     alloc: Global,
     comment: Option<&str>,
-    layout: Layout,
+    change: LineChange,
     line: &[u8],
     writer: &mut W,
 ) -> Result<Outcome, RewriteError>
-    ensures positions { IfOk result (Positions layout comment.entry line.now (W.contents writer.old)
+    ensures positions { IfOk result (Positions change comment.entry line.now (W.contents writer.old)
         (W.contents writer.new)) }
     ensures unwritten { IfErr result (IsUnwritten (W.contents writer.old)
         (W.contents writer.new)) }
@@ -103,10 +102,10 @@ fn rewrite_line<W: Write>(
     let Ok(text) = str::from_utf8(text) else {
         return keep(line, Outcome::NotText, writer);
     };
-    match lay_out(alloc, layout, text) {
-        Ok(answer) => write_answer(line, answer.as_bytes(), writer),
-        Err(ParseError::Invalid(_)) => keep(line, Outcome::Refused, writer),
-        Err(ParseError::Memory(_)) => Err(RewriteError::Memory),
+    match changed_text(alloc, change, text) {
+        Ok(Some(answer)) => write_answer(line, answer.as_bytes(), writer),
+        Ok(None) => keep(line, Outcome::Refused, writer),
+        Err(_) => Err(RewriteError::Memory),
     }
 }
 

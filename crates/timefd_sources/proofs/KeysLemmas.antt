@@ -4,3 +4,4 @@ pub mod FoundLemmas
 pub mod NumberLemmas
 pub mod KeyLemmas
 pub mod NameLemmas
+pub mod SpelledLemmas

@@ -3,6 +3,7 @@ pub mod Keys
 pub mod Styles
 pub mod Escapes
 pub mod Strings
+pub mod Spelled
 pub mod Names
 pub mod Comments
 pub mod Languages

@@ -1,7 +1,7 @@
 -- Where a source says the version of a description.
 use Rattle.std.specs.Prelude.{ℕ, ◌≡◌, ◌<◌, ◌+◌, ◌∷◌, drop, Option, Some, None, ⊤}
 use Rattle.timefd_sources.specs.declared.dialect.Dialect.{Dialect}
-use Rattle.timefd_sources.specs.declared.dialect.Dialect.TheVariants.{One, Two, Three, Strftime, Chrono, Jiff}
+use Rattle.timefd_sources.specs.declared.dialect.Dialect.TheVariants.{One, Two, Three, Strftime, Python, C, Gnu, Chrono, Jiff, Ruby, Java, Go, Moment}
 use Rattle.timefd_sources.specs.declared.piece.Piece.{Piece}
 use Rattle.timefd_sources.specs.declared.version.VersionPosition.{VersionPosition}
 use Rattle.timefd_sources.specs.declared.version.VersionPosition.TheVariants.{Digit, Unsaid, Call, Elsewhere}
@@ -12,8 +12,15 @@ digit_of One = Some 49
 digit_of Two = Some 50
 digit_of Three = Some 51
 digit_of Strftime = None
+digit_of Python = None
+digit_of C = None
+digit_of Gnu = None
 digit_of Chrono = None
 digit_of Jiff = None
+digit_of Ruby = None
+digit_of Java = None
+digit_of Go = None
+digit_of Moment = None
 
 -- the version of a description if none is said
 abbrev pub unsaid : Dialect

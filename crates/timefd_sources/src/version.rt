@@ -28,7 +28,16 @@ pub fn digit_of(dialect: Dialect) -> Option<u8>
         Dialect::One => Some(b'1'),
         Dialect::Two => Some(b'2'),
         Dialect::Three => Some(b'3'),
-        Dialect::Strftime | Dialect::Chrono | Dialect::Jiff => None,
+        Dialect::Strftime
+        | Dialect::Python
+        | Dialect::C
+        | Dialect::Gnu
+        | Dialect::Chrono
+        | Dialect::Jiff
+        | Dialect::Ruby
+        | Dialect::Java
+        | Dialect::Go
+        | Dialect::Moment => None,
     }
 }
 
@@ -56,8 +65,18 @@ fn is_one(dialect: Dialect) -> bool
 {
     match dialect {
         Dialect::One => true,
-        Dialect::Two | Dialect::Three | Dialect::Strftime | Dialect::Chrono | Dialect::Jiff =>
-            false,
+        Dialect::Two
+        | Dialect::Three
+        | Dialect::Strftime
+        | Dialect::Python
+        | Dialect::C
+        | Dialect::Gnu
+        | Dialect::Chrono
+        | Dialect::Jiff
+        | Dialect::Ruby
+        | Dialect::Java
+        | Dialect::Go
+        | Dialect::Moment => false,
     }
 }
 

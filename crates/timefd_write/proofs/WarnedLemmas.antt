@@ -3,6 +3,7 @@ use Rattle.std.proofs.Common.{◌≡◌, ◌++◌, ◌∙◌, Bool, Option, code
 use Rattle.timefd_component.specs.Tree.{Text}
 use Rattle.timefd_drawing.specs.declared.position.Origin.{Origin}
 use Rattle.timefd_write.specs.declared.report.Reported.{Reported}
+use Rattle.timefd_write.specs.declared.warned.Texts.{Texts}
 use Rattle.timefd_write.specs.declared.warned.Warned.{Warned}
 use Rattle.timefd_write.specs.Reports.{ReachesPeople}
 use Rattle.timefd_write.specs.Warned.{IsNamed, ReportsWarnings, warned_text}
@@ -12,9 +13,9 @@ pub joined : (first second front after reported : Text) → front ≡ first → 
 joined first second front after reported first_is second_is is =
     is ∙ ap (λ t. t ++ after) first_is ∙ ap (λ t. first ++ t) second_is
 
-pub reports : (colored : Bool) (w : Warned) (before after : Option Text) (failed : Bool) (r : Reported)
-    (read written : Origin) (text : Text) → IsNamed (codes "<read>") read
-    → IsNamed (codes "<description>") written → text ≡ warned_text colored read written w
-    → ReachesPeople colored text before after failed r → ReportsWarnings colored w before after failed r
-reports colored w before after failed r read written text of_read of_written is reaches =
+pub reports : (colored : Bool) (texts : Texts) (w : Warned) (before after : Option Text) (failed : Bool)
+    (r : Reported) (read written : Origin) (text : Text) → IsNamed (codes "<read>") read
+    → IsNamed (codes "<description>") written → text ≡ warned_text colored read written texts w
+    → ReachesPeople colored text before after failed r → ReportsWarnings colored texts w before after failed r
+reports colored texts w before after failed r read written text of_read of_written is reaches =
     (read, written, of_read, of_written, subst (λ t. ReachesPeople colored t before after failed r) is reaches)

@@ -1,5 +1,6 @@
 -- The warnings that are reported about descriptions.
-use Rattle.std.specs.Prelude.{◌≡◌, Bool, true, false, List, ◌++◌, codes, Option}
+use Rattle.std.specs.Prelude.{◌≡◌, Bool, true, false, List, [], ◌++◌, codes, Option, Some, None}
+use denote.Ref.{Bor}
 use Rattle.timefd_component.specs.Tree.{Text, Tree}
 use Rattle.timefd_drawing.specs.declared.draw.Format.{Format}
 use Rattle.timefd_drawing.specs.declared.position.Origin.{Origin}
@@ -19,6 +20,7 @@ use Rattle.timefd_write.specs.declared.report.Reported.{Reported}
 use Rattle.timefd_write.specs.declared.source.Source.{Source}
 use Rattle.timefd_write.specs.declared.source.SourceKind.{SourceKind}
 use Rattle.timefd_write.specs.declared.source.SourceKind.TheVariants.{Names, Texts}
+use Rattle.timefd_write.specs.declared.warned.Texts as reported_texts
 use Rattle.timefd_write.specs.declared.warned.Warned as reported
 use Rattle.timefd_write.specs.Reports.{ReachesPeople}
 
@@ -57,18 +59,24 @@ warned_by false languages source o = record {
   written = warned_of languages.written o;
 }
 
+-- the text of the description to read by; empty if there is none, which has no warnings either
+abbrev pub read_text : Option (Bor Text) → Text
+read_text None = []
+read_text (Some text) = text.now
+
 -- The linter's messages about both, in order.
-abbrev pub warned_text : Bool → Origin → Origin → reported.Warned → Text
-warned_text colored read written w =
-    messages (record { format = Format.Human; is_colored = colored }) read w.read
-    ++ messages (record { format = Format.Human; is_colored = colored }) written w.written
+abbrev pub warned_text : Bool → Origin → Origin → reported_texts.Texts → reported.Warned → Text
+warned_text colored read written texts w =
+    messages (record { format = Format.Human; is_colored = colored }) read (read_text texts.read) w.read
+    ++ messages (record { format = Format.Human; is_colored = colored }) written texts.written.now w.written
 
 -- what messages call a description
 abbrev pub IsNamed : Text → Origin → Type 0
 IsNamed name origin = (origin.file.now ≡ name) × (origin.line ≡ 1)
 
 -- People see them, unless the stream has failed.
-abbrev pub ReportsWarnings : Bool → reported.Warned → Option Text → Option Text → Bool → Reported → Type 0
-ReportsWarnings colored warned before after failed r =
+abbrev pub ReportsWarnings : Bool → reported_texts.Texts → reported.Warned → Option Text → Option Text → Bool
+    → Reported → Type 0
+ReportsWarnings colored texts warned before after failed r =
     (read : Origin) × (written : Origin) × IsNamed (codes "<read>") read × IsNamed (codes "<description>") written
-    × ReachesPeople colored (warned_text colored read written warned) before after failed r
+    × ReachesPeople colored (warned_text colored read written texts warned) before after failed r

@@ -17,7 +17,7 @@ use crate::outcome::{RunError, Tally};
 use crate::report::report_fault;
 use crate::source::{Clocks, Source, source_of};
 use crate::table::write_table;
-use crate::warned::{WRITTEN, report_warnings, warned_by};
+use crate::warned::{Texts, WRITTEN, report_warnings, warned_by};
 use crate::words::write_words;
 use std::alloc::Global;
 use timefd_parse::{BorrowedOutput, StrftimeTables};
@@ -63,6 +63,7 @@ pub fn run<I: BufferedSource, W: Sink, E: Sink>(
             &source,
             manner,
             languages,
+            read,
             description,
             otherwise,
             column,
@@ -81,6 +82,7 @@ fn run_from<I: BufferedSource, W: Sink, E: Sink>(
     source: &Source<'_>,
     manner: Manner,
     languages: Languages,
+    read_by: Option<&str>,
     description: &str,
     otherwise: Otherwise,
     column: Option<Column<'_>>,
@@ -96,6 +98,10 @@ fn run_from<I: BufferedSource, W: Sink, E: Sink>(
         (W.contents output.new)) }
 {
     let tables = StrftimeTables::new();
+    let texts = Texts {
+        read: read_by,
+        written: description,
+    };
     match read(alloc, languages.written, &tables, description)? {
         Reading::Refused(diagnostic) => {
             report_fault(
@@ -110,7 +116,7 @@ fn run_from<I: BufferedSource, W: Sink, E: Sink>(
         }
         Reading::Description(description) => {
             let warned = warned_by(manner.is_quiet, languages, source, &description);
-            report_warnings(alloc, manner.is_colored, warned, errors)?;
+            report_warnings(alloc, manner.is_colored, texts, warned, errors)?;
             let tally = write_all(
                 alloc,
                 source,

@@ -32,19 +32,29 @@ pub struct Warned {
     pub written: Levels,
 }
 
+/// The texts of the descriptions of a run.
+#[derive(Clone, Copy)]
+pub struct Texts<'a> {
+    /// The description that moments are read by. `None` if moments are named.
+    pub read: Option<&'a str>,
+    /// The description that moments are written by.
+    pub written: &'a str,
+}
+
 /// Shows people the warnings about both descriptions. An `Err` says that memory ran out.
 pub fn report_warnings<E: Sink>(
     alloc: Global,
     is_colored: bool,
+    texts: Texts<'_>,
     warned: Warned,
     errors: &mut E,
 ) -> Result<Reported, AllocError>
-    ensures { IfOk result (spec.ReportsWarnings is_colored warned (E.contents errors.old)
+    ensures { IfOk result (spec.ReportsWarnings is_colored texts.entry warned (E.contents errors.old)
         (E.contents errors.new) (E.has_failed errors.new)) }
 {
     let read = named(READ);
     let written = named(WRITTEN);
-    let message = warned_text(alloc, is_colored, read, written, warned)?;
+    let message = warned_text(alloc, is_colored, read, written, texts, warned)?;
     let reported = report_drawn(alloc, is_colored, errors, &message)?;
     Ok(reported)
 }
@@ -56,6 +66,16 @@ fn named(file: &str) -> Origin<'_>
     Origin { file, line: 1 }
 }
 
+// The text of the description to read by. It is empty if there is none, which has no warnings either.
+fn read_text(texts: Texts<'_>) -> &str
+    ensures { result.now ≡ spec.read_text texts.entry.read }
+{
+    match texts.read {
+        Some(text) => text,
+        None => "",
+    }
+}
+
 // The messages about both descriptions, in order.
 #[tactic(auto, using(crate::proofs::WarnedLemmas::joined))]
 fn warned_text(
@@ -63,17 +83,18 @@ fn warned_text(
     is_colored: bool,
     read: Origin<'_>,
     written: Origin<'_>,
+    texts: Texts<'_>,
     warned: Warned,
 ) -> Result<Vec<u8>, AllocError>
     ensures { IfOk result (λ reported. reported.items
-        ≡ spec.warned_text is_colored read.entry written.entry warned) }
+        ≡ spec.warned_text is_colored read.entry written.entry texts.entry warned) }
 {
     let style = Style {
         format: Format::Human,
         is_colored,
     };
-    let mut reported = messages(alloc, style, read, warned.read)?;
-    let after = messages(alloc, style, written, warned.written)?;
+    let mut reported = messages(alloc, style, read, read_text(texts), warned.read)?;
+    let after = messages(alloc, style, written, texts.written, warned.written)?;
     reported.extend_from_slice(&after)?;
     Ok(reported)
 }

@@ -6,7 +6,8 @@ use Rattle.timefd_sources.specs.Keys.Keys.{Named}
 use Rattle.toml.specs.View.{members_view, view}
 use Rattle.toml.proofs.Views.{Entry}
 use Rattle.timefd_lint_options.specs.declared.config.keys.OwnedKey.{OwnedKey}
-use Rattle.timefd_lint_options.specs.Config.Config.{Fault, in_front, key_of, keys_in, named, named_all, with_key}
+use Rattle.timefd_lint_options.specs.Config.Config.{in_front, key_of, keys_in, named, named_all, with_key}
+use Rattle.timefd_lint_options.specs.Config.Faults.{Fault}
 
 -- keys, followed by further ones, unless something is wrong with those
 abbrev pub after : List Named → Result (List Named) Fault → Result (List Named) Fault

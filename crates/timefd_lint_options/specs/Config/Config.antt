@@ -9,34 +9,11 @@ use Rattle.timefd_sources.specs.Dialects.{dialect_named}
 use Rattle.toml.specs.Data.{Data, string, integer, float, boolean, datetime, array, table, Items, no_items, item, Members, no_members, member, get_member}
 use Rattle.toml.specs.Parse.{parse_document}
 use Rattle.timefd_lint_options.specs.declared.config.config.Config.{Config}
-use Rattle.timefd_lint_options.specs.declared.config.error.ConfigError.{ConfigError}
-use Rattle.timefd_lint_options.specs.declared.config.error.ConfigError.TheVariants as error
 use Rattle.timefd_lint_options.specs.declared.config.keys.OwnedKey.{OwnedKey}
 use Rattle.timefd_lint_options.specs.declared.config.language.ValueFault.{ValueFault}
 use Rattle.timefd_lint_options.specs.declared.config.language.ValueFault.TheVariants as no_language
-
--- what is wrong with a text
-pub data Fault : Type 0 where
-  NotToml : Fault
-  UnknownName : Text → Fault
-  NotATable : Fault
-  EmptyName : Fault
-  WrongType : Text → Fault
-  UnknownLanguage : Text → Fault
-  NotAList : Fault
-  NotAPattern : Fault
-
--- what an error says about the text: nothing if memory ran out
-abbrev pub fault : ConfigError → Option Fault
-fault error.Memory = None
-fault (error.NotToml why) = Some NotToml
-fault (error.UnknownName name) = Some (UnknownName (string_bytes name))
-fault error.NotATable = Some NotATable
-fault error.EmptyName = Some EmptyName
-fault (error.WrongType name) = Some (WrongType (string_bytes name))
-fault (error.UnknownLanguage name) = Some (UnknownLanguage (string_bytes name))
-fault error.NotAList = Some NotAList
-fault error.NotAPattern = Some NotAPattern
+use Rattle.timefd_lint_options.specs.Config.Faults.{Fault, NotToml, UnknownName, KeysNotATable, EmptyName, WrongType, UnknownLanguage, NotAList, NotAPattern, LevelsNotATable}
+use Rattle.timefd_lint_options.specs.Config.Levels.{Levels, levels_in}
 
 -- a key by the bytes of its name
 abbrev pub named : OwnedKey → Named
@@ -91,7 +68,8 @@ keys_in no_members = Ok []
 keys_in (member name value rest) = with_key (key_of name value) (keys_in rest)
 
 abbrev pub is_known : Text → Bool
-is_known name = bytes_eq name (codes "keys") || bytes_eq name (codes "exclude")
+is_known name =
+    bytes_eq name (codes "keys") || (bytes_eq name (codes "exclude") || bytes_eq name (codes "levels"))
 
 -- the first name that has no meaning here
 abbrev pub unknown_name : Members → Option Text
@@ -102,12 +80,12 @@ unknown_name (member name value rest) =
 abbrev pub keys_at : Option Data → Result (List Named) Fault
 keys_at None = Ok []
 keys_at (Some (table rows)) = keys_in rows
-keys_at (Some (string word)) = Err NotATable
-keys_at (Some (integer number)) = Err NotATable
-keys_at (Some (float number)) = Err NotATable
-keys_at (Some (boolean value)) = Err NotATable
-keys_at (Some (datetime value)) = Err NotATable
-keys_at (Some (array items)) = Err NotATable
+keys_at (Some (string word)) = Err KeysNotATable
+keys_at (Some (integer number)) = Err KeysNotATable
+keys_at (Some (float number)) = Err KeysNotATable
+keys_at (Some (boolean value)) = Err KeysNotATable
+keys_at (Some (datetime value)) = Err KeysNotATable
+keys_at (Some (array items)) = Err KeysNotATable
 
 -- a pattern, followed by a line feed
 abbrev pub pattern_line : Data → Option Text
@@ -146,27 +124,49 @@ exclude_at (Some (boolean value)) = Err NotAList
 exclude_at (Some (datetime value)) = Err NotAList
 exclude_at (Some (table rows)) = Err NotAList
 
--- what a file says: keys, and the patterns of what is passed over, a line each
+abbrev pub there : Result Levels Fault → Result (Option Levels) Fault
+there (Ok levels) = Ok (Some levels)
+there (Err fault) = Err fault
+
+-- the levels in the table of levels, if there is one
+abbrev pub levels_at : Option Data → Result (Option Levels) Fault
+levels_at None = Ok None
+levels_at (Some (table rows)) = there (levels_in rows)
+levels_at (Some (string word)) = Err LevelsNotATable
+levels_at (Some (integer number)) = Err LevelsNotATable
+levels_at (Some (float number)) = Err LevelsNotATable
+levels_at (Some (boolean value)) = Err LevelsNotATable
+levels_at (Some (datetime value)) = Err LevelsNotATable
+levels_at (Some (array items)) = Err LevelsNotATable
+
+-- what a file says: keys, the patterns of what is passed over, a line each, and the levels of warnings
 pub record Said : Type 0 where
   pub keys : List Named
   pub exclude : Text
+  pub levels : Option Levels
 
 abbrev pub said : Config → Said
-said config = record { keys = named_all config.keys.items; exclude = string_bytes config.exclude }
+said config = record {
+  keys = named_all config.keys.items;
+  exclude = string_bytes config.exclude;
+  levels = config.levels;
+}
 
-abbrev pub both : Result (List Named) Fault → Result Text Fault → Result Said Fault
-both (Err fault) exclude = Err fault
-both (Ok keys) (Err fault) = Err fault
-both (Ok keys) (Ok exclude) = Ok (record { keys = keys; exclude = exclude })
+abbrev pub all_said : Result (List Named) Fault → Result Text Fault → Result (Option Levels) Fault → Result Said Fault
+all_said (Err fault) exclude levels = Err fault
+all_said (Ok keys) (Err fault) levels = Err fault
+all_said (Ok keys) (Ok exclude) (Err fault) = Err fault
+all_said (Ok keys) (Ok exclude) (Ok levels) = Ok (record { keys = keys; exclude = exclude; levels = levels })
 
 abbrev pub unless_unknown : Option Text → Result Said Fault → Result Said Fault
 unless_unknown (Some name) config = Err (UnknownName name)
 unless_unknown None config = config
 
--- What a document says: it has the table `keys` and the list `exclude`, or one of the two, or nothing.
+-- What a document says: it has the tables `keys` and `levels` and the list `exclude`, or some of them, or nothing.
 abbrev pub config_of_document : Members → Result Said Fault
 config_of_document document = unless_unknown (unknown_name document)
-    (both (keys_at (get_member (codes "keys") document)) (exclude_at (get_member (codes "exclude") document)))
+    (all_said (keys_at (get_member (codes "keys") document)) (exclude_at (get_member (codes "exclude") document))
+    (levels_at (get_member (codes "levels") document)))
 
 abbrev pub config_of_parsed : Option Members → Result Said Fault
 config_of_parsed (Some document) = config_of_document document

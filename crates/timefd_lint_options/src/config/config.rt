@@ -4,15 +4,20 @@ ghost use Rattle.std.specs.Prelude.{◌≡◌, IfOk, IfErr, IfSome, Ok, Err, cod
 ghost use Rattle.toml.specs.Data.{get_member};
 ghost use Rattle.toml.specs.View.{view, table_view};
 ghost use Rattle.timefd_lint_options.specs.Config.Config as spec;
+ghost use Rattle.timefd_lint_options.specs.Config.Faults as faults;
 
 use crate::config::error::ConfigError;
 use crate::config::exclude::patterns_in;
 use crate::config::keys::{OwnedKey, keys_in};
+use crate::config::levels::levels_in;
 use std::alloc::Global;
+use timefd_warnings::Levels;
 use toml::{Table, Value, table_from_str};
 
-// The one table of the file.
+// The tables of the file.
 const KEYS: &str = "keys";
+
+const LEVELS: &str = "levels";
 
 // The one list.
 const EXCLUDE: &str = "exclude";
@@ -24,12 +29,14 @@ pub struct Config {
     pub keys: Vec<OwnedKey>,
     /// What is passed over below folders: the patterns of its list `exclude`, each followed by a line feed.
     pub exclude: String,
+    /// The level of each warning, if there is a table `levels`.
+    pub levels: Option<Levels>,
 }
 
 fn is_known(name: &str) -> bool
     ensures { result ≡ spec.is_known name.now }
 {
-    name == KEYS || name == EXCLUDE
+    name == KEYS || name == EXCLUDE || name == LEVELS
 }
 
 // The first name in a document that has no meaning here.
@@ -55,7 +62,7 @@ fn value_of_keys(document: &Table) -> Option<&Value>
 fn keys_at(alloc: Global, value: Option<&Value>) -> Result<Vec<OwnedKey>, ConfigError>
     ensures keys { IfOk result (λ keys.
         spec.keys_at (option_map (λ v. view v.now) value.entry) ≡ Ok (spec.named_all keys.items)) }
-    ensures error { IfErr result (λ error. IfSome (spec.fault error) (λ fault.
+    ensures error { IfErr result (λ error. IfSome (faults.fault error) (λ fault.
         spec.keys_at (option_map (λ v. view v.now) value.entry) ≡ Err fault)) }
 {
     match value {
@@ -67,7 +74,7 @@ fn keys_at(alloc: Global, value: Option<&Value>) -> Result<Vec<OwnedKey>, Config
             | Value::Boolean(_)
             | Value::Datetime(_)
             | Value::Array(_),
-        ) => Err(ConfigError::NotATable),
+        ) => Err(ConfigError::KeysNotATable),
         None => Ok(Vec::new(alloc)),
     }
 }
@@ -83,7 +90,7 @@ fn value_of_exclude(document: &Table) -> Option<&Value>
 fn exclude_at(alloc: Global, value: Option<&Value>) -> Result<String, ConfigError>
     ensures patterns { IfOk result (λ text.
         spec.exclude_at (option_map (λ v. view v.now) value.entry) ≡ Ok (string_bytes text)) }
-    ensures error { IfErr result (λ error. IfSome (spec.fault error) (λ fault.
+    ensures error { IfErr result (λ error. IfSome (faults.fault error) (λ fault.
         spec.exclude_at (option_map (λ v. view v.now) value.entry) ≡ Err fault)) }
 {
     match value {
@@ -100,11 +107,39 @@ fn exclude_at(alloc: Global, value: Option<&Value>) -> Result<String, ConfigErro
     }
 }
 
+// The value of `levels` in a document.
+fn value_of_levels(document: &Table) -> Option<&Value>
+    ensures { option_map (λ v. view v.now) result ≡ get_member (codes "levels") (table_view document.now) }
+{
+    document.get(LEVELS)
+}
+
+// The levels in that value, if there is one.
+fn levels_at(value: Option<&Value>) -> Result<Option<Levels>, ConfigError>
+    ensures levels { IfOk result (λ levels.
+        spec.levels_at (option_map (λ v. view v.now) value.entry) ≡ Ok levels) }
+    ensures error { IfErr result (λ error. IfSome (faults.fault error) (λ fault.
+        spec.levels_at (option_map (λ v. view v.now) value.entry) ≡ Err fault)) }
+{
+    match value {
+        Some(Value::Table(table)) => Ok(Some(levels_in(table)?)),
+        Some(
+            Value::String(_)
+            | Value::Integer(_)
+            | Value::Float(_)
+            | Value::Boolean(_)
+            | Value::Datetime(_)
+            | Value::Array(_),
+        ) => Err(ConfigError::LevelsNotATable),
+        None => Ok(None),
+    }
+}
+
 // What a document says.
 fn config_of_document(alloc: Global, document: &Table) -> Result<Config, ConfigError>
     ensures config { IfOk result (λ config.
         spec.config_of_document (table_view document.now) ≡ Ok (spec.said config)) }
-    ensures error { IfErr result (λ error. IfSome (spec.fault error) (λ fault.
+    ensures error { IfErr result (λ error. IfSome (faults.fault error) (λ fault.
         spec.config_of_document (table_view document.now) ≡ Err fault)) }
 {
     if let Some(name) = unknown_name(document) {
@@ -112,14 +147,19 @@ fn config_of_document(alloc: Global, document: &Table) -> Result<Config, ConfigE
     }
     let keys = keys_at(alloc, value_of_keys(document))?;
     let exclude = exclude_at(alloc, value_of_exclude(document))?;
-    Ok(Config { keys, exclude })
+    let levels = levels_at(value_of_levels(document))?;
+    Ok(Config {
+        keys,
+        exclude,
+        levels,
+    })
 }
 
 /// What the text of a file of settings says. An `Err` says what is wrong with it, or that memory ran out.
 pub fn config_of(alloc: Global, text: &str) -> Result<Config, ConfigError>
     ensures config { IfOk result (λ config.
         spec.config_of text.now ≡ Ok (spec.said config)) }
-    ensures error { IfErr result (λ error. IfSome (spec.fault error) (λ fault.
+    ensures error { IfErr result (λ error. IfSome (faults.fault error) (λ fault.
         spec.config_of text.now ≡ Err fault)) }
 {
     match table_from_str(alloc, text) {

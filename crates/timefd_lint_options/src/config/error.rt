@@ -4,6 +4,7 @@ ghost use Rattle.std.specs.Prelude.{◌≡◌};
 ghost use Rattle.timefd_lint_options.specs.declared.config.error.ConfigError.TheVariants.{Memory};
 
 use std::alloc::AllocError;
+use timefd_warnings::Warning;
 use toml::de;
 
 /// Why a text isn't a file of settings.
@@ -16,7 +17,7 @@ pub enum ConfigError {
     /// A table or a key of this name has no meaning here.
     UnknownName(String),
     /// `keys` isn't a table.
-    NotATable,
+    KeysNotATable,
     /// A key has no name.
     EmptyName,
     /// The value of the key with this name is neither a number nor a string.
@@ -27,6 +28,14 @@ pub enum ConfigError {
     NotAList,
     /// The list `exclude` has an item that isn't a string.
     NotAPattern,
+    /// `levels` isn't a table.
+    LevelsNotATable,
+    /// No warning has this code.
+    UnknownWarning(String),
+    /// The level of this warning isn't a string.
+    NoLevel(Warning),
+    /// The level of this warning is a string, but this one names no level.
+    UnknownLevel(Warning, String),
 }
 
 impl From<AllocError> for ConfigError {

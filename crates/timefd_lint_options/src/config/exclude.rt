@@ -3,6 +3,7 @@
 ghost use Rattle.std.specs.Prelude.{◌≡◌, ◌++◌, IfOk, IfErr, IfSome, OnOk, Ok, Err, Some, string_bytes};
 ghost use Rattle.toml.specs.View.{items_view, view};
 ghost use Rattle.timefd_lint_options.specs.Config.Config as spec;
+ghost use Rattle.timefd_lint_options.specs.Config.Faults as faults;
 
 use crate::config::error::ConfigError;
 use std::alloc::Global;
@@ -12,7 +13,7 @@ use toml::Value;
 fn push_pattern(text: &mut String, value: &Value) -> Result<(), ConfigError>
     ensures pushed { OnOk result (spec.pushed (string_bytes text.old) (spec.pattern_line (view value.now))
         ≡ Some (string_bytes text.new)) }
-    ensures error { IfErr result (λ error. IfSome (spec.fault error) (λ fault.
+    ensures error { IfErr result (λ error. IfSome (faults.fault error) (λ fault.
         spec.with_line (spec.pattern_line (view value.now)) (Ok (string_bytes text.old)) ≡ Err fault)) }
 {
     match value {
@@ -34,7 +35,7 @@ fn push_pattern(text: &mut String, value: &Value) -> Result<(), ConfigError>
 pub fn patterns_in(alloc: Global, values: &[Value]) -> Result<String, ConfigError>
     ensures patterns { IfOk result (λ text.
         spec.patterns_in (items_view values.now) ≡ Ok (string_bytes text)) }
-    ensures error { IfErr result (λ error. IfSome (spec.fault error) (λ fault.
+    ensures error { IfErr result (λ error. IfSome (faults.fault error) (λ fault.
         spec.patterns_in (items_view values.now) ≡ Err fault)) }
 {
     let mut text = String::new(alloc);

@@ -3,6 +3,7 @@
 ghost use Rattle.std.specs.Prelude.{◌≡◌, IfOk, IfErr, IfSome, Ok, Err, string_bytes};
 ghost use Rattle.toml.specs.View.{view, table_view};
 ghost use Rattle.timefd_lint_options.specs.Config.Config as spec;
+ghost use Rattle.timefd_lint_options.specs.Config.Faults as faults;
 
 use crate::config::error::ConfigError;
 use crate::config::language::{ValueFault, dialect_valued};
@@ -21,7 +22,7 @@ pub struct OwnedKey {
 fn key_of(name: &String, value: &Value) -> Result<OwnedKey, ConfigError>
     ensures key { IfOk result (λ key.
         spec.key_of (string_bytes name.now) (view value.now) ≡ Ok (spec.named key)) }
-    ensures error { IfErr result (λ error. IfSome (spec.fault error) (λ fault.
+    ensures error { IfErr result (λ error. IfSome (faults.fault error) (λ fault.
         spec.key_of (string_bytes name.now) (view value.now) ≡ Err fault)) }
 {
     if name.is_empty() {
@@ -43,7 +44,7 @@ fn key_of(name: &String, value: &Value) -> Result<OwnedKey, ConfigError>
 pub fn keys_in(alloc: Global, table: &Table) -> Result<Vec<OwnedKey>, ConfigError>
     ensures keys { IfOk result (λ keys.
         spec.keys_in (table_view table.now) ≡ Ok (spec.named_all keys.items)) }
-    ensures error { IfErr result (λ error. IfSome (spec.fault error) (λ fault.
+    ensures error { IfErr result (λ error. IfSome (faults.fault error) (λ fault.
         spec.keys_in (table_view table.now) ≡ Err fault)) }
 {
     let mut keys = Vec::new(alloc);

@@ -29,8 +29,8 @@ fn dialect_numbered(number: i64) -> Option<Dialect>
     }
 }
 
-/// The language that a value names: `1`, `2`, `3` as a number or a string, or `"strftime"`. An `Err` says why
-/// it names none.
+/// The language that a value names: `1`, `2`, `3` as a number or a string, or a name like `"strftime"` or
+/// `"java"`. An `Err` says why it names none.
 pub fn dialect_valued(value: &Value) -> Result<Dialect, ValueFault>
     ensures { result ≡ spec.dialect_valued (view value.now) }
 {

@@ -8,7 +8,7 @@ use Rattle.timefd_fault.specs.declared.parse_error.ParseError.{ParseError}
 use Rattle.timefd_fault.specs.declared.parse_error.ParseError.TheVariants.{Invalid}
 use Rattle.timefd_rewrite.specs.declared.layout.Layout.{Layout}
 use Rattle.timefd_rewrite.specs.Layouts.{IsConverted, IsRefusal, IsRefusedFor}
-use Rattle.timefd_rewrite.proofs.RewriteLemmas.{refused_for}
+use Rattle.timefd_rewrite.proofs.LineChangeLemmas.{refused_for}
 use Rattle.timefd_sources.specs.declared.description.Description.{Description}
 use Rattle.timefd_sources.specs.Written.{IsBodyFor, has_body}
 use Rattle.timefd_lint_sources.specs.Items.{HoldsItem, taking}

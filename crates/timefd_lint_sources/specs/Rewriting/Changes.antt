@@ -9,7 +9,7 @@ use Rattle.timefd_language.specs.declared.language.Language.TheVariants as langu
 use Rattle.timefd_rewrite.specs.declared.layout.Layout.{Layout}
 use Rattle.timefd_rewrite.specs.declared.layout.Layout.TheVariants as layouts
 use Rattle.timefd_sources.specs.declared.dialect.Dialect.{Dialect}
-use Rattle.timefd_sources.specs.declared.dialect.Dialect.TheVariants.{One, Two, Three, Strftime, Chrono, Jiff}
+use Rattle.timefd_sources.specs.declared.dialect.Dialect.TheVariants.{One, Two, Three, Strftime, Python, C, Gnu, Chrono, Jiff, Ruby, Java, Go, Moment}
 use Rattle.timefd_sources.specs.Versions.{digit_of}
 use Rattle.timefd_lint_sources.specs.Judged.{is_passed_over, language_of}
 use Rattle.timefd_lint_sources.specs.declared.rewriting.change.Change.{Change}
@@ -21,10 +21,17 @@ conversion_to One version = conversion_between (language_of One) (languages.Vers
 conversion_to Two version = conversion_between (language_of Two) (languages.Version version)
 conversion_to Three version = conversion_between (language_of Three) (languages.Version version)
 conversion_to Strftime version = None
+conversion_to Python version = None
+conversion_to C version = None
+conversion_to Gnu version = None
 conversion_to Chrono version = None
 conversion_to Jiff version = None
+conversion_to Ruby version = None
+conversion_to Java version = None
+conversion_to Go version = None
+conversion_to Moment version = None
 
--- What only chrono or only jiff knows isn't fixed.
+-- What only another language or library knows isn't fixed.
 abbrev pub layout_of : Change → Dialect → Text → Option Layout
 layout_of (Mended fixes) dialect text =
     if is_passed_over dialect text then None else Some (layouts.Fixed (language_of dialect) fixes)

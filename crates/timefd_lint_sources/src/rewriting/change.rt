@@ -22,7 +22,7 @@ pub enum Change {
     Normal,
 }
 
-/// How a description is laid out. `None` if it stays as it is: because only chrono or only jiff knows
+/// How a description is laid out. `None` if it stays as it is: because only another language or library knows
 /// it, or because there is no conversion from its version, as for strftime.
 pub fn layout_of(change: Change, dialect: Dialect, text: &[u8]) -> Option<Layout>
     ensures { result ≡ spec.layout_of change dialect text.now }
@@ -58,7 +58,16 @@ fn conversion_to(dialect: Dialect, version: DescriptionVersion) -> Option<Conver
         Dialect::One | Dialect::Two | Dialect::Three => {
             conversion_between(language_of(dialect), Language::Version(version))
         }
-        Dialect::Strftime | Dialect::Chrono | Dialect::Jiff => None,
+        Dialect::Strftime
+        | Dialect::Python
+        | Dialect::C
+        | Dialect::Gnu
+        | Dialect::Chrono
+        | Dialect::Jiff
+        | Dialect::Ruby
+        | Dialect::Java
+        | Dialect::Go
+        | Dialect::Moment => None,
     }
 }
 

@@ -6,7 +6,7 @@ ghost use Rattle.timefd_lint_sources.specs.Rewriting.Written as spec;
 /// The outcome of a description.
 #[derive(Clone, Copy, Debug, PartialEq, Eq)]
 pub enum Outcome {
-    /// It has directives that only chrono or only jiff knows, or there is no conversion from its version.
+    /// Only another language or library knows it, or there is no conversion from its version.
     /// It stays as it is.
     PassedOver,
     /// It has nothing to fix, or already is what it would be converted to.

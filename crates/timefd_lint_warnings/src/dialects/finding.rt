@@ -1,6 +1,7 @@
 //! A finding in each form of output.
 
 ghost use Rattle.std.specs.Prelude.{◌≡◌, IfOk, string_bytes};
+ghost use Rattle.timefd_drawing.specs.Counted.{IsCounted};
 ghost use Rattle.timefd_lint_warnings.specs.Dialects.Drawn as spec;
 ghost use Rattle.timefd_lint_warnings.specs.Messages as messages;
 
@@ -11,9 +12,7 @@ use timefd_drawing::github::{Command, annotation};
 use timefd_drawing::json::{Entry, push_number, push_text};
 use timefd_drawing::sarif::{note_result, with_help};
 use timefd_drawing::shown::safe;
-use timefd_drawing::{
-    Format, Origin, Position, Style, char_position_from, none_counted, position_of,
-};
+use timefd_drawing::{Counter, Format, Origin, Position, Style, char_position_from, position_from};
 use timefd_warnings::Level;
 
 /// What is found in a part of a text.
@@ -31,30 +30,33 @@ pub struct Finding<'a> {
     pub span: Span,
 }
 
-/// A finding in the form that is asked for. An `Err` says that memory ran out.
+/// A finding in the form that is asked for. `from` says how far the lines of the text are counted. An `Err` says
+/// that memory ran out.
 pub fn drawn(
     alloc: Global,
     style: Style,
     origin: Origin<'_>,
     text: &str,
+    from: Counter,
     finding: Finding<'_>,
 ) -> Result<Vec<u8>, AllocError>
+    requires { IsCounted origin.line text.now from }
     ensures { IfOk result (λ message. message.items
         ≡ spec.drawn style origin.entry text.now finding.entry.level finding.entry.code.now
         finding.entry.message.now finding.entry.help.now finding.entry.span) }
 {
     match style.format {
         Format::Human => {
-            let drawing = human(alloc, style.is_colored, origin, text, finding)?;
+            let drawing = human(alloc, style.is_colored, origin, text, from, finding)?;
             Ok(drawing.into_bytes())
         }
         Format::Short => {
-            let line = short(alloc, origin, text, finding)?;
+            let line = short(alloc, origin, text, from, finding)?;
             Ok(line.into_bytes())
         }
-        Format::Json => json(alloc, origin, text, finding),
-        Format::Github => github(alloc, origin, text, finding),
-        Format::Sarif => sarif(alloc, origin, text, finding),
+        Format::Json => json(alloc, origin, text, from, finding),
+        Format::Github => github(alloc, origin, text, from, finding),
+        Format::Sarif => sarif(alloc, origin, text, from, finding),
     }
 }
 
@@ -74,12 +76,14 @@ fn short(
     alloc: Global,
     origin: Origin<'_>,
     text: &str,
+    from: Counter,
     finding: Finding<'_>,
 ) -> Result<String, AllocError>
+    requires { IsCounted origin.line text.now from }
     ensures { IfOk result (λ line. string_bytes line ≡ spec.short origin.entry text.now finding.entry.level
         finding.entry.code.now finding.entry.message.now finding.entry.span) }
 {
-    let position = position_of(alloc, origin.line, text, finding.span.start)?;
+    let position = position_from(alloc, origin.line, text, from, finding.span.start)?;
     let file = safe(alloc, origin.file)?;
     let (line, column) = (position.line, position.column);
     let (severity, code, message) = (severity(finding.level), finding.code, finding.message);
@@ -91,12 +95,14 @@ fn json(
     alloc: Global,
     origin: Origin<'_>,
     text: &str,
+    from: Counter,
     finding: Finding<'_>,
 ) -> Result<Vec<u8>, AllocError>
+    requires { IsCounted origin.line text.now from }
     ensures { IfOk result (λ object. object.items ≡ spec.json origin.entry text.now finding.entry.level
         finding.entry.code.now finding.entry.message.now finding.entry.help.now finding.entry.span) }
 {
-    let position = position_of(alloc, origin.line, text, finding.span.start)?;
+    let position = position_from(alloc, origin.line, text, from, finding.span.start)?;
     let severity = severity(finding.level);
     object(alloc, origin.file, position, severity, finding)
 }
@@ -141,12 +147,14 @@ fn github(
     alloc: Global,
     origin: Origin<'_>,
     text: &str,
+    from: Counter,
     finding: Finding<'_>,
 ) -> Result<Vec<u8>, AllocError>
+    requires { IsCounted origin.line text.now from }
     ensures { IfOk result (λ line. line.items ≡ spec.github origin.entry text.now finding.entry.level
         finding.entry.code.now finding.entry.message.now finding.entry.help.now finding.entry.span) }
 {
-    let position = position_of(alloc, origin.line, text, finding.span.start)?;
+    let position = position_from(alloc, origin.line, text, from, finding.span.start)?;
     let message = with_help(alloc, finding.message, finding.help)?;
     let entry = Entry {
         code: finding.code,
@@ -163,12 +171,13 @@ fn sarif(
     alloc: Global,
     origin: Origin<'_>,
     text: &str,
+    from: Counter,
     finding: Finding<'_>,
 ) -> Result<Vec<u8>, AllocError>
+    requires { IsCounted origin.line text.now from }
     ensures { IfOk result (λ reported. reported.items ≡ spec.sarif origin.entry text.now finding.entry.level
         finding.entry.code.now finding.entry.message.now finding.entry.help.now finding.entry.span) }
 {
-    let from = none_counted(origin.line);
     let position = char_position_from(origin.line, text, from, finding.span.start);
     let message = with_help(alloc, finding.message, finding.help)?;
     let entry = Entry {

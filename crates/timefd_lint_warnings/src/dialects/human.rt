@@ -1,6 +1,7 @@
 //! A finding as a drawing.
 
 ghost use Rattle.std.specs.Prelude.{◌≡◌, IfOk, string_bytes};
+ghost use Rattle.timefd_drawing.specs.Counted.{IsCounted};
 ghost use Rattle.timefd_lint_warnings.specs.Dialects.Drawn as spec;
 
 use crate::dialects::finding::Finding;
@@ -8,7 +9,7 @@ use crate::head;
 use std::alloc::{AllocError, Global};
 use timefd_drawing::lines::{push_help_line, push_position_line};
 use timefd_drawing::source_line::{margin, push_source};
-use timefd_drawing::{Origin, line_of, position_of};
+use timefd_drawing::{Counter, Origin, line_of, position_from};
 
 /// The drawing of a finding: its sentence, its position, the line with carets, and the help. An `Err` says
 /// that memory ran out.
@@ -17,13 +18,15 @@ pub fn human(
     is_colored: bool,
     origin: Origin<'_>,
     text: &str,
+    from: Counter,
     finding: Finding<'_>,
 ) -> Result<String, AllocError>
+    requires { IsCounted origin.line text.now from }
     ensures { IfOk result (λ drawing. string_bytes drawing
         ≡ spec.human is_colored origin.entry text.now finding.entry.level finding.entry.code.now
         finding.entry.message.now finding.entry.help.now finding.entry.span) }
 {
-    let position = position_of(alloc, origin.line, text, finding.span.start)?;
+    let position = position_from(alloc, origin.line, text, from, finding.span.start)?;
     let margin = margin(alloc, position.line)?;
     let line = line_of(text, finding.span);
     let mut out = head(

@@ -2,13 +2,14 @@
 
 ghost use Rattle.std.specs.Prelude.{◌≡◌, ◌++◌, IfOk, List, OnOk, flat_map};
 ghost use Rattle.timefd_dialect.specs.Reading.{Means, Piece};
+ghost use Rattle.timefd_drawing.specs.Counted.{IsCounted};
 ghost use Rattle.timefd_lint_warnings.specs.Dialects.Judging as spec;
 
 use crate::dialects::finding::{Finding, drawn};
 use std::alloc::{AllocError, Global};
 use timefd_diagnosis::Span;
 use timefd_dialect::{Dialect, DialectError, Found, Refusal, to_version_three, traps};
-use timefd_drawing::{Origin, Style};
+use timefd_drawing::{Counter, Origin, Style, none_counted};
 use timefd_warnings::Level;
 
 /// What a format of another language is.
@@ -45,7 +46,14 @@ pub fn judge(
     match to_version_three(alloc, dialect, text) {
         Ok(_converted) => converted(alloc, style, origin, reports_traps, dialect, text),
         Err(DialectError::Refused(refusal)) => {
-            let message = refusal_drawn(alloc, style, origin, text, refusal)?;
+            let message = refusal_drawn(
+                alloc,
+                style,
+                origin,
+                text,
+                none_counted(origin.line),
+                refusal,
+            )?;
             Ok(Judged {
                 judgement: Judgement::Refused,
                 message,
@@ -96,20 +104,23 @@ fn push_traps(
         ++ flat_map (spec.trap_drawn style origin.entry text.now) found.now) }
 {
     for trap in found {
-        let more = trap_drawn(alloc, style, origin, text, *trap)?;
+        let more = trap_drawn(alloc, style, origin, text, none_counted(origin.line), *trap)?;
         message.extend_from_slice(&more)?;
     }
     Ok(())
 }
 
-// The message on a trap.
-fn trap_drawn(
+/// The message on a trap that is in this part of the text. `from` says how far the lines of the text are counted. An
+/// `Err` says that memory ran out.
+pub fn trap_drawn(
     alloc: Global,
     style: Style,
     origin: Origin<'_>,
     text: &str,
+    from: Counter,
     found: Found,
 ) -> Result<Vec<u8>, AllocError>
+    requires { IsCounted origin.line text.now from }
     ensures { IfOk result (λ message. message.items
         ≡ spec.trap_drawn style origin.entry text.now found) }
 {
@@ -123,17 +134,20 @@ fn trap_drawn(
             end: found.end,
         },
     };
-    drawn(alloc, style, origin, text, finding)
+    drawn(alloc, style, origin, text, from, finding)
 }
 
-// The message on a part that has no text of version 3. Where the part ends isn't known, so only its start is reported.
-fn refusal_drawn(
+/// The message on a part that has no text of version 3, at this position of the text. Where the part ends isn't known, so
+/// only its start is reported. `from` says how far the lines of the text are counted. An `Err` says that memory ran out.
+pub fn refusal_drawn(
     alloc: Global,
     style: Style,
     origin: Origin<'_>,
     text: &str,
+    from: Counter,
     refusal: Refusal,
 ) -> Result<Vec<u8>, AllocError>
+    requires { IsCounted origin.line text.now from }
     ensures { IfOk result (λ message. message.items
         ≡ spec.refusal_drawn style origin.entry text.now refusal.reason refusal.index) }
 {
@@ -147,5 +161,5 @@ fn refusal_drawn(
             end: refusal.index,
         },
     };
-    drawn(alloc, style, origin, text, finding)
+    drawn(alloc, style, origin, text, from, finding)
 }

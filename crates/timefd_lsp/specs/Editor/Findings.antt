@@ -12,7 +12,7 @@ use Rattle.timefd_lsp.specs.Editor.Each.{AreOf}
 use Rattle.timefd_lsp.specs.Editor.Finding.{AreWarnings, IsNote, IsOne}
 use Rattle.timefd_fault.specs.Faults.{fault_of}
 use Rattle.timefd_lint_sources.specs.declared.reported.End.{End}
-use Rattle.timefd_lint_sources.specs.declared.reported.End.TheVariants.{PassedOver, Accepted, Refused, NotText, UnreadCall, UnreadValue}
+use Rattle.timefd_lint_sources.specs.declared.reported.End.TheVariants.{PassedOver, Accepted, Converted, Refused, NotText, UnreadCall, UnreadValue}
 use Rattle.timefd_lint_sources.specs.declared.reported.Source.{Source}
 use Rattle.timefd_lint_sources.specs.Judged.{AreDiagnosedOf, IsEndOf}
 use Rattle.timefd_lint_sources.specs.Reported.{AreJudgedIn}
@@ -39,6 +39,7 @@ AreFaults text d g further found = (one : List Finding) × (rest : List Finding)
 abbrev pub AreBy : Text → Description → End → List Finding → Type 0
 AreBy text d PassedOver found = found ≡ []
 AreBy text d (Accepted warned) found = AreWarnings text d warned found
+AreBy text d (Converted count) found = ⊥
 AreBy text d Refused found = (g : Diagnostic) × (further : List Diagnostic)
     × AreDiagnosedOf d g further × AreFaults text d g further found
 AreBy text d NotText found = IsNote text d found

@@ -1,8 +1,12 @@
--- What a part of a description means.
-use Rattle.std.specs.Prelude.{ℕ, ◌+◌, ◌≡◌, Bool, ◌&&◌, nat_le, nat_lt, List, [], ◌∷◌, ◌++◌, Option, None, Some, codes, decimal, string_bytes, if◌then◌else◌, IsTrue}
+-- What a part of a description means, or what is wrong there.
+use Rattle.std.specs.Prelude.{ℕ, ◌+◌, ◌≡◌, ◌⊎◌, Bool, true, false, ◌&&◌, nat_le, nat_lt, List, [], ◌∷◌, ◌++◌, Option, None, Some, codes, decimal, string_bytes, if◌then◌else◌, IsTrue}
 use Rattle.timefd_component.specs.Tree.{Text, Tree, trees}
+use Rattle.timefd_diagnosis.specs.declared.diagnostic.Diagnostic.{Diagnostic}
+use Rattle.timefd_diagnosis.specs.Diagnoses.{IsDiagnosed}
 use Rattle.timefd_drawing.specs.Shown.{safe}
 use Rattle.timefd_lsp.specs.declared.editor.hovered.Hover.{Hover}
+use Rattle.timefd_lsp.specs.Editor.FaultHovers.{IsFaultHover, is_at_fault}
+use Rattle.timefd_lsp.specs.Editor.GoodFronts.{IsGoodFront}
 use Rattle.timefd_lsp.specs.Editor.Positions.{range_of}
 use Rattle.timefd_explain.specs.declared.node.Node.{Node}
 use Rattle.timefd_explain.specs.Examples.{Examples, HasExample}
@@ -10,7 +14,7 @@ use Rattle.timefd_explain.specs.Parts.{AreParts, all_parts}
 use Rattle.timefd_explain.specs.Stands.{NodesStand}
 use Rattle.timefd_language.specs.Grammar.{nesting_limit}
 use Rattle.timefd_lint_sources.specs.declared.reported.End.{End}
-use Rattle.timefd_lint_sources.specs.declared.reported.End.TheVariants.{PassedOver, Accepted, Refused, NotText, UnreadCall, UnreadValue}
+use Rattle.timefd_lint_sources.specs.declared.reported.End.TheVariants.{PassedOver, Accepted, Converted, Refused, NotText, UnreadCall, UnreadValue}
 use Rattle.timefd_lint_sources.specs.declared.reported.Source.{Source}
 use Rattle.timefd_lint_sources.specs.Judged.{IsEndOf, IsJudged, language_in, text_of}
 use Rattle.timefd_lint_sources.specs.Reported.{AllFound, AreAllOf, IsFound}
@@ -80,6 +84,20 @@ pub record IsHoverIn (s : Source) (index : ℕ) (h : Hover) : Type 0 where
   pub example : HasExample node
   pub shown : IsHoverOf s.text.now description node h
 
+-- What is shown at an index of a document is the fault of a description whose literal covers the index, and the
+-- fault is there.
+pub record IsFaultIn (s : Source) (index : ℕ) (h : Hover) : Type 0 where
+  pub description : Description
+  pub fault : Diagnostic
+  pub found : IsFound s description
+  pub stands : IsTrue (is_at description.piece index)
+  pub diagnosed : IsDiagnosed (language_in description) (text_of description) fault
+  pub at : IsTrue (is_at_fault description fault index)
+  pub shown : IsFaultHover s.text.now description fault h
+
+abbrev pub IsPartOrFault : Source → ℕ → Hover → Type 0
+IsPartOrFault s index h = IsHoverIn s index h ⊎ IsFaultIn s index h
+
 -- The nodes are the parts of what a text spells, at their positions.
 pub record AreNodesOf (language : Language) (text : Text) (nodes : List Node) : Type 0 where
   pub parts : (list : List Tree) → SpellsIn language nesting_limit text list → AreParts (all_parts 0 (trees list)) nodes
@@ -92,28 +110,49 @@ IsShownOf document d (Some n) None = ⊥
 IsShownOf document d (Some n) (Some h) = IsHoverOf document d n h
 
 -- The innermost node at a byte is shown, if there is one.
-abbrev pub IsShownIn : Text → Description → Language → Text → ℕ → Option Hover → Type 0
-IsShownIn document d language text at found = (nodes : List Node) × AreNodesOf language text nodes
+abbrev pub IsShownIn : Text → Description → Text → ℕ → Option Hover → Type 0
+IsShownIn document d text at found = (nodes : List Node) × AreNodesOf (language_in d) text nodes
     × IsShownOf document d (innermost nodes at) found
 
--- This holds for an accepted description. For any other nothing is shown.
+-- of the pieces that precede the one at fault
+abbrev pub IsShownBefore : Text → Description → Text → ℕ → Option Hover → Type 0
+IsShownBefore document d text at found = (front : Text) × IsGoodFront (language_in d) text front
+    × IsShownIn document d front at found
+
+abbrev pub IsFaultShown : Text → Description → Diagnostic → Option Hover → Type 0
+IsFaultShown document d g None = ⊥
+IsFaultShown document d g (Some h) = IsFaultHover document d g h
+
+abbrev pub IsShownRefusedIf : Bool → Text → Description → Text → Diagnostic → ℕ → Option Hover → Type 0
+IsShownRefusedIf true document d text g index found = IsFaultShown document d g found
+IsShownRefusedIf false document d text g index found = IsShownBefore document d text (byte_at d index) found
+
+-- A fault is shown at its bytes, and elsewhere what precedes the piece that has it.
+abbrev pub IsShownRefused : Text → Description → Text → Diagnostic → ℕ → Option Hover → Type 0
+IsShownRefused document d text g index found =
+    IsShownRefusedIf (is_at_fault d g index) document d text g index found
+
+-- In an accepted description the part is shown, in a refused one the fault or a part before it, and in any other
+-- nothing.
 abbrev pub IsShownBy : Text → Description → Text → ℕ → End → Option Hover → Type 0
-IsShownBy document d text at PassedOver found = found ≡ None
-IsShownBy document d text at (Accepted warned) found = IsShownIn document d (language_in d) text at found
-IsShownBy document d text at Refused found = found ≡ None
-IsShownBy document d text at NotText found = found ≡ None
-IsShownBy document d text at UnreadCall found = ⊥
-IsShownBy document d text at UnreadValue found = ⊥
+IsShownBy document d text index PassedOver found = found ≡ None
+IsShownBy document d text index (Accepted warned) found = IsShownIn document d text (byte_at d index) found
+IsShownBy document d text index (Converted count) found = ⊥
+IsShownBy document d text index Refused found = (g : Diagnostic) × IsDiagnosed (language_in d) text g
+    × IsShownRefused document d text g index found
+IsShownBy document d text index NotText found = found ≡ None
+IsShownBy document d text index UnreadCall found = ⊥
+IsShownBy document d text index UnreadValue found = ⊥
 
 abbrev pub IsShownWhere : Text → Description → Text → ℕ → Option Hover → Type 0
-IsShownWhere document d text at found = (end : End) × IsJudged None (language_in d) text end
-    × IsShownBy document d text at end found
+IsShownWhere document d text index found = (end : End) × IsJudged None (language_in d) text end
+    × IsShownBy document d text index end found
 
 -- what is shown at an index of the document that has the description, by how its check ends
 pub record IsShownOn (document : Text) (d : Description) (index : ℕ) (h : Option Hover) : Type 0 where
   pub end : End
   pub is : IsEndOf None d end
-  pub shown : IsShownBy document d (text_of d) (byte_at d index) end h
+  pub shown : IsShownBy document d (text_of d) index end h
 
 abbrev pub IsShownOfAny : Text → Option Description → ℕ → Option Hover → Type 0
 IsShownOfAny document None index found = found ≡ None

@@ -65,8 +65,12 @@ fn push_fault(
     push(found, spot, start, end, Severity::Error, code, message)
 }
 
-// The words for a fault: a sentence, and what helps.
-fn words_on(alloc: Global, is_further: bool, diagnostic: &Diagnostic) -> Result<String, AllocError>
+/// The words for a fault: a sentence, and what helps. An `Err` says that memory ran out.
+pub fn words_on(
+    alloc: Global,
+    is_further: bool,
+    diagnostic: &Diagnostic,
+) -> Result<String, AllocError>
     ensures { IfOk result (λ words. string_bytes words ≡ fault_words is_further diagnostic.now) }
 {
     let sentence = reported_sentence(alloc, is_further, &diagnostic.fault)?;

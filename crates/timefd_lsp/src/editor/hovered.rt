@@ -1,12 +1,13 @@
-//! What is shown for a part of a description.
+//! What is shown for a part of a description, or for its fault.
 
 use crate::editor::position::Range;
 
-/// What is shown for a part of a description.
+/// What is shown for a part of a description, or for its fault.
 #[derive(Drop)]
 pub struct Hover {
-    /// Where the part is.
+    /// Where the part or the fault is.
     pub range: Range,
-    /// What the part is, how many bytes it reserves, and an example of what it writes, in two lines.
+    /// For a part: what it is, how many bytes it reserves, and an example of what it writes, in two lines. For a
+    /// fault: a sentence, and what helps.
     pub text: String,
 }

@@ -1,25 +1,27 @@
-//! What a part of a description means.
+//! What a part of a description means, or what is wrong there.
 
 ghost use Rattle.std.specs.Prelude.{◌≡◌, IfOk, IfSome, option_map, string_bytes};
-ghost use Rattle.timefd_lsp.specs.Editor.Hovers.{IsHoverIn, IsHoverOf, IsShownAt, IsShownIn, IsShownOn, IsShownWhere};
+ghost use Rattle.timefd_lsp.specs.Editor.Hovers.{IsHoverOf, IsPartOrFault, IsShownAt, IsShownIn, IsShownOn, IsShownRefused, IsShownWhere};
 ghost use Rattle.timefd_lsp.specs.Editor.Hovers as spec;
 
 use crate::editor::counter::{none_counted, range_from};
+use crate::editor::fault_hover::{fault_hover, is_at_fault};
+use crate::editor::good_front::good_front;
 use crate::editor::hovered::Hover;
 use std::alloc::{AllocError, Global};
 use std::str;
-use timefd_diagnosis::diagnose;
+use timefd_diagnosis::{Diagnostic, diagnose};
 use timefd_drawing::shown::safe;
 use timefd_explain::{Node, explanation_of};
 use timefd_lint_sources::{Source, descriptions_in, is_passed_over, language_of};
-use timefd_parse::Language;
 use timefd_sources::{Description, Piece, index_in_source};
 
-/// What the part at a byte index means, in a description that its language accepts: the component with its
-/// modifiers, the bytes that it reserves, and an example. `None` if there is no such part. An `Err` says that
+/// What the part at a byte index means: the component with its modifiers, the bytes that it reserves, and an
+/// example. In a description with a fault: what is wrong at that index, and what helps, or else the part that is
+/// there, if the pieces before the one at fault have it. `None` if there is nothing to show. An `Err` says that
 /// memory ran out.
 pub fn hover(alloc: Global, source: Source<'_>, index: usize) -> Result<Option<Hover>, AllocError>
-    ensures part { IfOk result (λ found. IfSome found (IsHoverIn source.entry index)) }
+    ensures part { IfOk result (λ found. IfSome found (IsPartOrFault source.entry index)) }
     ensures shown { IfOk result (IsShownAt source.entry index) }
 {
     let descriptions = descriptions_in(alloc, source)?;
@@ -48,7 +50,7 @@ fn is_at(piece: Piece, index: usize) -> bool
     piece.start <= index && index < piece.end
 }
 
-// What is shown for the part of a description at an index of its document.
+// What is shown for a description at an index of its document.
 fn hover_on(
     alloc: Global,
     text: &str,
@@ -62,10 +64,7 @@ fn hover_on(
         return Ok(None);
     }
     match str::from_utf8(bytes) {
-        Ok(reported) => {
-            let at = index_in(&description.unescaped.positions, index);
-            hover_at(alloc, text, description, reported, at)
-        }
+        Ok(reported) => hover_at(alloc, text, description, reported, index),
         Err(_) => Ok(None),
     }
 }
@@ -84,34 +83,56 @@ fn index_in(positions: &[usize], position: usize) -> usize
     at
 }
 
-// What is shown for the part at an index of this text, which is the description's.
+// What is shown at an index of the document, for a description that has this text.
+#[tactic(auto, using(crate::proofs::EditorLemmas::HoverLemmas::accepted))]
 fn hover_at(
     alloc: Global,
     text: &str,
     description: &Description,
     reported: &str,
-    at: usize,
+    index: usize,
 ) -> Result<Option<Hover>, AllocError>
-    ensures { IfOk result (IsShownWhere text.now description.now reported.now at) }
+    ensures { IfOk result (IsShownWhere text.now description.now reported.now index) }
 {
-    let language = language_of(description.dialect);
-    match diagnose(alloc, language, reported)? {
-        Some(_) => Ok(None),
-        None => shown(alloc, text, description, language, reported, at),
+    match diagnose(alloc, language_of(description.dialect), reported)? {
+        Some(diagnostic) => refused(alloc, text, description, reported, &diagnostic, index),
+        None => shown(alloc, text, description, reported, index),
     }
 }
 
+// What is shown for a refused text: its fault, if the index is there, or else the part that is there and
+// precedes the fault.
+#[tactic(auto, using(crate::proofs::EditorLemmas::HoverLemmas::at_fault, crate::proofs::EditorLemmas::HoverLemmas::before_fault))]
+fn refused(
+    alloc: Global,
+    text: &str,
+    description: &Description,
+    reported: &str,
+    diagnostic: &Diagnostic,
+    index: usize,
+) -> Result<Option<Hover>, AllocError>
+    ensures { IfOk result (IsShownRefused text.now description.now reported.now diagnostic.now index) }
+{
+    if is_at_fault(description, diagnostic, index) {
+        let hover = fault_hover(alloc, text, description, diagnostic)?;
+        return Ok(Some(hover));
+    }
+    let front = good_front(alloc, language_of(description.dialect), reported);
+    shown(alloc, text, description, front, index)
+}
+
+// What is shown for the part at an index of the document, where the parts are those of this text.
 fn shown(
     alloc: Global,
     text: &str,
     description: &Description,
-    language: Language,
     reported: &str,
-    at: usize,
+    index: usize,
 ) -> Result<Option<Hover>, AllocError>
-    ensures { IfOk result (IsShownIn text.now description.now language reported.now at) }
+    ensures { IfOk result (IsShownIn text.now description.now reported.now (spec.byte_at description.now index)) }
 {
-    let nodes = explanation_of(alloc, language, reported)?.nodes;
+    let at = index_in(&description.unescaped.positions, index);
+    let nodes = explanation_of(alloc, language_of(description.dialect), reported)?.nodes;
     match innermost(&nodes, at) {
         Some(node) => {
             let hover = hover_of(alloc, text, description, node)?;

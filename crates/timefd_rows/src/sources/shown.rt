@@ -9,8 +9,15 @@ fn dialect_mark(dialect: Dialect) -> &'static str {
         Dialect::Two => "2",
         Dialect::Three => "3",
         Dialect::Strftime => "strftime",
+        Dialect::Python => "python",
+        Dialect::C => "c",
+        Dialect::Gnu => "gnu",
         Dialect::Chrono => "chrono",
         Dialect::Jiff => "jiff",
+        Dialect::Ruby => "ruby",
+        Dialect::Java => "java",
+        Dialect::Go => "go",
+        Dialect::Moment => "moment",
     }
 }
 

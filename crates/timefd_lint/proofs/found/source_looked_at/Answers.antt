@@ -1,4 +1,5 @@
 use Rattle.std.proofs.Common.{refl, subst}
+use Rattle.timefd_lint_sources.specs.Rewriting.Values.{IsFoundRewritten}
 use Rattle.timefd_lint.specs.Rewritten.{AreCounted}
 use Rattle.timefd_lint.specs.Sources.{finder_of}
 use Rattle.timefd_lint.proofs.FateLemmas.{source_of_bytes}
@@ -7,9 +8,11 @@ use Rattle.timefd_lint.proofs.found.source_looked_at.Goals as goal
 
 pub returns-in-Ok-clause-rewritten : goal.returns-in-Ok-clause-rewritten
 returns-in-Ok-clause-rewritten g c =
-    text_rewritten c.args.change c.args.old.now c.in-Ok.source.now c.in_ok-new-in-Ok.new
-    c.counts_of.result c.in_ok-new-in-Ok.new.bytes.items c.in-Ok.ensures.cases.0
-    c.in-Ok.ensures.cases.1 c.in_ok-new-in-Ok.ensures
+    text_rewritten c.args.change (finder_of c.args.options c.args.name.now) c.args.old.now c.in-Ok.text.now
+    c.in_ok-new-in-Ok.new c.counts_of.result c.in_ok-new-in-Ok.new.bytes.items c.in-Ok.ensures.cases.0
+    c.in-Ok.ensures.cases.1
+    (subst (λ finder. IsFoundRewritten c.args.change finder c.in-Ok.text.now c.in_ok-new-in-Ok.new)
+    c.finder_of.ensures c.in_ok-new-in-Ok.ensures)
     (subst (λ os. AreCounted os c.counts_of.result) c.deref.ensures.value c.counts_of.ensures) refl
 
 pub returns-in-Ok-clause-reported : goal.returns-in-Ok-clause-reported

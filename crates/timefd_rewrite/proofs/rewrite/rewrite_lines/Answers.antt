@@ -1,14 +1,21 @@
 use Rattle.std.proofs.Common.{ap, ◌∙◌, ◌+◌}
 use Rattle.std.proofs.lemmas.Result.{err_from_is_err_and}
-use Rattle.timefd_rewrite.proofs.RewriteLemmas.{one_more, too_long, cut_short}
+use Rattle.timefd_rewrite.proofs.RewriteLemmas.{cut_short, none_yet, one_more, too_long}
 use Rattle.timefd_rewrite.proofs.rewrite.rewrite_lines.Goals as goal
+
+pub lines-init : goal.lines-init
+lines-init g c = record {
+  so_far = none_yet c.args.change c.args.comment (g.R.Read.remaining c.args.reader.now)
+      (g.W.Write.contents c.args.writer.now) c.new-counts.result c.new-counts.ensures;
+  turns = ap (λ x. x.lines) c.new-counts.ensures;
+}
 
 pub returns-in_err-rewrite_next-clause-cut_short :
     goal.returns-in_err-rewrite_next-clause-cut_short
 returns-in_err-rewrite_next-clause-cut_short g c =
     let p = err_from_is_err_and c.from_residual.result c.from_residual.ensures.1 in
     rw (p.1, p.2)
-    (cut_short c.args.layout c.args.comment (g.R.Read.remaining c.args.reader.now)
+    (cut_short c.args.change c.args.comment (g.R.Read.remaining c.args.reader.now)
     (g.R.Read.remaining c.lines.reader) (g.W.Write.contents c.args.writer.now)
     (g.W.Write.contents c.lines.writer) (g.W.Write.contents c.rewrite_next.new.writer)
     c.lines.counts c.in_err-rewrite_next.field-0.0 c.lines.invariant.so_far
@@ -16,7 +23,7 @@ returns-in_err-rewrite_next-clause-cut_short g c =
 
 pub lines-preserved : goal.lines-preserved
 lines-preserved g c = record {
-  so_far = one_more c.args.layout c.args.comment (g.R.Read.remaining c.args.reader.now)
+  so_far = one_more c.args.change c.args.comment (g.R.Read.remaining c.args.reader.now)
       (g.R.Read.remaining c.lines.reader) (g.R.Read.remaining c.rewrite_next.new.reader)
       (g.W.Write.contents c.args.writer.now) (g.W.Write.contents c.lines.writer)
       (g.W.Write.contents c.rewrite_next.new.writer) c.lines.counts c.with-counts.result
@@ -27,6 +34,6 @@ lines-preserved g c = record {
 
 pub returns-clause-cut_short : goal.returns-clause-cut_short
 returns-clause-cut_short g c =
-    too_long c.args.layout c.args.comment (g.R.Read.remaining c.args.reader.now)
+    too_long c.args.change c.args.comment (g.R.Read.remaining c.args.reader.now)
     (g.R.Read.remaining c.lines.reader) (g.W.Write.contents c.args.writer.now)
     (g.W.Write.contents c.lines.writer) c.lines.counts c.lines.invariant.so_far

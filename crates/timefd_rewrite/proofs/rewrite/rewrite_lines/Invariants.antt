@@ -5,7 +5,7 @@ use Rattle.timefd_rewrite.proofs.rewrite.rewrite_lines.Given as goal
 -- The lines that were read are written, and there was one step for each of them.
 abbrev pub invariant-lines : goal.invariant-lines
 invariant-lines g l = record {
-  so_far : AreUpTo l.layout l.comment (g.R.Read.remaining l.fn.reader)
+  so_far : AreUpTo l.change l.comment (g.R.Read.remaining l.fn.reader)
       (g.R.Read.remaining l.reader) (g.W.Write.contents l.fn.writer) (g.W.Write.contents l.writer)
       l.counts;
   turns : l.counts.lines ≡ l._line;

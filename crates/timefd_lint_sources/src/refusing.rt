@@ -1,0 +1,78 @@
+//! Which formats of other languages and libraries are refused.
+
+ghost use Rattle.std.specs.Prelude.{◌≡◌};
+ghost use Rattle.timefd_lint_sources.specs.Refusing as spec;
+
+use crate::reported::Finder;
+use timefd_dialect::{Dialect, Reason};
+
+/// Whether a format is refused that version 3 can't write for this reason. In a source of Rust the formats of
+/// chrono and jiff are right if the library takes them, whatever version 3 has.
+pub fn is_refused(finder: Finder<'_>, dialect: Dialect, reason: Reason) -> bool
+    ensures { result ≡ spec.is_refused finder.entry dialect reason }
+{
+    match finder {
+        Finder::Rust => is_refused_in_rust(dialect, reason),
+        Finder::Keys(_, _) => true,
+    }
+}
+
+fn is_refused_in_rust(dialect: Dialect, reason: Reason) -> bool
+    ensures { result ≡ spec.is_refused_in_rust dialect reason }
+{
+    match dialect {
+        Dialect::Chrono => reason.is_unknown(),
+        Dialect::Jiff => is_unknown_directive(reason),
+        Dialect::Python
+        | Dialect::C
+        | Dialect::Gnu
+        | Dialect::Ruby
+        | Dialect::Java
+        | Dialect::Go
+        | Dialect::Moment => true,
+    }
+}
+
+// Whether there is no such directive. Jiff takes each flag before each directive.
+fn is_unknown_directive(reason: Reason) -> bool
+    ensures { result ≡ spec.is_unknown_directive reason }
+{
+    match reason {
+        Reason::UnknownDirective => true,
+        Reason::Backslash
+        | Reason::Capitals
+        | Reason::DatetimeOnly
+        | Reason::DayPeriod
+        | Reason::Era
+        | Reason::Flag
+        | Reason::FractionWidth
+        | Reason::GmtOffset
+        | Reason::HourFrom0Or24
+        | Reason::JulianDay
+        | Reason::LocalTime
+        | Reason::LocalWeek
+        | Reason::Locale
+        | Reason::NarrowName
+        | Reason::OptionalPart
+        | Reason::OrdinalSuffix
+        | Reason::PadLetter
+        | Reason::Platform
+        | Reason::Quarter
+        | Reason::ReadingOnly
+        | Reason::Reserved
+        | Reason::TooManyLetters
+        | Reason::TwoDigitYear
+        | Reason::TwoLetterName
+        | Reason::UnclosedQuote
+        | Reason::UnitOfDay
+        | Reason::UnknownLetter
+        | Reason::Unsupported
+        | Reason::VariableFraction
+        | Reason::VariableOffset
+        | Reason::VariableWidth
+        | Reason::WeekOfMonth
+        | Reason::Width
+        | Reason::ZForUtc
+        | Reason::ZoneName => false,
+    }
+}
