@@ -38,6 +38,14 @@ static bool judge(uint32_t kind, const uint8_t *text, size_t len) {
     return true;
 }
 
+/* Converts a text to version 3: of a language, or a format of a dialect. */
+static bool convert(uint32_t kind, const uint8_t *text, size_t len) {
+    if (kind < TIMEFD_PYTHON) {
+        return timefd_convert(kind, TIMEFD_VERSION_3, text, len, literals, ROOM).status == TIMEFD_ACCEPTED;
+    }
+    return timefd_convert_format(kind, text, len, literals, ROOM).status == TIMEFD_ACCEPTED;
+}
+
 #ifdef WITH_PEERS
 static bool parse_by_crate(uint32_t kind, const uint8_t *text, size_t len) {
     parse_in_rust(kind, text, len);
@@ -58,6 +66,7 @@ static const struct {
     {"composites", read_composites},
     {"borrowed", parse_borrowed},
     {"judge", judge},
+    {"convert", convert},
 #ifdef WITH_PEERS
     {"rust", parse_by_crate},
     {"time", parse_by_time},

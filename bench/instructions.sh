@@ -26,6 +26,7 @@ function_of() {
     composites) echo timefd_read_composites ;;
     borrowed) echo timefd_parse_borrowed ;;
     judge) echo timefd_judge ;;
+    convert) echo convert ;;
     rust) echo parse_in_rust ;;
     time) echo peer_time ;;
     esac
@@ -89,6 +90,18 @@ echo '|---|---|---|'
 for text in '%d' '%Y-%m-%d %H:%M:%S' '%F %T' '%c'; do
     echo "| \`$text\` | $(per_call read 4 "$text") | $(per_call composites 4 "$text") |"
 done
+
+echo
+echo '| A format of 20 bytes, converted to version 3 | Instructions |'
+echo '|---|---|'
+stamp='%Y-%m-%dT%H:%M:%S%z'
+echo "| \`$stamp\` of \`time\`'s strftime | $(per_call convert 4 "$stamp") |"
+for dialect in 101:Python 102:C '103:GNU date' 104:chrono 105:jiff 106:Ruby; do
+    echo "| \`$stamp\` of ${dialect#*:} | $(per_call convert "${dialect%%:*}" "$stamp") |"
+done
+echo "| \`yyyy-MM-dd'T'HH:mm:s\` of Java | $(per_call convert 107 "yyyy-MM-dd'T'HH:mm:s") |"
+echo "| \`2006-01-02T15:04:05Z\` of Go | $(per_call convert 108 '2006-01-02T15:04:05Z') |"
+echo "| \`YYYY-MM-DD HH:mm:ssZ\` of moment | $(per_call convert 109 'YYYY-MM-DD HH:mm:ssZ') |"
 
 head_of 'Brackets with modifiers'
 for text in '[month repr:short]' '[hour repr:12 padding:none]' '[weekday repr:sunday one_indexed:false]' \
