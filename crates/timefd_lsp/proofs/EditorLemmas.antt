@@ -1,6 +1,7 @@
 pub mod WalkLemmas
 pub mod PositionLemmas
 pub mod BoundaryLemmas
+pub mod CursorLemmas
 pub mod EachLemmas
 pub mod WarningLemmas
 pub mod FindingLemmas

@@ -1,11 +1,17 @@
 pub mod Actions
 pub mod AllFixes
+pub mod Completions
+pub mod Cursors
 pub mod Each
 pub mod Edits
 pub mod FaultHovers
 pub mod Finding
 pub mod Findings
+pub mod Given
 pub mod GoodFronts
 pub mod Hovers
+pub mod Offered
+pub mod OpenSlots
 pub mod Positions
 pub mod Replacing
+pub mod Scans
