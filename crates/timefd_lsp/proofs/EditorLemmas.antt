@@ -1,6 +1,7 @@
 pub mod WalkLemmas
 pub mod PositionLemmas
 pub mod BoundaryLemmas
+pub mod CompletionLemmas
 pub mod CursorLemmas
 pub mod EachLemmas
 pub mod WarningLemmas
@@ -10,3 +11,4 @@ pub mod ActionLemmas
 pub mod FixLemmas
 pub mod GoodFrontLemmas
 pub mod HoverLemmas
+pub mod OfferedLemmas

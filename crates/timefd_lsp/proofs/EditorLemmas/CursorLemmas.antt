@@ -29,8 +29,10 @@ reaches text front (b ∷ rest) start whole utf8 at = by (is_key_byte b) refl
   where
     next : text ≡ (front ++ b ∷ []) ++ rest
     next = subst (λ t. text ≡ t) (sym (append_assoc front (b ∷ []) rest)) whole
+
     long : length (front ++ b ∷ []) ≡ length front + 1
     long = length-append front (b ∷ [])
+
     by : (k : Bool) → is_key_byte b ≡ k
         → IsCharBoundary text (start_from (if k then start else length front + 1) (length front + 1) rest)
     by true is =

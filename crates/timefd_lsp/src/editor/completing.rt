@@ -1,7 +1,6 @@
 //! The words that may be written at a cursor in a description.
 
 ghost use Rattle.std.specs.Prelude.{◌≡◌, IfOk, option_map};
-ghost use Rattle.timefd_diagnosis.specs.Words.{texts};
 ghost use Rattle.timefd_lsp.specs.Editor.Completions.{IsCompletedAt, IsCompletedFrom, IsCompletedIn, IsCompletedOn, IsCompletedOver, IsCompletion};
 ghost use Rattle.timefd_lsp.specs.Editor.Completions as spec;
 ghost use Rattle.timefd_lsp.specs.Editor.Offered.{around};
@@ -20,6 +19,7 @@ use timefd_sources::{Description, Piece, index_in_source};
 /// The words that may be written at a cursor, which is at this byte index: names, keys or values, in a bracket of a
 /// description of version 1, 2 or 3. `None` if no word is known that belongs there. An `Err` says that memory ran
 /// out.
+#[tactic(auto, using(crate::proofs::EditorLemmas::CompletionLemmas::at_first))]
 pub fn complete(
     alloc: Global,
     source: Source<'_>,
@@ -53,6 +53,7 @@ fn touches(piece: Piece, index: usize) -> bool
 }
 
 // What may be written at an index of the document, where this description is.
+#[tactic(auto, using(crate::proofs::EditorLemmas::CompletionLemmas::of_version, crate::proofs::EditorLemmas::CompletionLemmas::of_strftime))]
 fn complete_on(
     alloc: Global,
     text: &str,
@@ -67,6 +68,7 @@ fn complete_on(
     }
 }
 
+#[tactic(auto, using(crate::proofs::EditorLemmas::CompletionLemmas::at_none, crate::proofs::EditorLemmas::CompletionLemmas::not_text, crate::proofs::EditorLemmas::CompletionLemmas::at_byte))]
 fn complete_in(
     alloc: Global,
     text: &str,
@@ -86,6 +88,7 @@ fn complete_in(
 }
 
 // What may be written where this many bytes of the description precede the cursor.
+#[tactic(auto, using(crate::proofs::EditorLemmas::CompletionLemmas::between, crate::proofs::EditorLemmas::CompletionLemmas::within))]
 fn complete_over(
     alloc: Global,
     text: &str,
@@ -106,6 +109,7 @@ fn complete_over(
 }
 
 // What may be written between two parts of a description.
+#[tactic(auto, using(crate::proofs::EditorLemmas::CompletionLemmas::known, crate::proofs::EditorLemmas::CompletionLemmas::unknown))]
 fn complete_from(
     alloc: Global,
     text: &str,

@@ -35,6 +35,7 @@ pub fn offered(alloc: Global, begun: Begun<'_>) -> Result<Vec<&'static str>, All
     Ok(words)
 }
 
+#[tactic(auto, using(crate::proofs::EditorLemmas::OfferedLemmas::one_more, crate::proofs::EditorLemmas::OfferedLemmas::at_last))]
 fn push_all(
     words: &mut Vec<&'static str>,
     begun: Begun<'_>,
@@ -50,6 +51,7 @@ fn push_all(
 }
 
 // Adds a word, if it may be written there.
+#[tactic(auto, using(crate::proofs::EditorLemmas::OfferedLemmas::one_kept, crate::proofs::EditorLemmas::OfferedLemmas::none_kept))]
 fn push_if(
     words: &mut Vec<&'static str>,
     begun: Begun<'_>,
