@@ -25,7 +25,8 @@ after_byte front rest b utf8 ascii =
 reaches : (text front rest : Text) (start : ℕ) → text ≡ front ++ rest → IsUtf8 text → IsCharBoundary text start
     → IsCharBoundary text (start_from start (length front) rest)
 reaches text front [] start whole utf8 at = at
-reaches text front (b ∷ rest) start whole utf8 at = by (is_key_byte b) refl
+reaches text front (b ∷ rest) start whole utf8 at =
+    by (is_key_byte b) refl (λ from there. reaches text (front ++ b ∷ []) rest from next utf8 there)
   where
     next : text ≡ (front ++ b ∷ []) ++ rest
     next = subst (λ t. text ≡ t) (sym (append_assoc front (b ∷ []) rest)) whole
@@ -34,13 +35,13 @@ reaches text front (b ∷ rest) start whole utf8 at = by (is_key_byte b) refl
     long = length-append front (b ∷ [])
 
     by : (k : Bool) → is_key_byte b ≡ k
+        → ((from : ℕ) → IsCharBoundary text from
+        → IsCharBoundary text (start_from from (length (front ++ b ∷ [])) rest))
         → IsCharBoundary text (start_from (if k then start else length front + 1) (length front + 1) rest)
-    by true is =
-        subst (λ n. IsCharBoundary text (start_from start n rest)) long
-        (reaches text (front ++ b ∷ []) rest start next utf8 at)
-    by false is =
+    by true is later = subst (λ n. IsCharBoundary text (start_from start n rest)) long (later start at)
+    by false is later =
         subst (λ n. IsCharBoundary text (start_from (length front + 1) n rest)) long
-        (reaches text (front ++ b ∷ []) rest (length front + 1) next utf8
+        (later (length front + 1)
         (subst (λ t. IsCharBoundary t (length front + 1)) (sym whole)
         (after_byte front rest b (subst IsUtf8 whole utf8) (ends_ascii b is))))
 
