@@ -12,3 +12,4 @@ pub mod FixLemmas
 pub mod GoodFrontLemmas
 pub mod HoverLemmas
 pub mod OfferedLemmas
+pub mod OtherLemmas

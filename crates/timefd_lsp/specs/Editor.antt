@@ -8,6 +8,7 @@ pub mod FaultHovers
 pub mod Finding
 pub mod Findings
 pub mod Given
+pub mod Others
 pub mod GoodFronts
 pub mod Hovers
 pub mod Offered

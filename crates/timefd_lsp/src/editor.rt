@@ -19,6 +19,7 @@ mod hovering;
 pub mod laws;
 mod offered;
 mod open_slot;
+mod other;
 mod position;
 mod replacing;
 mod scan;
