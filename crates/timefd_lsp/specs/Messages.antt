@@ -21,6 +21,7 @@ use Rattle.timefd_lsp.specs.declared.message.Request.TheVariants as asked
 pub data Asked : Type 0 where
   initialize : Asked
   hover : List ℕ → Position → Asked
+  completion : List ℕ → Position → Asked
   actions : List ℕ → Range → Wanted → Asked
   shutdown : Asked
   unknown : Asked
@@ -29,6 +30,7 @@ pub data Asked : Type 0 where
 abbrev pub seen_request : Request → Asked
 seen_request asked.Initialize = initialize
 seen_request (asked.Hover uri position) = hover (string_bytes uri) position
+seen_request (asked.Completion uri position) = completion (string_bytes uri) position
 seen_request (asked.Actions uri range wanted) = actions (string_bytes uri) range wanted
 seen_request asked.Shutdown = shutdown
 seen_request asked.Unknown = unknown
@@ -41,6 +43,14 @@ hover_from None position = wrong_params
 
 abbrev pub hover_of : Data → Asked
 hover_of d = hover_from (uri_of d) (position_in d)
+
+abbrev pub completion_from : Option (List ℕ) → Option Position → Asked
+completion_from (Some uri) (Some position) = completion uri position
+completion_from (Some uri) None = wrong_params
+completion_from None position = wrong_params
+
+abbrev pub completion_of : Data → Asked
+completion_of d = completion_from (uri_of d) (position_in d)
 
 abbrev pub actions_from : Option (List ℕ) → Option Range → Wanted → Asked
 actions_from (Some uri) (Some range) wanted = actions uri range wanted
@@ -56,6 +66,7 @@ request_of method d =
     else if bytes_eq method (codes "shutdown") then shutdown
     else if bytes_eq method (codes "textDocument/hover") then hover_of d
     else if bytes_eq method (codes "textDocument/codeAction") then actions_of d
+    else if bytes_eq method (codes "textDocument/completion") then completion_of d
     else unknown
 
 -- what is reported, without the addresses of its texts in memory

@@ -27,5 +27,6 @@ abbrev pub refusal_of : Answer → Option Refusal
 refusal_of answers.Capabilities = None
 refusal_of answers.Nothing = None
 refusal_of (answers.Hover hover) = None
+refusal_of (answers.Completion completion) = None
 refusal_of (answers.Actions uri actions) = None
 refusal_of (answers.Refused refusal) = Some refusal

@@ -23,11 +23,13 @@ use Rattle.timefd_lsp.specs.declared.reply.Refusal.TheVariants as refusals
 use Rattle.timefd_lsp.specs.declared.reply.Reply.TheVariants as replies
 use Rattle.timefd_lsp.specs.declared.editor.action.Action.{Action}
 use Rattle.timefd_lsp.specs.declared.editor.action.Wanted.{Wanted}
+use Rattle.timefd_lsp.specs.declared.editor.completed.Completion.{Completion}
 use Rattle.timefd_lsp.specs.declared.editor.finding.Finding.{Finding}
 use Rattle.timefd_lsp.specs.declared.editor.hovered.Hover.{Hover}
 use Rattle.timefd_lsp.specs.declared.editor.position.Position.{Position}
 use Rattle.timefd_lsp.specs.declared.editor.position.Range.{Range}
 use Rattle.timefd_lsp.specs.Editor.Actions.{AreActionsOf}
+use Rattle.timefd_lsp.specs.Editor.Completions.{IsCompletedAt}
 use Rattle.timefd_lsp.specs.Editor.Findings.{AreFindingsOf}
 use Rattle.timefd_lsp.specs.Editor.Hovers.{IsShownAt}
 use Rattle.timefd_lsp.specs.Editor.Positions.{index_of}
@@ -48,6 +50,7 @@ first = New
 abbrev pub first_refusal : Request → Option Refusal
 first_refusal asked.Initialize = None
 first_refusal (asked.Hover uri position) = Some refusals.NotInitialized
+first_refusal (asked.Completion uri position) = Some refusals.NotInitialized
 first_refusal (asked.Actions uri range wanted) = Some refusals.NotInitialized
 first_refusal asked.Shutdown = Some refusals.NotInitialized
 first_refusal asked.Unknown = Some refusals.NotInitialized
@@ -57,6 +60,7 @@ first_refusal asked.WrongParams = Some refusals.NotInitialized
 abbrev pub running_refusal : Request → Option Refusal
 running_refusal asked.Initialize = Some refusals.InvalidRequest
 running_refusal (asked.Hover uri position) = None
+running_refusal (asked.Completion uri position) = None
 running_refusal (asked.Actions uri range wanted) = None
 running_refusal asked.Shutdown = None
 running_refusal asked.Unknown = Some refusals.UnknownMethod
@@ -71,6 +75,7 @@ refusal ShutDown request = Some refusals.InvalidRequest
 abbrev pub first_phase : Phase → Request → Phase
 first_phase phase asked.Initialize = Running
 first_phase phase (asked.Hover uri position) = phase
+first_phase phase (asked.Completion uri position) = phase
 first_phase phase (asked.Actions uri range wanted) = phase
 first_phase phase asked.Shutdown = phase
 first_phase phase asked.Unknown = phase
@@ -79,6 +84,7 @@ first_phase phase asked.WrongParams = phase
 abbrev pub running_phase : Phase → Request → Phase
 running_phase phase asked.Initialize = phase
 running_phase phase (asked.Hover uri position) = phase
+running_phase phase (asked.Completion uri position) = phase
 running_phase phase (asked.Actions uri range wanted) = phase
 running_phase phase asked.Shutdown = ShutDown
 running_phase phase asked.Unknown = phase
@@ -135,6 +141,18 @@ IsHoverAnswer settings (Some document) position answer = (source : Source) × Is
     × ((found : Option Hover) × IsShownAt source (index_of source.text.now position) found
     × (answer ≡ hover_answer found))
 
+abbrev pub completion_answer : Option Completion → Answer
+completion_answer None = answers.Nothing
+completion_answer (Some completion) = answers.Completion completion
+
+-- the words that may be written at a position of a document, if it is open
+abbrev pub IsCompletionAnswer : Settings → Option Document → Position → Answer → Type 0
+IsCompletionAnswer settings None position answer = answer ≡ answers.Nothing
+IsCompletionAnswer settings (Some document) position answer = (source : Source)
+    × IsSourceOf settings document source
+    × ((found : Option Completion) × IsCompletedAt source (index_of source.text.now position) found
+    × (answer ≡ completion_answer found))
+
 -- the answer for a range of a document, if it is open
 abbrev pub IsActionsAnswer : Settings → Option Document → String Global → Range → Wanted → Answer → Type 0
 IsActionsAnswer settings None uri range wanted answer = answer ≡ answers.Nothing
@@ -149,6 +167,7 @@ IsActionsAnswer settings (Some document) uri range wanted answer = (source : Sou
 abbrev pub IsFirstAnswer : Request → Answer → Type 0
 IsFirstAnswer asked.Initialize answer = answer ≡ answers.Capabilities
 IsFirstAnswer (asked.Hover uri position) answer = ⊤
+IsFirstAnswer (asked.Completion uri position) answer = ⊤
 IsFirstAnswer (asked.Actions uri range wanted) answer = ⊤
 IsFirstAnswer asked.Shutdown answer = ⊤
 IsFirstAnswer asked.Unknown answer = ⊤
@@ -158,6 +177,8 @@ abbrev pub IsRunningAnswer : Settings → BTreeMap (String Global) Document → 
 IsRunningAnswer settings documents asked.Initialize answer = ⊤
 IsRunningAnswer settings documents (asked.Hover uri position) answer =
     IsHoverAnswer settings (get_by_text documents (string_bytes uri)) position answer
+IsRunningAnswer settings documents (asked.Completion uri position) answer =
+    IsCompletionAnswer settings (get_by_text documents (string_bytes uri)) position answer
 IsRunningAnswer settings documents (asked.Actions uri range wanted) answer =
     IsActionsAnswer settings (get_by_text documents (string_bytes uri)) uri range wanted answer
 IsRunningAnswer settings documents asked.Shutdown answer = answer ≡ answers.Nothing

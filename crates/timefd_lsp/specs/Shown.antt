@@ -1,11 +1,15 @@
 -- What an editor shows, as values of JSON. An object has its members in the order of their names.
 use Rattle.std.specs.Prelude.{ℕ, Bool, true, false, List, codes, map, string_bytes}
+use Rattle.std.specs.Borrow.{Bor}
 use Rattle.serde_json.specs.Data.{Data, boolean, number, unsigned, string, array, object, item, no_items, member, no_members}
 use Rattle.serde_json.specs.View.{items_of}
+use Rattle.timefd_diagnosis.specs.declared.slot.Slot.{Slot}
+use Rattle.timefd_diagnosis.specs.declared.slot.Slot.TheVariants as slots
 use Rattle.timefd_lsp.specs.declared.editor.action.Action.{Action}
 use Rattle.timefd_lsp.specs.declared.editor.action.ActionKind.{ActionKind}
 use Rattle.timefd_lsp.specs.declared.editor.action.ActionKind.TheVariants.{QuickFix, Guess, Rewrite, FixAll}
 use Rattle.timefd_lsp.specs.declared.editor.action.Edit.{Edit}
+use Rattle.timefd_lsp.specs.declared.editor.completed.Completion.{Completion}
 use Rattle.timefd_lsp.specs.declared.editor.finding.Finding.{Finding}
 use Rattle.timefd_lsp.specs.declared.editor.finding.Severity.{Severity}
 use Rattle.timefd_lsp.specs.declared.editor.finding.Severity.TheVariants.{Error, Warning}
@@ -59,6 +63,29 @@ markdown text = object (member (codes "kind") (string (codes "markdown"))
 abbrev pub hover_data : Hover → Data
 hover_data hover = object (member (codes "contents") (markdown (string_bytes hover.text))
     (member (codes "range") (range_data hover.range) no_members))
+
+-- the number of a kind of words in the protocol: a field, a property or a value
+abbrev pub kind_number : Slot → ℕ
+kind_number slots.Name = 5
+kind_number (slots.Key name) = 10
+kind_number (slots.Value key) = 12
+
+-- a word in place of a range
+abbrev pub replacement : Range → List ℕ → Data
+replacement range word = object (member (codes "newText") (string word)
+    (member (codes "range") (range_data range) no_members))
+
+abbrev pub word_data : Range → Slot → List ℕ → Data
+word_data range slot word = object (member (codes "kind") (number (unsigned (kind_number slot)))
+    (member (codes "label") (string word)
+    (member (codes "textEdit") (replacement range word) no_members)))
+
+abbrev pub words_data : Range → Slot → List (Bor (List ℕ)) → Data
+words_data range slot words = array (items_of (map (λ w. word_data range slot w.now) words))
+
+-- each word that may be written at a position
+abbrev pub completion_data : Completion → Data
+completion_data completion = words_data completion.range completion.slot completion.words.items
 
 abbrev pub edit_data : Edit → Data
 edit_data edit = object (member (codes "newText") (string (string_bytes edit.text))

@@ -3,7 +3,7 @@ use Rattle.std.specs.Prelude.{ℕ, List, codes, Option, Some, None, string_bytes
 use Rattle.serde_json.specs.Data.{Data, null, boolean, number, unsigned, string, array, object, item, no_items, member, no_members}
 use Rattle.serde_json.specs.Find.{of_integer}
 use Rattle.timefd_lsp.specs.Replies.{code_of, sentence_of}
-use Rattle.timefd_lsp.specs.Shown.{actions_data, findings_data, hover_data, loss_data}
+use Rattle.timefd_lsp.specs.Shown.{actions_data, completion_data, findings_data, hover_data, loss_data}
 use Rattle.timefd_lsp.specs.declared.envelope.Id.{Id}
 use Rattle.timefd_lsp.specs.declared.envelope.Id.TheVariants as ids
 use Rattle.timefd_lsp.specs.declared.reply.Answer.{Answer}
@@ -46,12 +46,18 @@ action_kinds = object (member (codes "codeActionKinds")
     (array (item (string (codes "quickfix")) (item (string (codes "refactor.rewrite"))
     (item (string (codes "source.fixAll.timefd")) no_items)))) no_members)
 
+-- after which characters an editor asks what may be written
+abbrev pub trigger_characters : Data
+trigger_characters = object (member (codes "triggerCharacters")
+    (array (item (string (codes "[")) (item (string (codes " ")) (item (string (codes ":")) no_items)))) no_members)
+
 -- The server takes changes of ranges (2), and counts characters in UTF-16.
 abbrev pub provided : Data
 provided = object (member (codes "codeActionProvider") action_kinds
+    (member (codes "completionProvider") trigger_characters
     (member (codes "hoverProvider") (boolean true)
     (member (codes "positionEncoding") (string (codes "utf-16"))
-    (member (codes "textDocumentSync") (number (unsigned 2)) no_members))))
+    (member (codes "textDocumentSync") (number (unsigned 2)) no_members)))))
 
 abbrev pub server : Data
 server = object (member (codes "name") (string (codes "timefd_lint"))
@@ -65,6 +71,7 @@ response id (answers.Refused refusal) = refused id refusal
 response id answers.Capabilities = answered id capabilities
 response id answers.Nothing = answered id null
 response id (answers.Hover hover) = answered id (hover_data hover)
+response id (answers.Completion completion) = answered id (completion_data completion)
 response id (answers.Actions uri actions) = answered id (actions_data (string_bytes uri) actions.items)
 
 -- the value of a reply

@@ -6,7 +6,7 @@ ghost use Rattle.timefd_lsp.specs.Replies.{refusal_of};
 ghost use Rattle.timefd_lsp.specs.Servers as spec;
 
 use crate::documents::Documents;
-use crate::editor::{Position, Range, Wanted, actions, hover, index_of};
+use crate::editor::{Position, Range, Wanted, actions, complete, hover, index_of};
 use crate::message::Request;
 use crate::reply::{Answer, Refusal};
 use crate::server::{Phase, Server, Settings, source_of};
@@ -45,6 +45,7 @@ fn first_answer(server: &mut Server, request: &Request) -> Answer
             Answer::Capabilities
         }
         Request::Hover { .. }
+        | Request::Completion { .. }
         | Request::Actions { .. }
         | Request::Shutdown
         | Request::Unknown
@@ -67,6 +68,9 @@ fn running_answer(
         Request::Initialize => Ok(Answer::Refused(Refusal::InvalidRequest)),
         Request::Hover { uri, position } => {
             hover_at(alloc, settings, &server.documents, &uri, position)
+        }
+        Request::Completion { uri, position } => {
+            completion_at(alloc, settings, &server.documents, &uri, position)
         }
         Request::Actions { uri, range, wanted } => {
             actions_in(alloc, settings, &server.documents, uri, range, wanted)
@@ -98,6 +102,28 @@ fn hover_at(
     let source = source_of(settings, uri, document.kind, text);
     match hover(alloc, source, index_of(text, position))? {
         Some(hover) => Ok(Answer::Hover(hover)),
+        None => Ok(Answer::Nothing),
+    }
+}
+
+// The answer to a request for completion: what may be written at a position of a document.
+fn completion_at(
+    alloc: Global,
+    settings: Settings<'_>,
+    documents: &Documents,
+    uri: &str,
+    position: Position,
+) -> Result<Answer, AllocError>
+    ensures refusal { IfOk result (λ answer. refusal_of answer ≡ None) }
+    ensures answer { IfOk result (spec.IsCompletionAnswer settings.entry (get_by_text documents.now uri.now) position) }
+{
+    let Some(document) = documents.get(uri) else {
+        return Ok(Answer::Nothing);
+    };
+    let text = document.text.as_str();
+    let source = source_of(settings, uri, document.kind, text);
+    match complete(alloc, source, index_of(text, position))? {
+        Some(completion) => Ok(Answer::Completion(completion)),
         None => Ok(Answer::Nothing),
     }
 }

@@ -1,27 +1,36 @@
-//! What an editor shows about a document: what is wrong with its descriptions, what they mean, and what can
-//! be done to them.
+//! What an editor shows about a document: what is wrong with its descriptions, what they mean, what can be done
+//! to them, and which words may be written in them.
 
 mod action;
 mod all_actions;
 mod all_findings;
 mod all_fixes;
+mod completed;
+mod completing;
 mod counter;
+mod cursor;
 mod fault_hover;
 mod faults;
 mod finding;
+mod given;
 mod good_front;
 mod hovered;
 mod hovering;
 pub mod laws;
+mod offered;
+mod open_slot;
 mod other;
 mod position;
 mod replacing;
+mod scan;
 mod walk;
 mod warned;
 
 pub use action::{Action, ActionKind, Edit, Wanted};
 pub use all_actions::actions;
 pub use all_findings::findings;
+pub use completed::Completion;
+pub use completing::complete;
 pub use finding::{Finding, Severity};
 pub use hovered::Hover;
 pub use hovering::hover;

@@ -20,7 +20,7 @@ mod shown;
 mod text;
 mod wanted;
 
-// What an editor shows: findings, actions, and what hovers.
+// What an editor shows: findings, actions, what hovers, and words that may be written.
 pub mod editor;
 
 pub use changes::{Change, after_all, changes_in};

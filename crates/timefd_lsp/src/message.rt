@@ -21,6 +21,11 @@ pub enum Request {
         uri: String,
         position: Position,
     },
+    /// What may be written at this position of a document?
+    Completion {
+        uri: String,
+        position: Position,
+    },
     /// What can be done to this range of a document, or to all of it, of what is wanted?
     Actions {
         uri: String,
@@ -81,6 +86,21 @@ fn hover_of(alloc: Global, value: &Value) -> Result<Request, AllocError>
     })
 }
 
+fn completion_of(alloc: Global, value: &Value) -> Result<Request, AllocError>
+    ensures { IfOk result (λ request. spec.seen_request request ≡ spec.completion_of (view value.now)) }
+{
+    let Some(uri) = uri_of(value) else {
+        return Ok(Request::WrongParams);
+    };
+    let Some(position) = position_in(value) else {
+        return Ok(Request::WrongParams);
+    };
+    Ok(Request::Completion {
+        uri: String::from_str(alloc, uri)?,
+        position,
+    })
+}
+
 fn actions_of(alloc: Global, value: &Value) -> Result<Request, AllocError>
     ensures { IfOk result (λ request. spec.seen_request request
         ≡ spec.actions_of (view value.now)) }
@@ -109,6 +129,7 @@ pub fn request_of(alloc: Global, method: &str, value: &Value) -> Result<Request,
         "shutdown" => Ok(Request::Shutdown),
         "textDocument/hover" => hover_of(alloc, value),
         "textDocument/codeAction" => actions_of(alloc, value),
+        "textDocument/completion" => completion_of(alloc, value),
         _ => Ok(Request::Unknown),
     }
 }

@@ -3,7 +3,7 @@
 ghost use Rattle.std.specs.Prelude.{◌≡◌};
 ghost use Rattle.timefd_lsp.specs.Replies as spec;
 
-use crate::editor::{Action, Finding, Hover};
+use crate::editor::{Action, Completion, Finding, Hover};
 use crate::envelope::Id;
 
 /// Why a request is refused.
@@ -30,6 +30,8 @@ pub enum Answer {
     Capabilities,
     Nothing,
     Hover(Hover),
+    /// What may be written at a position.
+    Completion(Completion),
     /// What can be done to the document with this name.
     Actions { uri: String, actions: Vec<Action> },
     Refused(Refusal),

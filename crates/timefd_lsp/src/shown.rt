@@ -4,9 +4,12 @@ ghost use Rattle.std.specs.Prelude.{◌≡◌, IfOk};
 ghost use Rattle.serde_json.specs.View.{view};
 ghost use Rattle.timefd_lsp.specs.Shown as spec;
 
-use crate::editor::{Action, ActionKind, Edit, Finding, Hover, Position, Range, Severity};
+use crate::editor::{
+    Action, ActionKind, Completion, Edit, Finding, Hover, Position, Range, Severity,
+};
 use serde_json::{Map, Value, json};
 use std::alloc::{AllocError, Global};
+use timefd_diagnosis::slot::Slot;
 
 fn position_value(alloc: Global, position: Position) -> Result<Value, AllocError>
     ensures { IfOk result (λ value. view value ≡ spec.position_data position) }
@@ -106,6 +109,55 @@ pub fn hover_value(alloc: Global, hover: &Hover) -> Result<Value, AllocError>
     let range = range_value(alloc, hover.range)?;
     let contents = markdown(alloc, hover.text.as_str())?;
     json!(in alloc; {"contents": contents, "range": range})
+}
+
+// The number of a kind of words in the protocol: a field, a property or a value.
+fn kind_number(slot: Slot) -> u64
+    ensures { result ≡ spec.kind_number slot }
+{
+    match slot {
+        Slot::Name => 5,
+        Slot::Key(_) => 10,
+        Slot::Value(_) => 12,
+    }
+}
+
+// A word in place of a range.
+fn replacement(alloc: Global, range: Range, word: &str) -> Result<Value, AllocError>
+    ensures { IfOk result (λ value. view value ≡ spec.replacement range word.now) }
+{
+    let range = range_value(alloc, range)?;
+    json!(in alloc; {"newText": word, "range": range})
+}
+
+fn word_value(alloc: Global, range: Range, slot: Slot, word: &str) -> Result<Value, AllocError>
+    ensures { IfOk result (λ value. view value ≡ spec.word_data range slot word.now) }
+{
+    let kind = kind_number(slot);
+    let edit = replacement(alloc, range, word)?;
+    json!(in alloc; {"kind": kind, "label": word, "textEdit": edit})
+}
+
+fn words_value(
+    alloc: Global,
+    range: Range,
+    slot: Slot,
+    words: &[&'static str],
+) -> Result<Value, AllocError>
+    ensures { IfOk result (λ value. view value ≡ spec.words_data range slot words.now) }
+{
+    let mut values = Vec::new(alloc);
+    for word in words {
+        values.push(word_value(alloc, range, slot, word)?)?;
+    }
+    Ok(Value::Array(values))
+}
+
+/// What may be written at a position.
+pub fn completion_value(alloc: Global, completion: &Completion) -> Result<Value, AllocError>
+    ensures { IfOk result (λ value. view value ≡ spec.completion_data completion.now) }
+{
+    words_value(alloc, completion.range, completion.slot, &completion.words)
 }
 
 fn edit_value(alloc: Global, edit: &Edit) -> Result<Value, AllocError>

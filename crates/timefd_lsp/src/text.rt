@@ -7,7 +7,7 @@ ghost use Rattle.timefd_lsp.specs.Texts as spec;
 
 use crate::envelope::Id;
 use crate::reply::{Answer, Refusal, Reply, code_of, sentence_of};
-use crate::shown::{actions_value, findings_value, hover_value, loss_value};
+use crate::shown::{actions_value, completion_value, findings_value, hover_value, loss_value};
 use serde_json::{Value, json};
 use std::alloc::{AllocError, Global};
 
@@ -49,6 +49,10 @@ fn response(alloc: Global, id: &Option<Id>, answer: &Answer) -> Result<Value, Al
         Answer::Hover(hover) => {
             let hover = hover_value(alloc, hover)?;
             answered(alloc, id, hover)
+        }
+        Answer::Completion(completion) => {
+            let completion = completion_value(alloc, completion)?;
+            answered(alloc, id, completion)
         }
         Answer::Actions { uri, actions } => {
             let actions = actions_value(alloc, uri, actions)?;
@@ -117,13 +121,22 @@ fn action_kinds(alloc: Global) -> Result<Value, AllocError>
     json!(in alloc; {"codeActionKinds": ["quickfix", "refactor.rewrite", "source.fixAll.timefd"]})
 }
 
+// After which characters an editor asks what may be written.
+fn trigger_characters(alloc: Global) -> Result<Value, AllocError>
+    ensures { IfOk result (λ value. view value ≡ spec.trigger_characters) }
+{
+    json!(in alloc; {"triggerCharacters": ["[", " ", ":"]})
+}
+
 // What the server provides. It takes changes of ranges, and counts characters in UTF-16.
 fn provided(alloc: Global) -> Result<Value, AllocError>
     ensures { IfOk result (λ value. view value ≡ spec.provided) }
 {
     let kinds = action_kinds(alloc)?;
+    let characters = trigger_characters(alloc)?;
     json!(in alloc; {
         "codeActionProvider": kinds,
+        "completionProvider": characters,
         "hoverProvider": true,
         "positionEncoding": "utf-16",
         "textDocumentSync": 2u64
