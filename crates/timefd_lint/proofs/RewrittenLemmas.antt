@@ -32,9 +32,9 @@ text_noted change finder name bytes source m outcomes by_hand limits same utf8 i
   text = λ text. record {
     all = m;
     is = subst (λ (t : Text). IsFoundRewritten change finder t m) same is;
-    by_hand = subst (λ os. AreNotesByHand change finder name bytes os by_hand) met
+    noted = subst (λ os. AreNotesByHand change finder name bytes os by_hand) met
         (subst (λ (t : Text). AreNotesByHand change finder name t outcomes by_hand) same noted);
-    limits = subst (λ (t : Text). AreNotesOnLimits change finder name t limits) same limited;
+    limited = subst (λ (t : Text). AreNotesOnLimits change finder name t limits) same limited;
   };
   no_text = λ none. absurd (none utf8);
 }

@@ -46,8 +46,8 @@ AreNotesOnLimits change (Keys format keys) name source notes = (values : List De
 pub record IsNotedAs (change : Change) (finder : Finder) (name source by_hand limits : Text) : Type 0 where
   pub all : NewSource
   pub is : IsFoundRewritten change finder source all
-  pub by_hand : AreNotesByHand change finder name source all.outcomes.items by_hand
-  pub limits : AreNotesOnLimits change finder name source limits
+  pub noted : AreNotesByHand change finder name source all.outcomes.items by_hand
+  pub limited : AreNotesOnLimits change finder name source limits
 
 -- The notes on a source that is mended or converted. There is none on one that isn't UTF-8.
 pub record IsFileNoted (change : Change) (finder : Finder) (name source by_hand limits : Text) : Type 0 where

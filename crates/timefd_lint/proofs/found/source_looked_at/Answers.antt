@@ -1,4 +1,5 @@
 use Rattle.std.proofs.Common.{refl, subst}
+use Rattle.std.specs.Prelude.{string_bytes}
 use Rattle.timefd_lint_sources.specs.Rewriting.Values.{IsFoundRewritten}
 use Rattle.timefd_lint.specs.Rewritten.{AreCounted, AreNotesByHand, AreNotesOnLimits}
 use Rattle.timefd_lint.specs.Sources.{finder_of}
@@ -30,7 +31,12 @@ returns-clause-reported g c =
 pub returns-in-Ok-clause-noted : goal.returns-in-Ok-clause-noted
 returns-in-Ok-clause-noted g c =
     text_noted c.args.change (finder_of c.args.options c.args.name.now) c.args.name.now c.args.old.now c.in-Ok.text.now
-    c.in_ok-new-in-Ok.new _ _ _ c.in-Ok.ensures.cases.0 c.in-Ok.ensures.cases.1
+    c.in_ok-new-in-Ok.new c.deref-in-Ok.result.now (string_bytes c.in_ok-by_hand_in-in-Ok.field-0)
+    (string_bytes c.in_ok-limits_in-in-Ok.field-0) c.in-Ok.ensures.cases.0 c.in-Ok.ensures.cases.1
     (subst (λ finder. IsFoundRewritten c.args.change finder c.in-Ok.text.now c.in_ok-new-in-Ok.new)
     c.finder_of.ensures c.in_ok-new-in-Ok.ensures)
-    ?outcomes ?by_hand ?limits
+    c.deref-in-Ok.ensures.value
+    (subst (λ finder. AreNotesByHand c.args.change finder c.args.name.now c.in-Ok.text.now c.deref-in-Ok.result.now
+    (string_bytes c.in_ok-by_hand_in-in-Ok.field-0)) c.finder_of.ensures c.in_ok-by_hand_in-in-Ok.ensures)
+    (subst (λ finder. AreNotesOnLimits c.args.change finder c.args.name.now c.in-Ok.text.now
+    (string_bytes c.in_ok-limits_in-in-Ok.field-0)) c.finder_of.ensures c.in_ok-limits_in-in-Ok.ensures)
