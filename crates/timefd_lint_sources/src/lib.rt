@@ -27,4 +27,5 @@ pub use opening::is_of_item;
 pub use position::FIRST_LINE;
 pub use remark::Remark;
 pub use reported::{End, Finder, Reported, Reporting, Source};
+pub use search::first_refusal;
 pub use source::{Report, descriptions_in, judged_in, lint_source, report_all};

@@ -9,3 +9,4 @@ pub mod ActionLemmas
 pub mod FixLemmas
 pub mod GoodFrontLemmas
 pub mod HoverLemmas
+pub mod OtherLemmas

@@ -8,6 +8,6 @@ use Rattle.timefd_lsp.proofs.editor.all_findings.push_all.Given as goal
 abbrev pub invariant-loop-description : goal.invariant-loop-description
 invariant-loop-description l = record {
   counted : IsCounted l.text l.counter;
-  reported : IsReported (AreOn l.levels l.text) l.descriptions (drop l.description-index l.descriptions)
+  reported : IsReported (AreOn l.levels l.finder l.text) l.descriptions (drop l.description-index l.descriptions)
       l.fn.found.items l.found.items;
 }
