@@ -1,18 +1,23 @@
 -- A file that is sought upwards.
-use Rattle.std.proofs.Common.{◌≡◌, ◌≢◌, ℕ, ◌-◌, zero, suc, Bool, true, false, List, [], ◌∷◌, ◌++◌, refl, sym, ap, ◌∙◌, codes, subst, if◌then◌else◌}
+use Rattle.std.proofs.Common.{◌≡◌, ◌≢◌, ℕ, ◌-◌, zero, suc, Bool, true, false, List, [], ◌∷◌, ◌++◌, refl, sym, ap, ◌∙◌, codes, subst, arith}
+use Rattle.std.proofs.lemmas.Bool.{ne_eqb}
 use Rattle.std.specs.Prelude.{Option, Some, None}
 use Rattle.std.specs.declared.io.ErrorKind.{ErrorKind}
 use Rattle.timefd_lint_files.specs.Matching.{Text}
 use Rattle.timefd_lint_files.specs.Upwards.{IsAbsent, IsAround, IsBeyond, IsNearest, IsThereOr, Near, after_slashes, left_after}
 
+abbrev pub near : Text → ℕ → Text → Option Near
+near folder above text = Some (record { folder = folder; above = above; text = text })
+
 -- The file is in the folder.
 pub found_here : (holds : Text → Text → Type 0) (fails : Text → ErrorKind → Type 0) (tells : Text → Bool → Type 0)
-    (name : Text) (above : ℕ) (folder text : Text) (answer : Option Near) → holds (folder ++ name) text
-    → answer ≡ Some (record { folder = folder; above = above; text = text })
-    → IsNearest holds fails tells name above folder answer
+    (name : Text) (above : ℕ) (folder named text : Text) → holds (folder ++ name) text → named ≡ folder
+    → IsNearest holds fails tells name above folder (near named above text)
 unfolding IsNearest
-found_here holds fails tells name zero folder text answer has is = (Some text, has, is)
-found_here holds fails tells name (suc above) folder text answer has is = (Some text, has, is)
+found_here holds fails tells name zero folder named text has same =
+    (Some text, has, ap (λ (f : Text). near f zero text) same)
+found_here holds fails tells name (suc above) folder named text has same =
+    (Some text, has, ap (λ (f : Text). near f (suc above) text) same)
 
 -- No folder is around.
 pub at_top : (holds : Text → Text → Type 0) (fails : Text → ErrorKind → Type 0) (tells : Text → Bool → Type 0)
@@ -28,7 +33,12 @@ beyond : (holds : Text → Text → Type 0) (fails : Text → ErrorKind → Type
     → IsNearest holds fails tells name above folder answer
 unfolding IsNearest
 beyond holds fails tells name zero folder answer absent some is = absurd (some refl)
-beyond holds fails tells name (suc above) folder answer absent some is = (None, absent, is)
+beyond holds fails tells name (suc above) folder answer absent some is =
+    let less : suc above - 1 ≡ above = omega arith in (
+      None,
+      absent,
+      subst (λ (k : ℕ). IsBeyond holds fails tells (IsNearest holds fails tells name k) folder answer) less is,
+    )
 
 -- The folder has `.git`.
 pub in_repository : (holds : Text → Text → Type 0) (fails : Text → ErrorKind → Type 0) (tells : Text → Bool → Type 0)
@@ -81,9 +91,10 @@ above_it holds fails tells name above folder around named has answers answer abs
 -- one more byte
 pub one_byte : (count left : ℕ) (rest after all : Text) (byte : ℕ) → rest ≡ byte ∷ after → count ≢ 0
     → left ≡ left_after count byte → after_slashes count rest ≡ all → after_slashes left after ≡ all
-one_byte zero left rest after all byte split some is so_far = absurd (some refl)
-one_byte (suc count) left rest after all byte split some is so_far =
-    ap (λ k. after_slashes k after) is ∙ (ap (after_slashes (suc count)) (sym split) ∙ so_far)
+one_byte count left rest after all byte split some is so_far =
+    let here : after_slashes count (byte ∷ after) ≡ after_slashes (left_after count byte) after =
+    rw (ne_eqb count 0 some) refl in
+    ap (λ (k : ℕ). after_slashes k after) is ∙ (sym here ∙ (ap (after_slashes count) (sym split) ∙ so_far))
 
 pub no_slash_left : (count : ℕ) (rest after all : Text) (byte : ℕ) → rest ≡ byte ∷ after → count ≡ 0
     → after_slashes count rest ≡ all → rest ≡ all

@@ -92,7 +92,7 @@ fn is_open<S: FileSystem>(system: &S, alloc: Global, folder: &str) -> Result<boo
 /// # Errors
 ///
 /// An `Err` says that memory ran out, or names a file that is there and can't be read.
-#[tactic(auto, using(crate::proofs::UpwardLemmas::found_here, crate::proofs::UpwardLemmas::at_top, crate::proofs::UpwardLemmas::in_repository, crate::proofs::UpwardLemmas::at_closed, crate::proofs::UpwardLemmas::above_it, crate::proofs::ErrorLemmas::unread_below))]
+#[tactic(auto, using(crate::proofs::UpwardLemmas::at_top, crate::proofs::UpwardLemmas::in_repository, crate::proofs::UpwardLemmas::at_closed, crate::proofs::UpwardLemmas::above_it, crate::proofs::ErrorLemmas::unread_below))]
 pub fn first_upwards<S: FileSystem>(
     system: &S,
     alloc: Global,
