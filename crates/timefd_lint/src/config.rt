@@ -1,6 +1,6 @@
-//! The file of settings in the working directory.
+//! The file of settings: in the working directory, or in the nearest folder around it that has one.
 
-ghost use Rattle.std.specs.Prelude.{◌≡◌};
+ghost use Rattle.std.specs.Prelude.{◌≡◌, string_bytes};
 ghost use Rattle.timefd_lint.specs.Rewriting.{rewriting_of};
 ghost use Rattle.timefd_lint.specs.Counted as spec;
 
@@ -8,8 +8,11 @@ use crate::no_code::{no_level_sentence, no_warning_sentence};
 use crate::rewriting::rewriting_of;
 use std::alloc::{AllocError, Global};
 use std::io::ErrorKind;
-use std::{fs, str};
+use std::{env, str};
 use timefd_drawing::shown::safe;
+use timefd_lint_files::{
+    Excluded, Nearest, Reason, WalkError, first_upwards, folders_above, front_below,
+};
 use timefd_lint_options::Settings;
 use timefd_lint_options::config::{Config, ConfigError, OwnedKey, config_of};
 use timefd_warnings::Levels;
@@ -32,25 +35,60 @@ impl From<AllocError> for ConfigFailure {
     }
 }
 
-// What an empty file of settings says.
-fn no_config(alloc: Global) -> Config {
-    Config {
-        keys: Vec::new(alloc),
-        exclude: String::new(alloc),
-        levels: None,
+/// What a file of settings says, and where it is.
+#[derive(Drop)]
+pub struct Project {
+    /// What the file says.
+    pub config: Config,
+    /// The path of the working directory from the folder of the file: empty, or names that each end in `/`.
+    pub front: Vec<u8>,
+}
+
+impl Project {
+    /// What the file excludes.
+    pub fn excluded(&self) -> Excluded<'_>
+        ensures patterns { result.patterns.now ≡ string_bytes self.now.config.exclude }
+        ensures front { result.front.now ≡ self.now.front.items }
+    {
+        Excluded {
+            patterns: self.config.exclude.as_str(),
+            front: self.front.as_slice(),
+        }
     }
 }
 
-/// Reads the file of settings in the working directory. A missing file says nothing.
-pub fn read_config(rt: &HostRuntime, alloc: Global) -> Result<Config, ConfigFailure> {
-    match fs::read(rt, NAME) {
-        Ok(bytes) => config_of_bytes(alloc, &bytes),
-        Err(error) => match error.kind() {
-            ErrorKind::NotFound => Ok(no_config(alloc)),
-            ErrorKind::OutOfMemory => Err(ConfigFailure::Memory),
-            kind => Err(wrong(alloc, unreadable(kind))),
+// What an empty file of settings in the working directory says.
+fn no_project(alloc: Global) -> Project {
+    Project {
+        config: Config {
+            keys: Vec::new(alloc),
+            exclude: String::new(alloc),
+            levels: None,
         },
+        front: Vec::new(alloc),
     }
+}
+
+/// Reads the file of settings in the working directory, or in the nearest folder around it that has one. The first
+/// folder that has `.git` is the last that is looked at. If there is no file, nothing is set.
+pub fn read_project(rt: &HostRuntime, alloc: Global) -> Result<Project, ConfigFailure> {
+    let here = env::current_dir(rt).ok();
+    let here = here.as_ref().map_or("", |path| path.as_str());
+    let here = here.strip_prefix('/').unwrap_or("");
+    match first_upwards(rt, alloc, NAME, "", folders_above(here)) {
+        Ok(Some(found)) => project_of(alloc, here, &found),
+        Ok(None) => Ok(no_project(alloc)),
+        Err(WalkError::Memory) => Err(ConfigFailure::Memory),
+        Err(WalkError::Failed { path, reason }) => Err(wrong(alloc, &path, unreadable(reason))),
+    }
+}
+
+// What this file says. `here` is the path of the working directory, without a `/` at either end.
+fn project_of(alloc: Global, here: &str, found: &Nearest) -> Result<Project, ConfigFailure> {
+    let front = front_below(alloc, here, found.above)?;
+    let name = format!(in alloc; "{}{NAME}", found.folder)?;
+    let config = config_of_bytes(alloc, &name, &found.text)?;
+    Ok(Project { config, front })
 }
 
 /// The keys of the file of settings that count in a run: none if files are mended or rewritten.
@@ -73,26 +111,26 @@ pub fn counted_levels(settings: Settings<'_>, config: &Config) -> Option<Levels>
     }
 }
 
-fn config_of_bytes(alloc: Global, bytes: &[u8]) -> Result<Config, ConfigFailure> {
+fn config_of_bytes(alloc: Global, file: &str, bytes: &[u8]) -> Result<Config, ConfigFailure> {
     let Ok(text) = str::from_utf8(bytes) else {
-        return Err(wrong(alloc, "the bytes aren't UTF-8"));
+        return Err(wrong(alloc, file, "the bytes aren't UTF-8"));
     };
     match config_of(alloc, text) {
         Ok(config) => Ok(config),
-        Err(error) => Err(failure(alloc, text, error)),
+        Err(error) => Err(failure(alloc, file, text, error)),
     }
 }
 
-fn unreadable(kind: ErrorKind) -> &'static str {
-    match kind {
-        ErrorKind::IsADirectory => "the file can't be read: it is a folder",
-        ErrorKind::PermissionDenied => "the file can't be read: permission denied",
+fn unreadable(reason: Reason) -> &'static str {
+    match reason {
+        Reason::Unread(ErrorKind::IsADirectory) => "the file can't be read: it is a folder",
+        Reason::Unread(ErrorKind::PermissionDenied) => "the file can't be read: permission denied",
         _ => "the file can't be read",
     }
 }
 
-fn wrong(alloc: Global, what: &str) -> ConfigFailure {
-    reported(format!(in alloc; "`{NAME}`: {what}"))
+fn wrong(alloc: Global, file: &str, what: &str) -> ConfigFailure {
+    reported(format!(in alloc; "`{file}`: {what}"))
 }
 
 fn reported(sentence: Result<String, AllocError>) -> ConfigFailure {
@@ -102,34 +140,45 @@ fn reported(sentence: Result<String, AllocError>) -> ConfigFailure {
     }
 }
 
-fn failure(alloc: Global, text: &str, error: ConfigError) -> ConfigFailure {
+fn failure(alloc: Global, file: &str, text: &str, error: ConfigError) -> ConfigFailure {
     match error {
         ConfigError::Memory => ConfigFailure::Memory,
-        ConfigError::NotToml(error) => not_toml(alloc, text, error),
+        ConfigError::NotToml(error) => not_toml(alloc, file, text, error),
         ConfigError::UnknownName(name) => {
             about(
                 alloc,
+                file,
                 &name,
                 "means nothing here: the settings are `exclude`, `[keys]` and `[levels]`",
             )
         }
-        ConfigError::KeysNotATable => wrong(alloc, "`keys` isn't a table"),
-        ConfigError::LevelsNotATable => wrong(alloc, "`levels` isn't a table"),
-        ConfigError::NotAList => wrong(alloc, "`exclude` isn't a list"),
-        ConfigError::NotAPattern => wrong(alloc, "`exclude` has a pattern that isn't a string"),
-        ConfigError::UnknownWarning(name) => because(alloc, no_warning_sentence(alloc, &name)),
+        ConfigError::KeysNotATable => wrong(alloc, file, "`keys` isn't a table"),
+        ConfigError::LevelsNotATable => wrong(alloc, file, "`levels` isn't a table"),
+        ConfigError::NotAList => wrong(alloc, file, "`exclude` isn't a list"),
+        ConfigError::NotAPattern => wrong(
+            alloc,
+            file,
+            "`exclude` has a pattern that isn't a string",
+        ),
+        ConfigError::UnknownWarning(name) => because(
+            alloc,
+            file,
+            no_warning_sentence(alloc, &name),
+        ),
         ConfigError::NoLevel(warning) => about(
             alloc,
+            file,
             warning.name(),
             "has no string for its level: it is one of \"allow\", \"warn\", \"deny\"",
         ),
         ConfigError::UnknownLevel(warning, word) => {
-            because(alloc, no_level_sentence(alloc, warning, &word))
+            because(alloc, file, no_level_sentence(alloc, warning, &word))
         }
-        ConfigError::EmptyName => wrong(alloc, "a key has no name"),
+        ConfigError::EmptyName => wrong(alloc, file, "a key has no name"),
         ConfigError::WrongType(name) => {
             about(
                 alloc,
+                file,
                 &name,
                 "has neither a number nor a string for its language",
             )
@@ -137,6 +186,7 @@ fn failure(alloc: Global, text: &str, error: ConfigError) -> ConfigFailure {
         ConfigError::UnknownLanguage(name) => {
             about(
                 alloc,
+                file,
                 &name,
                 "has no language: it is one of 1, 2, 3, \"strftime\", \"python\", \"c\", \"gnu\", \"chrono\", \"jiff\", \"ruby\", \"java\", \"go\", \"moment\"",
             )
@@ -145,26 +195,26 @@ fn failure(alloc: Global, text: &str, error: ConfigError) -> ConfigFailure {
 }
 
 // What is wrong, by this sentence.
-fn because(alloc: Global, sentence: Result<String, AllocError>) -> ConfigFailure {
+fn because(alloc: Global, file: &str, sentence: Result<String, AllocError>) -> ConfigFailure {
     match sentence {
-        Ok(sentence) => wrong(alloc, &sentence),
+        Ok(sentence) => wrong(alloc, file, &sentence),
         Err(AllocError) => ConfigFailure::Memory,
     }
 }
 
 // What is wrong with the entry of this name.
-fn about(alloc: Global, name: &str, what: &str) -> ConfigFailure {
+fn about(alloc: Global, file: &str, name: &str, what: &str) -> ConfigFailure {
     match safe(alloc, name) {
-        Ok(name) => reported(format!(in alloc; "`{NAME}`: `{name}` {what}")),
+        Ok(name) => reported(format!(in alloc; "`{file}`: `{name}` {what}")),
         Err(AllocError) => ConfigFailure::Memory,
     }
 }
 
 // Why the text isn't TOML, and in which line, counted from 1.
-fn not_toml(alloc: Global, text: &str, error: de::Error) -> ConfigFailure {
+fn not_toml(alloc: Global, file: &str, text: &str, error: de::Error) -> ConfigFailure {
     let start = error.span().map_or(0, |span| span.start);
     let before = text.as_bytes().get(..start).unwrap_or(text.as_bytes());
     let line = 1 + before.iter().filter(|byte| **byte == b'\n').count();
     let reason = error.message();
-    reported(format!(in alloc; "`{NAME}`: line {line} isn't TOML: {reason}"))
+    reported(format!(in alloc; "`{file}`: line {line} isn't TOML: {reason}"))
 }

@@ -48,7 +48,7 @@ mod usage;
 mod value_notes;
 
 use color::is_colored;
-use config::{ConfigFailure, counted_keys, counted_levels, read_config};
+use config::{ConfigFailure, counted_keys, counted_levels, read_project};
 use identity::is_there;
 use line::RunError;
 use log::write_log;
@@ -68,7 +68,7 @@ use std::io::{BufWriter, IsTerminal, Write};
 use std::process::ExitCode;
 use summary::summary;
 use tally::Tally;
-use timefd_lint_files::{WalkError, expanded};
+use timefd_lint_files::{Excluded, WalkError, expanded};
 use timefd_lint_options::config::{OwnedKey, same_keys, with_keys, with_levels};
 use timefd_lint_options::{
     Asked, OptionError, Settings, is_log, keys_of, lines_conflict, options_of, ordered,
@@ -127,18 +127,18 @@ fn options_status(rt: &HostRuntime, words: &[&str]) -> u8 {
 // Runs over the named files and folders, and returns the status. The keys and levels of the arguments come first,
 // then those of the file of settings.
 fn keys_status(rt: &HostRuntime, settings: Settings<'_>, words: &[&str], names: &[&str]) -> u8 {
-    let config = match read_config(rt, rt.alloc()) {
-        Ok(config) => config,
+    let project = match read_project(rt, rt.alloc()) {
+        Ok(project) => project,
         Err(ConfigFailure::Memory) => return no_memory(rt),
         Err(ConfigFailure::Wrong(sentence)) => return reported(rt, WRONG_ARGUMENTS, &sentence),
     };
     let Ok(keys) = keys_of(rt.alloc(), words) else {
         return no_memory(rt);
     };
-    let settings = with_levels(settings, counted_levels(settings, &config));
-    match all_keys(rt.alloc(), &keys, counted_keys(settings, &config)) {
+    let settings = with_levels(settings, counted_levels(settings, &project.config));
+    match all_keys(rt.alloc(), &keys, counted_keys(settings, &project.config)) {
         Ok(keys) if settings.serves => session_status(rt, settings, &keys),
-        Ok(keys) => names_status(rt, settings, &keys, &config.exclude, names),
+        Ok(keys) => names_status(rt, settings, &keys, project.excluded(), names),
         Err(AllocError) => no_memory(rt),
     }
 }
@@ -157,7 +157,7 @@ fn names_status(
     rt: &HostRuntime,
     settings: Settings<'_>,
     keys: &[Key<'_>],
-    excluded: &str,
+    excluded: Excluded<'_>,
     names: &[&str],
 ) -> u8 {
     let files = match expanded(rt, rt.alloc(), sought(settings, keys, excluded), names) {

@@ -4,7 +4,7 @@ ghost use Rattle.std.specs.Prelude.{◌≡◌};
 ghost use Rattle.timefd_diagnosis.specs.Words.{texts};
 ghost use Rattle.timefd_lint.specs.Counted as spec;
 
-use timefd_lint_files::Sought;
+use timefd_lint_files::{Excluded, Sought};
 use timefd_lint_options::{Settings, reads_lines};
 use timefd_sources::keys::Key;
 
@@ -34,7 +34,7 @@ pub fn named_or_here<'a>(
 
 /// Which files below folders are checked: sources of Rust and, if there are keys, files with keys. Excluded
 /// files are not.
-pub fn sought<'a>(settings: Settings<'_>, keys: &[Key<'_>], excluded: &'a str) -> Sought<'a>
+pub fn sought<'a>(settings: Settings<'_>, keys: &[Key<'_>], excluded: Excluded<'a>) -> Sought<'a>
     ensures endings { texts result.endings.now ≡ spec.endings settings.entry keys.now }
     ensures excluded { result.excluded ≡ excluded.entry }
 {

@@ -12,3 +12,5 @@ pub mod WalkLemmas
 pub mod NameLemmas
 pub mod ErrorLemmas
 pub mod OutLemmas
+pub mod StartLemmas
+pub mod UpwardLemmas

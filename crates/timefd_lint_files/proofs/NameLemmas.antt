@@ -1,28 +1,43 @@
 -- What a name of the command line gives.
-use Rattle.std.proofs.Common.{◌≡◌, ℕ, ◌+◌, ◌<◌, List, [], ◌∷◌, ◌++◌, length, get_or, refl, sym, ap, ◌∙◌, subst, zero, suc, arith}
+use Rattle.std.proofs.Common.{◌≡◌, ℕ, ◌+◌, ◌-◌, ◌<◌, List, [], ◌∷◌, ◌++◌, length, get_or, refl, sym, ap, ◌∙◌, subst, zero, suc, arith}
 use Rattle.std.specs.Prelude.{Bool, true, false}
 use denote.Ref.{Bor}
 use Rattle.timefd_lint_files.specs.Matching.{Text}
 use Rattle.timefd_lint_files.specs.declared.ignore_file.IgnoreFile.{IgnoreFile}
-use Rattle.timefd_lint_files.specs.IgnoreFiles.{IsReadAs}
+use Rattle.timefd_lint_files.specs.IgnoreFiles.{IsReadFrom}
 use Rattle.timefd_lint_files.specs.declared.entry.Entry.{Entry}
-use Rattle.timefd_lint_files.specs.Walks.{AreExcluded, AreExpanded, IsExpanded, IsWalk, IsWalkBut, as_folder, here_len, is_input}
+use Rattle.timefd_lint_files.specs.Walks.{AreExcluded, AreExpanded, IsExpanded, IsWalk, IsAlone, IsWalkBut, as_folder, is_input}
+use Rattle.timefd_lint_files.specs.Starts.{Begun, seen, start_of}
+use Rattle.timefd_lint_files.specs.declared.excluded.Excluded.{Excluded}
+use Rattle.timefd_lint_files.specs.declared.start.Start.{Start}
 use Rattle.timefd_lint_files.proofs.WalkLemmas.{GoesOn}
 use Rattle.timefd_lint_files.proofs.WalkLemmas as walks
 
 -- a file that is pushed to an empty list
-pub alone : (text folder : Text) (file : IgnoreFile) (before files : List IgnoreFile)
-    → IsReadAs (here_len folder) text file → before ≡ [] → files ≡ before ++ file ∷ [] → AreExcluded text folder files
-alone text folder file before files read none is = (file, read, is ∙ ap (λ fs. fs ++ file ∷ []) none)
+pub alone : (front text spelled : Text) (folder_len : ℕ) (file : IgnoreFile) (before files : List IgnoreFile)
+    → IsReadFrom front folder_len spelled file → spelled ≡ text → before ≡ [] → files ≡ before ++ file ∷ []
+    → IsAlone front folder_len text files
+alone front text spelled folder_len file before files read same none is =
+    (file, subst (λ (t : Text). IsReadFrom front folder_len t file) same read, is ∙ ap (λ fs. fs ++ file ∷ []) none)
+
+-- a single file that is read for a folder
+pub alone_below : (excluded : Excluded) (folder bytes : Text) (start : Start) (cut : ℕ) (files : List IgnoreFile)
+    → bytes ≡ folder → seen start ≡ start_of excluded.front.now bytes
+    → cut ≡ length folder - length start.rest.now → IsAlone start.front.now cut excluded.patterns.now files
+    → AreExcluded excluded folder files
+alone_below excluded folder bytes start cut files same is long are =
+    let begun : seen start ≡ start_of excluded.front.now folder = is ∙ ap (start_of excluded.front.now) same in
+    subst (λ (b : Begun). IsAlone b.front (length folder - length b.rest) excluded.patterns.now files) begun
+    (subst (λ (k : ℕ). IsAlone start.front.now k excluded.patterns.now files) long are)
 
 -- names below a folder, where these files say what is excluded
-pub walked_but : (endings : List (Bor Text)) (text : Text) (lists : Text → List Entry → Type 0)
+pub walked_but : (endings : List (Bor Text)) (but : Excluded) (lists : Text → List Entry → Type 0)
     (holds : Text → Text → Type 0) (folder : Text) (excluded borrowed above : List IgnoreFile) (before after : List Text)
-    → AreExcluded text folder excluded → borrowed ≡ excluded → above ≡ []
+    → AreExcluded but folder excluded → borrowed ≡ excluded → above ≡ []
     → ((names : List Text) × (after ≡ before ++ names) × IsWalk endings borrowed lists holds 255 above folder names)
-    → (names : List Text) × (after ≡ before ++ names) × IsWalkBut endings text lists holds folder names
+    → (names : List Text) × (after ≡ before ++ names) × IsWalkBut endings but lists holds folder names
 unfolding IsWalkBut
-walked_but endings text lists holds folder excluded borrowed above before after are same none found =
+walked_but endings but lists holds folder excluded borrowed above before after are same none found =
     let inside : IsWalk endings excluded lists holds 255 above folder found.0 =
     subst (λ (files : List IgnoreFile). IsWalk endings files lists holds 255 above folder found.0) same found.2 in
     let walked : IsWalk endings excluded lists holds 255 [] folder found.0 =

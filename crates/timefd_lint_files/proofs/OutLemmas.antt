@@ -2,8 +2,10 @@
 use Rattle.std.proofs.Common.{◌≡◌, ℕ, Bool, true, false, List, [], ◌∷◌, ◌++◌, refl, sym, ap, ◌∙◌, append-nil}
 use Rattle.timefd_lint_files.specs.Matching.{Text}
 use Rattle.timefd_lint_files.specs.declared.ignore_file.IgnoreFile.{IgnoreFile}
+use Rattle.timefd_lint_files.specs.declared.excluded.Excluded.{Excluded}
+use Rattle.timefd_lint_files.specs.Starts.{path_of}
 use Rattle.timefd_lint_files.specs.Rules.{is_ignored}
-use Rattle.timefd_lint_files.specs.Walks.{AreExcluded, IsKept, front_of, is_out, is_out_from, is_out_here, unless_out}
+use Rattle.timefd_lint_files.specs.Walks.{IsAlone, IsKept, front_of, is_out, is_out_from, is_out_here, unless_out}
 
 pub goes_on : (excluded : List IgnoreFile) (name rest after front : Text) (byte : ℕ) (out : Bool) (all : Bool)
     → rest ≡ byte ∷ after → front ≡ front_of name rest → out ≡ is_out_here excluded front byte → out ≡ false
@@ -34,33 +36,43 @@ same_out : (name bytes : Text) (excluded borrowed : List IgnoreFile) (out answer
 same_out name bytes excluded borrowed out answer same spelled is answered =
     sym (is ∙ (λ i. is_out (same i) (spelled i))) ∙ answered
 
+-- whether the file of a name is excluded
+named_out : (excluded : Excluded) (name spelled path bytes : Text) (files borrowed : List IgnoreFile) (out answer : Bool)
+    → borrowed ≡ files → bytes ≡ path → spelled ≡ name → path ≡ path_of excluded.front.now spelled
+    → out ≡ is_out borrowed bytes → out ≡ answer → is_out files (path_of excluded.front.now name) ≡ answer
+named_out excluded name spelled path bytes files borrowed out answer same read named at is answered =
+    ap (is_out files) (sym (at ∙ ap (path_of excluded.front.now) named))
+    ∙ same_out path bytes files borrowed out answer same read is answered
+
 -- A file that is kept adds its name, and one that is excluded adds none.
-pub kept : (text name bytes : Text) (excluded borrowed : List IgnoreFile) (out : Bool) (old new : List Text)
-    → AreExcluded text name excluded → borrowed ≡ excluded → bytes ≡ name → out ≡ is_out borrowed bytes
+pub kept : (excluded : Excluded) (name spelled path bytes : Text) (files borrowed : List IgnoreFile) (out : Bool)
+    (old new : List Text) → IsAlone [] 0 excluded.patterns.now files → borrowed ≡ files → bytes ≡ path
+    → spelled ≡ name → path ≡ path_of excluded.front.now spelled → out ≡ is_out borrowed bytes
     → out ≡ false → new ≡ old ++ name ∷ []
-    → (names : List Text) × (new ≡ old ++ names) × IsKept text name names
-kept text name bytes excluded borrowed out old new are same spelled is stays more = (
+    → (names : List Text) × (new ≡ old ++ names) × IsKept excluded name names
+kept excluded name spelled path bytes files borrowed out old new are same read named at is stays more = (
   name ∷ [],
   more,
   (
-    excluded,
+    files,
     are,
     sym (ap (λ o. unless_out o name)
-        (same_out name bytes excluded borrowed out false same spelled is stays)),
+        (named_out excluded name spelled path bytes files borrowed out false same read named at is stays)),
   ),
 )
 
-pub out : (text name bytes : Text) (excluded borrowed : List IgnoreFile) (gone : Bool) (old new : List Text)
-    → AreExcluded text name excluded → borrowed ≡ excluded → bytes ≡ name → gone ≡ is_out borrowed bytes
+pub out : (excluded : Excluded) (name spelled path bytes : Text) (files borrowed : List IgnoreFile) (gone : Bool)
+    (old new : List Text) → IsAlone [] 0 excluded.patterns.now files → borrowed ≡ files → bytes ≡ path
+    → spelled ≡ name → path ≡ path_of excluded.front.now spelled → gone ≡ is_out borrowed bytes
     → gone ≡ true → new ≡ old
-    → (names : List Text) × (new ≡ old ++ names) × IsKept text name names
-out text name bytes excluded borrowed gone old new are same spelled is one unchanged = (
+    → (names : List Text) × (new ≡ old ++ names) × IsKept excluded name names
+out excluded name spelled path bytes files borrowed gone old new are same read named at is one unchanged = (
   [],
   unchanged ∙ sym (append-nil old),
   (
-    excluded,
+    files,
     are,
     sym (ap (λ o. unless_out o name)
-        (same_out name bytes excluded borrowed gone true same spelled is one)),
+        (named_out excluded name spelled path bytes files borrowed gone true same read named at is one)),
   ),
 )

@@ -37,6 +37,11 @@ AreOfLines text (found ∷ more) =
 abbrev pub AreRead : Text → List Pattern → Type 0
 AreRead text patterns = (found : List (Option Pattern)) × AreOfLines text found × (patterns ≡ all_listed found)
 
--- The file has the patterns of the text. They match what follows the name of its folder.
+-- The file has the patterns of the text. They match what follows the name of a folder, with this before it.
+abbrev pub IsReadFrom : Text → ℕ → Text → IgnoreFile → Type 0
+IsReadFrom front folder_len text file =
+    (file.folder_len ≡ folder_len) × (file.front.items ≡ front) × AreRead text file.patterns.items
+
+-- They match what follows the name of its folder.
 abbrev pub IsReadAs : ℕ → Text → IgnoreFile → Type 0
-IsReadAs folder_len text file = (file.folder_len ≡ folder_len) × AreRead text file.patterns.items
+IsReadAs folder_len text file = IsReadFrom [] folder_len text file

@@ -3,6 +3,7 @@ pub mod Ends
 pub mod Errors
 pub mod Lines
 pub mod FileNames
+pub mod Starts
 pub mod Classes
 pub mod Tokens
 pub mod Patterns
@@ -10,3 +11,4 @@ pub mod IgnoreFiles
 pub mod Rules
 pub mod Entries
 pub mod Walks
+pub mod Upwards

@@ -1,6 +1,6 @@
 -- What `.gitignore` files say about a path: the last matching pattern decides, in the deepest file that has
 -- one.
-use Rattle.std.specs.Prelude.{Bool, true, false, ◌||◌, if◌then◌else◌, List, [], ◌∷◌, drop, Option, Some, None}
+use Rattle.std.specs.Prelude.{Bool, true, false, ◌||◌, if◌then◌else◌, List, [], ◌∷◌, ◌++◌, drop, Option, Some, None}
 use Rattle.timefd_lint_files.specs.declared.pattern.Pattern.{Pattern}
 use Rattle.timefd_lint_files.specs.declared.ignore_file.IgnoreFile.{IgnoreFile}
 use Rattle.timefd_lint_files.specs.declared.rules.Verdict.{Verdict}
@@ -26,9 +26,10 @@ last_verdict [] path is_folder = None
 last_verdict (pattern ∷ patterns) path is_folder =
     later (verdict_by pattern path is_folder) (last_verdict patterns path is_folder)
 
--- A file's patterns match paths relative to its folder.
+-- A file's patterns match paths relative to its folder, which may be around those that the path names.
 abbrev pub verdict_in : IgnoreFile → Text → Bool → Option Verdict
-verdict_in file path is_folder = last_verdict file.patterns.items (drop file.folder_len path) is_folder
+verdict_in file path is_folder =
+    last_verdict file.patterns.items (file.front.items ++ drop file.folder_len path) is_folder
 
 -- The deepest file with a matching pattern decides. The deepest is the last.
 abbrev pub deepest_verdict : List IgnoreFile → Text → Bool → Option Verdict

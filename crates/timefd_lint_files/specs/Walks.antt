@@ -1,5 +1,5 @@
 -- Which sources are below a folder.
-use Rattle.std.specs.Prelude.{ℕ, zero, suc, ◌≡◌, ◌-◌, ◌==◌, nat_eq, Bool, true, false, not, ◌&&◌, if◌then◌else◌, List, [], ◌∷◌, ◌++◌, map, length, take, drop, codes, Option, Some, None, String, string_bytes}
+use Rattle.std.specs.Prelude.{ℕ, zero, suc, ◌≡◌, ◌-◌, ◌==◌, nat_eq, Bool, true, false, not, ◌&&◌, if◌then◌else◌, List, [], ◌∷◌, ◌++◌, map, length, take, codes, Option, Some, None, String, string_bytes}
 use denote.Ref.{Bor}
 use Rattle.std.specs.Cmp.Lexicographic.{pointwise}
 use Rattle.std.specs.List.Sorted.{IsPermutation, IsSortedByKey}
@@ -10,12 +10,14 @@ use Rattle.timefd_lint_files.specs.declared.entry.Kind.{Kind}
 use Rattle.timefd_lint_files.specs.declared.entry.Kind.TheVariants as kinds
 use Rattle.timefd_lint_files.specs.declared.entry.Role.{Role}
 use Rattle.timefd_lint_files.specs.declared.entry.Role.TheVariants as roles
+use Rattle.timefd_lint_files.specs.declared.excluded.Excluded.{Excluded}
 use Rattle.timefd_lint_files.specs.declared.ignore_file.IgnoreFile.{IgnoreFile}
 use Rattle.timefd_lint_files.specs.Entries.{has_entry, role}
-use Rattle.timefd_lint_files.specs.IgnoreFiles.{IsReadAs}
+use Rattle.timefd_lint_files.specs.IgnoreFiles.{IsReadAs, IsReadFrom}
 use Rattle.timefd_lint_files.specs.Lines.{last}
 use Rattle.timefd_lint_files.specs.Matching.{Text, slash}
 use Rattle.timefd_lint_files.specs.Rules.{is_ignored, is_passed_over}
+use Rattle.timefd_lint_files.specs.Starts.{path_of, start_of}
 
 abbrev pub texts : List (String Global) → List Text
 texts names = map string_bytes names
@@ -127,27 +129,22 @@ IsWalk endings excluded lists holds (suc depth) above folder names = (entries : 
     × (ignores : List IgnoreFile) × AreListed (lists folder) entries × HasOwn lists holds folder entries above ignores
     × AllGive (Gives endings excluded (IsWalk endings excluded lists holds depth) ignores folder) entries names
 
-abbrev pub begins_with : ℕ → Text → Bool
-begins_with byte [] = false
-begins_with byte (first ∷ bytes) = first == byte
+-- The single file has the patterns of this text.
+abbrev pub IsAlone : Text → ℕ → Text → List IgnoreFile → Type 0
+IsAlone front folder_len text files =
+    (file : IgnoreFile) × IsReadFrom front folder_len text file × (files ≡ file ∷ [])
 
--- How many bytes of a name only name the working directory: those of a leading `./`.
-abbrev pub here_len : Text → ℕ
-here_len [] = 0
-here_len (byte ∷ bytes) = if (byte == 46) && begins_with slash bytes then 2 else 0
+-- The single file of what is excluded below a folder of this name.
+abbrev pub AreExcluded : Excluded → Text → List IgnoreFile → Type 0
+AreExcluded excluded folder files = IsAlone (start_of excluded.front.now folder).front
+    (length folder - length (start_of excluded.front.now folder).rest) excluded.patterns.now files
 
--- The single file of what is excluded has the patterns of this text, for paths relative to the working
--- directory.
-abbrev pub AreExcluded : Text → Text → List IgnoreFile → Type 0
-AreExcluded text folder files =
-    (file : IgnoreFile) × IsReadAs (here_len folder) text file × (files ≡ file ∷ [])
-
--- The names of the sources below a folder, where a text says what is excluded, and up to 255 folders are
--- nested in one another.
-unfoldable pub IsWalkBut : List (Bor Text) → Text → (Text → List Entry → Type 0) → (Text → Text → Type 0) → Text
+-- The names of the sources below a folder, except what is excluded, where up to 255 folders are nested in one
+-- another.
+unfoldable pub IsWalkBut : List (Bor Text) → Excluded → (Text → List Entry → Type 0) → (Text → Text → Type 0) → Text
     → List Text → Type 0
-IsWalkBut endings text lists holds folder names = (excluded : List IgnoreFile) × AreExcluded text folder excluded
-    × IsWalk endings excluded lists holds 255 [] folder names
+IsWalkBut endings excluded lists holds folder names = (files : List IgnoreFile) × AreExcluded excluded folder files
+    × IsWalk endings files lists holds 255 [] folder names
 
 -- the name of the standard input
 abbrev pub is_input : Text → Bool
@@ -157,32 +154,32 @@ is_input name = pointwise nat_eq name (codes "-")
 abbrev pub as_folder : Text → Text
 as_folder name = if last name == slash then name else name ++ slash ∷ []
 
--- The bytes of a name before these, which are its last ones.
+-- The bytes of a path before these, which are its last ones.
 abbrev pub front_of : Text → Text → Text
-front_of name rest = take (length name - length rest) name
+front_of path rest = take (length path - length rest) path
 
--- Whether a folder ends here whose name is excluded: before a slash, unless the name begins with it.
+-- Whether a folder ends here whose name is excluded: before a slash, unless the path begins with it.
 abbrev pub is_out_here : List IgnoreFile → Text → ℕ → Bool
 is_out_here excluded front byte =
     (byte == slash) && (not (length front == 0) && is_ignored excluded front true)
 
--- Whether a folder that ends in these last bytes of a name is excluded, or the file of this name.
+-- Whether a folder that ends in these last bytes of a path is excluded, or the file of this path.
 abbrev pub is_out_from : List IgnoreFile → Text → Text → Bool
-is_out_from excluded name [] = is_ignored excluded name false
-is_out_from excluded name (byte ∷ rest) =
-    if is_out_here excluded (front_of name (byte ∷ rest)) byte then true else is_out_from excluded name rest
+is_out_from excluded path [] = is_ignored excluded path false
+is_out_from excluded path (byte ∷ rest) =
+    if is_out_here excluded (front_of path (byte ∷ rest)) byte then true else is_out_from excluded path rest
 
--- Whether a file is excluded, or a folder that it is in. What names the working directory is no folder.
+-- Whether a file is excluded, or a folder that it is in.
 abbrev pub is_out : List IgnoreFile → Text → Bool
-is_out excluded name = is_out_from excluded name (drop (here_len name) name)
+is_out excluded path = is_out_from excluded path path
 
 abbrev pub unless_out : Bool → Text → List Text
 unless_out out name = if out then [] else name ∷ []
 
--- A file that this text excludes gives no name. Any other gives its own.
-abbrev pub IsKept : Text → Text → List Text → Type 0
-IsKept text name names = (excluded : List IgnoreFile) × AreExcluded text name excluded
-    × (names ≡ unless_out (is_out excluded name) name)
+-- A file that is excluded gives no name. Any other gives its own.
+abbrev pub IsKept : Excluded → Text → List Text → Type 0
+IsKept excluded name names = (files : List IgnoreFile) × IsAlone [] 0 excluded.patterns.now files
+    × (names ≡ unless_out (is_out files (path_of excluded.front.now name)) name)
 
 abbrev pub AreOfName : (Text → List Text → Type 0) → (Text → List Text → Type 0) → Text → Bool → List Text
     → Type 0

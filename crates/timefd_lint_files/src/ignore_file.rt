@@ -2,7 +2,7 @@
 
 ghost use Rattle.std.specs.Prelude.{◌≡◌, ◌≤◌, ◌++◌, length, IfOk, OnOk};
 ghost use Rattle.timefd_lint_files.specs.IgnoreFiles as spec;
-ghost use Rattle.timefd_lint_files.specs.IgnoreFiles.{AreRead, IsReadAs};
+ghost use Rattle.timefd_lint_files.specs.IgnoreFiles.{AreRead, IsReadAs, IsReadFrom};
 
 use crate::pattern::Pattern;
 use crate::reading::pattern_of;
@@ -13,6 +13,8 @@ use std::alloc::{AllocError, Global};
 pub struct IgnoreFile {
     /// How many bytes of a path name the file's folder. Its patterns match what follows them.
     pub folder_len: usize,
+    /// What comes before these, in place of the folder's name. Empty if the file is in that folder.
+    pub front: Vec<u8>,
     /// The patterns, in the order of the lines.
     pub patterns: Vec<Pattern>,
 }
@@ -78,8 +80,26 @@ impl IgnoreFile {
     pub fn of_text(alloc: Global, folder_len: usize, text: &[u8]) -> Result<IgnoreFile, AllocError>
         ensures { IfOk result (λ file. IsReadAs folder_len text.now file) }
     {
+        IgnoreFile::of_text_from(alloc, &[], folder_len, text)
+    }
+
+    /// Reads a file with this text, in another folder than the first `folder_len` bytes of a path name: from that
+    /// one the path `front` leads there. The front is empty, or ends in `/`.
+    ///
+    /// # Errors
+    ///
+    /// An `Err` says that memory ran out.
+    pub fn of_text_from(
+        alloc: Global,
+        front: &[u8],
+        folder_len: usize,
+        text: &[u8],
+    ) -> Result<IgnoreFile, AllocError>
+        ensures { IfOk result (λ file. IsReadFrom front.now folder_len text.now file) }
+    {
         Ok(IgnoreFile {
             folder_len,
+            front: front.to_vec(alloc)?,
             patterns: patterns_of(alloc, text)?,
         })
     }

@@ -1,15 +1,17 @@
 //! The names of the command line, with each folder replaced by the sources below it.
 
-ghost use Rattle.std.specs.Prelude.{◌≡◌, ◌≤◌, ◌++◌, ◌∷◌, [], length, List, string_bytes, IfOk, OnOk};
+ghost use Rattle.std.specs.Prelude.{◌≡◌, ◌++◌, ◌∷◌, [], List, string_bytes, IfOk, OnOk};
 ghost use Rattle.std.specs.Result.{IfErr};
 ghost use Rattle.timefd_lint_files.specs.Errors.{IsBelow, IsBelowAny, IsWalkError};
 ghost use Rattle.timefd_lint_files.specs.Matching.{Text};
 ghost use Rattle.timefd_lint_files.specs.Walks as spec;
 ghost use Rattle.timefd_lint_files.specs.declared.walk_error.WalkError.TheVariants as errors;
-ghost use Rattle.timefd_lint_files.specs.Walks.{AreExcluded, AreExpanded, IsExpanded, IsKept, IsWalkBut, texts};
+ghost use Rattle.timefd_lint_files.specs.Walks.{AreExcluded, AreExpanded, IsAlone, IsExpanded, IsKept, IsWalkBut, texts};
 
+use crate::excluded::Excluded;
 use crate::ignore_file::IgnoreFile;
 use crate::rules::is_ignored;
+use crate::start::{path_of, start_of};
 use crate::system::FileSystem;
 use crate::walk::{Choice, DEPTH_LIMIT, Walk, walk_folder};
 use crate::walk_error::WalkError;
@@ -20,8 +22,8 @@ use std::alloc::{AllocError, Global};
 pub struct Sought<'a> {
     /// The endings of the names of sources, as `.rs`.
     pub endings: &'a [&'a str],
-    /// What is passed over: patterns, one a line, as in a `.gitignore` file of the working directory.
-    pub excluded: &'a str,
+    /// What is passed over.
+    pub excluded: Excluded<'a>,
 }
 
 /// Whether a name means the standard input.
@@ -59,24 +61,35 @@ fn push_name(alloc: Global, walk: &mut Walk, name: &str) -> Result<(), WalkError
     }
 }
 
-/// How many bytes of a folder's name only name the working directory.
-fn here_len(folder: &[u8]) -> usize
-    ensures value { result ≡ spec.here_len folder.now }
-    ensures bound { result ≤ length folder.now }
+/// A single file, read from a text. Its patterns match what follows the first `folder_len` bytes of a path, with
+/// `front` before it.
+#[tactic(auto, using(crate::proofs::NameLemmas::alone))]
+fn alone(
+    alloc: Global,
+    front: &[u8],
+    folder_len: usize,
+    text: &str,
+) -> Result<Vec<IgnoreFile>, AllocError>
+    ensures { IfOk result (λ files. IsAlone front.now folder_len text.now files.items) }
 {
-    match folder {
-        [b'.', b'/', ..] => 2,
-        _ => 0,
-    }
+    let file = IgnoreFile::of_text_from(alloc, front, folder_len, text.as_bytes())?;
+    let mut files = Vec::new(alloc);
+    files.push(file).map_err(AllocError::from)?;
+    Ok(files)
 }
 
 /// The single file that holds the patterns of what is excluded below a folder.
-fn excluded_below(alloc: Global, text: &str, folder: &str) -> Result<Vec<IgnoreFile>, AllocError>
-    ensures { IfOk result (λ files. AreExcluded text.now folder.now files.items) }
+#[tactic(auto, using(crate::proofs::NameLemmas::alone_below))]
+fn excluded_below(
+    alloc: Global,
+    excluded: Excluded<'_>,
+    folder: &str,
+) -> Result<Vec<IgnoreFile>, AllocError>
+    ensures { IfOk result (λ files. AreExcluded excluded.entry folder.now files.items) }
 {
-    let file = IgnoreFile::of_text(alloc, here_len(folder.as_bytes()), text.as_bytes())?;
-    let mut files = Vec::new(alloc);
-    files.push(file).map_err(AllocError::from)?;
+    let start = start_of(excluded.front, folder.as_bytes());
+    let cut = folder.len().saturating_sub(start.rest.len());
+    let files = alone(alloc, start.front, cut, excluded.patterns)?;
     Ok(files)
 }
 
@@ -91,7 +104,7 @@ fn expand_folder<S: FileSystem>(
     requires { walk.old.ignores.items ≡ [] }
     ensures names { OnOk result ((names : List Text)
         × (texts walk.new.names.items ≡ texts walk.old.names.items ++ names)
-        × IsWalkBut sought.entry.endings.now sought.entry.excluded.now (S.lists system.now) (S.holds system.now)
+        × IsWalkBut sought.entry.endings.now sought.entry.excluded (S.lists system.now) (S.holds system.now)
         folder.now names) }
     ensures ignores { OnOk result (walk.new.ignores.items ≡ []) }
     ensures error { IfErr result (IsWalkError (S.fails system.now) (IsBelow folder.now) 255) }
@@ -121,22 +134,22 @@ fn is_out_here(
 
 /// Whether a file is excluded, or a folder that it is in.
 #[tactic(auto, using(crate::proofs::OutLemmas::goes_on, crate::proofs::OutLemmas::is_found, crate::proofs::OutLemmas::at_last))]
-fn is_out(excluded: &[IgnoreFile], name: &[u8], row: &mut Vec<bool>) -> Result<bool, AllocError>
-    ensures { IfOk result (λ out. out ≡ spec.is_out excluded.now name.now) }
+fn is_out(excluded: &[IgnoreFile], path: &[u8], row: &mut Vec<bool>) -> Result<bool, AllocError>
+    ensures { IfOk result (λ out. out ≡ spec.is_out excluded.now path.now) }
 {
-    let mut rest = &name[here_len(name)..];
+    let mut rest = path;
     'bytes: while let [byte, after @ ..] = rest {
-        let front = &name[..name.len().saturating_sub(rest.len())];
+        let front = &path[..path.len().saturating_sub(rest.len())];
         if is_out_here(excluded, front, *byte, row)? {
             return Ok(true);
         }
         rest = after;
     }
-    is_ignored(excluded, name, false, row)
+    is_ignored(excluded, path, false, row)
 }
 
 /// Adds the name of a file, unless it is excluded.
-#[tactic(auto, using(crate::proofs::OutLemmas::kept))]
+#[tactic(auto, using(crate::proofs::OutLemmas::kept, crate::proofs::OutLemmas::out))]
 fn expand_file(
     alloc: Global,
     sought: Sought<'_>,
@@ -145,12 +158,13 @@ fn expand_file(
 ) -> Result<(), WalkError>
     ensures names { OnOk result ((names : List Text)
         × (texts walk.new.names.items ≡ texts walk.old.names.items ++ names)
-        × IsKept sought.entry.excluded.now name.now names) }
+        × IsKept sought.entry.excluded name.now names) }
     ensures ignores { walk.new.ignores.items ≡ walk.old.ignores.items }
     ensures error { IfErr result (λ e. e ≡ errors.Memory) }
 {
-    let excluded = excluded_below(alloc, sought.excluded, name)?;
-    if is_out(&excluded, name.as_bytes(), &mut walk.row)? {
+    let excluded = alone(alloc, &[], 0, sought.excluded.patterns)?;
+    let path = path_of(alloc, sought.excluded.front, name.as_bytes())?;
+    if is_out(&excluded, &path, &mut walk.row)? {
         return Ok(());
     }
     push_name(alloc, walk, name)
@@ -168,8 +182,8 @@ fn expand<S: FileSystem>(
     requires { walk.old.ignores.items ≡ [] }
     ensures names { OnOk result ((names : List Text)
         × (texts walk.new.names.items ≡ texts walk.old.names.items ++ names)
-        × IsExpanded (IsWalkBut sought.entry.endings.now sought.entry.excluded.now (S.lists system.now)
-        (S.holds system.now)) (IsKept sought.entry.excluded.now) (S.tells system.now) name.entry names) }
+        × IsExpanded (IsWalkBut sought.entry.endings.now sought.entry.excluded (S.lists system.now)
+        (S.holds system.now)) (IsKept sought.entry.excluded) (S.tells system.now) name.entry names) }
     ensures ignores { OnOk result (walk.new.ignores.items ≡ []) }
     ensures error { IfErr result
         (IsWalkError (S.fails system.now) (IsBelow (spec.as_folder name.entry.now)) 255) }
@@ -204,8 +218,8 @@ pub fn expanded<S: FileSystem>(
     sought: Sought<'_>,
     names: &[&str],
 ) -> Result<Vec<String>, WalkError>
-    ensures all { IfOk result (λ all. AreExpanded (IsWalkBut sought.entry.endings.now sought.entry.excluded.now
-        (S.lists system.now) (S.holds system.now)) (IsKept sought.entry.excluded.now) (S.tells system.now) names.now
+    ensures all { IfOk result (λ all. AreExpanded (IsWalkBut sought.entry.endings.now sought.entry.excluded
+        (S.lists system.now) (S.holds system.now)) (IsKept sought.entry.excluded) (S.tells system.now) names.now
         (texts all.items)) }
 
     // The path of what isn't read begins with one of the names. If the depth is the reason, at least 255

@@ -1,6 +1,6 @@
 //! What `.gitignore` files say about a path.
 
-ghost use Rattle.std.specs.Prelude.{◌≡◌, IfOk};
+ghost use Rattle.std.specs.Prelude.{◌≡◌, ◌++◌, IfOk};
 ghost use Rattle.timefd_lint_files.specs.FileNames.{file_name};
 ghost use Rattle.timefd_lint_files.specs.Rules as spec;
 
@@ -31,8 +31,18 @@ impl Pattern {
     }
 }
 
+/// A path with what comes before it.
+fn with_front(front: &Vec<u8>, path: &[u8]) -> Result<Vec<u8>, AllocError>
+    ensures { IfOk result (λ whole. whole.items ≡ front.now.items ++ path.now) }
+{
+    let mut whole = front.clone()?;
+    whole.extend_from_slice(path)?;
+    Ok(whole)
+}
+
 impl IgnoreFile {
     /// What the file's last matching pattern says about a path. `None` if no pattern matches.
+    #[tactic(auto, using(crate::proofs::RuleLemmas::without_front, crate::proofs::RuleLemmas::after_front))]
     fn verdict(
         &self,
         path: &[u8],
@@ -42,7 +52,13 @@ impl IgnoreFile {
         ensures { IfOk result (λ verdict. verdict ≡ spec.verdict_in self.now path.now is_folder) }
     {
         let below = path.get(self.folder_len..).unwrap_or(&[]);
-        last_verdict(&self.patterns, below, file_name(below), is_folder, row)
+        if self.front.is_empty() {
+            let verdict = last_verdict(&self.patterns, below, file_name(below), is_folder, row)?;
+            return Ok(verdict);
+        }
+        let whole = with_front(&self.front, below)?;
+        let verdict = last_verdict(&self.patterns, &whole, file_name(&whole), is_folder, row)?;
+        Ok(verdict)
     }
 }
 

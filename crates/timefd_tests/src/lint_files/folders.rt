@@ -3,12 +3,17 @@
 use crate::lint_files::fake::Fake;
 use std::alloc::{AllocError, Global};
 use std::io::ErrorKind;
-use timefd_lint_files::{Reason, Sought, WalkError, expanded};
+use timefd_lint_files::{
+    Excluded, Reason, Sought, WalkError, expanded, first_upwards, folders_above, front_below,
+};
 
 /// Sources of Rust, and nothing excluded.
 const RUST: Sought<'static> = Sought {
     endings: &[".rs"],
-    excluded: "",
+    excluded: Excluded {
+        patterns: "",
+        front: b"",
+    },
 };
 
 /// Names on the command line, and the names of the files that they mean, each after a bar.
@@ -52,6 +57,70 @@ fn names_stand_for_files(rt: HostRuntime) {
         let found = shown(rt.alloc(), &found).expect(&rt, "memory");
         assert_eq!(rt; found.as_str(), all);
     }
+}
+
+/// What a folder around the working directory excludes: the path of the working directory from there, the
+/// patterns, names, and the files that these mean.
+const EXCLUDED: &[(&str, &str, &[&str], &str)] = &[
+    ("top/", "/top/src/a\n", &["src"], "|src/a.rs|src/z.rs"),
+    (
+        "top/",
+        "/src/a\n",
+        &["src"],
+        "|src/a/generated.rs|src/a/kept.rs|src/a.rs|src/z.rs",
+    ),
+    ("top/", "top/\n", &["b.txt", "/b.txt"], "|/b.txt"),
+    (
+        "top/inner/",
+        "/top/b.txt\n",
+        &["b.txt", "../b.txt", "./../b.txt", "../../b.txt"],
+        "|b.txt|../../b.txt",
+    ),
+    ("", "b.txt\n", &["../b.txt", "c.txt", "./c/b.txt"], "|c.txt"),
+];
+
+#[test]
+fn folders_around_exclude_files(rt: HostRuntime) {
+    for &(front, patterns, names, all) in EXCLUDED {
+        let sought = Sought {
+            endings: &[".rs"],
+            excluded: Excluded {
+                patterns,
+                front: front.as_bytes(),
+            },
+        };
+        let found = expanded(&Fake, rt.alloc(), sought, names).expect(&rt, "names");
+        let found = shown(rt.alloc(), &found).expect(&rt, "memory");
+        assert_eq!(rt; found.as_str(), all);
+    }
+}
+
+/// Where `.gitignore` is found from a folder upwards, and how many folders are around it there; a bar if it
+/// isn't found.
+fn upwards(alloc: Global, folder: &str, above: usize) -> Result<String, AllocError> {
+    match first_upwards(&Fake, alloc, ".gitignore", folder, above) {
+        Ok(Some(found)) => format!(in alloc; "{} {}", found.folder, found.above),
+        Ok(None) | Err(_) => String::from_str(alloc, "|"),
+    }
+}
+
+#[test]
+fn a_file_is_sought_upwards(rt: HostRuntime) {
+    let alloc = rt.alloc();
+    assert_eq!(rt;
+        upwards(alloc, "src/", 3).expect(&rt, "memory").as_str(),
+        "src/ 3"
+    );
+    assert_eq!(rt;
+        upwards(alloc, "src", 3).expect(&rt, "memory").as_str(),
+        "|"
+    );
+    assert_eq!(rt; folders_above(""), 0);
+    assert_eq!(rt; folders_above("home/u/p"), 3);
+    let front = front_below(alloc, "home/u/p", 1).expect(&rt, "memory");
+    assert!(rt; front.as_slice() == b"u/p/");
+    let front = front_below(alloc, "home/u/p", 3).expect(&rt, "memory");
+    assert!(rt; front.is_empty());
 }
 
 /// Whether a name fails, for this reason, and which name is reported.

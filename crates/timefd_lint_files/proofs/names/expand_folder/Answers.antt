@@ -10,7 +10,7 @@ returns-clause-names g c =
     let borrowed : c.deref.result.now ≡ c.in_ok-excluded.excluded.items =
     first_of (search rules, cc, grind (arith, common_steps)) in
     on_ok_weaker c.walk_folder.result
-    (walked_but c.args.sought.endings.now c.args.sought.excluded.now (g.S.FileSystem.lists c.args.system.now)
+    (walked_but c.args.sought.endings.now c.args.sought.excluded (g.S.FileSystem.lists c.args.system.now)
     (g.S.FileSystem.holds c.args.system.now) c.args.folder.now c.in_ok-excluded.excluded.items c.deref.result.now
     c.args.walk.now.ignores.items (texts c.args.walk.now.names.items) (texts c.walk_folder.new.walk.names.items)
     c.in_ok-excluded.ensures borrowed c.requires)

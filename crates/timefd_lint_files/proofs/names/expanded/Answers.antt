@@ -11,8 +11,8 @@ loop-name-preserved g c =
     let lt : c.loop-name.name-index < length c.args.names.now = first_of (omega arith, search rules) in record {
       outside = c.in_ok-expand.ensures.ignores;
       so_far = one_more
-          (IsWalkBut c.args.sought.endings.now c.args.sought.excluded.now (g.S.FileSystem.lists c.args.system.now) (g.S.FileSystem.holds c.args.system.now))
-          (IsKept c.args.sought.excluded.now) (g.S.FileSystem.tells c.args.system.now) c.args.names.now c.loop-name.name-index _
+          (IsWalkBut c.args.sought.endings.now c.args.sought.excluded (g.S.FileSystem.lists c.args.system.now) (g.S.FileSystem.holds c.args.system.now))
+          (IsKept c.args.sought.excluded) (g.S.FileSystem.tells c.args.system.now) c.args.names.now c.loop-name.name-index _
           (texts c.loop-name.walk.names.items) (texts c.expand.new.walk.names.items) lt
           c.loop-name.invariant.so_far c.in_ok-expand.ensures.names;
     }
@@ -22,8 +22,8 @@ returns-clause-all g c =
     let end : c.loop-name.name-index ≡ length c.args.names.now = first_of (omega arith, search rules) in
     let same : texts c.into_names.result.items ≡ texts c.loop-name.walk.names.items =
     first_of (cc, search rules, grind (arith, common_steps)) in
-    at_last (IsWalkBut c.args.sought.endings.now c.args.sought.excluded.now (g.S.FileSystem.lists c.args.system.now) (g.S.FileSystem.holds c.args.system.now))
-    (IsKept c.args.sought.excluded.now) (g.S.FileSystem.tells c.args.system.now) c.args.names.now c.loop-name.name-index
+    at_last (IsWalkBut c.args.sought.endings.now c.args.sought.excluded (g.S.FileSystem.lists c.args.system.now) (g.S.FileSystem.holds c.args.system.now))
+    (IsKept c.args.sought.excluded) (g.S.FileSystem.tells c.args.system.now) c.args.names.now c.loop-name.name-index
     (texts c.loop-name.walk.names.items) (texts c.into_names.result.items) end same
     c.loop-name.invariant.so_far
 

@@ -4,7 +4,7 @@ use Rattle.timefd_lint_files.proofs.names.is_out.Given as goal
 
 -- The remaining bytes decide.
 abbrev pub invariant-bytes : goal.invariant-bytes
-invariant-bytes l = is_out_from l.fn.excluded l.fn.name l.rest ≡ is_out l.fn.excluded l.fn.name
+invariant-bytes l = is_out_from l.fn.excluded l.fn.path l.rest ≡ is_out l.fn.excluded l.fn.path
 
 abbrev pub decreases-bytes : goal.decreases-bytes
 decreases-bytes l = length l.rest

@@ -1,0 +1,106 @@
+-- A file that is sought upwards.
+use Rattle.std.proofs.Common.{◌≡◌, ◌≢◌, ℕ, ◌-◌, zero, suc, Bool, true, false, List, [], ◌∷◌, ◌++◌, refl, sym, ap, ◌∙◌, codes, subst, arith}
+use Rattle.std.proofs.lemmas.Bool.{ne_eqb}
+use Rattle.std.specs.Prelude.{Option, Some, None}
+use Rattle.std.specs.declared.io.ErrorKind.{ErrorKind}
+use Rattle.timefd_lint_files.specs.Matching.{Text}
+use Rattle.timefd_lint_files.specs.Upwards.{IsAbsent, IsAround, IsBeyond, IsNearest, IsThereOr, Near, after_slashes, left_after}
+
+abbrev pub near : Text → ℕ → Text → Option Near
+near folder above text = Some (record { folder = folder; above = above; text = text })
+
+-- The file is in the folder.
+pub found_here : (holds : Text → Text → Type 0) (fails : Text → ErrorKind → Type 0) (tells : Text → Bool → Type 0)
+    (name : Text) (above : ℕ) (folder named text : Text) → holds (folder ++ name) text → named ≡ folder
+    → IsNearest holds fails tells name above folder (near named above text)
+unfolding IsNearest
+found_here holds fails tells name zero folder named text has same =
+    (Some text, has, ap (λ (f : Text). near f zero text) same)
+found_here holds fails tells name (suc above) folder named text has same =
+    (Some text, has, ap (λ (f : Text). near f (suc above) text) same)
+
+-- No folder is around.
+pub at_top : (holds : Text → Text → Type 0) (fails : Text → ErrorKind → Type 0) (tells : Text → Bool → Type 0)
+    (name : Text) (above : ℕ) (folder : Text) (answer : Option Near) → IsAbsent fails (folder ++ name) → above ≡ 0
+    → answer ≡ None → IsNearest holds fails tells name above folder answer
+unfolding IsNearest
+at_top holds fails tells name zero folder answer absent none is = (None, absent, is)
+at_top holds fails tells name (suc above) folder answer absent none is = absurd cc
+
+beyond : (holds : Text → Text → Type 0) (fails : Text → ErrorKind → Type 0) (tells : Text → Bool → Type 0)
+    (name : Text) (above : ℕ) (folder : Text) (answer : Option Near) → IsAbsent fails (folder ++ name) → above ≢ 0
+    → IsBeyond holds fails tells (IsNearest holds fails tells name (above - 1)) folder answer
+    → IsNearest holds fails tells name above folder answer
+unfolding IsNearest
+beyond holds fails tells name zero folder answer absent some is = absurd (some refl)
+beyond holds fails tells name (suc above) folder answer absent some is =
+    let less : suc above - 1 ≡ above = omega arith in (
+      None,
+      absent,
+      subst (λ (k : ℕ). IsBeyond holds fails tells (IsNearest holds fails tells name k) folder answer) less is,
+    )
+
+-- The folder has `.git`.
+pub in_repository : (holds : Text → Text → Type 0) (fails : Text → ErrorKind → Type 0) (tells : Text → Bool → Type 0)
+    (name : Text) (above : ℕ) (folder : Text) (has : Bool) (answer : Option Near) → IsAbsent fails (folder ++ name)
+    → above ≢ 0 → IsThereOr holds fails (folder ++ codes ".git") has → has ≡ true → answer ≡ None
+    → IsNearest holds fails tells name above folder answer
+in_repository holds fails tells name above folder has answer absent some there is none =
+    beyond holds fails tells name above folder answer absent some
+    (true, subst (λ (b : Bool). IsThereOr holds fails (folder ++ codes ".git") b) is there, none)
+
+around_it : (holds : Text → Text → Type 0) (fails : Text → ErrorKind → Type 0) (tells : Text → Bool → Type 0)
+    (name : Text) (above : ℕ) (folder : Text) (has : Bool) (answer : Option Near) → IsAbsent fails (folder ++ name)
+    → above ≢ 0 → IsThereOr holds fails (folder ++ codes ".git") has → has ≡ false
+    → IsAround tells (IsNearest holds fails tells name (above - 1)) (folder ++ codes "../") answer
+    → IsNearest holds fails tells name above folder answer
+around_it holds fails tells name above folder has answer absent some there is around =
+    beyond holds fails tells name above folder answer absent some
+    (false, subst (λ (b : Bool). IsThereOr holds fails (folder ++ codes ".git") b) is there, around)
+
+-- No name in the folder around can be looked up.
+pub at_closed : (holds : Text → Text → Type 0) (fails : Text → ErrorKind → Type 0) (tells : Text → Bool → Type 0)
+    (name : Text) (above : ℕ) (folder around : Text) (has answers : Bool) (answer : Option Near)
+    → IsAbsent fails (folder ++ name) → above ≢ 0 → IsThereOr holds fails (folder ++ codes ".git") has → has ≡ false
+    → around ≡ folder ++ codes "../" → tells (around ++ codes ".") answers → answers ≡ false → answer ≡ None
+    → IsNearest holds fails tells name above folder answer
+at_closed holds fails tells name above folder around has answers answer absent some there is at reported closed none =
+    around_it holds fails tells name above folder has answer absent some there is (
+      false,
+      subst (λ (f : Text). tells (f ++ codes ".") false) at
+          (subst (λ (b : Bool). tells (around ++ codes ".") b) closed reported),
+      none,
+    )
+
+-- The folder around has the answer.
+pub above_it : (holds : Text → Text → Type 0) (fails : Text → ErrorKind → Type 0) (tells : Text → Bool → Type 0)
+    (name : Text) (above : ℕ) (folder around named : Text) (has answers : Bool) (answer : Option Near)
+    → IsAbsent fails (folder ++ name) → above ≢ 0 → IsThereOr holds fails (folder ++ codes ".git") has → has ≡ false
+    → around ≡ folder ++ codes "../" → named ≡ around → tells (named ++ codes ".") answers → answers ≡ true
+    → IsNearest holds fails tells name (above - 1) named answer
+    → IsNearest holds fails tells name above folder answer
+above_it holds fails tells name above folder around named has answers answer absent some there is at same reported open_ below =
+    let here : named ≡ folder ++ codes "../" = same ∙ at in
+    around_it holds fails tells name above folder has answer absent some there is (
+      true,
+      subst (λ (f : Text). tells (f ++ codes ".") true) here
+          (subst (λ (b : Bool). tells (named ++ codes ".") b) open_ reported),
+      subst (λ (f : Text). IsNearest holds fails tells name (above - 1) f answer) here below,
+    )
+
+-- one more byte
+pub one_byte : (count left : ℕ) (rest after all : Text) (byte : ℕ) → rest ≡ byte ∷ after → count ≢ 0
+    → left ≡ left_after count byte → after_slashes count rest ≡ all → after_slashes left after ≡ all
+one_byte count left rest after all byte split some is so_far =
+    let here : after_slashes count (byte ∷ after) ≡ after_slashes (left_after count byte) after =
+    rw (ne_eqb count 0 some) refl in
+    ap (λ (k : ℕ). after_slashes k after) is ∙ (sym here ∙ (ap (after_slashes count) (sym split) ∙ so_far))
+
+pub no_slash_left : (count : ℕ) (rest after all : Text) (byte : ℕ) → rest ≡ byte ∷ after → count ≡ 0
+    → after_slashes count rest ≡ all → rest ≡ all
+no_slash_left zero rest after all byte split none so_far =
+    split ∙ (ap (after_slashes zero) (sym split) ∙ so_far)
+no_slash_left (suc count) rest after all byte split none so_far = absurd cc
+
+pub no_byte_left : (count : ℕ) (rest all : Text) → rest ≡ [] → after_slashes count rest ≡ all → rest ≡ all
+no_byte_left count rest all none so_far = none ∙ (ap (after_slashes count) (sym none) ∙ so_far)

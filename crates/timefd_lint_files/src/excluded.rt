@@ -1,0 +1,10 @@
+//! What is passed over, whatever `.gitignore` files say.
+
+/// Patterns, and the folder that they are relative to.
+#[derive(Clone, Copy)]
+pub struct Excluded<'a> {
+    /// The patterns, one a line, as in a `.gitignore` file of that folder.
+    pub patterns: &'a str,
+    /// The path of the working directory from that folder: empty, or names that each end in `/`.
+    pub front: &'a [u8],
+}
