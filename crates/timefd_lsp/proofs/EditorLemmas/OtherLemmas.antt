@@ -1,5 +1,5 @@
 -- What is reported about a format of another language or library.
-use Rattle.std.proofs.Common.{◌≡◌, Bool, true, Option, Some, None, List, subst}
+use Rattle.std.proofs.Common.{ℕ, ◌≡◌, Bool, true, Option, Some, None, List, subst}
 use Rattle.std.specs.Prelude.{OnOk, Result, Ok, Err}
 use Rattle.timefd_component.specs.Tree.{Text}
 use Rattle.timefd_dialect.specs.declared.dialect.Dialect.{Dialect}
@@ -10,8 +10,11 @@ use Rattle.timefd_lint_sources.specs.declared.reported.Finder.{Finder}
 use Rattle.timefd_lint_sources.specs.Judged.{text_of}
 use Rattle.timefd_lint_sources.specs.Search.{IsSearched}
 use Rattle.timefd_lsp.proofs.EditorLemmas.EachLemmas.{wanted}
+use Rattle.timefd_lsp.proofs.EditorLemmas.WarningLemmas.{in_words}
 use Rattle.timefd_lsp.specs.declared.editor.finding.Finding.{Finding}
+use Rattle.timefd_lsp.specs.declared.editor.finding.Severity.{Severity}
 use Rattle.timefd_lsp.specs.Editor.Each.{Adds, AreIf, AreOf}
+use Rattle.timefd_lsp.specs.Editor.Finding.{IsOne}
 use Rattle.timefd_lsp.specs.Editor.Others.{AreOnOther, AreTrapsOf, IsRefusal, IsTrap}
 use Rattle.timefd_sources.specs.declared.description.Description.{Description}
 
@@ -71,3 +74,13 @@ are_wanted reports text d dialect format all given before after (Ok x) on same a
       added,
     )
 are_wanted reports text d dialect format all given before after (Err e) on same are equal added = tt
+
+-- A finding, given by a position and words that are equal to its own.
+pub placed : {R E : Type 0} (text : Text) (from from' to to' : ℕ) (weight : Severity) (name name' words words' : Text)
+    (before after : List Finding) (done : Result R E) → from ≡ from' → to ≡ to' → name ≡ name' → words ≡ words'
+    → OnOk done (Adds (IsOne text from to weight name words) before after)
+    → OnOk done (Adds (IsOne text from' to' weight name' words') before after)
+placed text from from' to to' weight name name' words words' before after done begins ends named worded added =
+    subst (λ i. OnOk done (Adds (IsOne text i to' weight name' words') before after)) begins
+    (subst (λ i. OnOk done (Adds (IsOne text from i weight name' words') before after)) ends
+    (in_words text from to weight name name' words words' before after done named worded added))
