@@ -2,11 +2,12 @@
 use Rattle.std.proofs.Common.{ℕ, pos, negsuc, ◌≡◌, ◌∙◌, Bool, false, ◌||◌, List, [], ◌∷◌, Global, String, ap, map, refl}
 use Rattle.std.specs.declared.alloc.AllocError.{AllocError}
 use Rattle.std.specs.Prelude.{IfOk, Option, Some, None, Result, Ok, Err, string_bytes}
+use denote.Ref.{Bor}
 use Rattle.serde_json.specs.Data.{Data}
 use Rattle.serde_json.specs.View.{items_of}
 use Rattle.serde_json.specs.Written.{compact_text, has_float, items_have_float}
 use Rattle.timefd_lsp.specs.declared.editor.action.Action.{Action}
-use Rattle.timefd_lsp.specs.Shown.{action_data, edit_data, finding_data}
+use Rattle.timefd_lsp.specs.Shown.{action_data, edit_data, finding_data, word_data}
 use Rattle.timefd_lsp.specs.Texts.{error_data, id_data, reply_data, response}
 use Rattle.timefd_lsp.specs.declared.envelope.Id.{Id}
 use Rattle.timefd_lsp.specs.declared.envelope.Id.TheVariants as ids
@@ -52,6 +53,12 @@ response_is_whole : (id : Data) (answer : Answer) → IsWhole id → IsWhole (re
 response_is_whole id answers.Capabilities whole = ap (λ b. b || false) whole
 response_is_whole id answers.Nothing whole = ap (λ b. b || false) whole
 response_is_whole id (answers.Hover hover) whole = ap (λ b. b || false) whole
+response_is_whole id (answers.Completion completion) whole =
+    let shown : Bor (List ℕ) → Data = λ w. word_data completion.range completion.slot w.now in
+    let listed : items_have_float (items_of (map shown completion.words.items)) ≡ false =
+    list_is_whole shown (λ w. refl) completion.words.items in
+    neither (has_float id) (items_have_float (items_of (map shown completion.words.items)) || false) whole
+    (ap (λ b. b || false) listed)
 response_is_whole id (answers.Actions uri actions) whole =
     let name : List ℕ = string_bytes uri in
     let listed : items_have_float (items_of (map (action_data name) actions.items)) ≡ false =

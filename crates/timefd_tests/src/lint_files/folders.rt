@@ -118,7 +118,7 @@ fn a_file_is_sought_upwards(rt: HostRuntime) {
     assert_eq!(rt; folders_above(""), 0);
     assert_eq!(rt; folders_above("home/u/p"), 3);
     let front = front_below(alloc, "home/u/p", 1).expect(&rt, "memory");
-    assert!(rt; front.as_slice() == b"u/p/");
+    assert!(rt; front.as_slice() == b"u/p/".as_slice());
     let front = front_below(alloc, "home/u/p", 3).expect(&rt, "memory");
     assert!(rt; front.is_empty());
 }
