@@ -9,10 +9,6 @@ pub mod ReadBackLemmas
 pub mod ReadLemmas
 pub mod RecordLemmas
 pub mod SecondsLemmas
-pub mod ReportLemmas
-pub mod LineReportLemmas
-pub mod RecordCountLemmas
-pub mod TableReportLemmas
 pub mod RunLemmas
 pub mod TableLemmas
 pub mod TakenLemmas

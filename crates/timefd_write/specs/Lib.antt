@@ -24,8 +24,6 @@ pub mod Tables
 pub mod PlainCells
 pub mod RecordBatches
 pub mod Warned
-pub mod LineReports
-pub mod TableReports
 pub mod Runs
 pub mod Converted
 pub mod ToRead
