@@ -1,5 +1,5 @@
 -- All that is wrong in a document.
-use Rattle.std.specs.Prelude.{◌≡◌, Bool, true, false, List, [], ◌++◌, Option}
+use Rattle.std.specs.Prelude.{◌≡◌, Bool, true, false, List, [], ◌∷◌, ◌++◌, Option, codes}
 use Rattle.timefd_component.specs.Tree.{Text}
 use Rattle.timefd_diagnosis.specs.declared.diagnostic.Diagnostic.{Diagnostic}
 use Rattle.timefd_drawing.specs.HelpText.{help_text}
@@ -12,8 +12,10 @@ use Rattle.timefd_lsp.specs.Editor.Each.{AreOf}
 use Rattle.timefd_lsp.specs.Editor.Finding.{AreWarnings, IsNote, IsOne}
 use Rattle.timefd_fault.specs.Faults.{fault_of}
 use Rattle.timefd_lint_sources.specs.declared.reported.End.{End}
-use Rattle.timefd_lint_sources.specs.declared.reported.End.TheVariants.{PassedOver, Accepted, Converted, Refused, NotText, UnreadCall, UnreadValue}
+use Rattle.timefd_lint_sources.specs.declared.reported.End.TheVariants.{PassedOver, Accepted, Converted, Refused, NotText, Allowed, UnreadCall, UnreadValue}
 use Rattle.timefd_lint_sources.specs.declared.reported.Source.{Source}
+use Rattle.timefd_lint_sources.specs.Allowances.Found.{AreAllowances}
+use Rattle.timefd_lint_sources.specs.Allowed.{faults_left, is_allowed, levels_left}
 use Rattle.timefd_lint_sources.specs.Judged.{AreDiagnosedOf, IsEndOf}
 use Rattle.timefd_lint_sources.specs.Reported.{AreJudgedIn}
 use Rattle.timefd_sources.specs.declared.description.Description.{Description}
@@ -35,24 +37,46 @@ abbrev pub AreFaults : Text → Description → Diagnostic → List Diagnostic �
 AreFaults text d g further found = (one : List Finding) × (rest : List Finding)
     × IsFault text d false g one × AreOf (IsFault text d true) further rest × (found ≡ one ++ rest)
 
--- What is wrong with a description, by how its check ended.
-abbrev pub AreBy : Text → Description → End → List Finding → Type 0
-AreBy text d PassedOver found = found ≡ []
-AreBy text d (Accepted warned) found = AreWarnings text d warned found
-AreBy text d (Converted count) found = ⊥
-AreBy text d Refused found = (g : Diagnostic) × (further : List Diagnostic)
-    × AreDiagnosedOf d g further × AreFaults text d g further found
-AreBy text d NotText found = IsNote text d found
-AreBy text d UnreadCall found = ⊥
-AreBy text d UnreadValue found = ⊥
+-- these faults, of which there may be none
+abbrev pub AreFaultsLeft : Text → Description → List Diagnostic → List Finding → Type 0
+AreFaultsLeft text d [] found = found ≡ []
+AreFaultsLeft text d (g ∷ further) found = AreFaults text d g further found
 
-pub record AreOn (levels : Option Levels) (text : Text) (d : Description) (found : List Finding) : Type 0 where
+abbrev pub IsNoteIf : Bool → Text → Description → List Finding → Type 0
+IsNoteIf true text d found = found ≡ []
+IsNoteIf false text d found = IsNote text d found
+
+-- the report that a description isn't UTF-8, unless that is allowed
+abbrev pub IsNoteLeft : Source → Description → List Finding → Type 0
+IsNoteLeft s d found = IsNoteIf (is_allowed s d (codes "not-text")) s.text.now d found
+
+-- What is wrong with a description and isn't allowed, by how its check ended.
+abbrev pub AreBy : Source → Description → End → List Finding → Type 0
+AreBy s d PassedOver found = found ≡ []
+AreBy s d (Accepted warned) found = AreWarnings s.text.now d (levels_left s d warned) found
+AreBy s d (Converted count) found = ⊥
+AreBy s d Refused found = (g : Diagnostic) × (further : List Diagnostic)
+    × AreDiagnosedOf d g further × AreFaultsLeft s.text.now d (faults_left s d g further) found
+AreBy s d NotText found = IsNoteLeft s d found
+AreBy s d (Allowed left) found = ⊥
+AreBy s d UnreadCall found = ⊥
+AreBy s d UnreadValue found = ⊥
+
+pub record AreOn (levels : Option Levels) (s : Source) (d : Description) (found : List Finding) : Type 0 where
   pub end : End
   pub is : IsEndOf levels d end
-  pub reported : AreBy text d end found
+  pub reported : AreBy s d end found
 
--- All that is wrong with the descriptions in a source, one after another.
-pub record AreFindingsOf (levels : Option Levels) (s : Source) (found : List Finding) : Type 0 where
+-- All that is wrong with the descriptions in a source and that its comments don't allow, one after another.
+pub record AreFindingsLeft (levels : Option Levels) (s : Source) (found : List Finding) : Type 0 where
   pub descriptions : List Description
   pub judged : AreJudgedIn s descriptions
-  pub reported : AreOf (AreOn levels s.text.now) descriptions found
+  pub reported : AreOf (AreOn levels s) descriptions found
+
+-- The comments are those of the source itself.
+pub record AreFindingsOf (levels : Option Levels) (s : Source) (found : List Finding) : Type 0 where
+  pub source : Source
+  pub finder : source.finder ≡ s.finder
+  pub text : source.text.now ≡ s.text.now
+  pub allowed : AreAllowances source.finder source.text.now source.allowances.now
+  pub left : AreFindingsLeft levels source found

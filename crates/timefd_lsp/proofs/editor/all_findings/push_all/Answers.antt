@@ -6,7 +6,7 @@ use Rattle.timefd_lsp.proofs.editor.all_findings.push_all.Goals as goal
 pub loop-description-preserved : goal.loop-description-preserved
 loop-description-preserved c = record {
   counted = c.counted-counter.ensures.counted;
-  reported = one_more (AreOn c.args.levels c.args.text.now) c.args.descriptions.now
+  reported = one_more (AreOn c.args.levels c.args.source) c.args.descriptions.now
       c.loop-description.description-index c.description-item.result c.description-item.result
       c.args.found.now.items c.loop-description.found.items c.push_on.new.found.items
       (first_of (search rules, omega (arith, c.loop-description-test.true)))

@@ -7,7 +7,7 @@ use Rattle.timefd_lsp.proofs.editor.all_findings.push_all.Given as goal
 -- The remaining descriptions decide.
 abbrev pub invariant-loop-description : goal.invariant-loop-description
 invariant-loop-description l = record {
-  counted : IsCounted l.text l.counter;
-  reported : IsReported (AreOn l.levels l.text) l.descriptions (drop l.description-index l.descriptions)
+  counted : IsCounted l.source.text.now l.counter;
+  reported : IsReported (AreOn l.levels l.source) l.descriptions (drop l.description-index l.descriptions)
       l.fn.found.items l.found.items;
 }
