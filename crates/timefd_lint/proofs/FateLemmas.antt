@@ -17,7 +17,7 @@ use Rattle.timefd_lint.specs.Fates.{IsFoundAs, IsFoundByChange, IsFoundIn, Shows
 use Rattle.timefd_lint.specs.Limited.{AreNotesFor}
 use Rattle.timefd_lint.specs.Outputs.{without_colors}
 use Rattle.timefd_lint.specs.Reported.{IsRunOver}
-use Rattle.timefd_lint.specs.Rewritten.{IsFileRewritten}
+use Rattle.timefd_lint.specs.Rewritten.{IsFileNoted, IsFileRewritten}
 use Rattle.timefd_lint.specs.Sources.{IsRunOfSource, finder_of, is_source}
 use denote.Ref.{Bor}
 
@@ -50,10 +50,12 @@ pub in_source : (options : Options) (rewriting : Rewriting) (name old : Text) (b
     → ((rest : Option Text) × (has_failed : Bool) × IsRunOfSource (finder_of options name) options.reporting name
     (Some old) rest has_failed before after found.tally)
     → IsFileRewritten rewriting.sources (finder_of options name) old found.counts found.bytes.items
+    → IsFileNoted rewriting.sources (finder_of options name) name old (string_bytes found.by_hand)
+    (string_bytes found.limits)
     → IsFoundIn options rewriting name old before after (Some found)
-in_source options rewriting name old before after found is (rest, has_failed, reported) new =
+in_source options rewriting name old before after found is (rest, has_failed, reported) new noted =
     subst (λ s. IsFoundAs s options rewriting name old before after (Some found)) (sym is)
-    (rest, has_failed, reported, new)
+    (rest, has_failed, reported, new, noted)
 
 pub in_lines : (options : Options) (rewriting : Rewriting) (name old : Text) (before after : Option Text)
     (change : LineChange) (found : Found) → is_source options name ≡ false → rewriting.lines ≡ Some change

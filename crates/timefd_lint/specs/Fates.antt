@@ -21,7 +21,7 @@ use Rattle.timefd_lint.specs.Failures.{note_of}
 use Rattle.timefd_lint.specs.Limited.{AreNotesFor}
 use Rattle.timefd_lint.specs.Outputs.{without_colors}
 use Rattle.timefd_lint.specs.Reported.{IsRunOver, both, tally_of, tally_of_one}
-use Rattle.timefd_lint.specs.Rewritten.{IsFileRewritten}
+use Rattle.timefd_lint.specs.Rewritten.{IsFileNoted, IsFileRewritten}
 use Rattle.timefd_lint.specs.Sources.{IsRunOfSource, finder_of, is_source}
 
 -- A file stays the same if nothing in it is rewritten. It is left out if some of it is refused, unless a part may
@@ -42,6 +42,8 @@ IsFoundInSource options rewriting name old before after found = (rest : Option T
     × IsRunOfSource (finder_of options name) options.reporting name (Some old) rest has_failed before after
     found.tally
     × IsFileRewritten rewriting.sources (finder_of options name) old found.counts found.bytes.items
+    × IsFileNoted rewriting.sources (finder_of options name) name old (string_bytes found.by_hand)
+    (string_bytes found.limits)
 
 abbrev pub IsFoundInLines : Options → LineChange → Text → Text → Option Text → Option Text → Found → Type 0
 IsFoundInLines options change name old before after found = (rest : Option Text) × (has_failed : Bool)

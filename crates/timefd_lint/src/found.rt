@@ -5,7 +5,7 @@ ghost use Rattle.timefd_component.specs.Tree.{Text};
 ghost use Rattle.timefd_lint.specs.Causes.{IsCausedBy};
 ghost use Rattle.timefd_lint.specs.declared.line.RunError.TheVariants as errors;
 ghost use Rattle.timefd_lint.specs.Limited.{AreNotesFor};
-ghost use Rattle.timefd_lint.specs.Rewritten.{AreCounted, IsFileRewritten};
+ghost use Rattle.timefd_lint.specs.Rewritten.{AreCounted, AreNotesByHand, AreNotesOnLimits, IsFileNoted, IsFileRewritten};
 ghost use Rattle.timefd_lint.specs.Sources.{IsRunOfSource};
 ghost use Rattle.timefd_lint.specs.Sources as sources;
 ghost use Rattle.timefd_lint.specs.Reported.{IsRunOver};
@@ -110,6 +110,8 @@ pub fn source_looked_at<W: Sink>(
         (Some old.now) rest has_failed (W.contents writer.old) (W.contents writer.new) found.tally) }
     ensures rewritten { IfOk result (λ found. IsFileRewritten change (sources.finder_of options.entry name.now) old.now
         found.counts found.bytes.items) }
+    ensures noted { IfOk result (λ found. IsFileNoted change (sources.finder_of options.entry name.now) name.now
+        old.now (string_bytes found.by_hand) (string_bytes found.limits)) }
     ensures unwritten { IfErr result (IsCausedBy (W.has_failed writer.new)) }
 {
     let mut reader = reader_of(alloc, old)?;
@@ -179,7 +181,10 @@ fn by_hand_in(
     change: Change,
     source: Source<'_>,
     outcomes: &[Outcome],
-) -> Result<String, AllocError> {
+) -> Result<String, AllocError>
+    ensures { IfOk result (λ notes. AreNotesByHand change source.entry.finder source.entry.file.now
+        source.entry.text.now outcomes.now (string_bytes notes)) }
+{
     match source.finder {
         Finder::Rust => notes(alloc, change, source.file, source.text, outcomes),
         Finder::Keys(format, keys) => {
@@ -190,7 +195,10 @@ fn by_hand_in(
 }
 
 // The notes on values of keys that version 3 writes alike for some moments alone.
-fn limits_in(alloc: Global, change: Change, source: Source<'_>) -> Result<String, AllocError> {
+fn limits_in(alloc: Global, change: Change, source: Source<'_>) -> Result<String, AllocError>
+    ensures { IfOk result (λ notes. AreNotesOnLimits change source.entry.finder source.entry.file.now
+        source.entry.text.now (string_bytes notes)) }
+{
     match source.finder {
         Finder::Rust => Ok(String::new(alloc)),
         Finder::Keys(format, keys) => {

@@ -12,6 +12,7 @@ use Rattle.timefd_parse.specs.Language.{SpellsIn, FaultIn}
 use Rattle.timefd_diagnosis.specs.declared.diagnostic.Diagnostic.{Diagnostic}
 use Rattle.timefd_diagnosis.specs.Diagnoses.{IsDiagnosis}
 use Rattle.timefd_diagnosis.specs.Further.{AreDiagnosed, AreFurther, most_further, without}
+use Rattle.timefd_diagnosis.specs.declared.span.Span.{Span}
 use Rattle.timefd_drawing.specs.Positions.{reported_column, line_number}
 use Rattle.timefd_explain.specs.Lines.{IsExplainedIf}
 use Rattle.timefd_dialect.specs.declared.dialect.Dialect.{Dialect as Other}
@@ -31,7 +32,7 @@ use Rattle.timefd_lint_sources.specs.declared.reported.Reported.{Reported}
 use Rattle.timefd_lint_warnings.specs.Found.{found_by}
 use Rattle.timefd_lint_sources.specs.Judged.{is_passed_over, language_in, other_of, text_of, reported_further, unless_item}
 use Rattle.timefd_lint_sources.specs.Others.{IsOtherJudged}
-use Rattle.timefd_lint_sources.specs.Whole.{IsMessageOn, IsOwnReported, IsReportedAs, drawing_of, note_of, origin_of, IsReportedWhole}
+use Rattle.timefd_lint_sources.specs.Whole.{IsTreeAndWarnings, literal_of, IsMessageOn, IsOwnReported, IsReportedAs, drawing_of, note_of, origin_of, IsReportedWhole}
 
 -- A description of `time` isn't passed over.
 is_own : (dialect : Dialect) (text : Text) → other_of dialect ≡ None → is_passed_over dialect text ≡ false
@@ -155,12 +156,12 @@ with_list reporting s d text list end message own utf8 same spelled is reported 
 
 -- The warnings come after the tree, at the literal.
 pub tree_and_warnings : (reporting : Reporting) (s : Source) (d : Description) (found : Levels)
-    (language : Language) (text tree reported message : Text) (line col : ℕ)
+    (language : Language) (text tree reported message : Text) (span : Span) (line col : ℕ)
     → IsExplainedIf reporting.explains language s.file.now line text tree → language ≡ language_in d → text ≡ text_of d
-    → line ≡ line_number 1 s.text.now d.piece.start → col ≡ reported_column reporting.style.format s.text.now d.piece.start
-    → reported ≡ messages_at reporting.style (record { file = s.file; line = line }) text col found
-    → message ≡ tree ++ reported → IsMessageOn reporting s d (Accepted found) message
-tree_and_warnings reporting s d found language text tree reported message line col asked named same at_line at_column are is = (
+    → span ≡ literal_of d → line ≡ line_number 1 s.text.now d.piece.start → col ≡ reported_column reporting.style.format s.text.now d.piece.start
+    → reported ≡ messages_at reporting.style (record { file = s.file; line = line }) s.text.now span text col found
+    → message ≡ tree ++ reported → IsTreeAndWarnings reporting s d found message
+tree_and_warnings reporting s d found language text tree reported message span line col asked named same spanned at_line at_column are is = (
   tree,
   subst (λ l. IsExplainedIf reporting.explains l s.file.now (line_number 1 s.text.now d.piece.start) (text_of d) tree)
       named
@@ -169,9 +170,10 @@ tree_and_warnings reporting s d found language text tree reported message line c
       (subst (λ n. IsExplainedIf reporting.explains language s.file.now n text tree) at_line asked)),
   is ∙ ap (λ t. tree ++ t)
       (are
-      ∙ ap (λ l. messages_at reporting.style (record { file = s.file; line = l }) text col found) at_line
-      ∙ ap (λ t. messages_at reporting.style (origin_of s d) t col found) same
-      ∙ ap (λ k. messages_at reporting.style (origin_of s d) (text_of d) k found) at_column),
+      ∙ ap (λ l. messages_at reporting.style (record { file = s.file; line = l }) s.text.now span text col found) at_line
+      ∙ ap (λ p. messages_at reporting.style (origin_of s d) s.text.now p text col found) spanned
+      ∙ ap (λ t. messages_at reporting.style (origin_of s d) s.text.now (literal_of d) t col found) same
+      ∙ ap (λ k. messages_at reporting.style (origin_of s d) s.text.now (literal_of d) (text_of d) k found) at_column),
 )
 
 -- If neither trees nor warnings are asked for, nothing is reported.

@@ -57,8 +57,8 @@ language_of Java = languages.Strftime
 language_of Go = languages.Strftime
 language_of Moment = languages.Strftime
 
--- Whether an editor passes a text over, and whether it isn't mended: one of another language or library, unless it is of
--- chrono or jiff and has no directive that only these know.
+-- Whether an editor doesn't explain a text, and whether it isn't mended: one of another language or library, unless it is
+-- of chrono or jiff and has no directive that only these know.
 abbrev pub is_passed_over : Dialect → Text → Bool
 is_passed_over One text = false
 is_passed_over Two text = false

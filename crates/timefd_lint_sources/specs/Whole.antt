@@ -3,6 +3,7 @@ use Rattle.std.specs.Prelude.{ℕ, ◌≡◌, ◌⊎◌, List, [], ◌++◌, cod
 use Rattle.timefd_component.specs.Tree.{Text}
 use Rattle.timefd_diagnosis.specs.declared.diagnostic.Diagnostic.{Diagnostic}
 use Rattle.timefd_dialect.specs.declared.dialect.Dialect.{Dialect}
+use Rattle.timefd_diagnosis.specs.declared.span.Span.{Span}
 use Rattle.timefd_drawing.specs.declared.draw.Style.{Style}
 use Rattle.timefd_drawing.specs.declared.position.Origin.{Origin}
 use Rattle.timefd_drawing.specs.Drawing.{drawn_all, note}
@@ -46,11 +47,15 @@ abbrev pub IsTreeOf : Reporting → Source → Description → Text → Type 0
 IsTreeOf reporting s d tree =
     IsExplainedIf reporting.explains (language_in d) s.file.now (origin_of s d).line (text_of d) tree
 
+-- the bytes of a description's literal
+abbrev pub literal_of : Description → Span
+literal_of d = record { start = d.piece.start; end = d.piece.end }
+
 -- The report on an accepted description is its tree, if that is asked for, and then each warning that it has
 -- and that is reported, at its literal, in the order of their codes.
 abbrev pub IsTreeAndWarnings : Reporting → Source → Description → Levels → Text → Type 0
 IsTreeAndWarnings reporting s d found message = (tree : Text) × IsTreeOf reporting s d tree
-    × (message ≡ tree ++ messages_at reporting.style (origin_of s d) (text_of d)
+    × (message ≡ tree ++ messages_at reporting.style (origin_of s d) s.text.now (literal_of d) (text_of d)
     (column_of reporting.style s d) found)
 
 -- The report on a refused description is the drawing of its first fault, the drawings of the further ones,

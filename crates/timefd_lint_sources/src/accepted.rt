@@ -14,6 +14,7 @@ ghost use Rattle.timefd_lint_sources.specs.Whole.{IsMessageOn, IsTreeAndWarnings
 use crate::position::reported_position_of;
 use crate::reported::{End, Reported, Reporting, Source};
 use std::alloc::{AllocError, Global};
+use timefd_diagnosis::Span;
 use timefd_drawing::{Counter, Origin};
 use timefd_explain::explained;
 use timefd_lint_warnings::{found_by, messages_at};
@@ -110,7 +111,20 @@ pub fn tree_and_warnings(
         line: position.line,
     };
     let mut message = tree_of(alloc, reporting.explains, language, origin, text)?;
-    let reported = messages_at(alloc, reporting.style, origin, text, position.column, found)?;
+    let span = Span {
+        start: description.piece.start,
+        end: description.piece.end,
+    };
+    let reported = messages_at(
+        alloc,
+        reporting.style,
+        origin,
+        source.text,
+        span,
+        text,
+        position.column,
+        found,
+    )?;
     message.extend_from_slice(&reported)?;
     Ok(message)
 }

@@ -25,8 +25,8 @@ pub fn other_of(dialect: Dialect) -> Option<Other>
     }
 }
 
-/// The language of `time` that descriptions are checked in. An editor checks what chrono and jiff have in common with
-/// `time` as its strftime, and it is mended so; for all other formats that aren't of `time` the answer has no meaning.
+/// The language of `time` that descriptions are checked in. What formats of chrono and jiff have in common with `time` an
+/// editor explains as strftime, and it is mended so; for all other formats that aren't of `time` the answer has no meaning.
 pub fn language_of(dialect: Dialect) -> Language
     ensures { result ≡ spec.language_of dialect }
 {
@@ -47,8 +47,8 @@ pub fn language_of(dialect: Dialect) -> Language
     }
 }
 
-/// Whether an editor passes a text over, and whether it isn't mended: one of another language or library, unless it is of
-/// chrono or jiff and has no directive that only these know.
+/// Whether an editor doesn't explain a text, and whether it isn't mended: one of another language or library, unless it is
+/// of chrono or jiff and has no directive that only these know.
 pub fn is_passed_over(dialect: Dialect, text: &[u8]) -> bool
     ensures { result ≡ spec.is_passed_over dialect text.now }
 {

@@ -27,7 +27,7 @@ pub mod allowances;
 // Sources with mended or converted descriptions.
 pub mod rewriting;
 
-pub use allowed::{faults_left, is_allowed, levels_left};
+pub use allowed::is_allowed;
 pub use codes::{Coded, push_codes};
 pub use further::further_of;
 pub use judged::holds_item;
@@ -36,4 +36,5 @@ pub use opening::is_of_item;
 pub use position::FIRST_LINE;
 pub use remark::Remark;
 pub use reported::{End, Finder, Left, Reported, Reporting, Source};
+pub use search::first_refusal;
 pub use source::{Report, descriptions_in, judged_in, lint_source, report_all};

@@ -75,7 +75,7 @@ pub struct Left {
 /// The outcome of a description.
 #[derive(Clone, Copy)]
 pub enum End {
-    /// It is of another language or library, and an editor doesn't check it.
+    /// It is of another language or library, and an editor doesn't explain it.
     PassedOver,
     /// It is valid, with the levels of its reported warnings; any other warning is allowed.
     Accepted(Levels),

@@ -1,14 +1,18 @@
 -- What the linter reports about the warnings of a text.
-use Rattle.std.specs.Prelude.{ℕ, Bool, true, false, List, [], ◌∷◌, ◌++◌, codes, decimal, flat_map}
+use Rattle.std.specs.Prelude.{ℕ, Bool, true, false, List, [], ◌∷◌, ◌++◌, codes, decimal, flat_map, length}
 use Rattle.timefd_component.specs.Tree.{Text}
+use Rattle.timefd_diagnosis.specs.declared.span.Span.{Span}
 use Rattle.timefd_drawing.specs.declared.draw.Format.{Format}
 use Rattle.timefd_drawing.specs.declared.draw.Format.TheVariants.{Human, Json, Short, Github, Sarif}
 use Rattle.timefd_drawing.specs.declared.draw.Style.{Style}
 use Rattle.timefd_drawing.specs.declared.github.Command.{Command}
 use Rattle.timefd_drawing.specs.declared.github.Command.TheVariants as commands
 use Rattle.timefd_drawing.specs.declared.position.Origin.{Origin}
+use Rattle.timefd_drawing.specs.Drawing.{margin, source}
 use Rattle.timefd_drawing.specs.Github.{annotation}
 use Rattle.timefd_drawing.specs.Json.{text_field, number_field}
+use Rattle.timefd_drawing.specs.Lines.{position_line, help_line}
+use Rattle.timefd_drawing.specs.Positions.{before, spanned, after_span}
 use Rattle.timefd_drawing.specs.Sarif.{note_result, with_help}
 use Rattle.timefd_drawing.specs.Shown.{safe}
 use Rattle.timefd_lint_warnings.specs.Hints.{help_on}
@@ -52,17 +56,14 @@ position colored file line column =
     codes " " ++ (blue colored ++ (codes "-->" ++ (plain colored ++ (codes " " ++ (safe file
     ++ (codes ":" ++ (decimal line ++ (codes ":" ++ (decimal column ++ codes "\n")))))))))
 
--- `= help: WHAT TO DO`
-abbrev pub help : Bool → Warning → Text → Text
-help colored w text =
-    codes "  " ++ (blue colored ++ (codes "=" ++ (plain colored ++ (codes " help: "
-    ++ (help_on w text ++ codes "\n")))))
-
--- A warning is about the whole text, and so it is at the start of the text.
-abbrev pub human : Bool → Origin → Text → ℕ → Level → Warning → Text
-human colored origin text column level w =
-    head colored level (name_of w) (sentence_of w) ++ (position colored origin.file.now origin.line column
-    ++ (help colored w text ++ codes "\n"))
+-- A warning is about the whole text: its sentence, where the text begins, the line with carets under the text, and what to
+-- do. The text is the part `span` of `whole`.
+abbrev pub human : Bool → Origin → Text → Span → Text → ℕ → Level → Warning → Text
+human colored origin whole span text column level w =
+    head colored level (name_of w) (sentence_of w)
+    ++ (position_line colored (margin origin.line) origin.file.now origin.line column
+    ++ (source colored origin.line (before span.start whole) (spanned span whole) (after_span span whole)
+    ++ (help_line colored (margin origin.line) (help_on w text) ++ codes "\n")))
 
 -- `FILE:LINE:COLUMN: warning[CODE]: SENTENCE`
 abbrev pub short : Origin → ℕ → Level → Warning → Text
@@ -100,32 +101,33 @@ sarif origin text column level w =
     note_result (name_of w) origin.file.now origin.line column (with_help (sentence_of w) (help_on w text))
     (severity level)
 
-abbrev pub message_in : Format → Bool → Origin → Text → ℕ → Level → Warning → Text
-message_in Human colored origin text column level w = human colored origin text column level w
-message_in Json colored origin text column level w = json origin text column level w
-message_in Short colored origin text column level w = short origin column level w
-message_in Github colored origin text column level w = github origin column level w
-message_in Sarif colored origin text column level w = sarif origin text column level w
+abbrev pub message_in : Format → Bool → Origin → Text → Span → Text → ℕ → Level → Warning → Text
+message_in Human colored origin whole span text column level w = human colored origin whole span text column level w
+message_in Json colored origin whole span text column level w = json origin text column level w
+message_in Short colored origin whole span text column level w = short origin column level w
+message_in Github colored origin whole span text column level w = github origin column level w
+message_in Sarif colored origin whole span text column level w = sarif origin text column level w
 
--- the message about a warning on a text
-abbrev pub message : Style → Origin → Text → ℕ → Level → Warning → Text
-message style origin text column level w =
-    message_in style.format style.is_colored origin text column level w
+-- the message about a warning on a text, which is this part of the whole
+abbrev pub message : Style → Origin → Text → Span → Text → ℕ → Level → Warning → Text
+message style origin whole span text column level w =
+    message_in style.format style.is_colored origin whole span text column level w
 
 -- the message about a warning; nothing if it is allowed
-abbrev pub reported_at : Style → Origin → Text → ℕ → Level → Warning → Text
-reported_at style origin text column Allowed w = []
-reported_at style origin text column Warned w = message style origin text column Warned w
-reported_at style origin text column Denied w = message style origin text column Denied w
+abbrev pub reported_at : Style → Origin → Text → Span → Text → ℕ → Level → Warning → Text
+reported_at style origin whole span text column Allowed w = []
+reported_at style origin whole span text column Warned w = message style origin whole span text column Warned w
+reported_at style origin whole span text column Denied w = message style origin whole span text column Denied w
 
-abbrev pub messages_on : Style → Origin → Text → ℕ → Levels → List Warning → Text
-messages_on style origin text column found ws =
-    flat_map (λ w. reported_at style origin text column (level_of found w) w) ws
+abbrev pub messages_on : Style → Origin → Text → Span → Text → ℕ → Levels → List Warning → Text
+messages_on style origin whole span text column found ws =
+    flat_map (λ w. reported_at style origin whole span text column (level_of found w) w) ws
 
--- A message about each warning on a text that isn't allowed, in the order of the codes: on a text that begins
--- at this column of its line, and on one that begins at the first column.
-abbrev pub messages_at : Style → Origin → Text → ℕ → Levels → Text
-messages_at style origin text column found = messages_on style origin text column found all
+-- A message about each warning on a text that isn't allowed, in the order of the codes: on a text that is a part of the
+-- whole and begins at this column of its line, and on one that is the whole.
+abbrev pub messages_at : Style → Origin → Text → Span → Text → ℕ → Levels → Text
+messages_at style origin whole span text column found = messages_on style origin whole span text column found all
 
 abbrev pub messages : Style → Origin → Text → Levels → Text
-messages style origin text found = messages_at style origin text 1 found
+messages style origin text found =
+    messages_at style origin text (record { start = 0; end = length text }) text 1 found

@@ -5,26 +5,31 @@ ghost use Rattle.timefd_lint_warnings.specs.Messages as spec;
 
 use crate::hint::help_on;
 use std::alloc::{AllocError, Global};
+use timefd_diagnosis::Span;
 use timefd_drawing::github::{Command, annotation};
 use timefd_drawing::json::{Entry, push_number, push_text};
+use timefd_drawing::lines::{push_help_line, push_position_line};
 use timefd_drawing::sarif::{note_result, with_help};
 use timefd_drawing::shown::safe;
-use timefd_drawing::{Format, Origin, Style};
+use timefd_drawing::source_line::{margin, push_source};
+use timefd_drawing::{Format, Origin, Position, Style, line_of};
 use timefd_warnings::{Level, Warning};
 
 /// The message about a warning on a text that begins at this column of its line, in the requested
-/// format. An `Err` says that memory ran out.
+/// format. The text is the part `span` of `whole`. An `Err` says that memory ran out.
 pub fn message(
     alloc: Global,
     style: Style,
     origin: Origin<'_>,
+    whole: &str,
+    span: Span,
     text: &str,
     column: usize,
     level: Level,
     warning: Warning,
 ) -> Result<Vec<u8>, AllocError>
     ensures { IfOk result (λ reported. reported.items
-        ≡ spec.message style origin.entry text.now column level warning) }
+        ≡ spec.message style origin.entry whole.now span text.now column level warning) }
 {
     match style.format {
         Format::Human => {
@@ -32,6 +37,8 @@ pub fn message(
                 alloc,
                 style.is_colored,
                 origin,
+                whole,
+                span,
                 text,
                 column,
                 level,
@@ -88,24 +95,38 @@ fn plain(is_colored: bool) -> &'static str
     if is_colored { "\u{1B}[0m" } else { "" }
 }
 
+// The drawing: the sentence, the position, the line with carets under the text, and the help.
 fn human(
     alloc: Global,
     is_colored: bool,
     origin: Origin<'_>,
+    whole: &str,
+    span: Span,
     text: &str,
     column: usize,
     level: Level,
     warning: Warning,
 ) -> Result<String, AllocError>
     ensures { IfOk result (λ drawing. string_bytes drawing
-        ≡ spec.human is_colored origin.entry text.now column level warning) }
+        ≡ spec.human is_colored origin.entry whole.now span text.now column level warning) }
 {
-    let (head, position, help) = (
-        head(alloc, is_colored, level, warning.name(), warning.sentence())?,
-        position(alloc, is_colored, origin, column)?,
-        help(alloc, is_colored, warning, text)?,
-    );
-    format!(in alloc; "{head}{position}{help}\n")
+    let line = origin.line;
+    let help = help_on(alloc, warning, text)?;
+    let margin = margin(alloc, line)?;
+    let mut out = head(alloc, is_colored, level, warning.name(), warning.sentence())?;
+    let position = Position { line, column };
+    push_position_line(alloc, &mut out, is_colored, &margin, origin.file, position)?;
+    push_source(
+        alloc,
+        &mut out,
+        is_colored,
+        line,
+        &margin,
+        line_of(whole, span),
+    )?;
+    push_help_line(&mut out, is_colored, &margin, &help)?;
+    out.push_str("\n")?;
+    Ok(out)
 }
 
 /// The first line of a drawing: `warning[CODE]: SENTENCE`. An `Err` says that memory ran out.
@@ -138,15 +159,6 @@ pub fn position(
     let file = safe(alloc, origin.file)?;
     let line = origin.line;
     format!(in alloc; " {blue}-->{plain} {file}:{line}:{column}\n")
-}
-
-// `= help: WHAT TO DO`
-fn help(alloc: Global, is_colored: bool, warning: Warning, text: &str) -> Result<String, AllocError>
-    ensures { IfOk result (λ line. string_bytes line ≡ spec.help is_colored warning text.now) }
-{
-    let (blue, plain) = (blue(is_colored), plain(is_colored));
-    let help = help_on(alloc, warning, text)?;
-    format!(in alloc; "  {blue}={plain} help: {help}\n")
 }
 
 // `FILE:LINE:COLUMN: warning[CODE]: SENTENCE`

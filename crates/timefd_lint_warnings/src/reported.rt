@@ -5,6 +5,7 @@ ghost use Rattle.timefd_lint_warnings.specs.Messages as spec;
 
 use crate::message::message;
 use std::alloc::{AllocError, Global};
+use timefd_diagnosis::Span;
 use timefd_drawing::{Origin, Style};
 use timefd_warnings::{Level, Levels, Warning};
 
@@ -19,21 +20,27 @@ pub fn messages(
 ) -> Result<Vec<u8>, AllocError>
     ensures { IfOk result (λ reported. reported.items ≡ spec.messages style origin.entry text.now found) }
 {
-    messages_at(alloc, style, origin, text, 1, found)
+    let span = Span {
+        start: 0,
+        end: text.len(),
+    };
+    messages_at(alloc, style, origin, text, span, text, 1, found)
 }
 
-/// A message about each warning that isn't allowed, in the order of the codes, on a text that begins
-/// at this column of its line. An `Err` says that memory ran out.
+/// A message about each warning that isn't allowed, in the order of the codes, on a text that is the part `span` of `whole`
+/// and begins at this column of its line. An `Err` says that memory ran out.
 pub fn messages_at(
     alloc: Global,
     style: Style,
     origin: Origin<'_>,
+    whole: &str,
+    span: Span,
     text: &str,
     column: usize,
     found: Levels,
 ) -> Result<Vec<u8>, AllocError>
     ensures { IfOk result (λ reported. reported.items
-        ≡ spec.messages_at style origin.entry text.now column found) }
+        ≡ spec.messages_at style origin.entry whole.now span text.now column found) }
 {
     let mut out = Vec::new(alloc);
     push_all(
@@ -41,6 +48,8 @@ pub fn messages_at(
         &mut out,
         style,
         origin,
+        whole,
+        span,
         text,
         column,
         found,
@@ -54,13 +63,15 @@ fn push_all(
     out: &mut Vec<u8>,
     style: Style,
     origin: Origin<'_>,
+    whole: &str,
+    span: Span,
     text: &str,
     column: usize,
     found: Levels,
     warnings: &[Warning],
 ) -> Result<(), AllocError>
     ensures { OnOk result (out.new.items
-        ≡ out.old.items ++ spec.messages_on style origin.entry text.now column found warnings.now) }
+        ≡ out.old.items ++ spec.messages_on style origin.entry whole.now span text.now column found warnings.now) }
 {
     for warning in warnings {
         push_one(
@@ -68,6 +79,8 @@ fn push_all(
             out,
             style,
             origin,
+            whole,
+            span,
             text,
             column,
             found.level_of(*warning),
@@ -83,18 +96,22 @@ fn push_one(
     out: &mut Vec<u8>,
     style: Style,
     origin: Origin<'_>,
+    whole: &str,
+    span: Span,
     text: &str,
     column: usize,
     level: Level,
     warning: Warning,
 ) -> Result<(), AllocError>
     ensures { OnOk result (out.new.items
-        ≡ out.old.items ++ spec.reported_at style origin.entry text.now column level warning) }
+        ≡ out.old.items ++ spec.reported_at style origin.entry whole.now span text.now column level warning) }
 {
     match level {
         Level::Allowed => Ok(()),
         Level::Warned | Level::Denied => {
-            let reported = message(alloc, style, origin, text, column, level, warning)?;
+            let reported = message(
+                alloc, style, origin, whole, span, text, column, level, warning,
+            )?;
             out.extend_from_slice(&reported)
         }
     }

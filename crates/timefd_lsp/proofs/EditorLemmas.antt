@@ -4,8 +4,10 @@ pub mod BoundaryLemmas
 pub mod EachLemmas
 pub mod WarningLemmas
 pub mod FindingLemmas
+mod LeftLemmas
 pub mod EditLemmas
 pub mod ActionLemmas
 pub mod FixLemmas
 pub mod GoodFrontLemmas
 pub mod HoverLemmas
+pub mod OtherLemmas

@@ -5,6 +5,7 @@ pub mod Edits
 pub mod FaultHovers
 pub mod Finding
 pub mod Findings
+pub mod Others
 pub mod GoodFronts
 pub mod Hovers
 pub mod Positions

@@ -13,6 +13,7 @@ mod good_front;
 mod hovered;
 mod hovering;
 pub mod laws;
+mod other;
 mod position;
 mod replacing;
 mod walk;

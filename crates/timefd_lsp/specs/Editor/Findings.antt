@@ -1,7 +1,8 @@
 -- All that is wrong in a document.
-use Rattle.std.specs.Prelude.{◌≡◌, Bool, true, false, List, [], ◌∷◌, ◌++◌, Option, codes}
+use Rattle.std.specs.Prelude.{◌≡◌, Bool, true, false, List, [], ◌++◌, Option, Some, None, IsUtf8, is_some, ◌∷◌, flat_map, if◌then◌else◌}
 use Rattle.timefd_component.specs.Tree.{Text}
 use Rattle.timefd_diagnosis.specs.declared.diagnostic.Diagnostic.{Diagnostic}
+use Rattle.timefd_dialect.specs.declared.dialect.Dialect as other
 use Rattle.timefd_drawing.specs.HelpText.{help_text}
 use Rattle.timefd_drawing.specs.Sarif.{with_help}
 use Rattle.timefd_fault.specs.Codes.{code_of, name_of}
@@ -10,13 +11,15 @@ use Rattle.timefd_lsp.specs.declared.editor.finding.Finding.{Finding}
 use Rattle.timefd_lsp.specs.declared.editor.finding.Severity.TheVariants.{Error}
 use Rattle.timefd_lsp.specs.Editor.Each.{AreOf}
 use Rattle.timefd_lsp.specs.Editor.Finding.{AreWarnings, IsNote, IsOne}
+use Rattle.timefd_lsp.specs.Editor.Others.{AreOnOther}
 use Rattle.timefd_fault.specs.Faults.{fault_of}
 use Rattle.timefd_lint_sources.specs.declared.reported.End.{End}
 use Rattle.timefd_lint_sources.specs.declared.reported.End.TheVariants.{PassedOver, Accepted, Converted, Refused, NotText, Allowed, UnreadCall, UnreadValue}
+use Rattle.timefd_lint_sources.specs.declared.reported.Finder.{Finder}
 use Rattle.timefd_lint_sources.specs.declared.reported.Source.{Source}
 use Rattle.timefd_lint_sources.specs.Allowances.Found.{AreAllowances}
-use Rattle.timefd_lint_sources.specs.Allowed.{faults_left, is_allowed, levels_left}
-use Rattle.timefd_lint_sources.specs.Judged.{AreDiagnosedOf, IsEndOf}
+use Rattle.timefd_lint_sources.specs.Allowed.{is_allowed}
+use Rattle.timefd_lint_sources.specs.Judged.{AreDiagnosedOf, IsJudged, language_in, other_of, text_of}
 use Rattle.timefd_lint_sources.specs.Reported.{AreJudgedIn}
 use Rattle.timefd_sources.specs.declared.description.Description.{Description}
 use Rattle.timefd_sources.specs.Found.{index_in_source}
@@ -37,41 +40,47 @@ abbrev pub AreFaults : Text → Description → Diagnostic → List Diagnostic �
 AreFaults text d g further found = (one : List Finding) × (rest : List Finding)
     × IsFault text d false g one × AreOf (IsFault text d true) further rest × (found ≡ one ++ rest)
 
--- these faults, of which there may be none
-abbrev pub AreFaultsLeft : Text → Description → List Diagnostic → List Finding → Type 0
-AreFaultsLeft text d [] found = found ≡ []
-AreFaultsLeft text d (g ∷ further) found = AreFaults text d g further found
+-- What is wrong with a description of `time`, by how its check ended.
+abbrev pub AreBy : Text → Description → End → List Finding → Type 0
+AreBy text d PassedOver found = ⊥
+AreBy text d (Accepted warned) found = AreWarnings text d warned found
+AreBy text d (Converted count) found = ⊥
+AreBy text d Refused found = (g : Diagnostic) × (further : List Diagnostic)
+    × AreDiagnosedOf d g further × AreFaults text d g further found
+AreBy text d NotText found = IsNote text d found
+AreBy text d (Allowed left) found = ⊥
+AreBy text d UnreadCall found = ⊥
+AreBy text d UnreadValue found = ⊥
 
-abbrev pub IsNoteIf : Bool → Text → Description → List Finding → Type 0
-IsNoteIf true text d found = found ≡ []
-IsNoteIf false text d found = IsNote text d found
-
--- the report that a description isn't UTF-8, unless that is allowed
-abbrev pub IsNoteLeft : Source → Description → List Finding → Type 0
-IsNoteLeft s d found = IsNoteIf (is_allowed s d (codes "not-text")) s.text.now d found
-
--- What is wrong with a description and isn't allowed, by how its check ended.
-abbrev pub AreBy : Source → Description → End → List Finding → Type 0
-AreBy s d PassedOver found = found ≡ []
-AreBy s d (Accepted warned) found = AreWarnings s.text.now d (levels_left s d warned) found
-AreBy s d (Converted count) found = ⊥
-AreBy s d Refused found = (g : Diagnostic) × (further : List Diagnostic)
-    × AreDiagnosedOf d g further × AreFaultsLeft s.text.now d (faults_left s d g further) found
-AreBy s d NotText found = IsNoteLeft s d found
-AreBy s d (Allowed left) found = ⊥
-AreBy s d UnreadCall found = ⊥
-AreBy s d UnreadValue found = ⊥
-
-pub record AreOn (levels : Option Levels) (s : Source) (d : Description) (found : List Finding) : Type 0 where
+pub record AreOnOwn (levels : Option Levels) (text : Text) (d : Description) (found : List Finding) : Type 0 where
   pub end : End
-  pub is : IsEndOf levels d end
-  pub reported : AreBy s d end found
+  pub is : IsJudged levels (language_in d) (text_of d) end
+  pub reported : AreBy text d end found
+
+-- What is wrong with a description of `time`, or with a format of another language or library.
+abbrev pub AreOnIn : Option other.Dialect → Option Levels → Finder → Text → Description → List Finding → Type 0
+AreOnIn None levels finder text d found = AreOnOwn levels text d found
+AreOnIn (Some dialect) levels finder text d found =
+    (IsUtf8 (text_of d) × AreOnOther finder (is_some levels) text d dialect found)
+    ⊎ ((¬ IsUtf8 (text_of d)) × IsNote text d found)
+
+abbrev pub AreOn : Option Levels → Finder → Text → Description → List Finding → Type 0
+AreOn levels finder text d found = AreOnIn (other_of d.dialect) levels finder text d found
+
+-- a finding, unless a comment allows its code
+abbrev pub unless_allowed : Source → Description → Finding → List Finding
+unless_allowed s d f = if is_allowed s d f.code.now then [] else f ∷ []
+
+-- What is wrong with a description and isn't allowed.
+abbrev pub AreLeftOn : Option Levels → Source → Description → List Finding → Type 0
+AreLeftOn levels s d found = (all : List Finding) × AreOn levels s.finder s.text.now d all
+    × (found ≡ flat_map (unless_allowed s d) all)
 
 -- All that is wrong with the descriptions in a source and that its comments don't allow, one after another.
 pub record AreFindingsLeft (levels : Option Levels) (s : Source) (found : List Finding) : Type 0 where
   pub descriptions : List Description
   pub judged : AreJudgedIn s descriptions
-  pub reported : AreOf (AreOn levels s) descriptions found
+  pub reported : AreOf (AreLeftOn levels s) descriptions found
 
 -- The comments are those of the source itself.
 pub record AreFindingsOf (levels : Option Levels) (s : Source) (found : List Finding) : Type 0 where

@@ -1,31 +1,32 @@
 //! All that is wrong in a document.
 
-ghost use Rattle.std.specs.Prelude.{◌≡◌, IfOk, OnOk, false};
+ghost use Rattle.std.specs.Prelude.{◌≡◌, ◌++◌, IfOk, OnOk, flat_map};
 ghost use Rattle.timefd_lsp.specs.Editor.Each.{Adds, AreOf};
-ghost use Rattle.timefd_lsp.specs.Editor.Findings.{AreFaultsLeft, AreFindingsLeft, AreFindingsOf, AreOn, IsNoteLeft};
+ghost use Rattle.timefd_lsp.specs.Editor.Findings.{AreFindingsLeft, AreFindingsOf, AreLeftOn, AreOn, AreOnOwn, unless_allowed};
 ghost use Rattle.timefd_lsp.specs.Editor.Positions.{IsCounted};
-ghost use Rattle.timefd_lint_sources.specs.Judged.{is_passed_over, text_of};
+ghost use Rattle.timefd_lint_sources.specs.Judged.{text_of};
 
 use crate::editor::counter::{counted, none_counted};
 use crate::editor::faults::push_faults;
 use crate::editor::finding::{Finding, Spot};
+use crate::editor::other::push_other;
 use crate::editor::warned::{push_note, push_warnings};
 use std::alloc::{AllocError, Global};
 use std::str;
-use timefd_diagnosis::{Diagnostic, diagnose};
+use timefd_diagnosis::diagnose;
 use timefd_lint_sources::allowances::allowances_in;
 use timefd_lint_sources::{
-    Source, faults_left, further_of, is_allowed, is_passed_over, judged_in, language_of,
-    levels_left,
+    Finder, Source, further_of, is_allowed, judged_in, language_of, other_of,
 };
 use timefd_lint_warnings::found_by;
 use timefd_sources::Description;
 use timefd_warnings::Levels;
 
 /// All that is wrong in a source, in order: the first fault of each description that its language refuses,
-/// its further faults, a description that isn't UTF-8, and the warnings that `levels` asks for; without what the comments of
-/// the source allow. An `Err` says that memory ran out.
-#[tactic(auto, using(crate::proofs::EditorLemmas::FindingLemmas::of_left))]
+/// its further faults, a description that isn't UTF-8, and the warnings that `levels` asks for. Of a format of another
+/// language or library it is the first part that is refused there, or else its traps if warnings are asked for. What the
+/// comments of the source allow is left out. An `Err` says that memory ran out.
+#[tactic(auto, using(crate::proofs::EditorLemmas::LeftLemmas::of_source))]
 pub fn findings(
     alloc: Global,
     source: Source<'_>,
@@ -66,7 +67,7 @@ fn push_all(
     descriptions: &[Description],
     found: &mut Vec<Finding>,
 ) -> Result<(), AllocError>
-    ensures { OnOk result (Adds (AreOf (AreOn levels source.entry) descriptions.now)
+    ensures { OnOk result (Adds (AreOf (AreLeftOn levels source.entry) descriptions.now)
         found.old.items found.new.items) }
 {
     let text = source.text;
@@ -78,14 +79,14 @@ fn push_all(
             description,
             counter,
         };
-        push_on(alloc, source, spot, levels, found)?;
+        push_left(alloc, source, spot, levels, found)?;
     }
     Ok(())
 }
 
-// Adds what is wrong with a description.
-#[tactic(auto, using(crate::proofs::EditorLemmas::FindingLemmas::passed_over))]
-fn push_on(
+// Adds what is wrong with a description and isn't allowed.
+#[tactic(auto, using(crate::proofs::EditorLemmas::LeftLemmas::adds_left))]
+fn push_left(
     alloc: Global,
     source: Source<'_>,
     spot: Spot<'_>,
@@ -94,82 +95,107 @@ fn push_on(
 ) -> Result<(), AllocError>
     requires counted { IsCounted spot.text.now spot.counter }
     requires text { spot.text.now ≡ source.text.now }
-    ensures { OnOk result (Adds (AreOn levels source.entry spot.entry.description.now)
+    ensures { OnOk result (Adds (AreLeftOn levels source.entry spot.entry.description.now)
         found.old.items found.new.items) }
 {
-    let bytes = spot.description.unescaped.text.as_slice();
-    if is_passed_over(spot.description.dialect, bytes) {
-        return Ok(());
-    }
-    match str::from_utf8(bytes) {
-        Ok(text) => push_judged(alloc, source, spot, levels, text, found),
-        Err(_) => push_no_text(alloc, source, spot, found),
-    }
+    let mut all = Vec::new(alloc);
+    push_on(alloc, source.finder, spot, levels, &mut all)?;
+    push_unallowed(source, spot.description, all, found)
 }
 
-// Adds that a description isn't UTF-8, unless that is allowed.
-#[tactic(auto, using(crate::proofs::EditorLemmas::FindingLemmas::allowed_note, crate::proofs::EditorLemmas::FindingLemmas::note_left))]
-fn push_no_text(
-    alloc: Global,
+// Adds these findings on a description, but for those that are allowed.
+fn push_unallowed(
     source: Source<'_>,
-    spot: Spot<'_>,
+    description: &Description,
+    all: Vec<Finding>,
     found: &mut Vec<Finding>,
 ) -> Result<(), AllocError>
-    requires counted { IsCounted spot.text.now spot.counter }
-    requires text { spot.text.now ≡ source.text.now }
-    ensures { OnOk result (Adds (IsNoteLeft source.entry spot.entry.description.now) found.old.items found.new.items) }
+    ensures { OnOk result (found.new.items
+        ≡ found.old.items ++ flat_map (unless_allowed source.entry description.now) all.items) }
 {
-    if is_allowed(source, spot.description, "not-text") {
-        return Ok(());
+    for finding in all {
+        push_unless_allowed(source, description, finding, found)?;
     }
-    push_note(alloc, spot, found)
+    Ok(())
+}
+
+fn push_unless_allowed(
+    source: Source<'_>,
+    description: &Description,
+    finding: Finding,
+    found: &mut Vec<Finding>,
+) -> Result<(), AllocError>
+    ensures { OnOk result (found.new.items
+        ≡ found.old.items ++ unless_allowed source.entry description.now finding) }
+{
+    if !is_allowed(source, description, finding.code) {
+        found.push(finding)?;
+    }
+    Ok(())
+}
+
+// Adds what is wrong with a description.
+fn push_on(
+    alloc: Global,
+    finder: Finder<'_>,
+    spot: Spot<'_>,
+    levels: Option<Levels>,
+    found: &mut Vec<Finding>,
+) -> Result<(), AllocError>
+    requires { IsCounted spot.text.now spot.counter }
+    ensures { OnOk result (Adds (AreOn levels finder.entry spot.entry.text.now spot.entry.description.now)
+        found.old.items found.new.items) }
+{
+    match str::from_utf8(spot.description.unescaped.text.as_slice()) {
+        Ok(text) => push_judged(alloc, finder, spot, levels, text, found),
+        Err(_) => push_note(alloc, spot, found),
+    }
 }
 
 // Adds what is wrong with a description that has this text.
+#[tactic(auto, using(crate::proofs::EditorLemmas::FindingLemmas::as_own, crate::proofs::EditorLemmas::FindingLemmas::as_other))]
 fn push_judged(
     alloc: Global,
-    source: Source<'_>,
+    finder: Finder<'_>,
     spot: Spot<'_>,
     levels: Option<Levels>,
     text: &str,
     found: &mut Vec<Finding>,
 ) -> Result<(), AllocError>
     requires counted { IsCounted spot.text.now spot.counter }
-    requires here { spot.text.now ≡ source.text.now }
-    requires judges { is_passed_over spot.description.now.dialect text.now ≡ false }
     requires text { text.now ≡ text_of spot.description.now }
-    ensures { OnOk result (Adds (AreOn levels source.entry spot.entry.description.now)
+    ensures { OnOk result (Adds (AreOn levels finder.entry spot.entry.text.now spot.entry.description.now)
+        found.old.items found.new.items) }
+{
+    let reports_traps = levels.is_some();
+    match other_of(spot.description.dialect) {
+        Some(dialect) => push_other(alloc, finder, spot, reports_traps, dialect, text, found),
+        None => push_own(alloc, spot, levels, text, found),
+    }
+}
+
+// Adds what is wrong with a description of `time` that has this text.
+fn push_own(
+    alloc: Global,
+    spot: Spot<'_>,
+    levels: Option<Levels>,
+    text: &str,
+    found: &mut Vec<Finding>,
+) -> Result<(), AllocError>
+    requires counted { IsCounted spot.text.now spot.counter }
+    requires text { text.now ≡ text_of spot.description.now }
+    ensures { OnOk result (Adds (AreOnOwn levels spot.entry.text.now spot.entry.description.now)
         found.old.items found.new.items) }
 {
     let language = language_of(spot.description.dialect);
     match diagnose(alloc, language, text)? {
         None => {
             let warned = found_by(alloc, levels, language, text)?;
-            let left = levels_left(source, spot.description, warned);
-            push_warnings(alloc, spot, left, found)
+            push_warnings(alloc, spot, warned, found)
         }
         Some(diagnostic) => {
             let further = further_of(alloc, spot.description, text, &diagnostic)?;
-            let left = faults_left(alloc, source, spot.description, diagnostic, further)?;
-            push_left(alloc, spot, &left, found)
+            push_faults(alloc, spot, &diagnostic, &further, found)
         }
-    }
-}
-
-// Adds these faults of a description, of which there may be none.
-#[tactic(auto, using(crate::proofs::EditorLemmas::FindingLemmas::no_fault, crate::proofs::EditorLemmas::FindingLemmas::some_faults))]
-fn push_left(
-    alloc: Global,
-    spot: Spot<'_>,
-    faults: &[Diagnostic],
-    found: &mut Vec<Finding>,
-) -> Result<(), AllocError>
-    requires { IsCounted spot.text.now spot.counter }
-    ensures { OnOk result (Adds (AreFaultsLeft spot.entry.text.now spot.entry.description.now faults.now)
-        found.old.items found.new.items) }
-{
-    match faults {
-        [first, further @ ..] => push_faults(alloc, spot, first, further, found),
-        [] => Ok(()),
     }
 }

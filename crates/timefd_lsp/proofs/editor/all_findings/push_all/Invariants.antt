@@ -1,6 +1,6 @@
 use Rattle.std.proofs.Common.{drop}
 use Rattle.timefd_lsp.proofs.EditorLemmas.EachLemmas.{IsReported}
-use Rattle.timefd_lsp.specs.Editor.Findings.{AreOn}
+use Rattle.timefd_lsp.specs.Editor.Findings.{AreLeftOn}
 use Rattle.timefd_lsp.specs.Editor.Positions.{IsCounted}
 use Rattle.timefd_lsp.proofs.editor.all_findings.push_all.Given as goal
 
@@ -8,6 +8,6 @@ use Rattle.timefd_lsp.proofs.editor.all_findings.push_all.Given as goal
 abbrev pub invariant-loop-description : goal.invariant-loop-description
 invariant-loop-description l = record {
   counted : IsCounted l.source.text.now l.counter;
-  reported : IsReported (AreOn l.levels l.source) l.descriptions (drop l.description-index l.descriptions)
+  reported : IsReported (AreLeftOn l.levels l.source) l.descriptions (drop l.description-index l.descriptions)
       l.fn.found.items l.found.items;
 }
