@@ -13,6 +13,7 @@ pub mod ReportLemmas
 pub mod LineReportLemmas
 pub mod RecordCountLemmas
 pub mod TableReportLemmas
+pub mod RunReportLemmas
 pub mod RunLemmas
 pub mod TableLemmas
 pub mod TakenLemmas

@@ -26,6 +26,7 @@ pub mod RecordBatches
 pub mod Warned
 pub mod LineReports
 pub mod TableReports
+pub mod RunReports
 pub mod Runs
 pub mod Converted
 pub mod ToRead
