@@ -15,7 +15,7 @@ use Rattle.timefd_fault.specs.declared.read_error.Fault as code_fault
 use Rattle.timefd_fault.specs.declared.borrowed_fault.BorrowedFault.{BorrowedFault}
 use Rattle.timefd_language.specs.Bytes.{is_word_byte, is_key_byte, ZeroOrMore, StopsBefore}
 use Rattle.timefd_language.specs.declared.language.Language.{Language}
-use Rattle.timefd_language.specs.Spans.{Extent, character, word, key, bytes, modifier_extent, version_extent, extent_of, first_len, measured, end_of, IsSpanned, SpansIn, SpansVersion}
+use Rattle.timefd_language.specs.Spans.{one_character, whole_word, whole_key, this_many, modifier_extent, version_extent, extent_of, first_len, measured, IsSpanned, SpansIn, SpansVersion}
 
 -- A text within another.
 
@@ -59,11 +59,11 @@ prefix_cut test (b ∷ front) rest passes stops =
     let more = prefix_cut test front rest both.1 stops in
     rw both.0 (omega (arith, more))
 
-pub some_extent : (value : Text) → 0 < length value → modifier_extent value ≡ bytes (length value)
+pub some_extent : (value : Text) → 0 < length value → modifier_extent value ≡ this_many (length value)
 some_extent [] some = absurd (omega arith)
 some_extent (b ∷ value) some = refl
 
-pub no_extent : (value : Text) → length value ≡ 0 → modifier_extent value ≡ character
+pub no_extent : (value : Text) → length value ≡ 0 → modifier_extent value ≡ one_character
 no_extent [] none = refl
 no_extent (b ∷ value) none = absurd (omega arith)
 
@@ -72,7 +72,7 @@ no_extent (b ∷ value) none = absurd (omega arith)
 -- a byte of ASCII
 pub spans_byte : (extent : Kind → Extent) (text before : Text) (b : ℕ) (rest : Text)
     (f : code_fault.Fault) → text ≡ before ++ b ∷ rest → b < 128
-    → extent (rule_kind f.rule) ≡ character → f.remaining ≡ length (b ∷ rest) → f.len ≡ 1
+    → extent (rule_kind f.rule) ≡ one_character → f.remaining ≡ length (b ∷ rest) → f.len ≡ 1
     → SpansIn extent text f
 spans_byte extent text before b rest f e ascii is at len = record {
   before = before;
@@ -85,7 +85,7 @@ spans_byte extent text before b rest f e ascii is at len = record {
 
 -- any character, or the end
 pub spans_character : (extent : Kind → Extent) (text before rest : Text) (f : code_fault.Fault)
-    → text ≡ before ++ rest → extent (rule_kind f.rule) ≡ character → f.remaining ≡ length rest
+    → text ≡ before ++ rest → extent (rule_kind f.rule) ≡ one_character → f.remaining ≡ length rest
     → f.len ≡ first_len (chars rest) → f.len ≤ length rest → SpansIn extent text f
 spans_character extent text before rest f e is at len within = record {
   before = before;
@@ -103,7 +103,7 @@ module _ (text before front after : Text) (f : code_fault.Fault)
   front_within = omega (arith, len, length-append front after)
 
   pub spans_word : ZeroOrMore is_word_byte front → StopsBefore is_word_byte after
-      → version_extent (rule_kind f.rule) ≡ word → SpansVersion text f
+      → version_extent (rule_kind f.rule) ≡ whole_word → SpansVersion text f
   spans_word passes stops is = record {
     before = before;
     rest = front ++ after;
@@ -114,7 +114,7 @@ module _ (text before front after : Text) (f : code_fault.Fault)
   }
 
   pub spans_key : ZeroOrMore is_key_byte front → StopsBefore is_key_byte after
-      → version_extent (rule_kind f.rule) ≡ key → SpansVersion text f
+      → version_extent (rule_kind f.rule) ≡ whole_key → SpansVersion text f
   spans_key passes stops is = record {
     before = before;
     rest = front ++ after;
@@ -124,7 +124,7 @@ module _ (text before front after : Text) (f : code_fault.Fault)
     within = front_within;
   }
 
-  pub spans_bytes : version_extent (rule_kind f.rule) ≡ bytes (length front) → SpansVersion text f
+  pub spans_bytes : version_extent (rule_kind f.rule) ≡ this_many (length front) → SpansVersion text f
   spans_bytes is =
       let cut : min (length front) (length (front ++ after)) ≡ length front =
       omega (arith, length-append front after) in

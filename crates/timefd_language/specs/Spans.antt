@@ -1,6 +1,6 @@
 -- Which bytes of a text are at fault.
 use Rattle.std.specs.Char.{len_utf8}
-use Rattle.std.specs.Prelude.{ℕ, ◌≡◌, ◌+◌, ◌<◌, ◌≤◌, List, [], ◌∷◌, ◌++◌, chars, length, drop, min, ⊤}
+use Rattle.std.specs.Prelude.{ℕ, ◌≡◌, ◌+◌, ◌≤◌, List, [], ◌∷◌, ◌++◌, chars, length, drop, min, ⊤}
 use Rattle.std.specs.List.{prefix_len}
 use Rattle.timefd_component.specs.Tree.{Text}
 use Rattle.timefd_fault.specs.Faults.{Kind, Fault, unclosed_bracket, invalid_name, invalid_modifier, missing_name, missing_modifier, expected, not_supported, duplicate_modifier, invalid_combination}
@@ -17,33 +17,33 @@ use Rattle.timefd_language.specs.declared.language.Language.TheVariants.{Version
 -- how far a fault reaches from its index on
 pub data Extent : Type 0 where
   -- the one character
-  character : Extent
+  one_character : Extent
   -- the word: up to white space, a bracket or a backslash
-  word : Extent
+  whole_word : Extent
   -- the key: a word, up to its colon
-  key : Extent
+  whole_key : Extent
   -- this many bytes
-  bytes : ℕ → Extent
+  this_many : ℕ → Extent
 
 -- a key, a value or a word; or a colon, if one side of it is empty
 abbrev pub modifier_extent : Text → Extent
-modifier_extent [] = character
-modifier_extent (b ∷ word) = bytes (length (b ∷ word))
+modifier_extent [] = one_character
+modifier_extent (b ∷ word) = this_many (length (b ∷ word))
 
 abbrev pub version_extent : Kind → Extent
-version_extent unclosed_bracket = character
-version_extent (invalid_name name) = word
+version_extent unclosed_bracket = one_character
+version_extent (invalid_name name) = whole_word
 version_extent (invalid_modifier word) = modifier_extent word
-version_extent missing_name = character
-version_extent (missing_modifier name) = word
-version_extent (expected what) = character
-version_extent (not_supported what context) = character
-version_extent (duplicate_modifier name) = key
-version_extent (invalid_combination name context) = key
+version_extent missing_name = one_character
+version_extent (missing_modifier key) = whole_word
+version_extent (expected what) = one_character
+version_extent (not_supported what context) = one_character
+version_extent (duplicate_modifier key) = whole_key
+version_extent (invalid_combination key context) = whole_key
 
 -- Strftime's faults are of one character.
 abbrev pub strftime_extent : Kind → Extent
-strftime_extent kind = character
+strftime_extent kind = one_character
 
 abbrev pub extent_of : Language → Kind → Extent
 extent_of (Version v) kind = version_extent kind
@@ -56,10 +56,10 @@ first_len (c ∷ characters) = len_utf8 c
 
 -- how many bytes at the front of what is there
 abbrev pub measured : Extent → Text → ℕ
-measured character rest = first_len (chars rest)
-measured word rest = prefix_len is_word_byte rest
-measured key rest = prefix_len is_key_byte rest
-measured (bytes len) rest = min len (length rest)
+measured one_character rest = first_len (chars rest)
+measured whole_word rest = prefix_len is_word_byte rest
+measured whole_key rest = prefix_len is_key_byte rest
+measured (this_many most) rest = min most (length rest)
 
 -- the index after the bytes at fault
 abbrev pub end_of : Language → Text → Fault → ℕ

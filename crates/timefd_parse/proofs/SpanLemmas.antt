@@ -12,7 +12,7 @@ use Rattle.timefd_language.specs.Bytes.{left, colon, equal, is_white, is_word_by
 use Rattle.timefd_language.specs.Cut.{IsCut}
 use Rattle.timefd_language.specs.Head.{Modifier, AreModifiers, modifier_text, modifiers_text, Head, head_text, placed, placed_from}
 use Rattle.timefd_language.specs.Lookup.{key_for}
-use Rattle.timefd_language.specs.Spans.{character, word, key, modifier_extent, version_extent, SpansVersion}
+use Rattle.timefd_language.specs.Spans.{one_character, whole_word, whole_key, modifier_extent, version_extent, SpansVersion}
 use Rattle.timefd_language.proofs.Lookup.{equal-true}
 use Rattle.timefd_language.proofs.Spans.{zero_from_one, white-not_word}
 use Rattle.timefd_language.proofs.SpanLemmas.{some_extent, spans_byte, spans_bytes, spans_key, spans_word}
@@ -38,7 +38,7 @@ some_bytes test (b ∷ text) some = omega arith
 -- one byte
 
 pub byte_spans : (text : Text) (remaining : ℕ) (f : code_fault.Fault) → HasByteAt text remaining
-    → f.remaining ≡ remaining → f.len ≡ 1 → version_extent (rule_kind f.rule) ≡ character
+    → f.remaining ≡ remaining → f.len ≡ 1 → version_extent (rule_kind f.rule) ≡ one_character
     → SpansVersion text f
 byte_spans text remaining f h at len is =
     spans_byte version_extent text h.before h.byte h.rest f h.whole h.ascii is (at ∙ h.position) len
@@ -54,7 +54,7 @@ white_ascii b white = grind (arith, nat_tests)
 -- the first white byte after a `[`
 pub white_spans : (inside white named : Text) (f : code_fault.Fault) → IsCut is_white inside white named
     → 0 < length white → f.remaining ≡ length inside → f.len ≡ 1
-    → version_extent (rule_kind f.rule) ≡ character → SpansVersion (left ∷ inside) f
+    → version_extent (rule_kind f.rule) ≡ one_character → SpansVersion (left ∷ inside) f
 white_spans inside [] named f cut some at len is = absurd (omega arith)
 white_spans inside (b ∷ white) named f cut some at len is =
     spans_byte version_extent (left ∷ inside) (left ∷ []) b (white ++ named) f
@@ -73,7 +73,7 @@ module _ (text : Text) (m : code_modifier.Modifier) (stands : StandsIn text m) (
       (is ∙ some_extent m.key.now (some_bytes is_key_byte m.key.now stands.key))
 
   pub again_spans : f.remaining ≡ m.key_remaining → f.len ≡ length m.key.now
-      → version_extent (rule_kind f.rule) ≡ key → SpansVersion text f
+      → version_extent (rule_kind f.rule) ≡ whole_key → SpansVersion text f
   again_spans at len is =
       spans_key text stands.before m.key.now (colon ∷ (m.value.now ++ stands.rest)) f stands.whole
       (at ∙ stands.key_position) len (zero_from_one is_key_byte m.key.now stands.key) refl is
@@ -143,7 +143,7 @@ name_stops (m ∷ ms) white rest are all stops = by m.white are.0.white
 module _ (strict : Bool) (text : Text) (head : code_head.Head) (modifiers : code_modifiers.Modifiers)
     (rest : Text) (h : Head) (begins : BeginsWithHead strict text head modifiers rest h) where
   pub name_spans : (f : code_fault.Fault) → f.remaining ≡ head.remaining
-      → f.len ≡ length head.word.now → version_extent (rule_kind f.rule) ≡ word → SpansVersion text f
+      → f.len ≡ length head.word.now → version_extent (rule_kind f.rule) ≡ whole_word → SpansVersion text f
   name_spans f at len is =
       let more : Text = modifiers_text h.modifiers ++ (head.white.now ++ rest) in
       let whole : text ≡ (left ∷ h.white) ++ (h.name ++ more) =
@@ -220,7 +220,7 @@ pub refused_spans : (text : Text) (positions : Positions) (ps : List Placed) (k 
     (o : Option ℕ) (remaining : ℕ) (spelling : Text) (f : code_fault.Fault)
     → ShowsPositions (length text) positions ps → o ≡ position positions k → o ≡ Some remaining
     → spelling ≡ (key_for k).key → HaveKeys text ps → f.remaining ≡ remaining
-    → f.len ≡ length spelling → version_extent (rule_kind f.rule) ≡ key → SpansVersion text f
+    → f.len ≡ length spelling → version_extent (rule_kind f.rule) ≡ whole_key → SpansVersion text f
 refused_spans text positions ps k o remaining spelling f shows of is spelled have at len extent =
     by (first_position (key_for k).key ps) refl
     (subst (λ x. ShowsPosition (length text) x (first_position (key_for k).key ps)) (sym of ∙ is)
