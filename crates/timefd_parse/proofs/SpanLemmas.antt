@@ -167,23 +167,31 @@ keys_from : (k : ℕ) (ms : List Modifier) → AreModifiers ms → (word : Text)
     → (before after : Text) × OneOrMore is_key_byte word
     × (modifiers_text ms ≡ before ++ (word ++ colon ∷ after)) × (k + length before ≡ index)
 keys_from k [] are word index e = absurd (cc)
-keys_from k (m ∷ ms) are word index e = by (equal word m.key) refl
+keys_from k (m ∷ ms) are word index e =
+    by (equal word m.key) refl e
+    (keys_from (k + length (modifier_text m)) ms are.1 word index)
   where
     by : (t : Bool) → equal word m.key ≡ t
+        → elim t as (λ _. Option ℕ) [ true ↦ Some (k + length m.white)
+        | false ↦ first_position word (placed_from (k + length (modifier_text m)) ms) ] ≡ Some index
+        → (first_position word (placed_from (k + length (modifier_text m)) ms) ≡ Some index
+        → (before after : Text) × OneOrMore is_key_byte word
+        × (modifiers_text ms ≡ before ++ (word ++ colon ∷ after))
+        × (k + length (modifier_text m) + length before ≡ index))
         → (before after : Text) × OneOrMore is_key_byte word
         × (modifiers_text (m ∷ ms) ≡ before ++ (word ++ colon ∷ after)) × (k + length before ≡ index)
-    by true same =
+    by true same there more =
         let is : word ≡ m.key = equal-true word m.key same in
-        let there : Some (k + length m.white) ≡ Some index = rw same at e in (
+        let apart : modifiers_text (m ∷ ms) ≡ m.white ++ (m.key ++ colon ∷ (m.value ++ modifiers_text ms)) =
+        simp append_assoc in (
           m.white,
           m.value ++ modifiers_text ms,
           subst (OneOrMore is_key_byte) (sym is) are.0.key,
-          simp append_assoc
-              ∙ ap (λ t. m.white ++ (t ++ colon ∷ (m.value ++ modifiers_text ms))) (sym is),
+          apart ∙ ap (λ t. m.white ++ (t ++ colon ∷ (m.value ++ modifiers_text ms))) (sym is),
           cc,
         )
-    by false other =
-        let later = keys_from (k + length (modifier_text m)) ms are.1 word index (rw other at e) in (
+    by false other there more =
+        let later = more there in (
           modifier_text m ++ later.0,
           later.1,
           later.2,
