@@ -1,8 +1,9 @@
 -- The answer says what the verdict says.
 use Rattle.std.proofs.Common.{ℕ, ◌≡◌, ◌≢◌, List, [], Option, Some, None, IsFalse, IsSome, IsUtf8, refl, subst, arith}
 use Rattle.timefd_fault.specs.Faults.{Fault}
-use Rattle.timefd_fault.specs.BorrowedFaults.{HasShortWords, to_borrowed_fault}
-use Rattle.timefd_fault.specs.declared.borrowed_fault.BorrowedFault.{BorrowedFault}
+use Rattle.timefd_fault.specs.ShortWords.{HasShortWords}
+use Rattle.timefd_language.specs.BorrowedFaults.{to_borrowed_fault}
+use Rattle.timefd_language.specs.declared.borrowed_fault.BorrowedFault.{BorrowedFault}
 use Rattle.timefd_fault.specs.RuleKinds.{rule_kind}
 use Rattle.timefd_language.specs.Grammar.{nesting_limit}
 use Rattle.timefd_parse.proofs.AmountLemmas.{short_in}

@@ -1,7 +1,7 @@
 //! The answer to C with all that there is to say of a fault.
 
 ghost use Rattle.std.specs.Prelude.{◌≡◌, option_map};
-ghost use Rattle.timefd_fault.specs.BorrowedFaults.{to_borrowed_fault};
+ghost use Rattle.timefd_language.specs.BorrowedFaults.{to_borrowed_fault};
 ghost use Rattle.timefd_fault.specs.Placed.{IsPlaced};
 ghost use Rattle.timefd_language.specs.Spans.{IsSpanned};
 ghost use Rattle.timefd_c.specs.Diagnoses as spec;

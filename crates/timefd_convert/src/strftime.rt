@@ -3,7 +3,7 @@
 ghost use Rattle.std.specs.Prelude.{◌≡◌, ◌≤◌, ◌*◌, [], List, IfOk, IsOk, MatchResult, length, string_bytes};
 ghost use Rattle.std.specs.Result.{IfErr};
 ghost use Rattle.std.specs.String.{string_capacity};
-ghost use Rattle.timefd_fault.specs.BorrowedFaults.{HasShortFault, IsBorrowed, IsBorrowedOf, IsMemory};
+ghost use Rattle.timefd_language.specs.BorrowedFaults.{HasShortFault, IsBorrowed, IsBorrowedOf, IsMemory};
 ghost use Rattle.timefd_fault.specs.Placed.{HasPlacedFault, IsPlaced};
 ghost use Rattle.timefd_component.specs.Tree.{Tree, trees};
 ghost use Rattle.timefd_convert.specs.Answers.{HasStrftimeItems, IsPrintedOf};

@@ -5,9 +5,9 @@ use Rattle.std.specs.declared.vec.Vec.{Vec}
 use Rattle.std.specs.Prelude.{length}
 use Rattle.std.specs.Result.{IfErr}
 use Rattle.timefd_component.specs.Tree.{Text, Tree, compound, trees, pack}
-use Rattle.timefd_fault.specs.declared.borrowed_parse_error.BorrowedParseError.{BorrowedParseError}
-use Rattle.timefd_fault.specs.declared.borrowed_parse_error.BorrowedParseError.TheVariants as parses
-use Rattle.timefd_fault.specs.BorrowedFaults as borrowed
+use Rattle.timefd_language.specs.declared.borrowed_parse_error.BorrowedParseError.{BorrowedParseError}
+use Rattle.timefd_language.specs.declared.borrowed_parse_error.BorrowedParseError.TheVariants as parses
+use Rattle.timefd_language.specs.BorrowedFaults as borrowed
 use Rattle.timefd_fault.specs.Faults.{Fault}
 use Rattle.timefd_node_list.specs.declared.item.borrowed_format_item.BorrowedFormatItem.{BorrowedFormatItem}
 use Rattle.timefd_node_list.specs.Item.Meaning.{item_tree, item_trees}

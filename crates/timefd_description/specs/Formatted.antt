@@ -2,7 +2,7 @@
 use Rattle.std.specs.Prelude.{ℕ, ◌≡◌, Result, Ok, Err, ⊤}
 use Rattle.std.specs.declared.alloc.Global.{Global}
 use Rattle.std.specs.declared.vec.Vec.{Vec}
-use Rattle.timefd_fault.specs.BorrowedFaults.{to_borrowed_fault}
+use Rattle.timefd_language.specs.BorrowedFaults.{to_borrowed_fault}
 use Rattle.timefd_component.specs.Tree.{Text}
 use Rattle.timefd_fault.specs.Faults.{Fault}
 use Rattle.timefd_format.specs.declared.text.TextError.{TextError}

@@ -1,8 +1,8 @@
 -- The answers for a text that is read as nodes.
 use Rattle.std.specs.Prelude.{◌≡◌, ℕ, [], List, IfOk, IsOk, MatchResult, Result}
 use Rattle.std.specs.Result.{IfErr}
-use Rattle.timefd_fault.specs.declared.borrowed_parse_error.BorrowedParseError.{BorrowedParseError}
-use Rattle.timefd_fault.specs.BorrowedFaults.{IsBorrowed, IsBorrowedOf, IsMemory}
+use Rattle.timefd_language.specs.declared.borrowed_parse_error.BorrowedParseError.{BorrowedParseError}
+use Rattle.timefd_language.specs.BorrowedFaults.{IsBorrowed, IsBorrowedOf, IsMemory}
 use Rattle.timefd_component.specs.Tree.{Text, Tree, pack}
 use Rattle.timefd_fault.specs.Faults.{Fault}
 use Rattle.timefd_items.specs.Description.{description_tree}

@@ -1,8 +1,8 @@
 -- The answers for a text that is to be read by the text of a description.
 use Rattle.std.specs.Prelude.{◌≡◌, List, Result, Ok, Err, ⊤}
-use Rattle.timefd_fault.specs.declared.borrowed_parse_error.BorrowedParseError.{BorrowedParseError}
-use Rattle.timefd_fault.specs.declared.borrowed_parse_error.BorrowedParseError.TheVariants as parses
-use Rattle.timefd_fault.specs.BorrowedFaults.{to_borrowed_fault}
+use Rattle.timefd_language.specs.declared.borrowed_parse_error.BorrowedParseError.{BorrowedParseError}
+use Rattle.timefd_language.specs.declared.borrowed_parse_error.BorrowedParseError.TheVariants as parses
+use Rattle.timefd_language.specs.BorrowedFaults.{to_borrowed_fault}
 use Rattle.timefd_component.specs.Tree.{Text, Tree, compound, trees}
 use Rattle.timefd_fault.specs.Faults.{Fault}
 use Rattle.timefd_moment.specs.declared.moment.Moment.{Moment}

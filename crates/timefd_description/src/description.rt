@@ -23,7 +23,7 @@ pub struct Description<'a> {
 impl<'a> Description<'a> {
     ghost use Rattle.std.specs.Prelude.{◌≡◌, [], IfOk, IsOk, List, MatchResult};
     ghost use Rattle.std.specs.Result.{IfErr};
-    ghost use Rattle.timefd_fault.specs.BorrowedFaults.{IsBorrowed, IsBorrowedOf, IsMemory};
+    ghost use Rattle.timefd_language.specs.BorrowedFaults.{IsBorrowed, IsBorrowedOf, IsMemory};
     ghost use Rattle.timefd_component.specs.Tree.{Tree};
     ghost use Rattle.timefd_description.specs.Descriptions.{IsOf};
     ghost use Rattle.timefd_fault.specs.Faults as spec;

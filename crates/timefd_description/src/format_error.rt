@@ -1,7 +1,7 @@
 //! Why a text writes nothing.
 
 ghost use Rattle.std.specs.Prelude.{◌≡◌};
-ghost use Rattle.timefd_fault.specs.BorrowedFaults as borrowed;
+ghost use Rattle.timefd_language.specs.BorrowedFaults as borrowed;
 ghost use Rattle.timefd_fault.specs.Faults as spec;
 ghost use Rattle.timefd_description.specs.Formatted.{IsFaulty, IsMemory, of_text_error};
 

@@ -28,7 +28,7 @@ pub use sentence::{reason_sentence, unread_sentence};
 
 // The languages, the faults of texts, and what is wrong with one.
 pub use timefd_diagnosis::{Diagnostic, diagnose};
-pub use timefd_fault::{BorrowedFault, BorrowedParseError};
+pub use timefd_language::{BorrowedFault, BorrowedParseError};
 pub use timefd_language::{DescriptionVersion, Language};
 
 // A text in another language.

@@ -7,7 +7,7 @@ ghost use Rattle.timefd_description.specs.Modern.{modern_tree};
 ghost use Rattle.timefd_description.specs.Parsed.{IsParsed};
 ghost use Rattle.timefd_items.specs.Builder.{built};
 ghost use Rattle.timefd_language.specs.Bytes.{is_version_three};
-ghost use Rattle.timefd_fault.specs.ReadErrors.{MemoryOr};
+ghost use Rattle.timefd_language.specs.ReadErrors.{MemoryOr};
 ghost use Rattle.timefd_language.specs.Grammar.{nesting_limit};
 ghost use Rattle.timefd_language.specs.declared.description_version.DescriptionVersion.TheVariants.{Three};
 ghost use Rattle.timefd_parse.specs.Pieces.{IsLeaf, IsLeafTree};
@@ -16,7 +16,7 @@ ghost use Rattle.timefd_language.specs.declared.language.Language.TheVariants.{V
 
 use crate::nodes::finished;
 use std::alloc::{AllocError, Global};
-use timefd_fault::read_error::ReadError;
+use timefd_language::read_error::ReadError;
 use timefd_items::{DescriptionBuilder, FormatDescriptionV3};
 use timefd_parse::{
     BorrowedOutput, BorrowedParseError, DescriptionVersion, NESTING_LIMIT, Piece, error_of,

@@ -10,17 +10,18 @@ use Rattle.timefd_language.specs.declared.language.Language.TheVariants.{Version
 use Rattle.timefd_fault.specs.declared.code.Code.TheVariants.{InvalidModifier}
 use Rattle.timefd_diagnosis.specs.declared.help.Help.{Help}
 use Rattle.timefd_diagnosis.specs.declared.help.Help.TheVariants.{Words, LeaveOut, Advice}
-use Rattle.timefd_diagnosis.specs.declared.slot.Slot.{Slot}
-use Rattle.timefd_diagnosis.specs.declared.slot.Slot.TheVariants as slots
+use Rattle.timefd_language.specs.declared.wanted.Wanted.{Wanted}
+use Rattle.timefd_language.specs.declared.wanted.Wanted.TheVariants as slots
 use Rattle.timefd_diagnosis.specs.Advice.{advice, strftime_advice}
 use Rattle.timefd_fault.specs.Codes.{code_of}
 use Rattle.timefd_diagnosis.specs.Nearest.{IsNearest}
-use Rattle.timefd_diagnosis.specs.Slots.{IsSlotIn, words_at}
+use Rattle.timefd_language.specs.Wanted.{IsSlotIn}
+use Rattle.timefd_diagnosis.specs.Slots.{words_at}
 use Rattle.timefd_diagnosis.specs.Words.{texts}
 
 -- The help names the words that are allowed there, and the one nearest to this word, whatever its
 -- case.
-abbrev pub IsWordsHelp : Bool → Slot → Text → Help → Type 0
+abbrev pub IsWordsHelp : Bool → Wanted → Text → Help → Type 0
 IsWordsHelp strict slot word (Words at allowed nearest) =
     (at ≡ slot) × (texts allowed.now ≡ words_at strict slot)
     × IsNearest (words_at strict slot) (map to_ascii_lowercase word)
@@ -29,12 +30,12 @@ IsWordsHelp strict slot word (LeaveOut key) = ⊥
 IsWordsHelp strict slot word (Advice advice) = ⊥
 
 -- What a modifier's word at this index should have been.
-abbrev pub IsModifierSlot : Bool → Text → ℕ → Text → Slot → Type 0
+abbrev pub IsModifierSlot : Bool → Text → ℕ → Text → Wanted → Type 0
 IsModifierSlot strict text index word slot = IsSlotIn strict (take index text) word slot
 
 abbrev pub HasNoModifierSlot : Bool → Text → ℕ → Text → Type 0
 HasNoModifierSlot strict text index word =
-    (slot : Slot) → ¬ IsModifierSlot strict text index word slot
+    (slot : Wanted) → ¬ IsModifierSlot strict text index word slot
 
 -- For a name, a key or a value at fault, the help names the words that are allowed there. Only if it
 -- isn't known what a modifier's word should have been, the help is an advice, as for all other

@@ -2,7 +2,7 @@
 
 ghost use Rattle.std.specs.Prelude.{◌≡◌, List, None, IfOk, IfSome};
 ghost use Rattle.timefd_component.specs.Tree.{Tree};
-ghost use Rattle.timefd_fault.specs.BorrowedFaults.{to_borrowed_fault};
+ghost use Rattle.timefd_language.specs.BorrowedFaults.{to_borrowed_fault};
 ghost use Rattle.timefd_fault.specs.Placed.{IsPlaced};
 ghost use Rattle.timefd_fault.specs.Faults.{fault_of};
 ghost use Rattle.timefd_language.specs.Grammar.{nesting_limit};

@@ -3,16 +3,16 @@
 ghost use Rattle.std.specs.Prelude.{◌≡◌, IfOk, MatchOption, option_map};
 ghost use Rattle.timefd_language.specs.Bytes.{is_version_three};
 ghost use Rattle.std.specs.Str.{IsCharBoundary};
-ghost use Rattle.timefd_fault.specs.BorrowedFaults.{to_borrowed_fault};
+ghost use Rattle.timefd_language.specs.BorrowedFaults.{to_borrowed_fault};
 ghost use Rattle.timefd_fault.specs.Placed.{IsPlaced};
 ghost use Rattle.timefd_diagnosis.specs.Helps.{HasNoModifierSlot, IsHelpFor, IsModifierSlot, IsWordsHelp, nearest_in};
 
 use crate::cure::{advice, strftime_advice};
 use crate::nearest::nearest;
-use crate::slot::{Slot, slot_after};
+use crate::slot::words_at;
 use std::alloc::{AllocError, Global};
 use timefd_fault::Code;
-use timefd_parse::{BorrowedFault, DescriptionVersion, Language, Rule};
+use timefd_parse::{BorrowedFault, DescriptionVersion, Language, Rule, Wanted};
 
 /// What helps against a fault.
 #[derive(Clone, Copy)]
@@ -20,7 +20,7 @@ pub enum Help {
     /// Words that are allowed there.
     Words {
         /// What the word at fault should have been.
-        slot: Slot,
+        slot: Wanted,
         /// All that are allowed.
         allowed: &'static [&'static str],
         /// The nearest of them, if one is near.
@@ -70,13 +70,10 @@ fn version_help(
     ensures { IfOk result (IsHelpFor (Language.Version version) text.now (to_borrowed_fault fault.entry)) }
 {
     match fault.rule {
-        Rule::UnknownName(name) => words_help(alloc, version, Slot::Name, name),
-        Rule::InvalidModifier(value) => {
-            match modifier_slot(version, text, fault.start, value) {
-                Some(slot) => words_help(alloc, version, slot, value),
-                None => Ok(Help::Advice(advice(version, Code::InvalidModifier))),
-            }
-        }
+        Rule::UnknownName(word) | Rule::InvalidModifier(word) => match fault.wanted {
+            Some(wanted) => words_help(alloc, version, wanted, word),
+            None => Ok(Help::Advice(advice(version, Code::of(fault.rule)))),
+        },
         Rule::RefusedModifier(modifier, _) => Ok(Help::LeaveOut(modifier)),
         Rule::UnclosedBracket
         | Rule::MissingName
@@ -100,27 +97,16 @@ fn version_help(
 fn words_help(
     alloc: Global,
     version: DescriptionVersion,
-    slot: Slot,
+    slot: Wanted,
     word: &str,
 ) -> Result<Help, AllocError>
     ensures { IfOk result (IsWordsHelp (is_version_three version) slot word.now) }
 {
     let lowered = word.to_ascii_lowercase(alloc)?;
-    let allowed = slot.words(version);
+    let allowed = words_at(slot, version);
     Ok(Help::Words {
         slot,
         allowed,
         nearest: nearest(alloc, allowed, &lowered)?,
     })
-}
-
-// What a modifier's word at this index should have been.
-fn modifier_slot(version: DescriptionVersion, text: &str, index: usize, word: &str) -> Option<Slot>
-    requires { IsCharBoundary text.now index }
-    ensures { MatchOption result (HasNoModifierSlot (is_version_three version) text.now index
-        word.now)
-        (IsModifierSlot (is_version_three version) text.now index word.now) }
-{
-    let (front, _) = text.split_at(index);
-    slot_after(version, front, word)
 }

@@ -20,3 +20,4 @@ pub use further::{MOST_FURTHER, further_faults};
 pub use help::{Help, help_against};
 pub use span::Span;
 pub use timefd_fault::{Code, all_are_there, names_differ};
+pub use timefd_parse::Wanted;

@@ -5,11 +5,11 @@ use denote.Ref.{Bor}
 use Rattle.timefd_component.specs.Tree.{Text}
 use Rattle.timefd_diagnosis.specs.declared.help.Help.{Help}
 use Rattle.timefd_diagnosis.specs.declared.help.Help.TheVariants.{Words, LeaveOut, Advice}
-use Rattle.timefd_diagnosis.specs.declared.slot.Slot.{Slot}
-use Rattle.timefd_diagnosis.specs.declared.slot.Slot.TheVariants.{Name, Key, Value}
+use Rattle.timefd_language.specs.declared.wanted.Wanted.{Wanted}
+use Rattle.timefd_language.specs.declared.wanted.Wanted.TheVariants.{Name, Key, Value}
 
 -- What a word was meant to be.
-abbrev pub subject : Slot → Text
+abbrev pub subject : Wanted → Text
 subject Name = codes "name"
 subject (Key name) = codes "key"
 subject (Value key) = codes "value"
@@ -21,12 +21,12 @@ abbrev pub listed : List (Bor Text) → Text
 listed words = join_by quoted (codes ", ") words
 
 -- The help if no word is allowed: a bracket may take no key, and a key may take a number.
-abbrev pub wordless : Slot → Text
+abbrev pub wordless : Wanted → Text
 wordless Name = codes "a number from 1 to 65535"
 wordless (Key name) = codes "this bracket takes no modifier"
 wordless (Value key) = codes "a number from 1 to 65535"
 
-abbrev pub allowed_text : Slot → List (Bor Text) → Text
+abbrev pub allowed_text : Wanted → List (Bor Text) → Text
 allowed_text slot words =
     if length words == 0 then wordless slot
     else codes "a " ++ (subject slot ++ (codes " here is one of " ++ listed words))

@@ -5,7 +5,7 @@ ghost use Rattle.timefd_drawing.specs.HelpText as spec;
 
 use std::alloc::{AllocError, Global};
 use timefd_diagnosis::Help;
-use timefd_diagnosis::slot::Slot;
+use timefd_diagnosis::Wanted;
 
 // Room for most help texts.
 const ROOM: usize = 48;
@@ -47,7 +47,7 @@ fn push_nearest(out: &mut String, subject: &str, word: &str) -> Result<(), Alloc
     out.push_str("`")
 }
 
-fn allowed_text(alloc: Global, slot: Slot, allowed: &[&str]) -> Result<String, AllocError>
+fn allowed_text(alloc: Global, slot: Wanted, allowed: &[&str]) -> Result<String, AllocError>
     ensures { IfOk result (λ text. string_bytes text ≡ spec.allowed_text slot allowed.now) }
 {
     if allowed.is_empty() {
@@ -59,23 +59,23 @@ fn allowed_text(alloc: Global, slot: Slot, allowed: &[&str]) -> Result<String, A
 }
 
 // What a word was meant to be.
-fn subject(slot: Slot) -> &'static str
+fn subject(slot: Wanted) -> &'static str
     ensures { result.now ≡ spec.subject slot }
 {
     match slot {
-        Slot::Name => "name",
-        Slot::Key(_) => "key",
-        Slot::Value(_) => "value",
+        Wanted::Name => "name",
+        Wanted::Key(_) => "key",
+        Wanted::Value(_) => "value",
     }
 }
 
 // What the help says if no word is allowed.
-fn wordless(slot: Slot) -> &'static str
+fn wordless(slot: Wanted) -> &'static str
     ensures { result.now ≡ spec.wordless slot }
 {
     match slot {
-        Slot::Key(_) => "this bracket takes no modifier",
-        Slot::Name | Slot::Value(_) => "a number from 1 to 65535",
+        Wanted::Key(_) => "this bracket takes no modifier",
+        Wanted::Name | Wanted::Value(_) => "a number from 1 to 65535",
     }
 }
 

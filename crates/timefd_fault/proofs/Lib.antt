@@ -4,5 +4,3 @@ pub mod Rows
 pub mod CodeLemmas
 pub mod ExcerptLemmas
 pub mod PartLemmas
-pub mod OwnedLemmas
-pub mod BorrowedLemmas

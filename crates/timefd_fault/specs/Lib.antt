@@ -3,11 +3,10 @@ pub mod Words
 pub mod RuleKinds
 pub mod Codes
 pub mod Sentences
-pub mod ReadErrors
 pub mod Reported
 pub mod Excerpts
 pub mod Parts
-pub mod BorrowedFaults
+pub mod ShortWords
 pub mod Placed
 pub mod Equality
 pub mod Laws

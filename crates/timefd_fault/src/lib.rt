@@ -1,17 +1,15 @@
-//! The faults of a text that isn't a format description: the rule that is broken, its position, its
-//! stable code, and its sentence, which can be written into a buffer of the caller without taking
-//! memory. Users import them from `timefd_items` and `timefd_parse`.
+//! The rules of format descriptions, and what is reported of a broken one: its variant, its stable code, and
+//! its sentence, which can be written into a buffer of the caller without taking memory. Users import them
+//! from `timefd_items` and `timefd_parse`.
 #![tactic(auto)]
 
-// What is reported about a text: an error that owns what it quotes, and one that borrows it.
-pub mod borrowed_fault;
-pub mod borrowed_parse_error;
+// What is reported about a text.
 mod invalid_format_description;
+mod owned;
 pub mod parse_error;
 
-// The rules, their codes, and the errors of the readers.
+// The rules and their codes.
 pub mod code;
-pub mod read_error;
 pub mod rule;
 
 // Sentences in a buffer that may be too short.
@@ -20,11 +18,10 @@ pub mod excerpt;
 pub mod laws;
 mod sentence;
 
-pub use borrowed_fault::BorrowedFault;
-pub use borrowed_parse_error::BorrowedParseError;
 pub use code::{Code, all_are_there, names_differ};
 pub use excerpt::Excerpt;
 pub use invalid_format_description::InvalidFormatDescription;
+pub use owned::owned;
 pub use parse_error::ParseError;
-pub use read_error::{Fault, ReadError};
 pub use rule::{FaultKind, Rule};
+pub use sentence::write_sentence;

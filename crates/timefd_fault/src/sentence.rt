@@ -1,16 +1,30 @@
 //! The sentences of faults, part by part.
 
 ghost use Rattle.std.specs.Prelude.{◌≡◌, ◌+◌, ◌≤◌, ◌++◌, length};
-ghost use Rattle.timefd_fault.specs.RuleKinds.{kind_of};
-ghost use Rattle.timefd_fault.specs.BorrowedFaults.{HasShortWords};
+ghost use Rattle.timefd_fault.specs.Faults.{fault};
+ghost use Rattle.timefd_fault.specs.RuleKinds.{kind_of, rule_kind};
+ghost use Rattle.timefd_fault.specs.Sentences.{sentence};
+ghost use Rattle.timefd_fault.specs.ShortWords.{HasShortWords};
 ghost use Rattle.timefd_fault.specs.Excerpts.{IsExcerpt};
 ghost use Rattle.timefd_fault.specs.Parts.{combination_with, joined, not_supported_with, sentence_with, texts};
 
 use crate::excerpt::Excerpt;
-use crate::rule::FaultKind;
+use crate::digits::Digits;
+use crate::rule::{FaultKind, Rule};
+
+/// Writes the sentence of a text that breaks this rule at this index to the front of the buffer, with as
+/// many of its characters as the buffer has room for. It takes no memory.
+pub fn write_sentence(rule: Rule<'_>, index: usize, buffer: &mut [u8]) -> Excerpt
+    requires { HasShortWords (rule_kind rule) }
+    ensures { IsExcerpt (sentence (fault (rule_kind rule.entry) index)) buffer.old buffer.new result }
+{
+    let mut digits = Digits::new();
+    let index = digits.format(index);
+    write_kind(rule.kind(), index, buffer)
+}
 
 /// Writes the sentence of a fault of this kind. `index` is its index as it is written.
-pub fn write_kind(kind: FaultKind, index: &str, buffer: &mut [u8]) -> Excerpt
+fn write_kind(kind: FaultKind, index: &str, buffer: &mut [u8]) -> Excerpt
     requires words { HasShortWords (kind_of kind) }
     requires index { length index.now ≤ 40 }
     ensures { IsExcerpt (sentence_with (kind_of kind.entry) index.now) buffer.old buffer.new result }

@@ -1,3 +1,5 @@
+pub mod BorrowedLemmas
+pub mod OwnedLemmas
 pub mod Reader
 pub mod Defaults
 pub mod ValueRows

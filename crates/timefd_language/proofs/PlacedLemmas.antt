@@ -8,11 +8,11 @@ use Rattle.timefd_fault.specs.declared.parse_error.ParseError.TheVariants as rep
 use Rattle.timefd_language.specs.Broken.{FaultOf}
 use Rattle.timefd_language.specs.Strftime.{StrftimeFaultOf}
 use Rattle.timefd_language.proofs.PositionsBetween.{placed_between_law, strftime_placed_between_law}
-use Rattle.timefd_fault.specs.declared.borrowed_parse_error.BorrowedParseError.{BorrowedParseError}
-use Rattle.timefd_fault.specs.declared.borrowed_parse_error.BorrowedParseError.TheVariants.{Invalid, Memory}
-use Rattle.timefd_fault.specs.BorrowedFaults.{to_borrowed_fault, IsBorrowedOf, IsOwned}
+use Rattle.timefd_language.specs.declared.borrowed_parse_error.BorrowedParseError.{BorrowedParseError}
+use Rattle.timefd_language.specs.declared.borrowed_parse_error.BorrowedParseError.TheVariants.{Invalid, Memory}
+use Rattle.timefd_language.specs.BorrowedFaults.{to_borrowed_fault, IsBorrowedOf, IsOwned}
 use Rattle.timefd_fault.specs.Placed.{IsPlaced, HasPlacedFault}
-use Rattle.timefd_fault.proofs.OwnedLemmas.{owned_of}
+use Rattle.timefd_language.proofs.OwnedLemmas.{owned_of}
 
 pub is_placed : (v : DescriptionVersion) (limit : ℕ) (text : Text) → IsUtf8 text → (f : Fault)
     → FaultOf v limit text f → IsPlaced text f

@@ -22,9 +22,10 @@ use Rattle.timefd_language.specs.Strftime.{StrftimeFaultOf, IllDirective, cut_sh
 use Rattle.timefd_language.specs.Values.{Key, format, key_in, setting_in}
 use Rattle.timefd_language.specs.Verdict.{PlacedDescription, ◌or◌, refuse, unless, is_set, bad_value, bad_modifier, is_formatted, only, bad_modifiers, misplaced, combined, combination, made, after, component_verdict, touching, too_many, nested_refused, nested_wanted, any_modifier, optional_verdict, first_verdict, settings, verdict}
 use Rattle.timefd_language.proofs.Lookup.{Each, each-map}
-use Rattle.timefd_fault.specs.BorrowedFaults.{HasShortWords, HasShortFault, IsBorrowedOf, to_borrowed_fault}
-use Rattle.timefd_fault.specs.declared.borrowed_parse_error.BorrowedParseError.{BorrowedParseError}
-use Rattle.timefd_fault.specs.declared.borrowed_parse_error.BorrowedParseError.TheVariants.{Invalid, Memory}
+use Rattle.timefd_fault.specs.ShortWords.{HasShortWords}
+use Rattle.timefd_language.specs.BorrowedFaults.{HasShortFault, IsBorrowedOf, to_borrowed_fault}
+use Rattle.timefd_language.specs.declared.borrowed_parse_error.BorrowedParseError.{BorrowedParseError}
+use Rattle.timefd_language.specs.declared.borrowed_parse_error.BorrowedParseError.TheVariants.{Invalid, Memory}
 
 abbrev Short : Option Fault → Type 0
 Short None = ⊤

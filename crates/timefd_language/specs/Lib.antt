@@ -1,3 +1,5 @@
+pub mod ReadErrors
+pub mod BorrowedFaults
 pub mod Versions
 pub mod Bytes
 pub mod Settings
@@ -19,6 +21,7 @@ pub mod Rewritten
 pub mod Recased
 pub mod Relaxed
 pub mod Spans
+pub mod Wanted
 pub mod Cut
 pub mod FaultMeaning
 pub mod Laws

@@ -17,8 +17,17 @@ pub mod setting;
 pub mod text;
 pub mod value;
 
+// What a reader says of a text that it refuses.
+pub mod borrowed_fault;
+pub mod borrowed_parse_error;
+pub mod read_error;
+pub mod wanted;
+
 // The parser of strftime.
 pub mod strftime;
 
+pub use borrowed_fault::BorrowedFault;
+pub use borrowed_parse_error::BorrowedParseError;
 pub use description_version::DescriptionVersion;
 pub use language::Language;
+pub use wanted::Wanted;

@@ -5,7 +5,7 @@ use Rattle.std.specs.Str.{IsCharBoundary}
 use Rattle.timefd_component.specs.declared.component.Component.{Component}
 use Rattle.timefd_component.specs.Tree.{Text, component}
 use Rattle.timefd_language.specs.declared.description_version.DescriptionVersion.{DescriptionVersion}
-use Rattle.timefd_fault.specs.declared.read_error.Fault as code_fault
+use Rattle.timefd_language.specs.declared.read_error.Fault as code_fault
 use Rattle.timefd_language.specs.declared.key.Key as code_key
 use Rattle.timefd_language.specs.declared.name.ComponentName.{ComponentName}
 use Rattle.timefd_language.specs.declared.name.Name.{Name}

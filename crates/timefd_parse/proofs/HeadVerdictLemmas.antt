@@ -4,7 +4,7 @@ use Rattle.std.specs.Borrow.{Bor}
 use Rattle.timefd_component.specs.declared.component.Component.{Component}
 use Rattle.timefd_fault.specs.Faults.{Kind, Fault, fault, missing_modifier, invalid_combination, invalid_name}
 use Rattle.timefd_component.specs.Tree.{Text, Tree, component, optional, first, trees, pack}
-use Rattle.timefd_fault.specs.declared.read_error.Fault as code_fault
+use Rattle.timefd_language.specs.declared.read_error.Fault as code_fault
 use Rattle.timefd_fault.specs.declared.rule.Rule.TheVariants as broken
 use Rattle.timefd_parse.specs.declared.head.Head as code_head
 use Rattle.timefd_parse.specs.declared.head_verdict.HeadVerdict.{HeadVerdict}
@@ -24,7 +24,7 @@ use Rattle.timefd_language.specs.Combinations.{Refusal, refusals}
 use Rattle.timefd_language.specs.Lookup.{key_for, IsNameOf, refusal_for}
 use Rattle.timefd_parse.specs.Positions.{position}
 use Rattle.timefd_language.specs.Verdict.{PlacedDescription, ◌or◌, unless, after, refuse, settings, component_verdict, combination, combined, misplaced, made, nested_wanted, too_many, is_formatted, only, optional_verdict, first_verdict, touching, nested_refused, verdict}
-use Rattle.timefd_fault.specs.ReadErrors.{IsFault}
+use Rattle.timefd_language.specs.ReadErrors.{IsFault}
 use Rattle.timefd_parse.specs.Checked.{Checks, ShowsFault, ShowsPosition, first_position}
 use Rattle.timefd_parse.specs.Heads.{ShowsHead}
 use Rattle.timefd_parse.specs.HeadVerdicts.{BeginsJudged, IsPlain, IsVerdict, Decides, nests, refused_unless, placing}

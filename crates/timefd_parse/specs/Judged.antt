@@ -3,8 +3,8 @@ use Rattle.std.specs.Prelude.{ℕ, ◌≡◌, ◌+◌, Bool, List, [], ◌∷◌
 use Rattle.timefd_component.specs.declared.component.Component.{Component}
 use Rattle.timefd_fault.specs.Faults.{Fault}
 use Rattle.timefd_component.specs.Tree.{Tree, component, pack}
-use Rattle.timefd_fault.specs.declared.read_error.Fault as code_fault
-use Rattle.timefd_fault.specs.declared.read_error.ReadError as code_error
+use Rattle.timefd_language.specs.declared.read_error.Fault as code_fault
+use Rattle.timefd_language.specs.declared.read_error.ReadError as code_error
 use Rattle.timefd_language.specs.declared.key.Key as code_key
 use Rattle.timefd_parse.specs.declared.piece.Piece.{Piece}
 use Rattle.timefd_parse.specs.declared.positions.Positions.{Positions}
@@ -14,7 +14,7 @@ use Rattle.timefd_language.specs.Verdict.{PlacedDescription}
 use Rattle.timefd_language.specs.Lookup.{key_for}
 use Rattle.timefd_parse.specs.Positions.{position}
 use Rattle.timefd_parse.specs.Pieces.{IsPiece}
-use Rattle.timefd_fault.specs.ReadErrors.{IsFault, MemoryOr}
+use Rattle.timefd_language.specs.ReadErrors.{IsFault, MemoryOr}
 use Rattle.timefd_parse.specs.Checked.{first_position, ShowsPosition}
 
 -- each nested description is packed

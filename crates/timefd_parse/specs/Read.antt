@@ -13,9 +13,9 @@ use Rattle.timefd_component.specs.Reserved.{reserve_all}
 use Rattle.timefd_component.specs.Tree.{Text, Tree, component, literal, pack, trees}
 use Rattle.timefd_language.specs.declared.description_version.DescriptionVersion.{DescriptionVersion}
 use Rattle.timefd_language.specs.declared.description_version.DescriptionVersion.TheVariants.{Three}
-use Rattle.timefd_fault.specs.declared.read_error.Fault as code_fault
-use Rattle.timefd_fault.specs.declared.read_error.ReadError as code_error
-use Rattle.timefd_fault.specs.declared.read_error.ReadError.TheVariants as errors
+use Rattle.timefd_language.specs.declared.read_error.Fault as code_fault
+use Rattle.timefd_language.specs.declared.read_error.ReadError as code_error
+use Rattle.timefd_language.specs.declared.read_error.ReadError.TheVariants as errors
 use Rattle.timefd_parse.specs.declared.piece.Piece.{Piece}
 use Rattle.timefd_language.specs.Bytes.{left, right, is_run_byte, is_version_three}
 use Rattle.timefd_language.specs.Fault.{enclosed}
@@ -24,7 +24,7 @@ use Rattle.timefd_language.specs.Grammar.{Pieces, ArePieces, spelling, items}
 use Rattle.timefd_language.specs.Broken.{Broken, IsBroken, broken_text, broken_fault}
 use Rattle.timefd_parse.specs.Pieces.{IsBuilt, IsPiece}
 use Rattle.timefd_language.specs.Strings.{are_of_strings}
-use Rattle.timefd_fault.specs.ReadErrors.{IsFault, MemoryOr}
+use Rattle.timefd_language.specs.ReadErrors.{IsFault, MemoryOr}
 use Rattle.timefd_language.specs.FaultMeaning.{IsFaultAt}
 
 -- the text begins with a byte of a run

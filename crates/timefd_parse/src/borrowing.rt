@@ -13,7 +13,7 @@ ghost use Rattle.timefd_language.specs.Spans.{HasSpan};
 ghost use Rattle.timefd_language.specs.Grammar.{Spells, nesting_limit};
 ghost use Rattle.timefd_language.specs.Broken.{FaultOf};
 ghost use Rattle.timefd_language.specs.Strings.{AreItems};
-ghost use Rattle.timefd_fault.specs.BorrowedFaults.{HasShortFault, IsBorrowed, IsBorrowedOf, IsMemory};
+ghost use Rattle.timefd_language.specs.BorrowedFaults.{HasShortFault, IsBorrowed, IsBorrowedOf, IsMemory};
 ghost use Rattle.timefd_fault.specs.Placed.{IsPlaced};
 ghost use Rattle.timefd_parse.specs.Answers.{IsOutput, ReservesAtMost, HasStrings};
 
@@ -21,8 +21,8 @@ use crate::counting::error_of;
 use crate::parsing::BorrowedOutput;
 use crate::read::{items, members, node_room};
 use std::alloc::{AllocError, Global};
-use timefd_fault::BorrowedParseError;
-use timefd_fault::read_error::ReadError;
+use timefd_language::BorrowedParseError;
+use timefd_language::read_error::ReadError;
 use timefd_items::{BorrowedFormatItem, DescriptionBuilder, FormatDescriptionV3};
 use timefd_language::description_version::DescriptionVersion;
 

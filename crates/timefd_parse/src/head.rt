@@ -10,7 +10,8 @@ ghost use Rattle.timefd_parse.specs.Heads.{ReadsHead};
 
 use crate::modifier::read_modifier;
 use crate::modifiers::Modifiers;
-use timefd_fault::{Fault, Rule};
+use timefd_fault::Rule;
+use timefd_language::read_error::Fault;
 use timefd_language::description_version::DescriptionVersion;
 use timefd_language::name::{Name, name_of};
 use timefd_language::text::{Class, cut};
@@ -52,13 +53,14 @@ pub fn read_head<'a>(
             rule: Rule::MissingName,
             remaining,
             len: 1,
+            wanted: None,
         });
     }
     let name = name_of(version, word);
     let mut rest = after_word;
     'modifiers: loop {
         let (white, after) = cut(rest, Class::White);
-        let Some((modifier, after_modifier)) = read_modifier(after)? else {
+        let Some((modifier, after_modifier)) = read_modifier(version, name, after)? else {
             let head = Head {
                 word,
                 remaining: named.len(),

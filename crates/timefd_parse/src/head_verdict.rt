@@ -22,13 +22,15 @@ use crate::fast::words::after_word;
 use crate::head::{Head, read_head};
 use crate::modifiers::Modifiers;
 use crate::positions::Positions;
-use timefd_fault::{Fault, Rule};
+use timefd_fault::Rule;
 use timefd_items::Component;
+use timefd_language::read_error::Fault;
 use timefd_language::combination::refusals;
 use timefd_language::component::component_of;
 use timefd_language::description_version::DescriptionVersion;
 use timefd_language::name::{ComponentName, Name};
 use timefd_language::text::{Start, start_of};
+use timefd_language::wanted::Wanted;
 
 /// What a head is by itself.
 #[derive(Clone, Copy)]
@@ -143,6 +145,7 @@ fn head_verdict<'a>(
             rule: Rule::UnknownName(head.word),
             remaining: head.remaining,
             len: head.word.len(),
+            wanted: Some(Wanted::Name),
         });
     };
     match name {
@@ -184,6 +187,7 @@ pub fn combination_fault(
                 rule: Rule::RefusedModifier(key, refusal.context),
                 remaining,
                 len: key.len(),
+                wanted: None,
             });
         }
     }
@@ -215,6 +219,7 @@ fn component<'a>(
             rule: Rule::MissingModifier("count"),
             remaining: head.remaining,
             len: head.word.len(),
+            wanted: None,
         });
     };
     match combination_fault(version, component, &modifiers.positions) {

@@ -3,7 +3,7 @@
 ghost use Rattle.std.specs.Prelude.{◌≡◌, ◌<◌, ◌++◌, [], List, length, IfOk, IfSome, MatchOption, MatchResult};
 ghost use Rattle.std.specs.Result.{IfErr};
 ghost use Rattle.timefd_component.specs.Tree.{Tree};
-ghost use Rattle.timefd_fault.specs.BorrowedFaults.{IsBorrowedOf, IsRefusal};
+ghost use Rattle.timefd_language.specs.BorrowedFaults.{IsBorrowedOf, IsRefusal};
 ghost use Rattle.timefd_language.specs.Grammar.{nesting_limit};
 ghost use Rattle.timefd_language.specs.Spans.{HasSpan};
 ghost use Rattle.timefd_parse.specs.FirstPiece.{BeginsList, EndsWith, IsAfterFirst, IsFirst};
@@ -13,8 +13,8 @@ ghost use Rattle.timefd_language.specs.declared.language.Language as spec_langua
 use crate::parsing::NESTING_LIMIT;
 use crate::read::next_piece;
 use std::alloc::Global;
-use timefd_fault::BorrowedParseError;
-use timefd_fault::borrowed_parse_error::borrowed;
+use timefd_language::BorrowedParseError;
+use timefd_language::borrowed_parse_error::borrowed;
 use timefd_items::DescriptionBuilder;
 use timefd_language::Language;
 use timefd_language::description_version::DescriptionVersion;

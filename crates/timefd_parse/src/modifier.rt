@@ -4,7 +4,11 @@ ghost use Rattle.std.specs.Result.{IfErr};
 ghost use Rattle.timefd_language.specs.Spans.{SpansVersion};
 ghost use Rattle.timefd_parse.specs.ReadModifiers.{ReadsModifier};
 
-use timefd_fault::{Fault, Rule};
+use crate::modifiers::{key_wanted, value_wanted};
+use timefd_fault::Rule;
+use timefd_language::description_version::DescriptionVersion;
+use timefd_language::name::Name;
+use timefd_language::read_error::Fault;
 use timefd_language::text::{Class, after_colon, cut};
 
 /// A key and its value. A position is given as the number of bytes from there to the end of the
@@ -18,9 +22,13 @@ pub struct Modifier<'a> {
 }
 
 /// The modifier that a text begins with, and the rest. `None` if the text begins with neither a key
-/// nor a colon.
+/// nor a colon. The bracket has this name, if it is known.
 #[inline(always)]
-pub fn read_modifier<'a>(text: &'a str) -> Result<Option<(Modifier<'a>, &'a str)>, Fault<'a>>
+pub fn read_modifier<'a>(
+    version: DescriptionVersion,
+    name: Option<Name>,
+    text: &'a str,
+) -> Result<Option<(Modifier<'a>, &'a str)>, Fault<'a>>
     ensures modifier { ReadsModifier text.now result }
     ensures span { IfErr result (SpansVersion text.now) }
 {
@@ -33,6 +41,7 @@ pub fn read_modifier<'a>(text: &'a str) -> Result<Option<(Modifier<'a>, &'a str)
             rule: Rule::InvalidModifier(key),
             remaining: text.len(),
             len: key.len(),
+            wanted: key_wanted(name),
         });
     };
     let (value, rest) = cut(assigned, Class::Word);
@@ -41,6 +50,7 @@ pub fn read_modifier<'a>(text: &'a str) -> Result<Option<(Modifier<'a>, &'a str)
             rule: Rule::InvalidModifier(""),
             remaining: text.len(),
             len: 1,
+            wanted: None,
         });
     }
     if value.is_empty() {
@@ -48,6 +58,7 @@ pub fn read_modifier<'a>(text: &'a str) -> Result<Option<(Modifier<'a>, &'a str)
             rule: Rule::InvalidModifier(""),
             remaining: after.len(),
             len: 1,
+            wanted: value_wanted(version, name, key),
         });
     }
     let modifier = Modifier {

@@ -13,12 +13,14 @@ ghost use Rattle.timefd_language.specs.Values.{key_in};
 
 use crate::modifier::Modifier;
 use crate::positions::Positions;
-use timefd_fault::{Fault, Rule};
+use timefd_fault::Rule;
+use timefd_language::read_error::Fault;
 use timefd_language::description_version::DescriptionVersion;
 use timefd_language::key::{Key, key_of};
 use timefd_language::name::Name;
 use timefd_language::setting::{Setting, Settings};
 use timefd_language::value::setting_of;
+use timefd_language::wanted::Wanted;
 
 /// What the modifiers set, the positions of their keys, and the fault of the first bad one. No
 /// modifier after a bad one is looked at.
@@ -85,6 +87,7 @@ impl<'a> Modifiers<'a> {
                 rule: Rule::InvalidModifier(modifier.key),
                 remaining: modifier.key_remaining,
                 len: modifier.key.len(),
+                wanted: key_wanted(name),
             });
         };
         if version.is_strict() && self.positions.of(key).is_some() {
@@ -92,6 +95,7 @@ impl<'a> Modifiers<'a> {
                 rule: Rule::DuplicateModifier(key.spelling()),
                 remaining: modifier.key_remaining,
                 len: modifier.key.len(),
+                wanted: None,
             });
         }
         match setting_of(key, version, modifier.value) {
@@ -100,8 +104,25 @@ impl<'a> Modifiers<'a> {
                 rule: Rule::InvalidModifier(modifier.value),
                 remaining: modifier.value_remaining,
                 len: modifier.value.len(),
+                wanted: Some(Wanted::Value(key)),
             }),
         }
+    }
+}
+
+/// A key of a bracket with this name, if the name is known.
+pub fn key_wanted(name: Option<Name>) -> Option<Wanted> {
+    match name {
+        Some(name) => Some(Wanted::Key(name)),
+        None => None,
+    }
+}
+
+/// What a key that this word spells is set to, if the word spells a key of the name.
+pub fn value_wanted(version: DescriptionVersion, name: Option<Name>, word: &str) -> Option<Wanted> {
+    match known_key(version, name, word) {
+        Some(key) => Some(Wanted::Value(key)),
+        None => None,
     }
 }
 

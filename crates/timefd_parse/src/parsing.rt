@@ -13,7 +13,7 @@ ghost use Rattle.timefd_language.specs.Broken.{FaultOf};
 ghost use Rattle.timefd_fault.specs.Placed.{HasPlacedFault};
 ghost use Rattle.timefd_parse.specs.Answers.{IsOutput, IsAssigned, ReservesAtMost, HasStrings};
 ghost use Rattle.timefd_fault.specs.Reported.{IsFaultOrMemory, MemoryAlone, Tells};
-ghost use Rattle.timefd_fault.specs.ReadErrors.{IsFault, MemoryOr};
+ghost use Rattle.timefd_language.specs.ReadErrors.{IsFault, MemoryOr};
 ghost use Rattle.timefd_language.specs.Strings.{AreItems};
 
 use crate::borrowing::{parse_all_borrowed, parse_items};

@@ -8,8 +8,8 @@ ghost use Rattle.timefd_language.specs.Broken.{BeginsNoEscape};
 ghost use Rattle.timefd_language.specs.Bytes.{is_version_three};
 ghost use Rattle.timefd_parse.specs.Read.{BeginsRun, BeginsClosing, LeadsOn, ReadsEscape, ReadsPiece, ReadsNext, ReadsMembers, ReadsNested, ReadsItems, IsEnclosed};
 ghost use Rattle.timefd_fault.specs.Words.{too_highly_nested};
-ghost use Rattle.timefd_fault.specs.ReadErrors.{IsInvalid};
-ghost use Rattle.timefd_fault.specs.ReadErrors.{IsFault, MemoryOr};
+ghost use Rattle.timefd_language.specs.ReadErrors.{IsInvalid};
+ghost use Rattle.timefd_language.specs.ReadErrors.{IsFault, MemoryOr};
 ghost use Rattle.timefd_items.specs.Builder.{built};
 ghost use Rattle.timefd_fault.specs.Faults.{fault, unclosed_bracket};
 ghost use Rattle.timefd_component.specs.Tree.{Text, literal};
@@ -24,8 +24,9 @@ use crate::head_verdict::judged_head;
 use crate::piece::{Piece, component_piece};
 use crate::verdict::{Nested, Span, verdict};
 use std::alloc::Global;
-use timefd_fault::{Fault, ReadError, Rule};
+use timefd_fault::Rule;
 use timefd_items::{BorrowedFormatItem, DescriptionBuilder};
+use timefd_language::read_error::{Fault, ReadError};
 use timefd_language::description_version::DescriptionVersion;
 use timefd_language::text::{Class, Start, cut, cut_run, escaped, first_len, start_of};
 
@@ -49,6 +50,7 @@ fn closing<'a>(version: DescriptionVersion, text: &'a str) -> Result<(&'a str, &
             rule: Rule::UnescapedBracket,
             remaining: text.len(),
             len: 1,
+            wanted: None,
         });
     }
     Ok(text.split_at(1))
@@ -75,12 +77,14 @@ fn backslash<'a>(
             rule: Rule::InvalidEscape,
             remaining: 1,
             len: 1,
+            wanted: None,
         });
     }
     Err(Fault {
         rule: Rule::InvalidEscape,
         remaining: following.len(),
         len: first_len(following),
+        wanted: None,
     })
 }
 
@@ -125,6 +129,7 @@ fn unclosed<'a>(start: usize) -> ReadError<'a>
         rule: Rule::UnclosedBracket,
         remaining: start,
         len: 1,
+        wanted: None,
     })
 }
 
@@ -138,6 +143,7 @@ fn too_deep<'a>(remaining: usize) -> ReadError<'a>
         rule: Rule::NestedTooDeep,
         remaining,
         len: 1,
+        wanted: None,
     })
 }
 

@@ -11,7 +11,7 @@ ghost use Rattle.timefd_language.specs.Verdict as rules;
 ghost use Rattle.timefd_language.specs.Verdict.{PlacedDescription};
 ghost use Rattle.timefd_parse.specs.Checked.{ShowsFault};
 ghost use Rattle.timefd_parse.specs.HeadVerdicts.{IsVerdict, placing};
-ghost use Rattle.timefd_fault.specs.ReadErrors.{IsInvalid, MemoryOr};
+ghost use Rattle.timefd_language.specs.ReadErrors.{IsInvalid, MemoryOr};
 ghost use Rattle.timefd_language.specs.Spans.{SpansVersion};
 ghost use Rattle.timefd_parse.specs.Spans.{BracketStands, SpansRefusal};
 ghost use Rattle.timefd_parse.specs.Pieces.{IsBuilt};
@@ -19,8 +19,9 @@ ghost use Rattle.timefd_parse.specs.Judged.{ShowsNested, Judged, packed};
 
 use crate::head_verdict::{HeadVerdict, JudgedHead};
 use crate::piece::{Piece, component_piece};
-use timefd_fault::{Fault, ReadError, Rule};
+use timefd_fault::Rule;
 use timefd_items::DescriptionBuilder;
+use timefd_language::read_error::{Fault, ReadError};
 use timefd_language::description_version::DescriptionVersion;
 
 /// The nested descriptions of a bracket.
@@ -68,6 +69,7 @@ fn optional<'a, const BUILDS: bool>(
             rule: Rule::MissingDescription,
             remaining: span.end,
             len: 1,
+            wanted: None,
         }));
     }
     if nested.count > 1 {
@@ -75,6 +77,7 @@ fn optional<'a, const BUILDS: bool>(
             rule: Rule::SeveralDescriptions,
             remaining: nested.remaining,
             len: 1,
+            wanted: None,
         }));
     }
     if !version.is_strict() {
@@ -82,6 +85,7 @@ fn optional<'a, const BUILDS: bool>(
             rule: Rule::OptionalItem,
             remaining: span.start,
             len: 1,
+            wanted: None,
         }));
     }
     if !BUILDS {
@@ -114,6 +118,7 @@ fn first<'a, const BUILDS: bool>(
             rule: Rule::FirstItem,
             remaining: span.start,
             len: 1,
+            wanted: None,
         }));
     }
     if nested.count == 0 {
@@ -121,6 +126,7 @@ fn first<'a, const BUILDS: bool>(
             rule: Rule::MissingAlternative,
             remaining: span.end,
             len: 1,
+            wanted: None,
         }));
     }
     if !BUILDS {
@@ -145,6 +151,7 @@ fn placing_fault(nests: bool, nested: Nested, span: Span) -> Option<Fault<'stati
             rule: Rule::MissingSpace,
             remaining: nested.remaining,
             len: 1,
+            wanted: None,
         });
     }
     if nests {
@@ -154,6 +161,7 @@ fn placing_fault(nests: bool, nested: Nested, span: Span) -> Option<Fault<'stati
         rule: Rule::NestedInComponent,
         remaining: span.start,
         len: 1,
+        wanted: None,
     })
 }
 

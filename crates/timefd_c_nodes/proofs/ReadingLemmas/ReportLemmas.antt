@@ -1,8 +1,8 @@
 -- What is reported of a text.
 use Rattle.std.proofs.Common.{◌≡◌, ℕ, ◌^◌, ◌<◌, ◌≤◌, ◌↔◌, Bool, IsFalse, IsTrue, Ok, Err, List, length, refl, sym, ap, subst, arith}
 use Rattle.std.proofs.lemmas.Bool.{true≢false}
-use Rattle.timefd_fault.specs.declared.borrowed_parse_error.BorrowedParseError.{BorrowedParseError}
-use Rattle.timefd_fault.specs.BorrowedFaults.{IsBorrowed, IsBorrowedOf, IsMemory}
+use Rattle.timefd_language.specs.declared.borrowed_parse_error.BorrowedParseError.{BorrowedParseError}
+use Rattle.timefd_language.specs.BorrowedFaults.{IsBorrowed, IsBorrowedOf, IsMemory}
 use Rattle.timefd_component.specs.Reserved.{reserve, reserve_all}
 use Rattle.timefd_component.specs.Tree.{Text, Tree, pack, trees}
 use Rattle.timefd_fault.specs.Faults.{Fault}

@@ -1,8 +1,8 @@
 -- What is reported and written for a description that is read as nodes.
 use Rattle.std.specs.Prelude.{ℕ, ◌≡◌, ◌*◌, ◌^◌, ◌<◌, ◌≤◌, ◌++◌, ◌↔◌, ⊤, Bool, true, false, IsTrue, IfOk, IsOk, List, MatchResult, Result, [], ◌∷◌, length, drop}
 use Rattle.std.specs.Result.{IfErr}
-use Rattle.timefd_fault.specs.declared.borrowed_parse_error.BorrowedParseError.{BorrowedParseError}
-use Rattle.timefd_fault.specs.BorrowedFaults.{IsBorrowed, IsBorrowedOf, IsMemory}
+use Rattle.timefd_language.specs.declared.borrowed_parse_error.BorrowedParseError.{BorrowedParseError}
+use Rattle.timefd_language.specs.BorrowedFaults.{IsBorrowed, IsBorrowedOf, IsMemory}
 use Rattle.timefd_component.specs.Reserved.{reserve, reserve_all}
 use Rattle.timefd_component.specs.Tree.{Text, Tree, trees, pack}
 use Rattle.timefd_node_list.specs.Nodes.{kept_bytes}

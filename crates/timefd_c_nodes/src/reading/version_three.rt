@@ -5,7 +5,7 @@ ghost use Rattle.std.specs.Result.{IfErr};
 ghost use Rattle.timefd_component.specs.Reserved.{reserve, reserve_all};
 ghost use Rattle.timefd_component.specs.Tree.{Text, Tree, pack, trees};
 ghost use Rattle.timefd_items.specs.Builder.{built};
-ghost use Rattle.timefd_fault.specs.ReadErrors.{MemoryOr};
+ghost use Rattle.timefd_language.specs.ReadErrors.{MemoryOr};
 ghost use Rattle.timefd_language.specs.declared.description_version.DescriptionVersion.TheVariants.{Three};
 ghost use Rattle.timefd_node_list.specs.Views.{walked};
 ghost use Rattle.timefd_c_nodes.specs.declared.node.Node as spec_node;
@@ -22,7 +22,7 @@ use crate::reading::report::{Report, has_room, report_of};
 use crate::{Node, START, WritePosition, Written, put, write_view};
 use std::alloc::{AllocError, Global};
 use std::mem;
-use timefd_fault::read_error::ReadError;
+use timefd_language::read_error::ReadError;
 use timefd_items::DescriptionBuilder;
 use timefd_parse::{BorrowedParseError, DescriptionVersion, Language, Piece, error_of, next_piece};
 

@@ -6,10 +6,10 @@ use Rattle.std.proofs.Math.Seq.{take-length}
 use Rattle.std.proofs.lemmas.List.Elements.{All-nil, All-cons, All-append, All-take}
 use denote.Ref.{Bor}
 use Rattle.timefd_component.specs.Tree.{Text, Tree, pack}
-use Rattle.timefd_fault.specs.BorrowedFaults.{IsBorrowedOf, to_borrowed_fault}
-use Rattle.timefd_fault.specs.declared.borrowed_fault.BorrowedFault.{BorrowedFault}
-use Rattle.timefd_fault.specs.declared.borrowed_parse_error.BorrowedParseError.{BorrowedParseError}
-use Rattle.timefd_fault.specs.declared.borrowed_parse_error.BorrowedParseError.TheVariants.{Invalid}
+use Rattle.timefd_language.specs.BorrowedFaults.{IsBorrowedOf, to_borrowed_fault}
+use Rattle.timefd_language.specs.declared.borrowed_fault.BorrowedFault.{BorrowedFault}
+use Rattle.timefd_language.specs.declared.borrowed_parse_error.BorrowedParseError.{BorrowedParseError}
+use Rattle.timefd_language.specs.declared.borrowed_parse_error.BorrowedParseError.TheVariants.{Invalid}
 use Rattle.timefd_description.specs.Guessing.Candidates.{Entry, entries, entry_of, rows_of, rows_in}
 use Rattle.timefd_description.specs.declared.guessing.candidates.Group.{Group}
 use Rattle.timefd_description.specs.Guessing.Found.{texts, Adds, IsRead, IsWritten, ReadBy, ComesBack, AllComeBack, Counts, one_if, ReadsAll, IsOffered, Appends, AreFound, IsReadBack, ReadsBack}

@@ -6,7 +6,7 @@ ghost use Rattle.timefd_node_list.specs.Views.{view_tree};
 ghost use Rattle.timefd_moment.specs.Fields.Reads.{fields_of};
 
 use std::alloc::{AllocError, Global};
-use timefd_fault::BorrowedParseError;
+use timefd_language::BorrowedParseError;
 use timefd_format::{TextError, format};
 use timefd_moment::Moment;
 use timefd_moment::fields::read_fields;

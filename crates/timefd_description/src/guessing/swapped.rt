@@ -7,7 +7,7 @@ ghost use Rattle.timefd_node_list.specs.Views.{view_tree};
 
 use crate::guessing::comes_back::comes_back;
 use std::alloc::{AllocError, Global};
-use timefd_fault::BorrowedParseError;
+use timefd_language::BorrowedParseError;
 use timefd_node_list::View;
 use timefd_parse::{BorrowedOutput, DescriptionVersion, NESTING_LIMIT, parse_all_borrowed};
 

@@ -6,7 +6,8 @@ ghost use Rattle.timefd_component.specs.Tree.{Tree};
 ghost use Rattle.timefd_language.specs.declared.strftime.text.PieceStart.TheVariants.{Literal};
 ghost use Rattle.timefd_language.specs.Strftime.{SpellsStrftime, StrftimeFaultOf, percent};
 ghost use Rattle.timefd_fault.specs.RuleKinds.{rule_kind};
-ghost use Rattle.timefd_fault.specs.BorrowedFaults.{HasShortWords, to_borrowed_fault};
+ghost use Rattle.timefd_fault.specs.ShortWords.{HasShortWords};
+ghost use Rattle.timefd_language.specs.BorrowedFaults.{to_borrowed_fault};
 ghost use Rattle.timefd_fault.specs.Placed.{IsPlaced};
 ghost use Rattle.timefd_language.specs.declared.language.Language.TheVariants.{Strftime};
 ghost use Rattle.timefd_language.specs.Spans.{IsSpanned};
@@ -16,8 +17,8 @@ use crate::strftime::directive::{cut_short, unknown};
 use crate::strftime::letter::letter_of;
 use crate::strftime::text::{PieceStart, cut_flag, piece_start_of};
 use crate::text::{Class, cut, first_len, tail};
-use timefd_fault::BorrowedFault;
-use timefd_fault::read_error::Fault;
+use crate::borrowed_fault::BorrowedFault;
+use crate::read_error::Fault;
 
 /// How many items a text of strftime has. It takes no memory. This call is this port's own.
 ///
@@ -74,6 +75,7 @@ pub fn after_directive<'a>(after: &'a str) -> Result<&'a str, Fault<'a>>
             rule: unknown(text),
             remaining: text.len(),
             len: first_len(text),
+            wanted: None,
         }),
     }
 }

@@ -13,7 +13,8 @@ use crate::strftime::letter::{Letter, letter_of, padded};
 use crate::strftime::piece::StrftimePiece;
 use crate::strftime::text::cut_flag;
 use crate::text::{first_len, tail};
-use timefd_fault::{Fault, Rule};
+use crate::read_error::Fault;
+use timefd_fault::Rule;
 use timefd_modifier::Padding;
 
 /// A directive, and what follows it. `after` is the text after its `%`.
@@ -31,6 +32,7 @@ pub fn directive<'a>(after: &'a str) -> Result<(StrftimePiece<'a>, &'a str), Fau
             rule: unknown(text),
             remaining: text.len(),
             len: first_len(text),
+            wanted: None,
         }),
     }
 }
@@ -50,6 +52,7 @@ pub fn cut_short<'a>(padding: Option<Padding>) -> Fault<'a>
         rule: Rule::InvalidEscape,
         remaining,
         len: remaining,
+        wanted: None,
     }
 }
 

@@ -12,7 +12,7 @@ use crate::strftime::tables::StrftimeTables;
 use crate::strftime::text::{PieceStart, piece_start_of};
 use crate::text::{Class, cut};
 use timefd_component::Component;
-use timefd_fault::read_error::Fault;
+use crate::read_error::Fault;
 use timefd_node_list::item::BorrowedFormatItem;
 
 /// A run, or what a directive stands for.

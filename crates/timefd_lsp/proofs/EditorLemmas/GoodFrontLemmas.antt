@@ -3,10 +3,10 @@ use Rattle.std.proofs.Common.{◌≡◌, ◌∙◌, Bool, List, [], ◌∷◌, �
 use Rattle.std.specs.Borrow.{Bor}
 use Rattle.std.proofs.lemmas.List.{append_cancel_right}
 use Rattle.timefd_component.specs.Tree.{Text, Tree}
-use Rattle.timefd_fault.specs.declared.read_error.Fault as code_fault
-use Rattle.timefd_fault.specs.declared.read_error.ReadError.{ReadError}
-use Rattle.timefd_fault.specs.declared.read_error.ReadError.TheVariants as errors
-use Rattle.timefd_fault.specs.ReadErrors.{IsInvalid, MemoryOr}
+use Rattle.timefd_language.specs.declared.read_error.Fault as code_fault
+use Rattle.timefd_language.specs.declared.read_error.ReadError.{ReadError}
+use Rattle.timefd_language.specs.declared.read_error.ReadError.TheVariants as errors
+use Rattle.timefd_language.specs.ReadErrors.{IsInvalid, MemoryOr}
 use Rattle.timefd_language.specs.FaultMeaning.{IsFaultAt}
 use Rattle.timefd_language.specs.Grammar.{items, nesting_limit, no_pieces, spelling}
 use Rattle.timefd_language.specs.Strftime.{directive_items, directives_text, no_directives}

@@ -1,6 +1,6 @@
 use Rattle.timefd_convert.specs.Conversions.{language_of}
 use Rattle.timefd_language.specs.Grammar.{nesting_limit}
-use Rattle.timefd_fault.proofs.OwnedLemmas.{owned_fault, owned_memory}
+use Rattle.timefd_language.proofs.OwnedLemmas.{owned_fault, owned_memory}
 use Rattle.timefd_language.proofs.PlacedLemmas.{owned_placed}
 use Rattle.timefd_parse.proofs.AmountLemmas.{owned-assigned-in}
 use Rattle.timefd_convert.proofs.converting.convert_by.Goals as goal

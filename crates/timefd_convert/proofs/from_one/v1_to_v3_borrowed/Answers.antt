@@ -1,5 +1,5 @@
 use Rattle.std.proofs.Common.{refl, sym, subst, ◌∙◌, string_bytes}
-use Rattle.timefd_fault.specs.BorrowedFaults.{IsMemory}
+use Rattle.timefd_language.specs.BorrowedFaults.{IsMemory}
 use Rattle.timefd_language.specs.Grammar.{items}
 use Rattle.timefd_lift.specs.Answers.{HasItemsOf, IsRewritten}
 use Rattle.timefd_lift.specs.Modernized.{IsWrittenOf}

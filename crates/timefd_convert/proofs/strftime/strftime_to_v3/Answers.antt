@@ -1,4 +1,4 @@
-use Rattle.timefd_fault.proofs.OwnedLemmas.{owned_fault, owned_memory}
+use Rattle.timefd_language.proofs.OwnedLemmas.{owned_fault, owned_memory}
 use Rattle.timefd_language.proofs.PlacedLemmas.{owned_placed}
 use Rattle.timefd_language.proofs.DirectiveLemmas.DirectiveLemmas.{owned_strftime}
 use Rattle.timefd_convert.proofs.strftime.strftime_to_v3.Goals as goal

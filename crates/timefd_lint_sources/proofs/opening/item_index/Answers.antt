@@ -1,5 +1,5 @@
 use Rattle.std.proofs.Common.{Some, ap, refl, sym, true≢false, ◌∙◌}
-use Rattle.timefd_fault.specs.BorrowedFaults.{to_borrowed_fault}
+use Rattle.timefd_language.specs.BorrowedFaults.{to_borrowed_fault}
 use Rattle.timefd_fault.specs.Codes.{code_of}
 use Rattle.timefd_fault.specs.Faults.{Fault}
 use Rattle.timefd_language.specs.Grammar.{nesting_limit}

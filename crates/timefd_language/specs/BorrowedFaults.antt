@@ -1,33 +1,21 @@
 -- Faults that borrow what they quote, and what an error with such a fault says.
-use Rattle.std.specs.Prelude.{ℕ, ◌≡◌, ◌+◌, ◌≤◌, length, min, ⊤}
-use Rattle.timefd_fault.specs.Faults.{Kind, Fault, fault, unclosed_bracket, invalid_name, invalid_modifier, missing_name, missing_modifier, expected, not_supported, duplicate_modifier, invalid_combination}
-use Rattle.timefd_fault.specs.declared.read_error.Fault as code_fault
-use Rattle.timefd_fault.specs.declared.read_error.ReadError.{ReadError}
-use Rattle.timefd_fault.specs.declared.read_error.ReadError.TheVariants as errors
+use Rattle.std.specs.Prelude.{ℕ, ◌≡◌, ◌+◌, min, ⊤}
+use Rattle.timefd_fault.specs.Faults.{Fault, fault}
+use Rattle.timefd_fault.specs.ShortWords.{HasShortWords}
+use Rattle.timefd_language.specs.declared.read_error.Fault as code_fault
+use Rattle.timefd_language.specs.declared.read_error.ReadError.{ReadError}
+use Rattle.timefd_language.specs.declared.read_error.ReadError.TheVariants as errors
 use Rattle.timefd_fault.specs.declared.parse_error.ParseError.{ParseError}
 use Rattle.timefd_fault.specs.RuleKinds.{rule_kind}
-use Rattle.timefd_fault.specs.ReadErrors.{IsFault}
+use Rattle.timefd_language.specs.ReadErrors.{IsFault}
 use Rattle.timefd_fault.specs.Reported.{IsFaultOrMemory, MemoryAlone}
-use Rattle.timefd_fault.specs.declared.borrowed_fault.BorrowedFault.{BorrowedFault}
-use Rattle.timefd_fault.specs.declared.borrowed_parse_error.BorrowedParseError.{BorrowedParseError}
-use Rattle.timefd_fault.specs.declared.borrowed_parse_error.BorrowedParseError.TheVariants.{Invalid, Memory}
+use Rattle.timefd_language.specs.declared.borrowed_fault.BorrowedFault.{BorrowedFault}
+use Rattle.timefd_language.specs.declared.borrowed_parse_error.BorrowedParseError.{BorrowedParseError}
+use Rattle.timefd_language.specs.declared.borrowed_parse_error.BorrowedParseError.TheVariants.{Invalid, Memory}
 
 -- the fault that is borrowed
 abbrev pub to_borrowed_fault : BorrowedFault → Fault
 to_borrowed_fault f = fault (rule_kind f.rule) f.start
-
--- If a kind quotes two words, they are short, as in each fault of a text. So the length of its
--- sentence is a `usize`.
-abbrev pub HasShortWords : Kind → Type 0
-HasShortWords unclosed_bracket = ⊤
-HasShortWords (invalid_name name) = ⊤
-HasShortWords (invalid_modifier value) = ⊤
-HasShortWords missing_name = ⊤
-HasShortWords (missing_modifier key) = ⊤
-HasShortWords (expected what) = ⊤
-HasShortWords (not_supported what context) = length what + length context ≤ 100
-HasShortWords (duplicate_modifier key) = ⊤
-HasShortWords (invalid_combination key context) = length key + length context ≤ 100
 
 -- out of memory
 abbrev pub IsMemory : BorrowedParseError → Type 0

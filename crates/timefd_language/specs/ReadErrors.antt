@@ -2,9 +2,9 @@
 use Rattle.std.specs.Prelude.{ℕ, ◌≡◌, ◌+◌, ⊤}
 use Rattle.timefd_fault.specs.Faults.{Fault}
 use Rattle.timefd_fault.specs.RuleKinds.{rule_kind}
-use Rattle.timefd_fault.specs.declared.read_error.Fault as code_fault
-use Rattle.timefd_fault.specs.declared.read_error.ReadError as code_error
-use Rattle.timefd_fault.specs.declared.read_error.ReadError.TheVariants as errors
+use Rattle.timefd_language.specs.declared.read_error.Fault as code_fault
+use Rattle.timefd_language.specs.declared.read_error.ReadError as code_error
+use Rattle.timefd_language.specs.declared.read_error.ReadError.TheVariants as errors
 
 -- the fault of a text with this many bytes
 pub record IsFault (total : ℕ) (f : code_fault.Fault) (g : Fault) : Type 0 where

@@ -1,13 +1,13 @@
 //! The error of the public calls, with a fault that borrows what it quotes.
 
 ghost use Rattle.std.specs.Prelude.{◌≡◌, ◌≤◌};
-ghost use Rattle.timefd_fault.specs.ReadErrors.{MemoryOr};
-ghost use Rattle.timefd_fault.specs.BorrowedFaults.{IsOwned, Lends, LendsSpan};
+ghost use Rattle.timefd_language.specs.ReadErrors.{MemoryOr};
+ghost use Rattle.timefd_language.specs.BorrowedFaults.{IsOwned, Lends, LendsSpan};
 
 use crate::borrowed_fault::BorrowedFault;
-use crate::parse_error::ParseError;
 use crate::read_error::ReadError;
 use std::alloc::{AllocError, Global};
+use timefd_fault::ParseError;
 
 /// Why a text was not read. It is like `ParseError`, but borrows what its fault quotes of the text.
 #[derive(Drop)]

@@ -1,20 +1,18 @@
 //! Faults that borrow what they quote.
 
 ghost use Rattle.std.specs.Prelude.{◌≡◌, ◌≤◌, IfOk, IsErr, IsTrue};
-ghost use Rattle.timefd_fault.specs.ReadErrors.{IsFault};
+ghost use Rattle.timefd_language.specs.ReadErrors.{IsFault};
 ghost use Rattle.timefd_fault.specs.RuleKinds.{rule_kind};
 ghost use Rattle.timefd_fault.specs.Faults as spec;
 ghost use Rattle.timefd_fault.specs.Sentences.{sentence};
-ghost use Rattle.timefd_fault.specs.BorrowedFaults.{HasShortWords, IsLent, to_borrowed_fault};
+ghost use Rattle.timefd_fault.specs.ShortWords.{HasShortWords};
+ghost use Rattle.timefd_language.specs.BorrowedFaults.{IsLent, to_borrowed_fault};
 ghost use Rattle.timefd_fault.specs.Excerpts.{IsExcerpt};
 
-use crate::digits::Digits;
-use crate::excerpt::Excerpt;
-use crate::invalid_format_description::InvalidFormatDescription;
 use crate::read_error::Fault;
-use crate::rule::{FaultKind, Rule};
-use crate::sentence::write_kind;
+use crate::wanted::Wanted;
 use std::alloc::{AllocError, Global};
+use timefd_fault::{Excerpt, InvalidFormatDescription, Rule, owned, write_sentence};
 
 /// Why a text isn't a format description, and which of its bytes are at fault. It is like
 /// `InvalidFormatDescription`, but borrows the name or the value that it quotes. This type is this
@@ -27,6 +25,8 @@ pub struct BorrowedFault<'a> {
     pub start: usize,
     /// The index after the last byte at fault.
     pub end: usize,
+    /// What was wanted there, if that is a word of a list and it is known of which.
+    pub wanted: Option<Wanted>,
 }
 
 impl<'a> BorrowedFault<'a> {
@@ -41,6 +41,7 @@ impl<'a> BorrowedFault<'a> {
             rule: fault.rule,
             start,
             end: start + fault.len.min(fault.remaining),
+            wanted: fault.wanted,
         }
     }
 
@@ -50,9 +51,7 @@ impl<'a> BorrowedFault<'a> {
         requires { HasShortWords (rule_kind self.now.rule) }
         ensures { IsExcerpt (sentence (to_borrowed_fault self.now)) buffer.old buffer.new result }
     {
-        let mut digits = Digits::new();
-        let index = digits.format(self.start);
-        write_kind(self.rule.kind(), index, buffer)
+        write_sentence(self.rule, self.start, buffer)
     }
 
     /// The fault with a copy of what it quotes. An `Err` says that there is no memory for the copy. A
@@ -61,41 +60,6 @@ impl<'a> BorrowedFault<'a> {
         ensures fault { IfOk result (λ e. spec.fault_of e ≡ to_borrowed_fault self.entry) }
         ensures memory { IsErr result → IsTrue (spec.quotes (rule_kind self.entry.rule)) }
     {
-        let index = self.start;
-        Ok(match self.rule.kind() {
-            FaultKind::UnclosedBracket => {
-                InvalidFormatDescription::UnclosedOpeningBracket { index }
-            }
-            FaultKind::InvalidName(name) => {
-                let name = String::from_str(alloc, name)?;
-                InvalidFormatDescription::InvalidComponentName { name, index }
-            }
-            FaultKind::InvalidModifier(value) => {
-                let value = String::from_str(alloc, value)?;
-                InvalidFormatDescription::InvalidModifier { value, index }
-            }
-            FaultKind::MissingName => InvalidFormatDescription::MissingComponentName { index },
-            FaultKind::MissingModifier(name) => InvalidFormatDescription::MissingRequiredModifier {
-                name,
-                index,
-            },
-            FaultKind::Expected(what) => InvalidFormatDescription::Expected { what, index },
-            FaultKind::NotSupported(what, context) => InvalidFormatDescription::NotSupported {
-                what,
-                context,
-                index,
-            },
-            FaultKind::DuplicateModifier(name) => InvalidFormatDescription::DuplicateModifier {
-                name,
-                index,
-            },
-            FaultKind::InvalidCombination(modifier, context) => {
-                InvalidFormatDescription::InvalidModifierCombination {
-                    modifier,
-                    context,
-                    index,
-                }
-            }
-        })
+        owned(alloc, self.rule, self.start)
     }
 }

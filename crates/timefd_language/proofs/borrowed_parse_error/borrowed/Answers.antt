@@ -1,7 +1,7 @@
 use Rattle.std.proofs.Common.{sym, subst}
-use Rattle.timefd_fault.specs.BorrowedFaults.{Lends, LendsSpan}
-use Rattle.timefd_fault.specs.declared.borrowed_parse_error.BorrowedParseError.TheVariants.{Invalid}
-use Rattle.timefd_fault.proofs.borrowed_parse_error.borrowed.Goals as goal
+use Rattle.timefd_language.specs.BorrowedFaults.{Lends, LendsSpan}
+use Rattle.timefd_language.specs.declared.borrowed_parse_error.BorrowedParseError.TheVariants.{Invalid}
+use Rattle.timefd_language.proofs.borrowed_parse_error.borrowed.Goals as goal
 
 pub returns-in-Invalid-clause-lends : goal.returns-in-Invalid-clause-lends
 returns-in-Invalid-clause-lends c =

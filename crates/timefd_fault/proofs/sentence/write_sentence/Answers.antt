@@ -4,13 +4,13 @@ use Rattle.timefd_fault.specs.RuleKinds.{kind_of}
 use Rattle.timefd_fault.specs.Excerpts.{IsExcerpt}
 use Rattle.timefd_fault.specs.Parts.{sentence_with}
 use Rattle.timefd_fault.proofs.PartLemmas.{with_decimal}
-use Rattle.timefd_fault.proofs.borrowed_fault.BorrowedFault.write_sentence.Goals as goal
+use Rattle.timefd_fault.proofs.sentence.write_sentence.Goals as goal
 
 pub returns : goal.returns
 returns c =
     let kind = kind_of c.kind.result in
     subst (λ t. IsExcerpt t c.args.buffer.now c.write_kind.new.buffer c.write_kind.result)
     (ap (sentence_with kind) c.format-index.ensures.text
-    ∙ with_decimal kind c.args.self.now.index
-    ∙ ap (λ k. sentence_at k c.args.self.now.index) c.kind.ensures)
+    ∙ with_decimal kind c.args.index
+    ∙ ap (λ k. sentence_at k c.args.index) c.kind.ensures)
     c.write_kind.ensures

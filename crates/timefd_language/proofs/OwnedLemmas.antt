@@ -5,9 +5,9 @@ use Rattle.timefd_fault.specs.declared.invalid_format_description.InvalidFormatD
 use Rattle.timefd_fault.specs.declared.parse_error.ParseError.{ParseError}
 use Rattle.timefd_fault.specs.declared.parse_error.ParseError.TheVariants as reported
 use Rattle.timefd_fault.specs.Reported.{IsFaultOrMemory, MemoryAlone}
-use Rattle.timefd_fault.specs.declared.borrowed_parse_error.BorrowedParseError.{BorrowedParseError}
-use Rattle.timefd_fault.specs.declared.borrowed_parse_error.BorrowedParseError.TheVariants.{Invalid, Memory}
-use Rattle.timefd_fault.specs.BorrowedFaults.{IsBorrowed, IsBorrowedOf, IsMemory, IsOwned}
+use Rattle.timefd_language.specs.declared.borrowed_parse_error.BorrowedParseError.{BorrowedParseError}
+use Rattle.timefd_language.specs.declared.borrowed_parse_error.BorrowedParseError.TheVariants.{Invalid, Memory}
+use Rattle.timefd_language.specs.BorrowedFaults.{IsBorrowed, IsBorrowedOf, IsMemory, IsOwned}
 
 pub owned_memory : (e : BorrowedParseError) (r : ParseError) → IsMemory e → IsOwned e r
     → MemoryAlone r

@@ -1,14 +1,14 @@
 -- The borrowed error for a reader's error, if its fault is one that rules assign to the text.
 use Rattle.std.proofs.Common.{◌≡◌, ◌∙◌, ℕ, sym, subst}
 use Rattle.timefd_fault.specs.Faults.{Fault}
-use Rattle.timefd_fault.specs.declared.read_error.Fault as code_fault
-use Rattle.timefd_fault.specs.declared.read_error.ReadError.{ReadError}
-use Rattle.timefd_fault.specs.declared.read_error.ReadError.TheVariants as errors
-use Rattle.timefd_fault.specs.ReadErrors.{IsFault, MemoryOr}
-use Rattle.timefd_fault.specs.ReadErrors.{IsInvalid}
-use Rattle.timefd_fault.specs.declared.borrowed_parse_error.BorrowedParseError.{BorrowedParseError}
-use Rattle.timefd_fault.specs.declared.borrowed_parse_error.BorrowedParseError.TheVariants.{Invalid, Memory}
-use Rattle.timefd_fault.specs.BorrowedFaults.{IsBorrowed, IsBorrowedOf, IsMemory, IsRefusal, Lends}
+use Rattle.timefd_language.specs.declared.read_error.Fault as code_fault
+use Rattle.timefd_language.specs.declared.read_error.ReadError.{ReadError}
+use Rattle.timefd_language.specs.declared.read_error.ReadError.TheVariants as errors
+use Rattle.timefd_language.specs.ReadErrors.{IsFault, MemoryOr}
+use Rattle.timefd_language.specs.ReadErrors.{IsInvalid}
+use Rattle.timefd_language.specs.declared.borrowed_parse_error.BorrowedParseError.{BorrowedParseError}
+use Rattle.timefd_language.specs.declared.borrowed_parse_error.BorrowedParseError.TheVariants.{Invalid, Memory}
+use Rattle.timefd_language.specs.BorrowedFaults.{IsBorrowed, IsBorrowedOf, IsMemory, IsRefusal, Lends}
 
 -- the fault of the code is one of these, in a text with this many bytes
 pub record Assigned (Rules : Fault → Type 0) (len : ℕ) (f : code_fault.Fault) : Type 0 where

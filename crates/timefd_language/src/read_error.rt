@@ -1,10 +1,11 @@
 //! Faults inside the readers: they borrow their words and take no memory.
 
 ghost use Rattle.std.specs.Prelude.{◌≡◌};
-ghost use Rattle.timefd_fault.specs.declared.read_error.ReadError.TheVariants.{Invalid, Memory};
+ghost use Rattle.timefd_language.specs.declared.read_error.ReadError.TheVariants.{Invalid, Memory};
 
-use crate::rule::Rule;
+use crate::wanted::Wanted;
 use std::alloc::{AllocError, AllocFailed};
+use timefd_fault::Rule;
 
 /// A fault, its position, and how many bytes are at fault. The reader that finds it has the text only
 /// from some byte on, so the position is counted from the end.
@@ -16,6 +17,8 @@ pub struct Fault<'a> {
     pub remaining: usize,
     /// The number of bytes at fault.
     pub len: usize,
+    /// What was wanted there, if that is a word of a list and it is known of which.
+    pub wanted: Option<Wanted>,
 }
 
 /// Why the reader stops.
