@@ -54,3 +54,12 @@ returns-in-First-clause-tree g c = λ position h parts base is nested e are.
 pub returns-in-Refused-clause-span : goal.returns-in-Refused-clause-span
 returns-in-Refused-clause-span g c = λ text stands refusal.
     subst (SpansRefusal text) c.in-Refused.is refusal
+
+pub returns-in-Some-clause-span : goal.returns-in-Some-clause-span
+returns-in-Some-clause-span g c = λ text stands refusal. c.in-Some.ensures.span text stands
+
+pub returns-in-Optional-clause-span : goal.returns-in-Optional-clause-span
+returns-in-Optional-clause-span g c = λ text stands refusal. c.optional.ensures.span text stands
+
+pub returns-in-First-clause-span : goal.returns-in-First-clause-span
+returns-in-First-clause-span g c = λ text stands refusal. c.first.ensures.span text stands
