@@ -85,9 +85,9 @@ module _ (language : Language) (IsOne HasItems : Text → Text → Type 0) (byte
       → ((f : Fault) → FaultIn language nesting_limit bytes f → IsBorrowed f e) → (bytes ≡ [] → ⊥)
       → ConvertsBy language IsOne HasItems bytes buffer buffer (error_answer e)
   unconverted buffer (errors.Invalid f) utf8 has not_spelled one not_empty =
-      silent buffer REFUSED f.index (λ e. omega (arith, e)) (omega arith)
+      silent buffer REFUSED f.start (λ e. omega (arith, e)) (omega arith)
       (answers.refusing (Some language) nesting_limit bytes Text (IsConverted IsOne bytes)
-      (IsReportedOf HasItems bytes (plain REFUSED f.index)) (answers.some_not_none language)
+      (IsReportedOf HasItems bytes (plain REFUSED f.start)) (answers.some_not_none language)
       (to_borrowed_fault f) (utf8, has) (λ other other_is. not_spelled other other_is.1)
       (λ g h. one g h.1) (λ some nil. not_empty nil))
   unconverted buffer (errors.Memory m) utf8 has not_spelled one not_empty =

@@ -25,11 +25,11 @@ pub refusal : (language : Option Language) (bytes : Text) (f : BorrowedFault) (l
     → (language ≡ None → ◌≡◌ {A = Verdict} (Refused f) UnknownKind)
     → (IsSome language → bytes ≡ [] → ⊥)
     → Judges language bytes
-    (record { status = REFUSED; value = f.index; sentence_len = len; written = written })
+    (record { status = REFUSED; value = f.start; sentence_len = len; written = written })
 refusal language bytes f len written says spelled faulty no_language empty = record {
   answers = answers.refusing language nesting_limit bytes (List Tree) (Describes language bytes)
       (Counts language
-      (record { status = REFUSED; value = f.index; sentence_len = len; written = written }))
+      (record { status = REFUSED; value = f.start; sentence_len = len; written = written }))
       (λ none. let is : Refused f ≡ UnknownKind = no_language none in absurd cc)
       (to_borrowed_fault f) says (λ list d. spelled list d.0 d.1) (λ g h. faulty g h.0 h.1) empty;
   memory = λ l is lax status. omega (arith, status);

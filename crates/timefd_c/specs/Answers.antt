@@ -78,12 +78,12 @@ plain status value = record { status = status; value = value; sentence_len = 0; 
 
 abbrev pub answer_of : Verdict → Answer
 answer_of (Accepted value) = plain ACCEPTED value
-answer_of (Refused f) = plain REFUSED f.index
+answer_of (Refused f) = plain REFUSED f.start
 answer_of NotUtf8 = plain NOT_UTF8 0
 answer_of NoMemory = plain NO_MEMORY 0
 answer_of UnknownKind = plain UNKNOWN_KIND 0
 
 -- the answer for a text that was not converted because of this error
 abbrev pub error_answer : BorrowedParseError → Answer
-error_answer (errors.Invalid f) = plain REFUSED f.index
+error_answer (errors.Invalid f) = plain REFUSED f.start
 error_answer (errors.Memory e) = plain NO_MEMORY 0

@@ -112,7 +112,7 @@ value_answer (error.Contradiction p) = record (silent CONTRADICTION 0) { part = 
 -- The answer has the moment that was read, or the reason why none was.
 abbrev pub Answers : Result Moment ReadTextError → DateAnswer → Type 0
 Answers (Ok m) answer = IsRead m answer
-Answers (Err (fails.Fault f)) answer = answer ≡ silent REFUSED f.index
+Answers (Err (fails.Fault f)) answer = answer ≡ silent REFUSED f.start
 Answers (Err (fails.Unread u)) answer = answer ≡ unread_answer u
 Answers (Err (fails.Value v)) answer = answer ≡ value_answer v
 Answers (Err (fails.Memory e)) answer = answer ≡ silent NO_MEMORY 0

@@ -5,7 +5,7 @@ use Rattle.timefd_fault.specs.Faults.{Fault}
 use Rattle.timefd_language.specs.declared.language.Language.{Language}
 use Rattle.timefd_fault.specs.Codes.{code_of}
 use Rattle.timefd_diagnosis.specs.Helps.{IsHelpFor, nearest_in}
-use Rattle.timefd_diagnosis.specs.Spans.{end_of}
+use Rattle.timefd_language.specs.Spans.{end_of}
 use Rattle.timefd_fault.specs.declared.code.Code.{Code}
 use Rattle.timefd_fault.specs.declared.code.Code.TheVariants.{UnclosedBracket, UnknownName, InvalidModifier, MissingName, MissingModifier, InvalidEscape, UnescapedBracket, MissingSpace, MissingDescription, MissingAlternative, NestedTooDeep, SeveralDescriptions, OptionalItem, FirstItem, UnsupportedFlag, UnsupportedLetter, NestedInComponent, DuplicateModifier, RefusedModifier}
 use Rattle.timefd_diagnosis.specs.declared.help.Help.{Help}

@@ -64,7 +64,7 @@ impl Answer {
         ensures { result ≡ error_answer error.entry }
     {
         match error {
-            BorrowedParseError::Invalid(fault) => Answer::plain(REFUSED, fault.index),
+            BorrowedParseError::Invalid(fault) => Answer::plain(REFUSED, fault.start),
             BorrowedParseError::Memory(_) => Answer::plain(NO_MEMORY, 0),
         }
     }

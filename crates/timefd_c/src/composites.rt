@@ -31,7 +31,7 @@ pub extern "C" fn timefd_read_composites(
             written: report.written,
             bytes: report.bytes,
         },
-        Err(BorrowedParseError::Invalid(fault)) => ReadAnswer::plain(REFUSED, fault.index),
+        Err(BorrowedParseError::Invalid(fault)) => ReadAnswer::plain(REFUSED, fault.start),
         Err(BorrowedParseError::Memory(_)) => unreachable!(),
     }
 }

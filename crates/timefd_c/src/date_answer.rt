@@ -58,7 +58,7 @@ impl DateAnswer {
     {
         match read {
             Ok(moment) => DateAnswer::read(*moment),
-            Err(ReadTextError::Fault(fault)) => DateAnswer::silent(REFUSED, fault.index),
+            Err(ReadTextError::Fault(fault)) => DateAnswer::silent(REFUSED, fault.start),
             Err(ReadTextError::Unread(error)) => DateAnswer::unread(*error),
             Err(ReadTextError::Value(error)) => DateAnswer::no_moment(*error),
             Err(ReadTextError::Memory(_)) => DateAnswer::silent(NO_MEMORY, 0),

@@ -3,13 +3,14 @@
 ghost use Rattle.std.specs.Prelude.{◌≡◌, option_map};
 ghost use Rattle.timefd_fault.specs.BorrowedFaults.{to_borrowed_fault};
 ghost use Rattle.timefd_fault.specs.Placed.{IsPlaced};
+ghost use Rattle.timefd_language.specs.Spans.{IsSpanned};
 ghost use Rattle.timefd_c.specs.Diagnoses as spec;
 ghost use Rattle.timefd_c.specs.Diagnoses.{IsDiagnosed, IsWordReported, no_fault};
 
 use crate::answer::Answer;
 use crate::whole::write_whole;
 use std::alloc::Global;
-use timefd_diagnosis::{Code, help_against, span_of};
+use timefd_diagnosis::{Code, help_against};
 use timefd_parse::{BorrowedFault, Language};
 
 /// What there is to say of a fault, besides its sentence. All of it is 0 if the text is not
@@ -72,10 +73,10 @@ impl FaultFields {
         fault: BorrowedFault<'_>,
         word: &mut [u8],
     ) -> FaultFields
-        requires { IsPlaced text.now (to_borrowed_fault fault) }
+        requires position { IsPlaced text.now (to_borrowed_fault fault) }
+        requires span { IsSpanned language text.now fault }
         ensures { IsDiagnosed language text.now (to_borrowed_fault fault.entry) word.old word.new result }
     {
-        let span = span_of(language, text, fault);
         let code = code_number(Code::of(fault.rule));
         match help_against(alloc, language, text, fault) {
             Ok(help) => {
@@ -83,8 +84,8 @@ impl FaultFields {
                 FaultFields {
                     code,
                     out_of_memory: false,
-                    start: span.start,
-                    end: span.end,
+                    start: fault.start,
+                    end: fault.end,
                     nearest_len,
                     nearest_written,
                 }
@@ -92,8 +93,8 @@ impl FaultFields {
             Err(_) => FaultFields {
                 code,
                 out_of_memory: true,
-                start: span.start,
-                end: span.end,
+                start: fault.start,
+                end: fault.end,
                 nearest_len: 0,
                 nearest_written: 0,
             },

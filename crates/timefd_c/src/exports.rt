@@ -56,7 +56,7 @@ pub extern "C" fn timefd_check(alloc: Global, kind: u32, text: &[u8], sentence: 
     let excerpt = fault.write_sentence(sentence);
     Answer {
         status: REFUSED,
-        value: fault.index,
+        value: fault.start,
         sentence_len: excerpt.len,
         written: excerpt.written,
     }

@@ -53,7 +53,7 @@ fn format_by(
             written: write_bytes(&shown, buffer),
             ..FormatAnswer::silent(ACCEPTED, shown.len())
         },
-        Err(FormatTextError::Fault(fault)) => FormatAnswer::silent(REFUSED, fault.index),
+        Err(FormatTextError::Fault(fault)) => FormatAnswer::silent(REFUSED, fault.start),
         Err(FormatTextError::Unshown(unshown)) => FormatAnswer::unshown(unshown),
         Err(FormatTextError::Memory(_)) => FormatAnswer::silent(NO_MEMORY, 0),
     }

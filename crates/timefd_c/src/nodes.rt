@@ -88,7 +88,7 @@ fn read_bytes(
             written: report.written,
             bytes: report.bytes,
         },
-        Err(BorrowedParseError::Invalid(fault)) => ReadAnswer::plain(REFUSED, fault.index),
+        Err(BorrowedParseError::Invalid(fault)) => ReadAnswer::plain(REFUSED, fault.start),
         Err(BorrowedParseError::Memory(_)) => ReadAnswer::plain(NO_MEMORY, 0),
     }
 }

@@ -38,7 +38,7 @@ impl<'a> Verdict<'a> {
     {
         match self {
             Verdict::Accepted(amount) => Answer::plain(ACCEPTED, *amount),
-            Verdict::Refused(fault) => Answer::plain(REFUSED, fault.index),
+            Verdict::Refused(fault) => Answer::plain(REFUSED, fault.start),
             Verdict::NotUtf8 => Answer::plain(NOT_UTF8, 0),
             Verdict::NoMemory => Answer::plain(NO_MEMORY, 0),
             Verdict::UnknownKind => Answer::plain(UNKNOWN_KIND, 0),

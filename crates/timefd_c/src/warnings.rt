@@ -48,7 +48,7 @@ fn warn_of(
     };
     match amount_all_borrowed(alloc, language, NESTING_LIMIT, text) {
         Ok(value) => accepted(alloc, language, text, value, warnings),
-        Err(BorrowedParseError::Invalid(fault)) => WarningsAnswer::silent(REFUSED, fault.index),
+        Err(BorrowedParseError::Invalid(fault)) => WarningsAnswer::silent(REFUSED, fault.start),
         Err(BorrowedParseError::Memory(_)) => WarningsAnswer::silent(NO_MEMORY, 0),
     }
 }

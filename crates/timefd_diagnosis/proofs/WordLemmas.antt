@@ -26,16 +26,6 @@ some_bytes : (test : ℕ → Bool) (text : Text) → OneOrMore test text → 0 <
 some_bytes test [] some = absurd some
 some_bytes test (b ∷ text) some = omega arith
 
--- the length of the front of a cut
-pub prefix_cut : (test : ℕ → Bool) (front rest : Text) → ZeroOrMore test front
-    → StopsBefore test rest → prefix_len test (front ++ rest) ≡ length front
-prefix_cut test [] [] passes stops = refl
-prefix_cut test [] (b ∷ rest) passes stops = rw stops refl
-prefix_cut test (b ∷ front) rest passes stops =
-    let both = and_parts (test b) (list_all test front) passes in
-    let more = prefix_cut test front rest both.1 stops in
-    rw both.0 (omega (arith, more))
-
 -- What precedes a word ends the head.
 
 white_stops : (text : Text) → OneOrMore is_white text → StopsBefore is_word_byte text

@@ -1,4 +1,3 @@
-pub mod Spans
 pub mod Words
 pub mod Edits
 pub mod Nearest

@@ -7,12 +7,12 @@ ghost use Rattle.timefd_fault.specs.Placed.{IsPlaced};
 ghost use Rattle.timefd_fault.specs.Faults.{fault_of};
 ghost use Rattle.timefd_language.specs.Grammar.{nesting_limit};
 ghost use Rattle.timefd_parse.specs.Language.{SpellsIn, FaultIn};
-ghost use Rattle.timefd_diagnosis.specs.Diagnoses.{IsDiagnosis, IsOfFault};
-ghost use Rattle.timefd_diagnosis.specs.Spans.{IsWithin};
+ghost use Rattle.timefd_language.specs.Spans.{IsSpanned};
+ghost use Rattle.timefd_diagnosis.specs.Diagnoses.{IsDiagnosis, IsOfFault, IsWithin};
 
 use crate::diagnostic::Diagnostic;
 use crate::help::help_against;
-use crate::span::span_of;
+use crate::span::Span;
 use std::alloc::{AllocError, Global};
 use timefd_fault::Code;
 use timefd_parse::{
@@ -52,13 +52,17 @@ fn described(
     text: &str,
     fault: BorrowedFault<'_>,
 ) -> Result<Diagnostic, AllocError>
-    requires { IsPlaced text.now (to_borrowed_fault fault) }
+    requires position { IsPlaced text.now (to_borrowed_fault fault) }
+    requires span { IsSpanned language text.now fault }
     ensures fault { IfOk result (IsOfFault (to_borrowed_fault fault.entry)) }
     ensures diagnosis { IfOk result (IsDiagnosis language text.now) }
     ensures span { IfOk result (λ d. IsWithin text.now d.span) }
 {
     let code = Code::of(fault.rule);
-    let span = span_of(language, text, fault);
+    let span = Span {
+        start: fault.start,
+        end: fault.end,
+    };
     let help = help_against(alloc, language, text, fault)?;
     match BorrowedParseError::Invalid(fault).into_owned(alloc) {
         ParseError::Invalid(fault) => Ok(Diagnostic {

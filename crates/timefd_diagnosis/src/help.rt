@@ -72,7 +72,7 @@ fn version_help(
     match fault.rule {
         Rule::UnknownName(name) => words_help(alloc, version, Slot::Name, name),
         Rule::InvalidModifier(value) => {
-            match modifier_slot(version, text, fault.index, value) {
+            match modifier_slot(version, text, fault.start, value) {
                 Some(slot) => words_help(alloc, version, slot, value),
                 None => Ok(Help::Advice(advice(version, Code::InvalidModifier))),
             }

@@ -18,5 +18,5 @@ pub use diagnosing::diagnose;
 pub use diagnostic::{Diagnostic, code_of};
 pub use further::{MOST_FURTHER, further_faults};
 pub use help::{Help, help_against};
-pub use span::{Extent, Span, span_of};
+pub use span::Span;
 pub use timefd_fault::{Code, all_are_there, names_differ};

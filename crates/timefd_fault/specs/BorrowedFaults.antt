@@ -1,6 +1,7 @@
 -- Faults that borrow what they quote, and what an error with such a fault says.
-use Rattle.std.specs.Prelude.{ℕ, ◌≡◌, ◌+◌, ◌≤◌, length, ⊤}
+use Rattle.std.specs.Prelude.{ℕ, ◌≡◌, ◌+◌, ◌≤◌, length, min, ⊤}
 use Rattle.timefd_fault.specs.Faults.{Kind, Fault, fault, unclosed_bracket, invalid_name, invalid_modifier, missing_name, missing_modifier, expected, not_supported, duplicate_modifier, invalid_combination}
+use Rattle.timefd_fault.specs.declared.read_error.Fault as code_fault
 use Rattle.timefd_fault.specs.declared.read_error.ReadError.{ReadError}
 use Rattle.timefd_fault.specs.declared.read_error.ReadError.TheVariants as errors
 use Rattle.timefd_fault.specs.declared.parse_error.ParseError.{ParseError}
@@ -13,7 +14,7 @@ use Rattle.timefd_fault.specs.declared.borrowed_parse_error.BorrowedParseError.T
 
 -- the fault that is borrowed
 abbrev pub to_borrowed_fault : BorrowedFault → Fault
-to_borrowed_fault f = fault (rule_kind f.rule) f.index
+to_borrowed_fault f = fault (rule_kind f.rule) f.start
 
 -- If a kind quotes two words, they are short, as in each fault of a text. So the length of its
 -- sentence is a `usize`.
@@ -58,6 +59,19 @@ IsBorrowedOf P (Memory e) = ⊤
 abbrev pub Lends : ℕ → ReadError → BorrowedParseError → Type 0
 Lends len errors.Memory borrowed = IsMemory borrowed
 Lends len (errors.Invalid f) borrowed = (g : Fault) → IsFault len f g → IsBorrowed g borrowed
+
+-- the borrowed fault for one of a reader, in a text with this many bytes: it ends no later than the
+-- text
+pub record IsLent (len : ℕ) (f : code_fault.Fault) (g : BorrowedFault) : Type 0 where
+  pub kind : rule_kind g.rule ≡ rule_kind f.rule
+  pub start : g.start + f.remaining ≡ len
+  pub end : g.end ≡ g.start + min f.len f.remaining
+
+-- the fault of the borrowed error, if there is one, is the reader's
+abbrev pub LendsSpan : ℕ → ReadError → BorrowedParseError → Type 0
+LendsSpan len errors.Memory borrowed = IsMemory borrowed
+LendsSpan len (errors.Invalid f) (Invalid g) = IsLent len f g
+LendsSpan len (errors.Invalid f) (Memory e) = ⊥
 
 -- the owned error for a borrowed one: its fault or, if memory runs out, that
 abbrev pub IsOwned : BorrowedParseError → ParseError → Type 0

@@ -2,11 +2,11 @@
 
 ghost use Rattle.std.specs.Prelude.{◌≡◌, ◌≤◌};
 ghost use Rattle.timefd_fault.specs.ReadErrors.{MemoryOr};
-ghost use Rattle.timefd_fault.specs.BorrowedFaults.{IsOwned, Lends};
+ghost use Rattle.timefd_fault.specs.BorrowedFaults.{IsOwned, Lends, LendsSpan};
 
 use crate::borrowed_fault::BorrowedFault;
-use crate::parse_error::{ParseError, reported};
-use crate::read_error::{Fault, ReadError};
+use crate::parse_error::ParseError;
+use crate::read_error::ReadError;
 use std::alloc::{AllocError, Global};
 
 /// Why a text was not read. It is like `ParseError`, but borrows what its fault quotes of the text.
@@ -35,17 +35,17 @@ impl<'a> BorrowedParseError<'a> {
 fn owned(alloc: Global, fault: BorrowedFault) -> ParseError
     ensures { IsOwned (BorrowedParseError.Invalid fault.entry) result }
 {
-    let at_the_end = Fault {
-        rule: fault.rule,
-        remaining: 0,
-    };
-    reported(alloc, ReadError::Invalid(at_the_end), fault.index)
+    match fault.into_owned(alloc) {
+        Ok(fault) => ParseError::Invalid(fault),
+        Err(error) => ParseError::Memory(error),
+    }
 }
 
 /// The borrowed error for a reader's error in a text of `len` bytes.
 pub fn borrowed<'a>(error: ReadError<'a>, len: usize) -> BorrowedParseError<'a>
     requires { MemoryOr (λ f. f.remaining ≤ len) error }
-    ensures { Lends len error.entry result }
+    ensures lends { Lends len error.entry result }
+    ensures span { LendsSpan len error.entry result }
 {
     match error {
         ReadError::Invalid(fault) => BorrowedParseError::Invalid(BorrowedFault::of(fault, len)),

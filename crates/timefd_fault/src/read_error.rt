@@ -6,13 +6,16 @@ ghost use Rattle.timefd_fault.specs.declared.read_error.ReadError.TheVariants.{I
 use crate::rule::Rule;
 use std::alloc::{AllocError, AllocFailed};
 
-/// A fault, and its position: the number of bytes from there to the end of the text.
+/// A fault, its position, and how many bytes are at fault. The reader that finds it has the text only
+/// from some byte on, so the position is counted from the end.
 #[derive(Clone, Copy)]
 pub struct Fault<'a> {
     /// The rule that is broken.
     pub rule: Rule<'a>,
     /// The number of bytes from the fault to the end of the text.
     pub remaining: usize,
+    /// The number of bytes at fault.
+    pub len: usize,
 }
 
 /// Why the reader stops.

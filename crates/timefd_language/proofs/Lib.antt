@@ -35,5 +35,6 @@ pub mod VerdictPositions
 pub mod PositionsBetween
 pub mod DistinctLemmas
 pub mod ShortWords
+pub mod SpanLemmas
 pub mod PlacedLemmas
 pub mod DirectiveLemmas

@@ -1,10 +1,11 @@
 //! Steps through a text: the longest run of bytes of one class, and what a text begins with.
 
-ghost use Rattle.std.specs.Prelude.{◌≡◌, ◌≤◌, ◌<◌, length, ◌==◌, ◌∷◌, MatchOption, slice_index, ℕ, IsTrue, [], true, ⊤};
+ghost use Rattle.std.specs.Prelude.{◌≡◌, ◌≤◌, ◌<◌, chars, length, ◌==◌, ◌∷◌, MatchOption, slice_index, ℕ, IsTrue, [], true, ⊤};
 ghost use Rattle.std.specs.List.{prefix_len};
 ghost use Rattle.std.specs.Str.{IsUtf8};
 ghost use Rattle.timefd_language.specs.Bytes as spec;
 ghost use Rattle.timefd_language.specs.Bytes.{is_run_byte, StopsBefore};
+ghost use Rattle.timefd_language.specs.Spans as spans;
 ghost use Rattle.timefd_language.specs.Cut.{class_test, is_high, IsCut, BeginsWith};
 
 use crate::description_version::DescriptionVersion;
@@ -180,6 +181,18 @@ pub fn start_of(text: &str) -> Start<'_>
         [b']', ..] => Start::Closing(tail(text)),
         [b'\\', ..] => Start::Backslash(tail(text)),
         [_, ..] => Start::Other,
+    }
+}
+
+/// How many bytes the first character has; none in the empty text.
+#[inline(always)]
+pub fn first_len(text: &str) -> usize
+    ensures len { result ≡ spans.first_len (chars text.now) }
+    ensures within { result ≤ length text.now }
+{
+    match text.chars().next() {
+        Some(character) => character.len_utf8(),
+        None => 0,
     }
 }
 

@@ -76,7 +76,7 @@ fn item_index(
         Ok(_) => Ok(None),
         Err(BorrowedParseError::Invalid(fault)) => {
             if is_of_item(Code::of(fault.rule)) {
-                Ok(Some(fault.index))
+                Ok(Some(fault.start))
             } else {
                 Ok(None)
             }

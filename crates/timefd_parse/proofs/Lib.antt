@@ -2,12 +2,14 @@ pub mod ModifierLemmas
 pub mod CheckLemmas
 pub mod HeadLemmas
 pub mod VerdictLemmas
+pub mod SpanLemmas
 pub mod HeadVerdictLemmas
 pub mod BeginLemmas
 pub mod BareLemmas
 pub mod BuildingLemmas
 pub mod ReadLemmas
 pub mod NestedLemmas
+pub mod NestedSpanLemmas
 pub mod ParseLemmas
 pub mod AmountLemmas
 pub mod CountingLemmas

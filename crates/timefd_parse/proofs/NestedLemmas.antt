@@ -359,7 +359,7 @@ no_closing n starts.Other (b ∷ rest) is end closing =
 module _ {v : DescriptionVersion} {limit n : ℕ} {inside : Text} {judged : JudgedHead}
     {remaining : ℕ} {read : List Tree} {rest : Text}
     (b : BracketBefore v limit n inside judged remaining read rest) where
-  whole : left ∷ inside ≡ head_text b.h ++ nested_text b.before.list ++ b.before.white ++ rest
+  pub whole : left ∷ inside ≡ head_text b.h ++ nested_text b.before.list ++ b.before.white ++ rest
   whole =
       b.begins.whole ∙ append_assoc (head_text b.h) b.begins.white b.after ∙
       ap (λ t. head_text b.h ++ t) b.before.whole

@@ -17,7 +17,8 @@ use Rattle.timefd_parse.specs.declared.parsing.BorrowedOutput.TheVariants.{Items
 use Rattle.timefd_fault.specs.declared.parse_error.ParseError.{ParseError}
 use Rattle.timefd_fault.specs.declared.parse_error.ParseError.TheVariants as reported
 use Rattle.timefd_fault.specs.declared.borrowed_parse_error.BorrowedParseError.{BorrowedParseError}
-use Rattle.timefd_fault.specs.BorrowedFaults.{IsBorrowed, IsBorrowedOf, IsMemory, IsOwned, IsRefusal, Lends}
+use Rattle.timefd_fault.specs.declared.borrowed_parse_error.BorrowedParseError.TheVariants as lent
+use Rattle.timefd_fault.specs.BorrowedFaults.{IsBorrowed, IsBorrowedOf, IsMemory, IsOwned, IsRefusal, Lends, LendsSpan}
 use Rattle.timefd_fault.proofs.BorrowedLemmas as borrowed
 use Rattle.timefd_fault.proofs.BorrowedLemmas.{Assigned}
 use Rattle.timefd_fault.proofs.OwnedLemmas.{owned_of}
@@ -32,6 +33,8 @@ use Rattle.timefd_language.specs.Strings.{AreItems}
 use Rattle.timefd_parse.specs.Answers.{IsOutput, IsAssigned}
 use Rattle.timefd_parse.specs.Language.{IsAmount, amount}
 use Rattle.timefd_language.specs.Laws.{HasOneAnswer}
+use Rattle.timefd_language.specs.Spans.{HasSpan, SpansVersion, version_extent}
+use Rattle.timefd_language.proofs.SpanLemmas.{spanned}
 use Rattle.timefd_language.proofs.LawLemmas.{one_answer_law}
 use Rattle.timefd_language.proofs.Reserved.{reserves_within_law}
 use Rattle.timefd_parse.proofs.ReadLemmas.{end_outside}
@@ -77,6 +80,7 @@ is_amount v limit text read rest n are e = record {
   refused = λ f h. no_fault_in v limit text read rest f are h;
   memory = λ lax. tt;
   empty = λ none. refl;
+  span = tt;
 }
 
 -- Faults.
@@ -126,6 +130,14 @@ pub borrowed_refusal : (v : DescriptionVersion) (limit : ℕ) (text : Text) (e :
     → Lends (length text) e r → IsRefusal r
 borrowed_refusal v limit text e r h =
     borrowed.borrowed_refusal (FaultOf v limit text) (length text) e r (whole v limit text e h)
+
+-- the borrowed fault ends after what is at fault
+pub spanned_version : (v : DescriptionVersion) (text : Text) (e : ReadError) (r : BorrowedParseError)
+    → MemoryOr (SpansVersion text) e → LendsSpan (length text) e r → HasSpan (Version v) text r
+spanned_version v text e (lent.Memory m) h lends = tt
+spanned_version v text errors.Memory (lent.Invalid g) h lends = absurd lends
+spanned_version v text (errors.Invalid f) (lent.Invalid g) h lends =
+    spanned version_extent (Version v) text f g (λ k. refl) h lends
 
 -- Faults that the caller owns.
 

@@ -14,6 +14,7 @@ use Rattle.timefd_language.specs.declared.language.Language.TheVariants.{Version
 use Rattle.timefd_fault.specs.declared.parse_error.ParseError.{ParseError}
 use Rattle.timefd_fault.specs.declared.parse_error.ParseError.TheVariants.{Invalid, Memory}
 use Rattle.timefd_language.specs.Grammar.{Spells}
+use Rattle.timefd_language.specs.Spans.{HasSpan}
 use Rattle.timefd_language.specs.Broken.{FaultOf}
 use Rattle.timefd_language.specs.Strftime.{SpellsStrftime, StrftimeFaultOf}
 
@@ -56,6 +57,7 @@ pub record IsAmount (version : DescriptionVersion) (limit : ℕ) (text : Text)
   -- Versions 1 and 2 take no memory, and the empty text takes none.
   pub memory : IsFalse (is_version_three version) → IfErr r IsRefusal
   pub empty : text ≡ [] → IsOk r
+  pub span : IfErr r (HasSpan (Version version) text)
 
 -- a fault that the rules of the language assign to the text, or out of memory
 abbrev pub IsAssignedIn : Language → ℕ → Text → ParseError → Type 0

@@ -5,6 +5,7 @@ pub mod Heads
 pub mod Pieces
 pub mod Judged
 pub mod HeadVerdicts
+pub mod Spans
 pub mod Quick
 pub mod Read
 pub mod Answers

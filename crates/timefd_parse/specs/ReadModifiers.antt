@@ -17,6 +17,16 @@ pub record IsPlaced (total : ℕ) (m : code_modifier.Modifier) (p : Placed) : Ty
   pub value : p.value ≡ m.value.now
   pub value_position : p.value_index + m.value_remaining ≡ total
 
+-- The text has this modifier, and its key and value stand where it says.
+pub record StandsIn (text : Text) (m : code_modifier.Modifier) : Type 0 where
+  pub before : Text
+  pub rest : Text
+  pub key : OneOrMore is_key_byte m.key.now
+  pub value : OneOrMore is_word_byte m.value.now
+  pub whole : text ≡ before ++ (m.key.now ++ colon ∷ (m.value.now ++ rest))
+  pub key_position : m.key_remaining ≡ length (m.key.now ++ colon ∷ (m.value.now ++ rest))
+  pub value_position : m.value_remaining ≡ length (m.value.now ++ rest)
+
 -- the word is this modifier
 pub record IsWord (word : Text) (remaining : ℕ) (m : code_modifier.Modifier) : Type 0 where
   pub key : OneOrMore is_key_byte m.key.now

@@ -7,7 +7,9 @@ ghost use Rattle.timefd_fault.specs.Faults as spec;
 ghost use Rattle.timefd_items.specs.Description.{description_tree};
 ghost use Rattle.timefd_component.specs.Reserved.{reserve};
 ghost use Rattle.timefd_language.specs.declared.description_version.DescriptionVersion.TheVariants.{Three};
+ghost use Rattle.timefd_language.specs.declared.language.Language as spec_language;
 ghost use Rattle.timefd_language.specs.Bytes.{is_version_three};
+ghost use Rattle.timefd_language.specs.Spans.{HasSpan};
 ghost use Rattle.timefd_language.specs.Grammar.{Spells, nesting_limit};
 ghost use Rattle.timefd_language.specs.Broken.{FaultOf};
 ghost use Rattle.timefd_language.specs.Strings.{AreItems};
@@ -55,6 +57,9 @@ pub fn parse_all_borrowed<'a>(
     ensures position { IfErr result (IsBorrowedOf (IsPlaced s.now)) }
     ensures words { IfErr result HasShortFault }
 
+    // The fault ends after the name, the key, the value or the character at fault.
+    ensures span { IfErr result (HasSpan (spec_language.Language.Version version) s.now) }
+
     // No item is a literal of bytes, and a description reserves no more bytes than the text has.
     ensures strings { IfOk result HasStrings }
     ensures reserved { IfOk result (ReservesAtMost (length s.now)) }
@@ -89,6 +94,7 @@ pub fn parse_items<'a>(
         → MatchResult result (λ items. AreItems items.items list) IsMemory }
     ensures refused { (f : spec.Fault) → FaultOf version limit s.now f
         → MatchResult result (λ _. ⊥) (IsBorrowed f) }
+    ensures span { IfErr result (HasSpan (spec_language.Language.Version version) s.now) }
     ensures empty { s.now ≡ [] → IsOk result }
 {
     match items(alloc, version, s, limit) {
@@ -110,6 +116,7 @@ pub fn parse_description<'a>(
         → MatchResult result (λ d. description_tree d ≡ pack list) IsMemory }
     ensures refused { (f : spec.Fault) → FaultOf Three limit s.now f
         → MatchResult result (λ _. ⊥) (IsBorrowed f) }
+    ensures span { IfErr result (HasSpan (spec_language.Language.Version Three) s.now) }
     ensures reserved { IfOk result (λ d. reserve (description_tree d) ≤ length s.now) }
     ensures empty { s.now ≡ [] → IsOk result }
 {

@@ -13,6 +13,8 @@ ghost use Rattle.timefd_fault.specs.ReadErrors.{MemoryOr};
 ghost use Rattle.timefd_language.specs.Grammar.{Spells};
 ghost use Rattle.timefd_fault.specs.ReadErrors.{IsInvalid};
 ghost use Rattle.timefd_language.specs.declared.description_version.DescriptionVersion.TheVariants.{Three};
+ghost use Rattle.timefd_language.specs.declared.language.Language as spec_language;
+ghost use Rattle.timefd_language.specs.Spans.{HasSpan, SpansVersion};
 ghost use Rattle.timefd_parse.specs.Language.{IsAmount};
 ghost use Rattle.timefd_parse.specs.Pieces as spec;
 ghost use Rattle.timefd_parse.specs.Read.{AreCounted, IsFaultIn, PiecesToEnd};
@@ -80,6 +82,8 @@ pub fn error_of<'a>(
     ensures fault { IsBorrowedOf (FaultOf version limit text.now) result }
     ensures spelled { (list : List Tree) → Spells version limit 0 text.now list → IsMemory result }
     ensures refused { (f : Fault) → FaultOf version limit text.now f → IsBorrowed f result }
+    ensures span { MemoryOr (SpansVersion text.now) error.entry
+        → HasSpan (spec_language.Language.Version version) text.now result }
 {
     match error {
         ReadError::Memory => checked_again(alloc, version, limit, text),
@@ -98,6 +102,7 @@ fn checked_again<'a>(
     ensures fault { IsBorrowedOf (FaultOf version limit text.now) result }
     ensures spelled { (list : List Tree) → Spells version limit 0 text.now list → IsMemory result }
     ensures refused { (f : Fault) → FaultOf version limit text.now f → IsBorrowed f result }
+    ensures span { HasSpan (spec_language.Language.Version version) text.now result }
 {
     let mut builder = DescriptionBuilder::new(alloc);
     match count_pieces(&mut builder, version, text, limit) {
@@ -118,6 +123,7 @@ fn count_pieces<'a>(
         × PiecesToEnd version limit 0 text.now list [] × (n ≡ length list))
         (MemoryOr (IsFaultIn version limit 0 text.now)) }
     ensures invalid { IfErr result IsInvalid }
+    ensures span { IfErr result (MemoryOr (SpansVersion text.now)) }
     ensures some { IfErr result (λ _. 0 < length text.now) }
 {
     let mut count = 0;
@@ -141,6 +147,7 @@ fn bytes_beside<'a>(
     requires { built builder.old ≡ [] }
     ensures bytes { MatchResult result (AreCounted limit text.now (built builder.new))
         (MemoryOr (IsFaultIn Three limit 0 text.now)) }
+    ensures span { IfErr result (MemoryOr (SpansVersion text.now)) }
     ensures some { IfErr result (λ _. 0 < length text.now) }
 {
     let mut bytes = 0;

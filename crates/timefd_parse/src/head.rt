@@ -1,8 +1,10 @@
 //! The head of a bracket: its name and its modifiers.
 
-ghost use Rattle.std.specs.Prelude.{ℕ, ◌≡◌, ◌∷◌, [], MatchResult, Option};
+ghost use Rattle.std.specs.Prelude.{ℕ, ◌≡◌, ◌∷◌, [], IfSome, MatchResult, Option};
+ghost use Rattle.std.specs.Result.{IfErr};
 ghost use Rattle.timefd_component.specs.Tree.{Text};
 ghost use Rattle.timefd_language.specs.Bytes.{is_version_three};
+ghost use Rattle.timefd_language.specs.Spans.{SpansVersion};
 ghost use Rattle.timefd_parse.specs.Checked.{Checks};
 ghost use Rattle.timefd_parse.specs.Heads.{ReadsHead};
 
@@ -34,7 +36,9 @@ pub fn read_head<'a>(
 ) -> Result<(Head<'a>, &'a str), Fault<'a>>
     requires { (name : Option Name) (total : ℕ) → Checks (is_version_three version) name total
         modifiers.old [] }
-    ensures { ReadsHead (is_version_three version) inside.now modifiers.new result }
+    ensures head { ReadsHead (is_version_three version) inside.now modifiers.new result }
+    ensures span { IfErr result (SpansVersion (91 ∷ inside.now)) }
+    ensures fault { IfSome modifiers.new.fault (SpansVersion (91 ∷ inside.now)) }
 {
     let (white, named) = cut(inside, Class::White);
     let (word, after_word) = cut(named, Class::Word);
@@ -47,6 +51,7 @@ pub fn read_head<'a>(
         return Err(Fault {
             rule: Rule::MissingName,
             remaining,
+            len: 1,
         });
     }
     let name = name_of(version, word);

@@ -1,15 +1,19 @@
 //! What the head of a bracket is by itself, whatever nested descriptions follow it.
 
-ghost use Rattle.std.specs.Prelude.{ℕ, ◌≡◌, Some, IfOk, IsTrue, List, MatchOption, ⊤};
+ghost use Rattle.std.specs.Prelude.{ℕ, ◌≡◌, ◌∷◌, Some, IfOk, IfSome, IsTrue, List, MatchOption, MatchResult, length, ⊤};
+ghost use Rattle.std.specs.Result.{IfErr};
 ghost use Rattle.timefd_language.specs.Bytes.{is_version_three};
 ghost use Rattle.timefd_component.specs.Modern.{modern};
+ghost use Rattle.timefd_component.specs.Tree.{Text};
 ghost use Rattle.timefd_language.specs.Head as spec;
 ghost use Rattle.timefd_language.specs.Head.{Placed};
 ghost use Rattle.timefd_language.specs.Names.{row_for};
+ghost use Rattle.timefd_language.specs.Spans.{SpansVersion};
 ghost use Rattle.timefd_language.specs.Verdict as rules;
 ghost use Rattle.timefd_language.specs.declared.name.Name as spec_name;
 ghost use Rattle.timefd_parse.specs.Checked.{ShowsFault};
-ghost use Rattle.timefd_parse.specs.Heads.{ShowsHead};
+ghost use Rattle.timefd_parse.specs.Heads.{BeginsWithHead, ShowsHead};
+ghost use Rattle.timefd_parse.specs.Spans.{HaveKeys, SpansRefusal};
 ghost use Rattle.timefd_parse.specs.HeadVerdicts as judging;
 ghost use Rattle.timefd_parse.specs.HeadVerdicts.{BeginsJudged, IsPlain, IsVerdict, ReadsJudgedHead};
 ghost use Rattle.timefd_parse.specs.Judged.{JudgedComponent, ShowsPositions};
@@ -54,7 +58,9 @@ pub fn judged_head<'a>(
     version: DescriptionVersion,
     inside: &'a str,
 ) -> Result<(JudgedHead<'a>, &'a str), Fault<'a>>
-    ensures { ReadsJudgedHead (is_version_three version) inside.now result }
+    ensures head { ReadsJudgedHead (is_version_three version) inside.now result }
+    ensures span { MatchResult result (λ x. SpansRefusal (91 ∷ inside.now) x.0.verdict)
+        (SpansVersion (91 ∷ inside.now)) }
 {
     if let Some(plain) = plain_head(version, inside) {
         return Ok(plain);
@@ -72,8 +78,9 @@ pub fn judged_head<'a>(
 /// The head of a bracket that begins with `optional [` or `first [`, and the text from that `[` on.
 #[inline(always)]
 fn plain_head<'a>(version: DescriptionVersion, inside: &'a str) -> Option<(JudgedHead<'a>, &'a str)>
-    ensures { MatchOption result ⊤ (λ x. BeginsJudged (is_version_three version) inside.now x.0
+    ensures head { MatchOption result ⊤ (λ x. BeginsJudged (is_version_three version) inside.now x.0
         x.1.now) }
+    ensures span { (text : Text) → MatchOption result ⊤ (λ x. SpansRefusal text x.0.verdict) }
 {
     match inside.as_bytes() {
         [b'o', b'p', ..] => plainly(version, inside, "optional ", HeadVerdict::Optional(true)),
@@ -92,8 +99,9 @@ fn plainly<'a>(
     verdict: HeadVerdict<'a>,
 ) -> Option<(JudgedHead<'a>, &'a str)>
     requires { IsPlain word.now verdict }
-    ensures { MatchOption result ⊤ (λ x. BeginsJudged (is_version_three version) inside.now x.0
+    ensures head { MatchOption result ⊤ (λ x. BeginsJudged (is_version_three version) inside.now x.0
         x.1.now) }
+    ensures span { (text : Text) → MatchOption result ⊤ (λ x. SpansRefusal text x.0.verdict) }
 {
     let rest = after_word(inside, word)?;
     let Start::Opening(_) = start_of(rest) else {
@@ -123,14 +131,18 @@ fn head_verdict<'a>(
     head: &Head<'a>,
     modifiers: &Modifiers<'a>,
 ) -> HeadVerdict<'a>
-    ensures { (total : ℕ) (h : spec.Head) → ShowsHead (is_version_three version) total head.now
+    ensures verdict { (total : ℕ) (h : spec.Head) → ShowsHead (is_version_three version) total head.now
         modifiers.now h
         → IsVerdict (is_version_three version) total h (judging.nests head.now.name) result }
+    ensures span { (text rest : Text) (h : spec.Head)
+        → BeginsWithHead (is_version_three version) text head.now modifiers.now rest h
+        → IfSome modifiers.now.fault (SpansVersion text) → SpansRefusal text result }
 {
     let Some(name) = head.name else {
         return HeadVerdict::Refused(Fault {
             rule: Rule::UnknownName(head.word),
             remaining: head.remaining,
+            len: head.word.len(),
         });
     };
     match name {
@@ -155,17 +167,24 @@ pub fn combination_fault(
     component: Component,
     positions: &Positions,
 ) -> Option<Fault<'static>>
-    ensures { (total : ℕ) (ps : List Placed) → (IsTrue (is_version_three version) → ShowsPositions
+    ensures fault { (total : ℕ) (ps : List Placed) → (IsTrue (is_version_three version) → ShowsPositions
         total positions.now ps)
         → ShowsFault total result (rules.combination (is_version_three version) component ps) }
+    ensures span { (text : Text) (ps : List Placed) → (IsTrue (is_version_three version) → ShowsPositions
+        (length text) positions.now ps)
+        → HaveKeys text ps → IfSome result (SpansVersion text) }
 {
     if !version.is_strict() {
         return None;
     }
     'refusals: for refusal in refusals(component) {
         if let Some(remaining) = positions.of(refusal.key) {
-            let rule = Rule::RefusedModifier(refusal.key.spelling(), refusal.context);
-            return Some(Fault { rule, remaining });
+            let key = refusal.key.spelling();
+            return Some(Fault {
+                rule: Rule::RefusedModifier(key, refusal.context),
+                remaining,
+                len: key.len(),
+            });
         }
     }
     None
@@ -184,6 +203,9 @@ fn component<'a>(
         → JudgedComponent total result (rules.component_verdict (is_version_three version) h (Some
         (row_for name))) }
     ensures modern { IfOk result (λ c. modern c ≡ c) }
+    ensures span { (text rest : Text) (h : spec.Head)
+        → BeginsWithHead (is_version_three version) text head.now modifiers.now rest h
+        → IfSome modifiers.now.fault (SpansVersion text) → IfErr result (SpansVersion text) }
 {
     if let Some(fault) = modifiers.fault {
         return Err(fault);
@@ -192,6 +214,7 @@ fn component<'a>(
         return Err(Fault {
             rule: Rule::MissingModifier("count"),
             remaining: head.remaining,
+            len: head.word.len(),
         });
     };
     match combination_fault(version, component, &modifiers.positions) {

@@ -9,6 +9,7 @@ ghost use Rattle.timefd_fault.specs.Placed.{HasPlacedFault, IsPlaced};
 ghost use Rattle.timefd_fault.specs.Reported.{IsFaultOrMemory, MemoryAlone};
 ghost use Rattle.timefd_language.specs.Bytes.{is_version_three};
 ghost use Rattle.timefd_language.specs.Grammar.{nesting_limit};
+ghost use Rattle.timefd_language.specs.Spans.{HasSpan};
 ghost use Rattle.timefd_parse.specs.Language.{SpellsIn, FaultIn, amount, takes_memory, IsAmount, IsAssignedIn};
 
 use crate::counting::{count_bytes, count_items};
@@ -89,6 +90,9 @@ pub fn amount_all_borrowed(
     ensures position { IfErr result (IsBorrowedOf (IsPlaced text.now)) }
     ensures words { IfErr result HasShortFault }
 
+    // The fault ends after the name, the key, the value or the character at fault.
+    ensures span { IfErr result (HasSpan language text.now) }
+
     // Versions 1 and 2 and strftime take no memory, and the empty text takes none in version 3.
     ensures memory { IsFalse (takes_memory language) → IfErr result IsRefusal }
     ensures empty { text.now ≡ [] → IsOk result }
@@ -129,6 +133,7 @@ fn strftime_amount(text: &str) -> Result<usize, BorrowedParseError<'_>>
     ensures refused { (f : spec.Fault) → FaultIn Language.Strftime 0 text.now f
         → MatchResult result (λ _. ⊥) (IsBorrowed f) }
     ensures no_memory { IfErr result IsRefusal }
+    ensures span { IfErr result (HasSpan Language.Strftime text.now) }
     ensures empty { text.now ≡ [] → IsOk result }
 {
     match count_strftime(text) {

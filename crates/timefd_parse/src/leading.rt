@@ -5,6 +5,7 @@ ghost use Rattle.std.specs.Result.{IfErr};
 ghost use Rattle.timefd_component.specs.Tree.{Tree};
 ghost use Rattle.timefd_fault.specs.BorrowedFaults.{IsBorrowedOf, IsRefusal};
 ghost use Rattle.timefd_language.specs.Grammar.{nesting_limit};
+ghost use Rattle.timefd_language.specs.Spans.{HasSpan};
 ghost use Rattle.timefd_parse.specs.FirstPiece.{BeginsList, EndsWith, IsAfterFirst, IsFirst};
 ghost use Rattle.timefd_parse.specs.Language.{SpellsIn, FaultIn};
 ghost use Rattle.timefd_language.specs.declared.language.Language as spec_language;
@@ -39,6 +40,7 @@ pub fn first_piece<'a>(
     ensures found { IfOk result (λ first. MatchOption first (text.now ≡ [])
         (λ parts. IsFirst language text.now parts.0.now parts.1.now)) }
     ensures fault { IfErr result (IsBorrowedOf (FaultIn language nesting_limit text.now)) }
+    ensures span { IfErr result (HasSpan language text.now) }
 
     // If the text spells a list of trees, the piece spells the first and the rest spells the others.
     ensures spelled { (list : List Tree) → SpellsIn language nesting_limit text.now list
@@ -70,6 +72,7 @@ fn after_first<'a>(
     ensures found { IfOk result (λ rest. MatchOption rest (text.now ≡ [])
         (λ after. IsAfterFirst language text.now after.now)) }
     ensures fault { IfErr result (IsBorrowedOf (FaultIn language nesting_limit text.now)) }
+    ensures span { IfErr result (HasSpan language text.now) }
     ensures memory { IfErr result IsRefusal }
 {
     match language {
@@ -89,6 +92,7 @@ fn after_piece<'a>(
         (λ after. IsAfterFirst (spec_language.Language.Version version) text.now after.now)) }
     ensures fault { IfErr result
         (IsBorrowedOf (FaultIn (spec_language.Language.Version version) nesting_limit text.now)) }
+    ensures span { IfErr result (HasSpan (spec_language.Language.Version version) text.now) }
     ensures memory { IfErr result IsRefusal }
 {
     let mut builder = DescriptionBuilder::new(alloc);
@@ -105,6 +109,7 @@ fn after_directive<'a>(text: &'a str) -> Result<Option<&'a str>, BorrowedParseEr
         (λ after. IsAfterFirst spec_language.Language.Strftime text.now after.now)) }
     ensures fault { IfErr result
         (IsBorrowedOf (FaultIn spec_language.Language.Strftime nesting_limit text.now)) }
+    ensures span { IfErr result (HasSpan spec_language.Language.Strftime text.now) }
     ensures memory { IfErr result IsRefusal }
 {
     match after_first_directive(text) {

@@ -1,5 +1,7 @@
 //! One modifier of a head.
 
+ghost use Rattle.std.specs.Result.{IfErr};
+ghost use Rattle.timefd_language.specs.Spans.{SpansVersion};
 ghost use Rattle.timefd_parse.specs.ReadModifiers.{ReadsModifier};
 
 use timefd_fault::{Fault, Rule};
@@ -19,7 +21,8 @@ pub struct Modifier<'a> {
 /// nor a colon.
 #[inline(always)]
 pub fn read_modifier<'a>(text: &'a str) -> Result<Option<(Modifier<'a>, &'a str)>, Fault<'a>>
-    ensures { ReadsModifier text.now result }
+    ensures modifier { ReadsModifier text.now result }
+    ensures span { IfErr result (SpansVersion text.now) }
 {
     let (key, after) = cut(text, Class::Key);
     let Some(assigned) = after_colon(after) else {
@@ -29,6 +32,7 @@ pub fn read_modifier<'a>(text: &'a str) -> Result<Option<(Modifier<'a>, &'a str)
         return Err(Fault {
             rule: Rule::InvalidModifier(key),
             remaining: text.len(),
+            len: key.len(),
         });
     };
     let (value, rest) = cut(assigned, Class::Word);
@@ -36,12 +40,14 @@ pub fn read_modifier<'a>(text: &'a str) -> Result<Option<(Modifier<'a>, &'a str)
         return Err(Fault {
             rule: Rule::InvalidModifier(""),
             remaining: text.len(),
+            len: 1,
         });
     }
     if value.is_empty() {
         return Err(Fault {
             rule: Rule::InvalidModifier(""),
             remaining: after.len(),
+            len: 1,
         });
     }
     let modifier = Modifier {

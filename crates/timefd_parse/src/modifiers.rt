@@ -1,11 +1,14 @@
 //! What the modifiers of a head set, read one at a time.
 
-ghost use Rattle.std.specs.Prelude.{ℕ, ◌≡◌, ◌++◌, ◌∷◌, [], List, Option, option_map};
+ghost use Rattle.std.specs.Prelude.{ℕ, ◌≡◌, ◌++◌, ◌∷◌, [], IfSome, List, Option, option_map};
+ghost use Rattle.std.specs.Result.{IfErr};
+ghost use Rattle.timefd_component.specs.Tree.{Text};
 ghost use Rattle.timefd_language.specs.Bytes.{is_version_three};
 ghost use Rattle.timefd_parse.specs.Checked.{keys_of};
 ghost use Rattle.timefd_language.specs.Head.{Placed};
 ghost use Rattle.timefd_language.specs.Lookup.{key_for};
-ghost use Rattle.timefd_parse.specs.ReadModifiers.{IsPlaced};
+ghost use Rattle.timefd_language.specs.Spans.{SpansVersion};
+ghost use Rattle.timefd_parse.specs.ReadModifiers.{IsPlaced, StandsIn};
 ghost use Rattle.timefd_language.specs.Values.{key_in};
 
 use crate::modifier::Modifier;
@@ -45,10 +48,12 @@ impl<'a> Modifiers<'a> {
     /// Takes the next modifier of a bracket with this name.
     #[inline(never)]
     pub fn take(&mut self, version: DescriptionVersion, name: Option<Name>, modifier: Modifier<'a>)
-        ensures { (total : ℕ) (ps : List Placed) (p : Placed) → Checks (is_version_three version)
+        ensures checks { (total : ℕ) (ps : List Placed) (p : Placed) → Checks (is_version_three version)
             name total self.old ps
             → IsPlaced total modifier.entry p → Checks (is_version_three version) name total
             self.new (ps ++ p ∷ []) }
+        ensures span { (text : Text) → StandsIn text modifier.entry
+            → IfSome self.old.fault (SpansVersion text) → IfSome self.new.fault (SpansVersion text) }
     {
         if self.fault.is_some() {
             return;
@@ -69,21 +74,24 @@ impl<'a> Modifiers<'a> {
         name: Option<Name>,
         modifier: Modifier<'a>,
     ) -> Result<(Key, Setting), Fault<'a>>
-        ensures { (total : ℕ) (ps : List Placed) (p : Placed) → Checks (is_version_three version)
+        ensures checks { (total : ℕ) (ps : List Placed) (p : Placed) → Checks (is_version_three version)
             name total self.now ps
             → self.now.fault ≡ None → IsPlaced total modifier.entry p
             → ChecksOne (is_version_three version) name total result ps p }
+        ensures span { (text : Text) → StandsIn text modifier.entry → IfErr result (SpansVersion text) }
     {
         let Some(key) = known_key(version, name, modifier.key) else {
             return Err(Fault {
                 rule: Rule::InvalidModifier(modifier.key),
                 remaining: modifier.key_remaining,
+                len: modifier.key.len(),
             });
         };
         if version.is_strict() && self.positions.of(key).is_some() {
             return Err(Fault {
                 rule: Rule::DuplicateModifier(key.spelling()),
                 remaining: modifier.key_remaining,
+                len: modifier.key.len(),
             });
         }
         match setting_of(key, version, modifier.value) {
@@ -91,6 +99,7 @@ impl<'a> Modifiers<'a> {
             None => Err(Fault {
                 rule: Rule::InvalidModifier(modifier.value),
                 remaining: modifier.value_remaining,
+                len: modifier.value.len(),
             }),
         }
     }

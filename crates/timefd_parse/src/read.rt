@@ -12,7 +12,10 @@ ghost use Rattle.timefd_fault.specs.ReadErrors.{IsInvalid};
 ghost use Rattle.timefd_fault.specs.ReadErrors.{IsFault, MemoryOr};
 ghost use Rattle.timefd_items.specs.Builder.{built};
 ghost use Rattle.timefd_fault.specs.Faults.{fault, unclosed_bracket};
-ghost use Rattle.timefd_component.specs.Tree.{literal};
+ghost use Rattle.timefd_component.specs.Tree.{Text, literal};
+ghost use Rattle.timefd_language.specs.Spans.{SpansVersion};
+ghost use Rattle.timefd_parse.specs.FirstPiece.{EndsWith};
+ghost use Rattle.timefd_parse.specs.Spans.{HasByteAt};
 
 use crate::building::{add, pack};
 use crate::fast::bare::bare;
@@ -24,7 +27,7 @@ use std::alloc::Global;
 use timefd_fault::{Fault, ReadError, Rule};
 use timefd_items::{BorrowedFormatItem, DescriptionBuilder};
 use timefd_language::description_version::DescriptionVersion;
-use timefd_language::text::{Class, Start, cut, cut_run, escaped, start_of};
+use timefd_language::text::{Class, Start, cut, cut_run, escaped, first_len, start_of};
 
 /// The run that a text begins with.
 #[inline(always)]
@@ -38,12 +41,14 @@ fn run<'a>(version: DescriptionVersion, text: &'a str) -> (&'a str, &'a str)
 /// A `]` outside nested descriptions, where version 3 needs an escape.
 fn closing<'a>(version: DescriptionVersion, text: &'a str) -> Result<(&'a str, &'a str), Fault<'a>>
     requires { BeginsClosing text.now }
-    ensures { (limit : ℕ) → ReadsEscape version limit 0 text.now result }
+    ensures escape { (limit : ℕ) → ReadsEscape version limit 0 text.now result }
+    ensures span { IfErr result (SpansVersion text.now) }
 {
     if let DescriptionVersion::Three = version {
         return Err(Fault {
             rule: Rule::UnescapedBracket,
             remaining: text.len(),
+            len: 1,
         });
     }
     Ok(text.split_at(1))
@@ -56,25 +61,27 @@ fn backslash<'a>(
     following: &'a str,
 ) -> Result<(&'a str, &'a str), Fault<'a>>
     requires { text.now ≡ 92 ∷ following.now }
-    ensures { (limit n : ℕ) → ReadsEscape version limit n text.now result }
+    ensures escape { (limit n : ℕ) → ReadsEscape version limit n text.now result }
+    ensures span { IfErr result (SpansVersion text.now) }
 {
     if let DescriptionVersion::One = version {
         return Ok(run(version, text));
     }
-    match escaped(following) {
-        Some((byte, rest)) => Ok((byte, rest)),
-        None => {
-            let remaining = if following.is_empty() {
-                1
-            } else {
-                following.len()
-            };
-            Err(Fault {
-                rule: Rule::InvalidEscape,
-                remaining,
-            })
-        }
+    if let Some((byte, rest)) = escaped(following) {
+        return Ok((byte, rest));
     }
+    if following.is_empty() {
+        return Err(Fault {
+            rule: Rule::InvalidEscape,
+            remaining: 1,
+            len: 1,
+        });
+    }
+    Err(Fault {
+        rule: Rule::InvalidEscape,
+        remaining: following.len(),
+        len: first_len(following),
+    })
 }
 
 /// In version 1 the second of two opening brackets, and what follows it.
@@ -93,13 +100,15 @@ fn doubled<'a>(version: DescriptionVersion, inside: &'a str) -> Option<(&'a str,
 /// bracket.
 fn enclosed<'a>(error: ReadError<'a>, start: usize) -> ReadError<'a>
     ensures fault { IsEnclosed start error.entry result }
+    ensures span { (text : Text) → HasByteAt text start → MemoryOr (SpansVersion text) error.entry
+        → MemoryOr (SpansVersion text) result }
     ensures invalid { IsInvalid error.entry → IsInvalid result }
 {
     match error {
         ReadError::Invalid(
             Fault {
                 rule: Rule::UnclosedBracket,
-                remaining: _,
+                ..
             },
         ) => unclosed(start),
         error => error,
@@ -109,22 +118,26 @@ fn enclosed<'a>(error: ReadError<'a>, start: usize) -> ReadError<'a>
 /// The fault of a bracket that is never closed.
 fn unclosed<'a>(start: usize) -> ReadError<'a>
     ensures fault { MemoryOr (λ f. IsFault start f (fault unclosed_bracket 0)) result }
+    ensures span { (text : Text) → HasByteAt text start → MemoryOr (SpansVersion text) result }
     ensures invalid { IsInvalid result }
 {
     ReadError::Invalid(Fault {
         rule: Rule::UnclosedBracket,
         remaining: start,
+        len: 1,
     })
 }
 
 /// The fault of an opening bracket that would nest a description too deep.
 fn too_deep<'a>(remaining: usize) -> ReadError<'a>
     ensures fault { MemoryOr (λ f. IsFault remaining f (fault too_highly_nested 0)) result }
+    ensures span { (text : Text) → HasByteAt text remaining → MemoryOr (SpansVersion text) result }
     ensures invalid { IsInvalid result }
 {
     ReadError::Invalid(Fault {
         rule: Rule::NestedTooDeep,
         remaining,
+        len: 1,
     })
 }
 
@@ -148,6 +161,7 @@ pub fn next_piece<'a, const BUILDS: bool>(
     ensures next { ReadsNext version BUILDS limit around text.now (built builder.old)
         (built builder.new) result }
     ensures invalid { IsFalse BUILDS → IfErr result IsInvalid }
+    ensures span { IfErr result (MemoryOr (SpansVersion text.now)) }
     ensures some { IfErr result (λ _. 0 < length text.now) }
 {
     match start_of(text) {
@@ -192,6 +206,7 @@ pub fn members<'a, const BUILDS: bool>(
     ensures members { ReadsMembers version BUILDS limit around text.now (built builder.old)
         (built builder.new) result }
     ensures invalid { IsFalse BUILDS → IfErr result IsInvalid }
+    ensures span { IfErr result (MemoryOr (SpansVersion text.now)) }
     ensures some { IfErr result (λ _. 0 < length text.now) }
 {
     let mut count = 0;
@@ -224,6 +239,8 @@ fn nested<'a, const BUILDS: bool>(
     ensures nested { ReadsNested version BUILDS limit around start text.now (built builder.old)
         (built builder.new) result }
     ensures invalid { IsFalse BUILDS → IfErr result IsInvalid }
+    ensures span { (whole : Text) → HasByteAt whole start → EndsWith whole (91 ∷ text.now)
+        → IfErr result (MemoryOr (SpansVersion whole)) }
 {
     if around == limit {
         return Err(too_deep(text.len() + 1));
@@ -254,6 +271,7 @@ fn bracket<'a, const BUILDS: bool>(
     ensures piece { ReadsPiece version BUILDS limit around (91 ∷ inside.now) (built builder.old)
         (built builder.new) result }
     ensures invalid { IsFalse BUILDS → IfErr result IsInvalid }
+    ensures span { IfErr result (MemoryOr (SpansVersion (91 ∷ inside.now))) }
 {
     if let Some((component, rest)) = with_modifiers(version, inside) {
         return Ok((component_piece::<BUILDS>(component), rest));
@@ -314,6 +332,7 @@ pub fn items<'a>(
 ) -> Result<Vec<BorrowedFormatItem<'a>>, ReadError<'a>>
     requires { IsFalse (is_version_three version) }
     ensures items { ReadsItems version limit text.now result }
+    ensures span { IfErr result (MemoryOr (SpansVersion text.now)) }
     ensures some { IfErr result (λ _. 0 < length text.now) }
 {
     let mut builder = DescriptionBuilder::new(alloc);

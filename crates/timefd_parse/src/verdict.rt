@@ -1,9 +1,9 @@
 //! What a closed bracket is, or the fault of the first rule that it breaks.
 
-ghost use Rattle.std.specs.Prelude.{ℕ, ◌≡◌, ◌+◌, ◌≤◌, ◌∷◌, [], List, None, length, IfErr, IsFalse, IsTrue};
+ghost use Rattle.std.specs.Prelude.{ℕ, ◌≡◌, ◌+◌, ◌≤◌, ◌∷◌, [], List, None, length, IfErr, IfSome, IsFalse, IsTrue};
 ghost use Rattle.timefd_language.specs.Bytes.{is_version_three};
 ghost use Rattle.timefd_items.specs.Builder.{built};
-ghost use Rattle.timefd_component.specs.Tree.{Tree};
+ghost use Rattle.timefd_component.specs.Tree.{Text, Tree};
 ghost use Rattle.timefd_language.specs.Head as spec;
 ghost use Rattle.timefd_language.specs.Head.{placed};
 ghost use Rattle.timefd_language.specs.Values.{format};
@@ -11,7 +11,9 @@ ghost use Rattle.timefd_language.specs.Verdict as rules;
 ghost use Rattle.timefd_language.specs.Verdict.{PlacedDescription};
 ghost use Rattle.timefd_parse.specs.Checked.{ShowsFault};
 ghost use Rattle.timefd_parse.specs.HeadVerdicts.{IsVerdict, placing};
-ghost use Rattle.timefd_fault.specs.ReadErrors.{IsInvalid};
+ghost use Rattle.timefd_fault.specs.ReadErrors.{IsInvalid, MemoryOr};
+ghost use Rattle.timefd_language.specs.Spans.{SpansVersion};
+ghost use Rattle.timefd_parse.specs.Spans.{BracketStands, SpansRefusal};
 ghost use Rattle.timefd_parse.specs.Pieces.{IsBuilt};
 ghost use Rattle.timefd_parse.specs.Judged.{ShowsNested, Judged, packed};
 
@@ -58,23 +60,28 @@ fn optional<'a, const BUILDS: bool>(
         → Judged span.start (is_version_three version) BUILDS base (built builder.new) result
         (rules.optional_verdict (is_version_three version) h parts position) }
     ensures invalid { IsFalse BUILDS → IfErr result IsInvalid }
+    ensures span { (text : Text) → BracketStands text nested span
+        → IfErr result (MemoryOr (SpansVersion text)) }
 {
     if nested.count == 0 {
         return Err(ReadError::Invalid(Fault {
             rule: Rule::MissingDescription,
             remaining: span.end,
+            len: 1,
         }));
     }
     if nested.count > 1 {
         return Err(ReadError::Invalid(Fault {
             rule: Rule::SeveralDescriptions,
             remaining: nested.remaining,
+            len: 1,
         }));
     }
     if !version.is_strict() {
         return Err(ReadError::Invalid(Fault {
             rule: Rule::OptionalItem,
             remaining: span.start,
+            len: 1,
         }));
     }
     if !BUILDS {
@@ -99,17 +106,21 @@ fn first<'a, const BUILDS: bool>(
         → Judged span.start (is_version_three version) BUILDS base (built builder.new) result
         (rules.first_verdict (is_version_three version) h parts position) }
     ensures invalid { IsFalse BUILDS → IfErr result IsInvalid }
+    ensures span { (text : Text) → BracketStands text nested span
+        → IfErr result (MemoryOr (SpansVersion text)) }
 {
     if !version.is_strict() {
         return Err(ReadError::Invalid(Fault {
             rule: Rule::FirstItem,
             remaining: span.start,
+            len: 1,
         }));
     }
     if nested.count == 0 {
         return Err(ReadError::Invalid(Fault {
             rule: Rule::MissingAlternative,
             remaining: span.end,
+            len: 1,
         }));
     }
     if !BUILDS {
@@ -121,8 +132,10 @@ fn first<'a, const BUILDS: bool>(
 
 /// The fault of nested descriptions where they may not be.
 fn placing_fault(nests: bool, nested: Nested, span: Span) -> Option<Fault<'static>>
-    ensures { (parts : List PlacedDescription) → ShowsNested span.start nested parts
+    ensures fault { (parts : List PlacedDescription) → ShowsNested span.start nested parts
         → ShowsFault span.start result (placing nests parts) }
+    ensures span { (text : Text) → BracketStands text nested span
+        → IfSome result (SpansVersion text) }
 {
     if nested.count == 0 {
         return None;
@@ -131,6 +144,7 @@ fn placing_fault(nests: bool, nested: Nested, span: Span) -> Option<Fault<'stati
         return Some(Fault {
             rule: Rule::MissingSpace,
             remaining: nested.remaining,
+            len: 1,
         });
     }
     if nests {
@@ -139,6 +153,7 @@ fn placing_fault(nests: bool, nested: Nested, span: Span) -> Option<Fault<'stati
     Some(Fault {
         rule: Rule::NestedInComponent,
         remaining: span.start,
+        len: 1,
     })
 }
 
@@ -158,6 +173,8 @@ pub fn verdict<'a, const BUILDS: bool>(
         → Judged span.start (is_version_three version) BUILDS base (built builder.new) result
         (rules.verdict (is_version_three version) h parts position) }
     ensures invalid { IsFalse BUILDS → IfErr result IsInvalid }
+    ensures span { (text : Text) → BracketStands text nested span
+        → SpansRefusal text head.now.verdict → IfErr result (MemoryOr (SpansVersion text)) }
 {
     if let Some(fault) = placing_fault(head.nests, nested, span) {
         return Err(ReadError::Invalid(fault));

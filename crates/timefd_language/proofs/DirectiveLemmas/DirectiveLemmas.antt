@@ -1,10 +1,11 @@
 -- Directives, read one at a time.
-use Rattle.std.proofs.Common.{◌≡◌, ℕ, ◌+◌, ◌<◌, true, append-nil, append_assoc, List, [], ◌∷◌, ◌++◌, Option, Some, None, MatchOption, length, map, get_or, drop, refl, sym, ap, ◌∙◌, subst, arith, length-append, IsTrue, IsUtf8}
+use Rattle.std.proofs.Common.{◌≡◌, ℕ, ◌+◌, ◌<◌, ◌≤◌, lit<, true, append-nil, append_assoc, List, [], ◌∷◌, ◌++◌, Option, Some, None, MatchOption, length, map, get_or, drop, refl, sym, ap, ◌∙◌, subst, arith, length-append, IsTrue, IsUtf8}
 use Rattle.std.proofs.lemmas.Bool.{both_ways}
 use Rattle.std.proofs.lemmas.List.{map-append}
 use Rattle.std.proofs.lemmas.Bool.Decides.{nat_tests}
 use Rattle.std.specs.Borrow.{Bor}
 use Rattle.std.specs.Char.{is_ascii}
+use Rattle.std.specs.Prelude.{chars}
 use Rattle.timefd_modifier.specs.declared.enums.Padding.{Padding}
 use Rattle.timefd_node_list.specs.declared.item.borrowed_format_item.BorrowedFormatItem.{BorrowedFormatItem}
 use Rattle.timefd_fault.specs.Faults.{Fault}
@@ -25,13 +26,17 @@ use Rattle.timefd_fault.specs.declared.parse_error.ParseError.{ParseError}
 use Rattle.timefd_fault.specs.declared.parse_error.ParseError.TheVariants as reported
 use Rattle.timefd_fault.specs.declared.borrowed_fault.BorrowedFault.{BorrowedFault}
 use Rattle.timefd_fault.specs.declared.borrowed_parse_error.BorrowedParseError.{BorrowedParseError}
-use Rattle.timefd_fault.specs.BorrowedFaults.{to_borrowed_fault, IsBorrowed, IsBorrowedOf, IsMemory, IsOwned, Lends}
+use Rattle.timefd_fault.specs.declared.borrowed_parse_error.BorrowedParseError.TheVariants.{Invalid, Memory}
+use Rattle.timefd_fault.specs.BorrowedFaults.{to_borrowed_fault, IsBorrowed, IsBorrowedOf, IsLent, IsMemory, IsOwned, Lends, LendsSpan}
 use Rattle.timefd_fault.proofs.BorrowedLemmas.{Assigned, borrowed_none, borrowed_of, borrowed_one}
 use Rattle.timefd_fault.specs.ReadErrors.{IsInvalid}
 use Rattle.timefd_fault.proofs.OwnedLemmas.{owned_of}
 use Rattle.timefd_language.specs.Fault.{raised}
 use Rattle.timefd_fault.specs.Words.{expected_escape}
 use Rattle.timefd_language.specs.Cut.{IsCut}
+use Rattle.timefd_language.specs.declared.language.Language.TheVariants as languages
+use Rattle.timefd_language.specs.Spans.{HasSpan, IsSpanned, SpansStrftime, first_len, strftime_extent}
+use Rattle.timefd_language.proofs.SpanLemmas.{spanned, spans_after, spans_byte, spans_character}
 use Rattle.timefd_language.specs.Directives.StrftimeReading.{MayFollow, BeginsWithFlag, BeginsWithPiece, Leads, LeadsTo, HasItems, IsStrftimeFaultAt, IsStrftimeFaultIn, IsRestOf}
 use Rattle.timefd_fault.specs.RuleKinds.{rule_kind}
 use Rattle.timefd_fault.specs.ReadErrors.{IsFault, MemoryOr}
@@ -100,8 +105,9 @@ pub directive_unknown : (after rest : Text) (padding : Option Padding) (bad : co
     → BeginsWithFlag after padding rest → 0 < length rest
     → ((f : Flag) → item_of f (get_or rest 0 0) ≡ None)
     → rule_kind bad.rule ≡ unknown_kind (get_or rest 0 0) → bad.remaining ≡ length rest
+    → bad.len ≡ first_len (chars rest) → bad.len ≤ length rest
     → IsStrftimeFaultAt (percent ∷ after) bad
-directive_unknown after rest padding bad h some none kind position =
+directive_unknown after rest padding bad h some none kind position len within =
     let e : rest ≡ get_or rest 0 0 ∷ drop 1 rest = first_and_rest rest some in (
       unknown h.0 (get_or rest 0 0) (drop 1 rest),
       (h.1, is_after h.0 (get_or rest 0 0) rest (drop 1 rest) e h.4, none h.0),
@@ -111,30 +117,48 @@ directive_unknown after rest padding bad h some none kind position =
         position =
             omega (arith, position, ap length h.3, length-append (flag_text h.0) rest);
       },
+      spans_character strftime_extent (percent ∷ after) (percent ∷ flag_text h.0) rest bad
+          (ap (λ t. percent ∷ t) h.3) refl position len within,
     )
+
+-- at the end: the `%`, or nothing
+cut_short_spans : (f : Flag) (bad : code_fault.Fault)
+    → cut_index f + bad.remaining ≡ 1 + length (flag_text f) → bad.len ≡ bad.remaining
+    → SpansStrftime (percent ∷ flag_text f) bad
+unfolding chars
+cut_short_spans unflagged bad at len =
+    spans_byte strftime_extent (percent ∷ []) [] percent [] bad refl (lit< tt) refl
+    (omega (arith, at)) (omega (arith, at, len))
+cut_short_spans (flagged b) bad at len =
+    spans_character strftime_extent (percent ∷ b ∷ []) (percent ∷ b ∷ []) [] bad refl refl
+    (omega (arith, at)) (omega (arith, at, len)) (omega (arith, at, len))
 
 pub directive_cut_short : (after rest : Text) (padding : Option Padding) (bad : code_fault.Fault)
     → BeginsWithFlag after padding rest → rest ≡ []
     → rule_kind bad.rule ≡ expected_escape
     → ((f : Flag) → flag_padding f ≡ padding
     → cut_index f + bad.remaining ≡ 1 + length (flag_text f))
-    → IsStrftimeFaultAt (percent ∷ after) bad
-directive_cut_short after rest padding bad h none kind position = (
-  cut_short h.0,
-  h.1,
-  ap (λ t. percent ∷ t) (h.3 ∙ ap (λ t. flag_text h.0 ++ t) none ∙ append-nil (flag_text h.0)),
-  record {
-    kind = sym kind;
-    position =
-        omega (
-          arith,
-          position h.0 h.2,
-          ap length h.3,
-          length-append (flag_text h.0) rest,
-          ap length none,
-        );
-  },
-)
+    → bad.len ≡ bad.remaining → IsStrftimeFaultAt (percent ∷ after) bad
+directive_cut_short after rest padding bad h none kind position len =
+    let whole : percent ∷ after ≡ percent ∷ flag_text h.0 =
+    ap (λ t. percent ∷ t) (h.3 ∙ ap (λ t. flag_text h.0 ++ t) none ∙ append-nil (flag_text h.0)) in (
+      cut_short h.0,
+      h.1,
+      whole,
+      record {
+        kind = sym kind;
+        position =
+            omega (
+              arith,
+              position h.0 h.2,
+              ap length h.3,
+              length-append (flag_text h.0) rest,
+              ap length none,
+            );
+      },
+      subst (λ t. SpansStrftime t bad) (sym whole)
+          (cut_short_spans h.0 bad (position h.0 h.2) len),
+    )
 
 -- Runs.
 
@@ -254,6 +278,7 @@ fault_after text rest done f before bad =
       bad.1,
       w.2 ∙ ap (λ t. directives_text w.0 ++ t) bad.2,
       subst (λ (t : Text). IsFault (length t) f (ill_fault bad.0)) bad.2 bad.3,
+      spans_after strftime_extent text (directives_text w.0) rest f w.2 bad.4,
     )
 
 pub counted_fault : (text rest : Text) (n : ℕ) (f : code_fault.Fault) → CountsTo text n rest
@@ -317,6 +342,19 @@ pub borrowed_strftime_refused : (text : Text) (e : ReadError) (r : BorrowedParse
 borrowed_strftime_refused text e r f h is borrowed has =
     borrowed_one (StrftimeFaultOf text) (length text) f
     (λ g other. (one text).one_fault g f other has) e r (whole text e h) is borrowed
+
+-- the borrowed fault ends after what is at fault
+
+pub spanned_strftime_fault : (text : Text) (f : code_fault.Fault) (b : BorrowedFault)
+    → SpansStrftime text f → IsLent (length text) f b → IsSpanned languages.Strftime text b
+spanned_strftime_fault text f b = spanned strftime_extent languages.Strftime text f b (λ k. refl)
+
+pub spanned_strftime : (text : Text) (e : ReadError) (r : BorrowedParseError)
+    → MemoryOr (IsStrftimeFaultIn text) e → LendsSpan (length text) e r → HasSpan languages.Strftime text r
+spanned_strftime text e (Memory m) h lent = tt
+spanned_strftime text errors.Memory (Invalid b) h lent = absurd lent
+spanned_strftime text (errors.Invalid f) (Invalid b) h lent =
+    spanned_strftime_fault text f b h.6 lent
 
 -- an error other than lack of memory is a fault
 pub is_invalid : (e : ReadError) → (e ≡ errors.Memory → ⊥) → IsInvalid e

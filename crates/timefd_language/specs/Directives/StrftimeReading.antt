@@ -13,6 +13,7 @@ use Rattle.timefd_language.specs.Letters.{Flag, unflagged, flagged}
 use Rattle.timefd_language.specs.Directives.LetterMeaning.{flag_padding}
 use Rattle.timefd_language.specs.Directives.PieceMeaning.{piece_tree}
 use Rattle.timefd_fault.specs.ReadErrors.{IsFault}
+use Rattle.timefd_language.specs.Spans.{SpansStrftime}
 use Rattle.timefd_language.specs.Strftime.{percent, is_flag, is_plain, flag_text, IsFlag, Directives, AreDirectives, directives_text, directive_items, SpellsStrftime, IllDirective, ill_text, ill_fault, IsIll}
 
 -- Steps.
@@ -63,7 +64,7 @@ HasItems text n = (list : List Tree) × SpellsStrftime text list × (n ≡ lengt
 -- the text begins with something that isn't a directive, and this is its fault
 abbrev pub IsStrftimeFaultAt : Text → Fault → Type 0
 IsStrftimeFaultAt text f = (ill : IllDirective) × IsIll ill × (text ≡ ill_text ill)
-    × IsFault (length text) f (ill_fault ill)
+    × IsFault (length text) f (ill_fault ill) × SpansStrftime text f
 
 -- the text begins with the piece, and the rest follows it
 pub record BeginsWithPiece (text : Text) (piece : StrftimePiece) (rest : Text) : Type 0 where
@@ -80,4 +81,4 @@ abbrev pub IsStrftimeFaultIn : Text → Fault → Type 0
 IsStrftimeFaultIn text f =
     (front : Directives) × (ill : IllDirective) × AreDirectives front × IsIll ill
     × (text ≡ directives_text front ++ ill_text ill)
-    × IsFault (length (ill_text ill)) f (ill_fault ill)
+    × IsFault (length (ill_text ill)) f (ill_fault ill) × SpansStrftime text f

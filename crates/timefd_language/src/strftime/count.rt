@@ -8,12 +8,14 @@ ghost use Rattle.timefd_language.specs.Strftime.{SpellsStrftime, StrftimeFaultOf
 ghost use Rattle.timefd_fault.specs.RuleKinds.{rule_kind};
 ghost use Rattle.timefd_fault.specs.BorrowedFaults.{HasShortWords, to_borrowed_fault};
 ghost use Rattle.timefd_fault.specs.Placed.{IsPlaced};
+ghost use Rattle.timefd_language.specs.declared.language.Language.TheVariants.{Strftime};
+ghost use Rattle.timefd_language.specs.Spans.{IsSpanned};
 ghost use Rattle.timefd_language.specs.Directives.StrftimeReading.{BeginsPiece, HasItems, IsStrftimeFaultAt, IsStrftimeFaultIn, LeadsTo};
 
 use crate::strftime::directive::{cut_short, unknown};
 use crate::strftime::letter::letter_of;
 use crate::strftime::text::{PieceStart, cut_flag, piece_start_of};
-use crate::text::{Class, cut, tail};
+use crate::text::{Class, cut, first_len, tail};
 use timefd_fault::BorrowedFault;
 use timefd_fault::read_error::Fault;
 
@@ -29,6 +31,9 @@ pub fn count_strftime<'a>(s: &'a str) -> Result<usize, BorrowedFault<'a>>
     // quotes are short, so that its sentence can be written.
     ensures position { IfErr result (λ f. IsPlaced s.now (to_borrowed_fault f)) }
     ensures words { IfErr result (λ f. HasShortWords (rule_kind f.rule)) }
+
+    // The fault ends after the character at fault.
+    ensures span { IfErr result (IsSpanned Strftime s.now) }
 {
     match count_of(s) {
         Ok(count) => Ok(count),
@@ -68,6 +73,7 @@ pub fn after_directive<'a>(after: &'a str) -> Result<&'a str, Fault<'a>>
         None => Err(Fault {
             rule: unknown(text),
             remaining: text.len(),
+            len: first_len(text),
         }),
     }
 }

@@ -12,7 +12,7 @@ ghost use Rattle.timefd_language.specs.Directives.StrftimeReading.{ReadsDirectiv
 use crate::strftime::letter::{Letter, letter_of, padded};
 use crate::strftime::piece::StrftimePiece;
 use crate::strftime::text::cut_flag;
-use crate::text::tail;
+use crate::text::{first_len, tail};
 use timefd_fault::{Fault, Rule};
 use timefd_modifier::Padding;
 
@@ -30,6 +30,7 @@ pub fn directive<'a>(after: &'a str) -> Result<(StrftimePiece<'a>, &'a str), Fau
         None => Err(Fault {
             rule: unknown(text),
             remaining: text.len(),
+            len: first_len(text),
         }),
     }
 }
@@ -39,6 +40,7 @@ pub fn cut_short<'a>(padding: Option<Padding>) -> Fault<'a>
     ensures kind { rule_kind result.rule ≡ expected_escape }
     ensures position { (f : Flag) → flag_padding f ≡ padding
         → cut_index f + result.remaining ≡ 1 + length (flag_text f) }
+    ensures len { result.len ≡ result.remaining }
 {
     let remaining = match padding {
         Some(_) => 0,
@@ -47,6 +49,7 @@ pub fn cut_short<'a>(padding: Option<Padding>) -> Fault<'a>
     Fault {
         rule: Rule::InvalidEscape,
         remaining,
+        len: remaining,
     }
 }
 

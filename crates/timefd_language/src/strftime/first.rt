@@ -4,6 +4,8 @@ ghost use Rattle.std.specs.Prelude.{◌≡◌, [], IfOk, MatchOption, MatchResul
 ghost use Rattle.std.specs.Result.{IfErr};
 ghost use Rattle.timefd_fault.specs.BorrowedFaults.{to_borrowed_fault};
 ghost use Rattle.timefd_language.specs.Strftime.{StrftimeFaultOf};
+ghost use Rattle.timefd_language.specs.declared.language.Language.TheVariants.{Strftime};
+ghost use Rattle.timefd_language.specs.Spans.{IsSpanned};
 ghost use Rattle.timefd_language.specs.Directives.StrftimeReading.{IsStrftimeFaultAt, LeadsTo};
 
 use crate::strftime::count::{after_directive, after_run};
@@ -19,6 +21,7 @@ pub fn after_first_directive<'a>(s: &'a str) -> Result<Option<&'a str>, Borrowed
     ensures found { IfOk result (λ rest. MatchOption rest (s.now ≡ [])
         (λ unread. LeadsTo s.now unread.now)) }
     ensures fault { IfErr result (λ f. StrftimeFaultOf s.now (to_borrowed_fault f)) }
+    ensures span { IfErr result (IsSpanned Strftime s.now) }
 {
     match after_first(s) {
         Ok(rest) => Ok(rest),

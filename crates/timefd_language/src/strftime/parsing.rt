@@ -13,6 +13,8 @@ ghost use Rattle.timefd_language.specs.Directives.StrftimeAnswers.{IsStrftimeFau
 ghost use Rattle.timefd_fault.specs.ReadErrors.{MemoryOr};
 ghost use Rattle.timefd_language.specs.Directives.StrftimeReading.{IsStrftimeFaultIn};
 ghost use Rattle.timefd_language.specs.Strings.{are_of_strings};
+ghost use Rattle.timefd_language.specs.declared.language.Language.TheVariants.{Strftime};
+ghost use Rattle.timefd_language.specs.Spans.{HasSpan};
 
 use crate::strftime::count::count_strftime;
 use crate::strftime::piece::next_strftime_piece;
@@ -86,6 +88,9 @@ pub fn parse_strftime_all_borrowed<'a>(
     ensures position { IfErr result (IsBorrowedOf (IsPlaced s.now)) }
     ensures words { IfErr result HasShortFault }
 
+    // The fault ends after the character at fault.
+    ensures span { IfErr result (HasSpan Strftime s.now) }
+
     // No item is a literal of bytes, not even in the list of a composite letter.
     ensures strings { IfOk result (λ items. IsTrue (are_of_strings items.items)) }
 
@@ -105,6 +110,7 @@ pub fn strftime_error<'a>(error: ReadError<'a>, text: &'a str) -> BorrowedParseE
     ensures fault { IsBorrowedOf (StrftimeFaultOf text.now) result }
     ensures spelled { (list : List Tree) → SpellsStrftime text.now list → IsMemory result }
     ensures refused { (f : spec.Fault) → StrftimeFaultOf text.now f → IsBorrowed f result }
+    ensures span { HasSpan Strftime text.now result }
 {
     match error {
         ReadError::Memory => match count_strftime(text) {

@@ -15,7 +15,7 @@ returns-clause-judges c =
     let f = c.in-Refused.fault in
     let e = c.write_sentence-excerpt.result in
     subst (λ l. Judges l c.args.text.now
-    (record { status = REFUSED; value = f.index; sentence_len = e.len; written = e.written }))
+    (record { status = REFUSED; value = f.start; sentence_len = e.len; written = e.written }))
     c.from_number.ensures
     (refusal c.from_number.result c.args.text.now f e.len e.written v.says v.spelled v.faulty
     v.no_language v.empty)

@@ -10,6 +10,8 @@ use Rattle.timefd_language.specs.Broken.{FaultOf}
 use Rattle.timefd_language.specs.Grammar.{Spells}
 use Rattle.timefd_parse.proofs.ParseLemmas.{items_output}
 use Rattle.timefd_parse.proofs.ReadLemmas.{not_three}
+use Rattle.timefd_language.specs.declared.language.Language.TheVariants.{Version}
+use Rattle.timefd_language.specs.Spans.{HasSpan}
 use Rattle.timefd_parse.proofs.borrowing.parse_all_borrowed.Goals as goal
 
 pub returns-in-Ok-clause-refused : goal.returns-in-Ok-clause-refused
@@ -59,7 +61,13 @@ returns-in-Ok-parse_items c =
       refused = c.in-Ok-parse_items.ensures.refused;
       position = tt;
       words = tt;
+      span = tt;
       strings = found.2.1;
       reserved = tt;
       empty = λ e. refl;
     }
+
+pub returns-in-Err-clause-span : goal.returns-in-Err-clause-span
+returns-in-Err-clause-span c =
+    subst (λ v. HasSpan (Version v) c.args.s.now c.in-Err.error) (sym c.in-Three.is)
+    c.in-Err.ensures.span

@@ -7,6 +7,7 @@ use Rattle.timefd_language.specs.declared.description_version.DescriptionVersion
 use Rattle.timefd_parse.specs.Read.{IsFaultIn, IsNext, PiecesToEnd}
 use Rattle.timefd_parse.proofs.CountingLemmas.{continues_within, counted_more, fewer_more}
 use Rattle.timefd_parse.proofs.ReadLemmas.{continues_more, items_end, items_fault, memory_or, end_outside}
+use Rattle.timefd_parse.proofs.NestedSpanLemmas.{continues_spans}
 use Rattle.timefd_parse.proofs.counting.bytes_beside.Goals as goal
 
 pub returns-in_err-piece-clause-bytes : goal.returns-in_err-piece-clause-bytes
@@ -52,3 +53,9 @@ pieces-preserved c =
       fewer_more (built c.pieces.builder) (built c.next_piece.new.builder) c.pieces.invariant.2
           c.in-Some.piece next.0 next.2 c.pieces.invariant.5,
     )
+
+pub returns-in_err-piece-clause-span : goal.returns-in_err-piece-clause-span
+returns-in_err-piece-clause-span c =
+    let p = err_from_is_err_and c.from_residual.result c.from_residual.ensures.1 in
+    rw (p.1, p.2) (continues_spans _ _ _ _ c.pieces.rest.now _ c.in_err-piece.field-0.0
+    c.pieces.invariant.3 c.in_err-piece.ensures.span)

@@ -65,6 +65,7 @@ returns-in-Ok c =
       memory = λ lax. absurd (true≢false lax);
       empty = λ e. c.in-Err-finish.ensures.empty
           (none_built _ m.0 m.3 (none_read _ _ _ _ _ m.1 e));
+      span = tt;
     }
 
 pub returns : goal.returns
@@ -76,4 +77,5 @@ returns c =
       refused = c.error_of.ensures.refused;
       memory = λ lax. absurd (true≢false lax);
       empty = λ e. absurd (omega (arith, c.in-Err.ensures.some, ap length e));
+      span = c.error_of.ensures.span c.in-Err.ensures.span;
     }

@@ -1,6 +1,6 @@
 use Rattle.std.proofs.Common.{◌∙◌, [], length, ap, arith}
 use Rattle.timefd_parse.proofs.AmountLemmas.{lax-amount, borrowed-in-version}
-use Rattle.timefd_parse.proofs.ParseLemmas.{is_amount, borrowed_assigned, borrowed_spelled, borrowed_refusal, borrowed_refused}
+use Rattle.timefd_parse.proofs.ParseLemmas.{is_amount, borrowed_assigned, borrowed_spelled, borrowed_refusal, borrowed_refused, spanned_version}
 use Rattle.timefd_parse.proofs.counting.count_items.Goals as goal
 
 pub returns-in-Ok : goal.returns-in-Ok
@@ -14,9 +14,10 @@ returns c =
     let bad = c.in-Err.ensures.count in
     record {
       found = tt;
-      fault = borrowed-in-version _ _ _ _ (borrowed_assigned _ _ _ _ _ bad c.borrowed.ensures);
-      spelled = λ list s. borrowed_spelled _ _ _ _ _ list bad c.borrowed.ensures s;
-      refused = λ f h. borrowed_refused _ _ _ _ _ f bad c.in-Err.ensures.invalid c.borrowed.ensures h;
-      memory = λ lax. borrowed_refusal _ _ _ _ _ bad c.in-Err.ensures.invalid c.borrowed.ensures;
+      fault = borrowed-in-version _ _ _ _ (borrowed_assigned _ _ _ _ _ bad c.borrowed.ensures.lends);
+      spelled = λ list s. borrowed_spelled _ _ _ _ _ list bad c.borrowed.ensures.lends s;
+      refused = λ f h. borrowed_refused _ _ _ _ _ f bad c.in-Err.ensures.invalid c.borrowed.ensures.lends h;
+      memory = λ lax. borrowed_refusal _ _ _ _ _ bad c.in-Err.ensures.invalid c.borrowed.ensures.lends;
       empty = λ e. absurd (omega (arith, c.in-Err.ensures.some, ap length e));
+      span = spanned_version _ _ _ _ c.in-Err.ensures.span c.borrowed.ensures.span;
     }

@@ -3,6 +3,7 @@ use Rattle.std.proofs.lemmas.Result.{err_from_is_err_and}
 use Rattle.timefd_items.specs.Builder.{built}
 use Rattle.timefd_parse.specs.Read.{IsFaultIn, IsNext, PiecesToEnd}
 use Rattle.timefd_parse.proofs.ReadLemmas.{continues_more, items_end, items_fault, memory_or, end_outside}
+use Rattle.timefd_parse.proofs.NestedSpanLemmas.{continues_spans}
 use Rattle.timefd_parse.proofs.counting.count_pieces.Goals as goal
 
 pub returns-in_err-after-clause-count : goal.returns-in_err-after-clause-count
@@ -33,3 +34,9 @@ pieces-preserved c =
       continues_more _ _ _ _ _ _ _ _ c.pieces.invariant.3 next.1.leads,
       omega (arith, c.pieces.invariant.4, length-append c.pieces.invariant.2 (next.0 ∷ [])),
     )
+
+pub returns-in_err-after-clause-span : goal.returns-in_err-after-clause-span
+returns-in_err-after-clause-span c =
+    let p = err_from_is_err_and c.from_residual.result c.from_residual.ensures.1 in
+    rw (p.1, p.2) (continues_spans _ _ _ _ c.pieces.rest.now _ c.in_err-after.field-0.0
+    c.pieces.invariant.3 c.in_err-after.ensures.span)

@@ -1,13 +1,17 @@
-use Rattle.std.proofs.Common.{◌≡◌, ◌+◌, ◌<◌, length, refl, sym, subst, arith, false-eqb, eqb-true}
+use Rattle.std.proofs.Common.{◌≡◌, ◌+◌, ◌<◌, ◌∷◌, [], None, length, lit<, refl, sym, subst, arith, false-eqb, eqb-true}
 use Rattle.std.proofs.lemmas.Result.{err_from_is_err_and}
 use Rattle.timefd_language.specs.Broken.{name_wanted_index}
 use Rattle.timefd_parse.specs.ReadModifiers.{ReadsWord}
 use Rattle.timefd_parse.proofs.HeadLemmas.{no_modifiers, nameless_fault, head_found, modifier_fault, modifiers_step, name_wanted_none, name_wanted_some}
+use Rattle.timefd_language.specs.Bytes.{left}
+use Rattle.timefd_language.specs.Spans.{SpansVersion, version_extent}
+use Rattle.timefd_language.proofs.SpanLemmas.{spans_after, spans_byte}
+use Rattle.timefd_parse.proofs.SpanLemmas.{head_joined, stands_in, unfaulted, white_spans}
 use Rattle.timefd_parse.proofs.head.read_head.Goals as goal
 use Rattle.timefd_parse.proofs.head.read_head.Goals.{then-is_empty-2, else-is_empty-2}
 
-pub returns-then-is_empty : goal.returns-then-is_empty
-returns-then-is_empty c = λ v limit n none.
+pub returns-then-is_empty-clause-head : goal.returns-then-is_empty-clause-head
+returns-then-is_empty-clause-head c = λ v limit n none.
     let position : c.if-is_empty-2.remaining + name_wanted_index c.cut.result.0.now ≡ length
     c.args.inside.now + 1 =
     elim c.if-is_empty-2.branch [
@@ -30,21 +34,29 @@ modifiers-init c = record {
   text = c.cut-2.ensures.utf8;
   before =
       no_modifiers _ _ _ _ c.cut-2.ensures.parts.stops c.requires;
+  span = unfaulted 0 _ (SpansVersion (left ∷ c.args.inside.now)) (c.requires None 0).fault;
 }
 
 pub returns-in_err-modifier : goal.returns-in_err-modifier
 returns-in_err-modifier c =
     let p = err_from_is_err_and c.from_residual.result c.from_residual.ensures.1 in
     rw (p.1, p.2)
-    (λ v limit n none. modifier_fault v limit n _ _ _ _ _ _ _ _ _ _ _ _ c.cut.ensures.parts
-    c.cut-2.ensures.parts (omega (arith, false-eqb _ 0 c.if-is_empty.ensures))
-    c.modifiers.invariant.before
-    c.cut-in-modifiers.ensures.parts c.in_err-modifier.ensures)
+    (record {
+      head = λ v limit n none. modifier_fault v limit n _ _ _ _ _ _ _ _ _ _ _ _ c.cut.ensures.parts
+          c.cut-2.ensures.parts (omega (arith, false-eqb _ 0 c.if-is_empty.ensures))
+          c.modifiers.invariant.before
+          c.cut-in-modifiers.ensures.parts c.in_err-modifier.ensures.modifier;
+      span = spans_after version_extent (left ∷ c.args.inside.now) _ c.cut-in-modifiers.result.1.now _
+          (head_joined _ _ _ _ _ _ _ _ _ c.cut.ensures.parts.whole c.cut-2.ensures.parts.whole
+          c.modifiers.invariant.before.whole c.cut-in-modifiers.ensures.parts.whole)
+          c.in_err-modifier.ensures.span;
+      fault = c.modifiers.invariant.span;
+    })
 
-pub returns-in_default : goal.returns-in_default
-returns-in_default c =
+pub returns-in_default-clause-head : goal.returns-in_default-clause-head
+returns-in_default-clause-head c =
     let none = subst (ReadsWord c.cut-in-modifiers.result.1.now) c.in_default.is
-    c.in_ok-modifier.ensures in
+    c.in_ok-modifier.ensures.modifier in
     let some : 0 < length c.cut-2.result.0.now =
     omega (arith, false-eqb _ 0 c.if-is_empty.ensures) in (
       head_found _ _ _ _ _ _ _ _ _ _ c.cut.ensures.parts c.cut-2.ensures.parts some
@@ -56,10 +68,32 @@ returns-in_default c =
 pub modifiers-preserved : goal.modifiers-preserved
 modifiers-preserved c =
     let one = subst (ReadsWord c.cut-in-modifiers.result.1.now) c.in-Some.is
-    c.in_ok-modifier.ensures in
+    c.in_ok-modifier.ensures.modifier in
     record {
       text = one.3;
       before =
           modifiers_step _ _ _ _ _ _ _ _ _ _ _ c.modifiers.invariant.before
-          c.cut-in-modifiers.ensures.parts one.1 one.2 c.take.ensures;
+          c.cut-in-modifiers.ensures.parts one.1 one.2 c.take.ensures.checks;
+      span = c.take.ensures.span (left ∷ c.args.inside.now)
+          (stands_in (left ∷ c.args.inside.now) _ _ _ _ _
+          (head_joined _ _ _ _ _ _ _ _ _ c.cut.ensures.parts.whole c.cut-2.ensures.parts.whole
+          c.modifiers.invariant.before.whole c.cut-in-modifiers.ensures.parts.whole) one.1 one.2)
+          c.modifiers.invariant.span;
     }
+
+pub returns-then-is_empty-clause-span : goal.returns-then-is_empty-clause-span
+returns-then-is_empty-clause-span c =
+    elim c.if-is_empty-2.branch [
+      | then-is_empty-2 w ↦ spans_byte version_extent (left ∷ c.args.inside.now) [] left
+          c.args.inside.now _ refl (lit< tt) refl (omega (arith, w.remaining-is)) refl
+      | else-is_empty-2 w ↦ white_spans c.args.inside.now _ _ _ c.cut.ensures.parts
+          (omega (arith, false-eqb _ 0 w.if-is_empty-2.ensures)) (omega (arith, w.remaining-is)) refl
+          refl
+    ]
+
+pub returns-then-is_empty-clause-fault : goal.returns-then-is_empty-clause-fault
+returns-then-is_empty-clause-fault c =
+    unfaulted 0 _ (SpansVersion (left ∷ c.args.inside.now)) (c.requires None 0).fault
+
+pub returns-in_default-clause-fault : goal.returns-in_default-clause-fault
+returns-in_default-clause-fault c = c.modifiers.invariant.span

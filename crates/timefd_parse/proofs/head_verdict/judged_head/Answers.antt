@@ -3,9 +3,9 @@ use Rattle.timefd_language.specs.Bytes.{left, is_version_three}
 use Rattle.timefd_parse.specs.HeadVerdicts.{IsVerdict}
 use Rattle.timefd_parse.proofs.head_verdict.judged_head.Goals as goal
 
-pub returns : goal.returns
-returns c =
-    let e = c.in_ok-head.ensures in
+pub returns-clause-head : goal.returns-clause-head
+returns-clause-head c =
+    let e = c.in_ok-head.ensures.head in
     let text = left ∷ c.args.inside.now in (
       (
         e.0.0,
@@ -14,7 +14,7 @@ returns c =
           is = e.0.1.is;
           verdict = subst
               (λ n. IsVerdict (is_version_three c.args.version) (length text) e.0.0 n c.head_verdict.result)
-              (sym c.nests.ensures) (c.head_verdict.ensures (length text) e.0.0 e.0.1.shows);
+              (sym c.nests.ensures) (c.head_verdict.ensures.verdict (length text) e.0.0 e.0.1.shows);
           whole = e.0.1.whole;
           all_white = e.0.1.all_white;
           stops_white = e.0.1.stops_white;
@@ -24,3 +24,8 @@ returns c =
       ),
       e.1,
     )
+
+pub returns-clause-span : goal.returns-clause-span
+returns-clause-span c =
+    let e = c.in_ok-head.ensures.head in
+    c.head_verdict.ensures.span (left ∷ c.args.inside.now) _ e.0.0 e.0.1 c.in_ok-head.ensures.fault

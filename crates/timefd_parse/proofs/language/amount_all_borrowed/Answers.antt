@@ -4,6 +4,7 @@ use Rattle.timefd_component.specs.Tree.{Tree}
 use Rattle.timefd_fault.specs.BorrowedFaults.{HasShortFault, IsBorrowed, IsBorrowedOf, IsMemory}
 use Rattle.timefd_parse.specs.Language.{SpellsIn, FaultIn, amount, takes_memory}
 use Rattle.timefd_fault.specs.Placed.{IsPlaced}
+use Rattle.timefd_language.specs.Spans.{HasSpan}
 use Rattle.timefd_language.proofs.PlacedLemmas.{borrowed_more}
 use Rattle.timefd_language.proofs.ShortWords.{short_borrowed}
 use Rattle.timefd_parse.proofs.AmountLemmas.{builds_nothing, if_err_more, placed_in, short_in}
@@ -92,3 +93,13 @@ returns-in-Strftime-clause-position c =
     (placed_in c.args.language c.args.limit c.args.text.now c.utf8.text)) c.strftime_amount.result
     (subst (λ l. IfErr c.strftime_amount.result (IsBorrowedOf (FaultIn l c.args.limit c.args.text.now)))
     (sym c.in-Strftime.is) c.strftime_amount.ensures.fault)
+
+pub returns-in-Version-clause-span : goal.returns-in-Version-clause-span
+returns-in-Version-clause-span c =
+    subst (λ l. IfErr c.version_amount.result (HasSpan l c.args.text.now)) (sym c.in-Version.is)
+    c.version_amount.ensures.span
+
+pub returns-in-Strftime-clause-span : goal.returns-in-Strftime-clause-span
+returns-in-Strftime-clause-span c =
+    subst (λ l. IfErr c.strftime_amount.result (HasSpan l c.args.text.now)) (sym c.in-Strftime.is)
+    c.strftime_amount.ensures.span

@@ -1,25 +1,28 @@
-use Rattle.std.proofs.Common.{ap, length, refl, sym, arith, false-eqb, eqb-true}
+use Rattle.std.proofs.Common.{◌≡◌, ◌∙◌, ◌∷◌, ◌++◌, [], ap, length, lit<, refl, sym, arith, false-eqb, eqb-true}
 use Rattle.timefd_language.specs.Bytes.{is_key_byte, is_word_byte}
-use Rattle.timefd_parse.proofs.ModifierLemmas.{one_or_more, no_word, word_of_parts, after_length, misfit_no_colon, misfit_no_key, misfit_no_value}
+use Rattle.timefd_parse.proofs.ModifierLemmas.{one_or_more, no_word, word_of_parts, after_length, empty, misfit_no_colon, misfit_no_key, misfit_no_value}
+use Rattle.timefd_language.specs.Bytes.{colon}
+use Rattle.timefd_language.specs.Spans.{version_extent}
+use Rattle.timefd_language.proofs.SpanLemmas.{some_extent, spans_byte, spans_bytes}
 use Rattle.timefd_parse.proofs.modifier.read_modifier.Goals as goal
 
-pub returns-then-is_empty : goal.returns-then-is_empty
-returns-then-is_empty c = no_word _ _ _ c.cut.ensures.parts c.in_default.ensures
+pub returns-then-is_empty-clause-modifier : goal.returns-then-is_empty-clause-modifier
+returns-then-is_empty-clause-modifier c = no_word _ _ _ c.cut.ensures.parts c.in_default.ensures
     (eqb-true _ 0 (sym c.if-is_empty.ensures))
 
-pub returns-in_default : goal.returns-in_default
-returns-in_default c =
+pub returns-in_default-clause-modifier : goal.returns-in_default-clause-modifier
+returns-in_default-clause-modifier c =
     misfit_no_colon _ _ _ _ c.cut.ensures.parts c.in_default.ensures
     (omega (arith, false-eqb _ 0 c.if-is_empty.ensures))
     (record { kind = refl; position = omega arith })
 
-pub returns-then-is_empty-2 : goal.returns-then-is_empty-2
-returns-then-is_empty-2 c =
+pub returns-then-is_empty-2-clause-modifier : goal.returns-then-is_empty-2-clause-modifier
+returns-then-is_empty-2-clause-modifier c =
     misfit_no_key _ _ _ _ _ _ _ c.cut.ensures.parts c.in-Some.ensures c.cut-2.ensures.parts
     (eqb-true _ 0 (sym c.if-is_empty-2.ensures)) (record { kind = refl; position = omega arith })
 
-pub returns-then-is_empty-3 : goal.returns-then-is_empty-3
-returns-then-is_empty-3 c =
+pub returns-then-is_empty-3-clause-modifier : goal.returns-then-is_empty-3-clause-modifier
+returns-then-is_empty-3-clause-modifier c =
     misfit_no_value _ _ _ _ _ _ _ c.cut.ensures.parts c.in-Some.ensures c.cut-2.ensures.parts
     (omega (arith, false-eqb _ 0 c.if-is_empty-2.ensures))
     (eqb-true _ 0 (sym c.if-is_empty-3.ensures))
@@ -32,8 +35,8 @@ returns-then-is_empty-3 c =
       );
     })
 
-pub returns : goal.returns
-returns c = (
+pub returns-clause-modifier : goal.returns-clause-modifier
+returns-clause-modifier c = (
   _,
   word_of_parts _ _ _ _ _ _ c.cut.ensures.parts c.in-Some.ensures c.cut-2.ensures.parts,
   record {
@@ -47,3 +50,26 @@ returns c = (
   },
   c.cut-2.ensures.utf8,
 )
+
+pub returns-in_default-clause-span : goal.returns-in_default-clause-span
+returns-in_default-clause-span c =
+    let parts = c.cut.ensures.parts in
+    spans_bytes c.args.text.now [] c.cut.result.0.now c.cut.result.1.now _ parts.whole
+    (ap length parts.whole) refl
+    (some_extent c.cut.result.0.now (omega (arith, false-eqb _ 0 c.if-is_empty.ensures)))
+
+pub returns-then-is_empty-2-clause-span : goal.returns-then-is_empty-2-clause-span
+returns-then-is_empty-2-clause-span c =
+    let whole : c.args.text.now ≡ colon ∷ c.in-Some.assigned.now =
+    c.cut.ensures.parts.whole
+    ∙ ap (λ t. t ++ c.cut.result.1.now)
+    (empty c.cut.result.0.now (eqb-true _ 0 (sym c.if-is_empty-2.ensures)))
+    ∙ c.in-Some.ensures in
+    spans_byte version_extent c.args.text.now [] colon c.in-Some.assigned.now _ whole (lit< tt) refl
+    (ap length whole) refl
+
+pub returns-then-is_empty-3-clause-span : goal.returns-then-is_empty-3-clause-span
+returns-then-is_empty-3-clause-span c =
+    spans_byte version_extent c.args.text.now c.cut.result.0.now colon c.in-Some.assigned.now _
+    (c.cut.ensures.parts.whole ∙ ap (λ t. c.cut.result.0.now ++ t) c.in-Some.ensures) (lit< tt) refl
+    (ap length c.in-Some.ensures) refl

@@ -2,11 +2,12 @@ use Rattle.std.proofs.Common.{◌+◌, ◌≤◌, ◌==◌, IsTrue, not, rules, 
 use Rattle.std.proofs.lemmas.Result.{err_from_is_err_and}
 use Rattle.timefd_items.specs.Builder.{built}
 use Rattle.timefd_component.specs.Tree.{pack}
-use Rattle.timefd_language.specs.Bytes.{left, is_version_three}
+use Rattle.timefd_language.specs.Bytes.{left, right, is_version_three}
 use Rattle.timefd_parse.specs.Read.{IsFaultIn, IsNext}
 use Rattle.timefd_parse.proofs.BuildingLemmas.{built_none, built_more, built_there, built_within}
 use Rattle.timefd_parse.proofs.ReadLemmas.{continues_more, members_end, items_fault, memory_or, closing_outside, fault_outside, doubled_leads, opening_leads, utf8_after, cut_shorter}
 use Rattle.timefd_parse.proofs.NestedLemmas.{bracket_begins, after_within, no_bracket, no_closing, accepted, refuses, never_closed, at_limit, inner_fails, inner_cut_off, inner_read, nested_shorter, nested_fault, one_more}
+use Rattle.timefd_parse.proofs.NestedSpanLemmas.{bracket_at, continues_spans, first_at, inside_spans, nested_at, nested_within, rest_at}
 use Rattle.timefd_parse.proofs.read.+read.Goals as goal
 
 pub bracket-returns-in-Some-clause-piece : goal.bracket-returns-in-Some-clause-piece
@@ -18,13 +19,14 @@ bracket-returns-in-Some-clause-piece g t c = (
 
 pub bracket-inner-init : goal.bracket-inner-init
 bracket-inner-init g t c =
-    let e = c.in_ok-head.ensures in (
+    let e = c.in_ok-head.ensures.head in (
       e.1,
       omega (arith, after_within e.0.1),
       [],
       bracket_begins e.0.1,
       refl,
       built_none _ _,
+      λ some. absurd (omega (arith, some)),
     )
 
 pub nested-returns-then-around-limit-clause-nested : goal.nested-returns-then-around-limit-clause-nested
@@ -97,6 +99,9 @@ bracket-inner-preserved g t c =
       one_more c.inner.invariant.3 c.in-Opening.ensures n.1 c.cut.ensures.parts,
       omega (arith, c.inner.invariant.4, length-append c.inner.invariant.2 (n.0 ∷ [])),
       built_more _ _ _ _ _ _ c.inner.invariant.5 n.2,
+      λ some. first_at c.inner.invariant.3 _
+          (λ more. c.inner.invariant.6 (omega (arith, more, c.inner.invariant.4)))
+          c.in-Opening.ensures,
     )
 
 pub bracket-verdict-requires : goal.bracket-verdict-requires
@@ -140,6 +145,8 @@ members-returns-in_err-piece g t c =
           c.in_err-piece.field-0.0 c.in_err-piece.ensures.next;
       some = omega (arith, c.in_err-piece.ensures.some, c.pieces.invariant.1);
       invalid = c.in_err-piece.ensures.invalid;
+      span = continues_spans _ _ _ _ c.pieces.rest.now _ c.in_err-piece.field-0.0 c.pieces.invariant.3
+          c.in_err-piece.ensures.span;
     })
 
 pub members-returns-in_default : goal.members-returns-in_default
@@ -155,6 +162,7 @@ members-returns-in_default g t c =
           c.pieces.invariant.4 c.pieces.invariant.5 next.1;
       some = tt;
       invalid = λ lax. tt;
+      span = tt;
     }
 
 pub members-overflow_add-count : goal.members-overflow_add-count
@@ -186,9 +194,10 @@ next_piece-returns-in_err-literal-in-Closing-2 g t c =
     let p = err_from_is_err_and c.from_residual.result c.from_residual.ensures.1 in
     rw (p.1, p.2) (record {
       next = fault_outside _ _ _ _ _ (omega (arith, c.if-around-gt0.false))
-          (c.in_err-literal-in-Closing-2.ensures c.args.limit);
+          (c.in_err-literal-in-Closing-2.ensures.escape c.args.limit);
       some = omega (arith, ap length c.in-Closing.ensures);
       invalid = λ lax. tt;
+      span = c.in_err-literal-in-Closing-2.ensures.span;
     })
 
 pub next_piece-returns-in_ok-literal-in-Closing-2 : goal.next_piece-returns-in_ok-literal-in-Closing-2
@@ -196,11 +205,12 @@ next_piece-returns-in_ok-literal-in-Closing-2 g t c = record {
   next = (
     _,
     closing_outside _ _ _ _ _ _ (omega (arith, c.if-around-gt0.false))
-        (c.in_ok-literal-in-Closing-2.ensures c.args.limit),
+        (c.in_ok-literal-in-Closing-2.ensures.escape c.args.limit),
     (refl, λ three. refl),
   );
   some = tt;
   invalid = λ lax. tt;
+  span = tt;
 }
 
 pub next_piece-returns-in-Some : goal.next_piece-returns-in-Some
@@ -213,6 +223,7 @@ next_piece-returns-in-Some g t c = record {
   );
   some = tt;
   invalid = λ lax. tt;
+  span = tt;
 }
 
 pub next_piece-returns-in-Some-doubled : goal.next_piece-returns-in-Some-doubled
@@ -226,6 +237,7 @@ next_piece-returns-in-Some-doubled g t c =
       );
       some = tt;
       invalid = λ lax. tt;
+      span = tt;
     }
 
 pub next_piece-returns-in_ok-literal-in-Backslash : goal.next_piece-returns-in_ok-literal-in-Backslash
@@ -233,11 +245,12 @@ next_piece-returns-in_ok-literal-in-Backslash g t c =
     record {
       next = (
         _,
-        c.in_ok-literal-in-Backslash.ensures c.args.limit c.args.around,
+        c.in_ok-literal-in-Backslash.ensures.escape c.args.limit c.args.around,
         (refl, λ three. refl),
       );
       some = tt;
       invalid = λ lax. tt;
+      span = tt;
     }
 
 pub next_piece-returns-in-Other : goal.next_piece-returns-in-Other
@@ -247,4 +260,41 @@ next_piece-returns-in-Other g t c = record {
   some = tt;
   invalid =
       λ lax. tt;
+  span = tt;
 }
+
+-- Which bytes are at fault.
+
+pub nested-returns-then-around-limit-clause-span : goal.nested-returns-then-around-limit-clause-span
+nested-returns-then-around-limit-clause-span g t c = λ whole at ends.
+    c.too_deep.ensures.span whole (nested_at whole _ ends)
+
+pub nested-returns-in-Err-clause-span : goal.nested-returns-in-Err-clause-span
+nested-returns-in-Err-clause-span g t c = λ whole at ends.
+    c.enclosed.ensures.span whole at (inside_spans whole _ _ ends c.in-Err.ensures.span)
+
+pub nested-returns-in_default-clause-span : goal.nested-returns-in_default-clause-span
+nested-returns-in_default-clause-span g t c = λ whole at ends. c.unclosed.ensures.span whole at
+
+pub bracket-returns-in_err-following-in-Opening-clause-span : goal.bracket-returns-in_err-following-in-Opening-clause-span
+bracket-returns-in_err-following-in-Opening-clause-span g t c =
+    let p = err_from_is_err_and c.from_residual-in_err-following-in-Opening.result
+    c.from_residual-in_err-following-in-Opening.ensures.1 in
+    rw (p.1, p.2) (c.in_err-following-in-Opening.ensures.span (left ∷ c.args.inside.now)
+    (bracket_at c.args.inside.now _ refl) (nested_within c.inner.invariant.3 _ c.in-Opening.ensures))
+
+pub bracket-returns-in_err-piece-in-Closing-clause-span : goal.bracket-returns-in_err-piece-in-Closing-clause-span
+bracket-returns-in_err-piece-in-Closing-clause-span g t c =
+    let p = err_from_is_err_and c.from_residual-in_err-piece-in-Closing.result
+    c.from_residual-in_err-piece-in-Closing.ensures.1 in
+    rw (p.1, p.2) (c.in_err-piece-in-Closing.ensures.span (left ∷ c.args.inside.now)
+    (record {
+      start = bracket_at c.args.inside.now _ refl;
+      end = rest_at c.inner.invariant.3 right _ c.in-Closing.ensures (lit< tt);
+      first = c.inner.invariant.6;
+    })
+    c.in_ok-head.ensures.span)
+
+pub bracket-returns-in_default-start_of-clause-span : goal.bracket-returns-in_default-start_of-clause-span
+bracket-returns-in_default-start_of-clause-span g t c =
+    c.unclosed.ensures.span (left ∷ c.args.inside.now) (bracket_at c.args.inside.now _ refl)

@@ -1,9 +1,11 @@
-use Rattle.std.proofs.Common.{◌≡◌, List, length, ◌≤◌, ◌+◌, ◌*◌, ◌==◌, not}
+use Rattle.std.proofs.Common.{◌≡◌, List, ◌∷◌, length, ◌<◌, ◌≤◌, ◌+◌, ◌*◌, ◌==◌, not}
 use denote.Text.{Utf8}
 use denote.Shadow.{shadow}
 use Rattle.timefd_items.specs.Builder.{built}
 use Rattle.timefd_component.specs.Tree.{Tree}
+use Rattle.timefd_language.specs.Bytes.{left}
 use Rattle.timefd_parse.specs.Pieces.{IsBuilt}
+use Rattle.timefd_parse.specs.Spans.{HasByteAt}
 use Rattle.timefd_parse.proofs.ReadLemmas.{Continues}
 use Rattle.timefd_parse.proofs.NestedLemmas.{BracketBefore}
 use Rattle.timefd_parse.proofs.read.+read.Given as goal
@@ -26,7 +28,7 @@ invariant-bracket-inner g l =
     shadow (Utf8 l.rest) × (l.count + length l.rest ≤ length l.inside) × (read : List Tree)
     × BracketBefore l.version l.limit l.around l.inside l.head l.remaining read l.rest
     × (l.count ≡ length read) × IsBuilt (not (g.row.BUILDS == 0)) (built l.initial.builder)
-    (built l.builder) read
+    (built l.builder) read × (0 < l.count → HasByteAt (left ∷ l.inside) l.remaining)
 
 abbrev pub decreases-bracket-inner : goal.decreases-bracket-inner
 decreases-bracket-inner g l = length l.rest

@@ -9,6 +9,7 @@ use Rattle.timefd_parse.specs.Read.{IsFaultIn, IsNext, PiecesToEnd}
 use Rattle.timefd_parse.proofs.BuildingLemmas.{is_leaf, same_leaf}
 use Rattle.timefd_parse.proofs.ReadLemmas.{Continues, continues_more, items_end, items_fault, memory_or, end_outside}
 use Rattle.timefd_language.proofs.StringLemmas.{more_strings}
+use Rattle.timefd_parse.proofs.NestedSpanLemmas.{continues_spans}
 use Rattle.timefd_parse.proofs.read.items.Goals as goal
 
 pub returns-in_err-piece : goal.returns-in_err-piece
@@ -20,6 +21,8 @@ returns-in_err-piece c =
           (λ f is. items_fault _ _ _ _ c.pieces.rest.now _ f c.pieces.invariant.before is)
           c.in_err-piece.field-0.0 c.in_err-piece.ensures.next;
       some = omega (arith, c.in_err-piece.ensures.some, c.pieces.invariant.within);
+      span = continues_spans _ _ _ _ c.pieces.rest.now _ c.in_err-piece.field-0.0
+          c.pieces.invariant.before c.in_err-piece.ensures.span;
     })
 
 pub returns-in_default : goal.returns-in_default
@@ -34,6 +37,7 @@ returns-in_default c =
         c.pieces.invariant.strings,
       );
       some = tt;
+      span = tt;
     }
 
 pub pieces-preserved : goal.pieces-preserved

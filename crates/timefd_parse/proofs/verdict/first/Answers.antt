@@ -6,6 +6,7 @@ use Rattle.timefd_fault.specs.Words.{first_item, expected_alternative}
 use Rattle.timefd_parse.proofs.BuildingLemmas.{is_off, is_on}
 use Rattle.timefd_parse.proofs.VerdictLemmas.{first_lax, first_empty, first_made, parts_none}
 use Rattle.timefd_language.specs.Bytes.{is_version_three}
+use Rattle.timefd_parse.proofs.SpanLemmas.{byte_spans}
 use Rattle.timefd_parse.proofs.verdict.first.Goals as goal
 
 pub returns-then-not-is_strict-clause-tree : goal.returns-then-not-is_strict-clause-tree
@@ -39,3 +40,11 @@ returns-then-not-this-clause-tree g c = λ position h parts base good shows e ar
     base (built c.args.builder.now) (built c.args.builder.now) good shows
     c.if-nested-eq0.false (sym c.if-not-is_strict.ensures) are
     (λ on. absurd (true≢false (sym on ∙ is_off g.row.BUILDS c.if-not-this.true)))
+
+pub returns-then-not-is_strict-clause-span : goal.returns-then-not-is_strict-clause-span
+returns-then-not-is_strict-clause-span g c = λ text stands.
+    byte_spans text _ _ stands.start refl refl refl
+
+pub returns-then-nested-eq0-clause-span : goal.returns-then-nested-eq0-clause-span
+returns-then-nested-eq0-clause-span g c = λ text stands.
+    byte_spans text _ _ stands.end refl refl refl

@@ -6,6 +6,7 @@ use Rattle.timefd_fault.specs.Words.{expected_nested, optional_item}
 use Rattle.timefd_parse.proofs.BuildingLemmas.{is_off, is_on}
 use Rattle.timefd_parse.proofs.VerdictLemmas.{parts_none, parts_one, parts_many, optional_none, optional_many, optional_lax, optional_made}
 use Rattle.timefd_language.specs.Bytes.{is_version_three}
+use Rattle.timefd_parse.proofs.SpanLemmas.{byte_spans}
 use Rattle.timefd_parse.proofs.verdict.optional.Goals as goal
 
 pub returns-then-nested-eq0-clause-tree : goal.returns-then-nested-eq0-clause-tree
@@ -53,3 +54,15 @@ returns-then-not-this-clause-tree g c = λ position h parts base good same shows
     base (built c.args.builder.now) (built c.args.builder.now) good same shows
     (omega (arith, c.if-nested-eq0.false, c.if-nested-gt1.false)) (sym c.if-not-is_strict.ensures) are
     (λ on. absurd (true≢false (sym on ∙ is_off g.row.BUILDS c.if-not-this.true)))
+
+pub returns-then-nested-eq0-clause-span : goal.returns-then-nested-eq0-clause-span
+returns-then-nested-eq0-clause-span g c = λ text stands.
+    byte_spans text _ _ stands.end refl refl refl
+
+pub returns-then-nested-gt1-clause-span : goal.returns-then-nested-gt1-clause-span
+returns-then-nested-gt1-clause-span g c = λ text stands.
+    byte_spans text _ _ (stands.first (omega (arith, c.if-nested-gt1.true))) refl refl refl
+
+pub returns-then-not-is_strict-clause-span : goal.returns-then-not-is_strict-clause-span
+returns-then-not-is_strict-clause-span g c = λ text stands.
+    byte_spans text _ _ stands.start refl refl refl

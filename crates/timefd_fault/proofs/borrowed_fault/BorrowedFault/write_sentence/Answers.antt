@@ -11,6 +11,6 @@ returns c =
     let kind = kind_of c.kind.result in
     subst (λ t. IsExcerpt t c.args.buffer.now c.write_kind.new.buffer c.write_kind.result)
     (ap (sentence_with kind) c.format-index.ensures.text
-    ∙ with_decimal kind c.args.self.now.index
-    ∙ ap (λ k. sentence_at k c.args.self.now.index) c.kind.ensures)
+    ∙ with_decimal kind c.args.self.now.start
+    ∙ ap (λ k. sentence_at k c.args.self.now.start) c.kind.ensures)
     c.write_kind.ensures

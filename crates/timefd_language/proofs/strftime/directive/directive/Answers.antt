@@ -8,7 +8,7 @@ pub returns-in_default : goal.returns-in_default
 returns-in_default c =
     directive_cut_short _ _ _ _ c.cut_flag-padding.ensures.parts
     (none_left _ (omega (arith, c.in_default.len_below, c.as_bytes.ensures.len)))
-    c.cut_short.ensures.kind c.cut_short.ensures.position
+    c.cut_short.ensures.kind c.cut_short.ensures.position c.cut_short.ensures.len
 
 pub returns-in-Some : goal.returns-in-Some
 returns-in-Some c =
@@ -25,4 +25,4 @@ returns-in-None c =
     c.in-None.ensures.letter in
     directive_unknown _ _ _ _ c.cut_flag-padding.ensures.parts
     (omega (arith, c.in-len1-up.len_at_least, c.as_bytes.ensures.len)) none c.unknown.ensures
-    refl
+    refl c.first_len.ensures.len c.first_len.ensures.within

@@ -1,26 +1,27 @@
-use Rattle.std.proofs.Common.{sym, ap, ◌≡◌, ◌∙◌, true, false, is_some}
+use Rattle.std.proofs.Common.{refl, sym, ap, ◌≡◌, ◌∙◌, true, false, is_some}
 use Rattle.std.proofs.lemmas.Bool.{true≢false}
 use Rattle.timefd_language.specs.Lookup.{key_for}
 use Rattle.timefd_parse.specs.Checked.{first_position}
 use Rattle.timefd_parse.proofs.CheckLemmas.{at_unknown, at_again, at_good, at_bad_value, position_known}
 use Rattle.timefd_language.specs.Bytes.{is_version_three}
+use Rattle.timefd_parse.proofs.SpanLemmas.{again_spans, key_spans, value_spans}
 use Rattle.timefd_parse.proofs.modifiers.Modifiers.check.Goals as goal
 use Rattle.timefd_parse.proofs.modifiers.Modifiers.check.Goals.{else-is_strict-via-then-is_strict+else-is_some, else-is_strict-via-else-is_strict}
 
-pub returns-in_default : goal.returns-in_default
-returns-in_default c = λ total ps p checks none is.
+pub returns-in_default-clause-checks : goal.returns-in_default-clause-checks
+returns-in_default-clause-checks c = λ total ps p checks none is.
     at_unknown (is_version_three c.args.version) c.args.name total c.args.modifier ps p is _ c.known_key.ensures
     c.in_default.is
 
-pub returns-then-is_some : goal.returns-then-is_some
-returns-then-is_some c = λ total ps p checks none is.
+pub returns-then-is_some-clause-checks : goal.returns-then-is_some-clause-checks
+returns-then-is_some-clause-checks c = λ total ps p checks none is.
     at_again (is_version_three c.args.version) c.args.name total c.args.modifier ps p is _ _ _ c.known_key.ensures
     c.in-Some.is (sym c.if-is_strict.ensures)
     (position_known _ _ _ _ (checks.positions none (sym c.if-is_strict.ensures) c.in-Some.key)
     (sym (c.if-is_some.ensures ∙ ap is_some c.of.ensures))) c.spelling.ensures
 
-pub returns-in-Some-setting_of : goal.returns-in-Some-setting_of
-returns-in-Some-setting_of c = λ total ps p checks none is.
+pub returns-in-Some-setting_of-clause-checks : goal.returns-in-Some-setting_of-clause-checks
+returns-in-Some-setting_of-clause-checks c = λ total ps p checks none is.
     let new : (is_version_three c.args.version) ≡ true → is_some (first_position (key_for c.in-Some.key).key ps) ≡ false =
     λ exact. elim c.else-is_strict.branch [
       | else-is_strict-via-then-is_strict+else-is_some w ↦ position_known _ _ _ _
@@ -31,8 +32,8 @@ returns-in-Some-setting_of c = λ total ps p checks none is.
     at_good (is_version_three c.args.version) c.args.name total c.args.modifier ps p is _ _ _ _ c.known_key.ensures
     c.in-Some.is new c.setting_of.ensures c.in-Some-setting_of.is
 
-pub returns-in-None : goal.returns-in-None
-returns-in-None c = λ total ps p checks none is.
+pub returns-in-None-clause-checks : goal.returns-in-None-clause-checks
+returns-in-None-clause-checks c = λ total ps p checks none is.
     let new : (is_version_three c.args.version) ≡ true → is_some (first_position (key_for c.in-Some.key).key ps) ≡ false =
     λ exact. elim c.else-is_strict.branch [
       | else-is_strict-via-then-is_strict+else-is_some w ↦ position_known _ _ _ _
@@ -42,3 +43,15 @@ returns-in-None c = λ total ps p checks none is.
     ] in
     at_bad_value (is_version_three c.args.version) c.args.name total c.args.modifier ps p is _ _ _ c.known_key.ensures
     c.in-Some.is new c.setting_of.ensures c.in-None.is
+
+pub returns-in_default-clause-span : goal.returns-in_default-clause-span
+returns-in_default-clause-span c = λ text stands.
+    key_spans text c.args.modifier stands _ refl refl refl
+
+pub returns-then-is_some-clause-span : goal.returns-then-is_some-clause-span
+returns-then-is_some-clause-span c = λ text stands.
+    again_spans text c.args.modifier stands _ refl refl refl
+
+pub returns-in-None-clause-span : goal.returns-in-None-clause-span
+returns-in-None-clause-span c = λ text stands.
+    value_spans text c.args.modifier stands _ refl refl refl

@@ -1,0 +1,162 @@
+-- Which bytes of a text are at fault.
+use Rattle.std.proofs.Common.{◌≡◌, ℕ, zero, suc, ◌+◌, ◌-◌, ◌*◌, ◌<◌, ◌≤◌, Bool, true, List, [], ◌∷◌, ◌++◌, length, drop, min, refl, sym, ap, ◌∙◌, subst, arith, append_assoc, length-append}
+use Rattle.std.specs.Prelude.{chars, cond, nat_lt}
+use Rattle.std.specs.Str.{chars_after, continuation_len, lead_bits}
+use Rattle.std.specs.List.{list_all, prefix_len}
+use Rattle.std.proofs.lemmas.Bool.{and_parts}
+use Rattle.std.proofs.lemmas.Bool.Decides.{nat_tests}
+use Rattle.std.proofs.lemmas.Str.{len_utf8_ascii}
+use Rattle.std.proofs.Math.Seq.{drop-append_seam}
+use Rattle.timefd_component.specs.Tree.{Text}
+use Rattle.timefd_fault.specs.Faults.{Kind}
+use Rattle.timefd_fault.specs.BorrowedFaults.{IsLent}
+use Rattle.timefd_fault.specs.RuleKinds.{rule_kind}
+use Rattle.timefd_fault.specs.declared.read_error.Fault as code_fault
+use Rattle.timefd_fault.specs.declared.borrowed_fault.BorrowedFault.{BorrowedFault}
+use Rattle.timefd_language.specs.Bytes.{is_word_byte, is_key_byte, ZeroOrMore, StopsBefore}
+use Rattle.timefd_language.specs.declared.language.Language.{Language}
+use Rattle.timefd_language.specs.Spans.{one_character, whole_word, whole_key, this_many, modifier_extent, version_extent, extent_of, first_len, measured, IsSpanned, SpansIn, SpansVersion}
+
+-- A text within another.
+
+pub spans_after : (extent : Kind → Extent) (whole front text : Text) (f : code_fault.Fault)
+    → whole ≡ front ++ text → SpansIn extent text f → SpansIn extent whole f
+spans_after extent whole front text f e s = record {
+  before = front ++ s.before;
+  rest = s.rest;
+  whole = e ∙ ap (λ t. front ++ t) s.whole ∙ sym (append_assoc front s.before s.rest);
+  start = s.start;
+  len = s.len;
+  within = s.within;
+}
+
+-- The first character.
+
+after_len : (n c : ℕ) (rest : Text) → n ≡ 0 → c < 128 → first_len (chars_after n c rest) ≡ 1
+after_len zero c [] e ascii = len_utf8_ascii c ascii
+after_len zero c (b ∷ rest) e ascii = len_utf8_ascii c ascii
+after_len (suc n) c rest e ascii = absurd (omega (arith, e))
+
+pub ascii_len : (b : ℕ) (rest : Text) → b < 128 → first_len (chars (b ∷ rest)) ≡ 1
+unfolding chars
+ascii_len b rest ascii =
+    let low : nat_lt b 128 ≡ true = grind (arith, nat_tests) in
+    let none : continuation_len b ≡ 0 =
+    ap (λ t. cond t 0 (cond (nat_lt b 224) 1 (cond (nat_lt b 240) 2 3))) low in
+    let bits : lead_bits b ≡ b =
+    ap (λ t. cond t b (cond (nat_lt b 224) (b - 192) (cond (nat_lt b 240) (b - 224) (b - 240)))) low in
+    after_len (continuation_len b) (lead_bits b) rest none (subst (λ c. c < 128) (sym bits) ascii)
+
+-- Runs.
+
+-- the length of the front of a cut
+pub prefix_cut : (test : ℕ → Bool) (front rest : Text) → ZeroOrMore test front
+    → StopsBefore test rest → prefix_len test (front ++ rest) ≡ length front
+prefix_cut test [] [] passes stops = refl
+prefix_cut test [] (b ∷ rest) passes stops = rw stops refl
+prefix_cut test (b ∷ front) rest passes stops =
+    let both = and_parts (test b) (list_all test front) passes in
+    let more = prefix_cut test front rest both.1 stops in
+    rw both.0 (omega (arith, more))
+
+pub some_extent : (value : Text) → 0 < length value → modifier_extent value ≡ this_many (length value)
+some_extent [] some = absurd (omega arith)
+some_extent (b ∷ value) some = refl
+
+pub no_extent : (value : Text) → length value ≡ 0 → modifier_extent value ≡ one_character
+no_extent [] none = refl
+no_extent (b ∷ value) none = absurd (omega arith)
+
+-- Faults, by what stands there.
+
+-- a byte of ASCII
+pub spans_byte : (extent : Kind → Extent) (text before : Text) (b : ℕ) (rest : Text)
+    (f : code_fault.Fault) → text ≡ before ++ b ∷ rest → b < 128
+    → extent (rule_kind f.rule) ≡ one_character → f.remaining ≡ length (b ∷ rest) → f.len ≡ 1
+    → SpansIn extent text f
+spans_byte extent text before b rest f e ascii is at len = record {
+  before = before;
+  rest = b ∷ rest;
+  whole = e;
+  start = at;
+  len = len ∙ sym (ap (λ x. measured x (b ∷ rest)) is ∙ ascii_len b rest ascii);
+  within = omega (arith, len);
+}
+
+-- any character, or the end
+pub spans_character : (extent : Kind → Extent) (text before rest : Text) (f : code_fault.Fault)
+    → text ≡ before ++ rest → extent (rule_kind f.rule) ≡ one_character → f.remaining ≡ length rest
+    → f.len ≡ first_len (chars rest) → f.len ≤ length rest → SpansIn extent text f
+spans_character extent text before rest f e is at len within = record {
+  before = before;
+  rest = rest;
+  whole = e;
+  start = at;
+  len = len ∙ sym (ap (λ x. measured x rest) is);
+  within = within;
+}
+
+module _ (text before front after : Text) (f : code_fault.Fault)
+    (e : text ≡ before ++ (front ++ after)) (at : f.remaining ≡ length (front ++ after))
+    (len : f.len ≡ length front) where
+  front_within : f.len ≤ length (front ++ after)
+  front_within = omega (arith, len, length-append front after)
+
+  pub spans_word : ZeroOrMore is_word_byte front → StopsBefore is_word_byte after
+      → version_extent (rule_kind f.rule) ≡ whole_word → SpansVersion text f
+  spans_word passes stops is = record {
+    before = before;
+    rest = front ++ after;
+    whole = e;
+    start = at;
+    len = len ∙ sym (ap (λ x. measured x (front ++ after)) is ∙ prefix_cut is_word_byte front after passes stops);
+    within = front_within;
+  }
+
+  pub spans_key : ZeroOrMore is_key_byte front → StopsBefore is_key_byte after
+      → version_extent (rule_kind f.rule) ≡ whole_key → SpansVersion text f
+  spans_key passes stops is = record {
+    before = before;
+    rest = front ++ after;
+    whole = e;
+    start = at;
+    len = len ∙ sym (ap (λ x. measured x (front ++ after)) is ∙ prefix_cut is_key_byte front after passes stops);
+    within = front_within;
+  }
+
+  pub spans_bytes : version_extent (rule_kind f.rule) ≡ this_many (length front) → SpansVersion text f
+  spans_bytes is =
+      let cut : min (length front) (length (front ++ after)) ≡ length front =
+      omega (arith, length-append front after) in
+      record {
+        before = before;
+        rest = front ++ after;
+        whole = e;
+        start = at;
+        len = len ∙ sym (ap (λ x. measured x (front ++ after)) is ∙ cut);
+        within = front_within;
+      }
+
+-- The fault that is borrowed.
+
+pub spanned : (extent : Kind → Extent) (language : Language) (text : Text) (f : code_fault.Fault)
+    (g : BorrowedFault) → ((k : Kind) → extent_of language k ≡ extent k) → SpansIn extent text f
+    → IsLent (length text) f g → IsSpanned language text g
+spanned extent language text f g same s lent =
+    let joined : length text ≡ length s.before + length s.rest =
+    ap length s.whole ∙ length-append s.before s.rest in
+    let start : g.start ≡ length s.before = omega (arith, lent.start, s.start, joined) in
+    let cut : min f.len f.remaining ≡ f.len = omega (arith, s.within, s.start) in
+    let end : g.end ≡ g.start + f.len = lent.end ∙ ap (λ n. g.start + n) cut in
+    let there : drop g.start text ≡ s.rest =
+    ap (λ n. drop n text) start ∙ ap (drop (length s.before)) s.whole
+    ∙ drop-append_seam s.before s.rest in
+    let is : extent_of language (rule_kind g.rule) ≡ extent (rule_kind f.rule) =
+    same (rule_kind g.rule) ∙ ap extent lent.kind in
+    record {
+      end = end
+          ∙ ap (λ n. g.start + n) (s.len ∙ sym (ap (λ x. measured x (drop g.start text)) is
+          ∙ ap (measured (extent (rule_kind f.rule))) there));
+      order = omega (arith, end);
+      within = omega (arith, end, start, joined, s.within);
+    }

@@ -1,0 +1,6 @@
+use Rattle.std.proofs.Common.{refl}
+use Rattle.timefd_parse.proofs.SpanLemmas.{byte_spans}
+use Rattle.timefd_parse.proofs.read.too_deep.Goals as goal
+
+pub returns-clause-span : goal.returns-clause-span
+returns-clause-span c = λ text at. byte_spans text c.args.remaining _ at refl refl refl
