@@ -12,7 +12,7 @@ rows=$(mktemp)
 trap 'rm -f "$rows"' EXIT
 cargo run --release --offline --locked --quiet > "$rows"
 cat "$rows"
-stored=../../crates/timefd_rows/stdin
+stored=../../crates/timefd_test_rows/stdin
 awk -F '\t' '
     NR == FNR { if (sub(/^read-beside-time [0-9] /, "")) stored[$0]; next }
     !($1 " " $2 " " $3 in stored) { print "readings.sh: not in the tests: " $0; missing = 1 }

@@ -165,9 +165,9 @@ def rust_table(name, part):
     constants = "\n".join(rust_constant(*group) for group in own.items())
     words = "{keys_of, rows_at}" if part == "groups" else "{rows_at}"
     return (f"//! {PARTS[part]} of {TITLES[name]}. `tables/write` writes them.\n\n"
-            f"ghost use Rattle.std.specs.Prelude.{{◌≡◌}};\nghost use Rattle.timefd_dialect.specs.Groups.{words};\n"
-            f"ghost use Rattle.timefd_dialect.specs.{module_of(name, part)[1]}.{{{name}_{part}}};\n"
-            "ghost use Rattle.timefd_dialect.specs.Rows.{entries};\n\n"
+            f"ghost use Rattle.std.specs.Prelude.{{◌≡◌}};\nghost use Rattle.timefd_lang_dialect.specs.Groups.{words};\n"
+            f"ghost use Rattle.timefd_lang_dialect.specs.{module_of(name, part)[1]}.{{{name}_{part}}};\n"
+            "ghost use Rattle.timefd_lang_dialect.specs.Rows.{entries};\n\n"
             f"{rust_uses([row for rows in own.values() for row in rows.values()])}{more}{shared}\n{rust_match(name, part)}"
             f"{rust_keys(name) if part == 'groups' else ''}{constants}")
 
@@ -190,7 +190,7 @@ def specified_group(name, key, rows):
 
 
 def variants(path, names):
-    return [f"use Rattle.timefd_dialect.specs.declared.{path}.TheVariants.{{{', '.join(names)}}}"] if names else []
+    return [f"use Rattle.timefd_lang_dialect.specs.declared.{path}.TheVariants.{{{', '.join(names)}}}"] if names else []
 
 
 def specified_uses(groups, shared):
@@ -206,8 +206,8 @@ def specified_uses(groups, shared):
     words = ([] if shared else ["Entry"]) + means + refused + within + (["before", "written", "refused"] if nexts else [])
     uses = ["use Rattle.std.specs.Prelude.{codes, List, [], ◌∷◌}"]
     uses += variants("reason.Reason", reasons) + variants("row.NotBefore", nexts) + variants("row.Range", ranges)
-    uses += ["use Rattle.timefd_dialect.specs.Groups.{Group, under}"] if shared else []
-    return "\n".join(uses + [f"use Rattle.timefd_dialect.specs.Rows.{{{', '.join(words)}}}"]) + "\n"
+    uses += ["use Rattle.timefd_lang_dialect.specs.Groups.{Group, under}"] if shared else []
+    return "\n".join(uses + [f"use Rattle.timefd_lang_dialect.specs.Rows.{{{', '.join(words)}}}"]) + "\n"
 
 
 def specified_table(name, part):
@@ -217,9 +217,9 @@ def specified_table(name, part):
     taken = sorted(shared_name(key) for key in groups if key not in own)
     uses = specified_uses(own, shared=True)
     if following:
-        uses += f"use Rattle.timefd_dialect.specs.{module_of(name, following)[1]}.{{{name}_{following}}}\n"
+        uses += f"use Rattle.timefd_lang_dialect.specs.{module_of(name, following)[1]}.{{{name}_{following}}}\n"
     if taken:
-        uses += f"use Rattle.timefd_dialect.specs.Strftime.{{{', '.join(taken)}}}\n"
+        uses += f"use Rattle.timefd_lang_dialect.specs.Strftime.{{{', '.join(taken)}}}\n"
     end = f"{name}_{following}" if following else "[]"
     listed = "\n    ∷ ".join([specified_group(name, *group) for group in groups.items()] + [end])
     return (f"-- {PARTS[part]} of {TITLES[name]}, by the byte that selects them, the longest first.\n{uses}"
@@ -232,9 +232,9 @@ def rust_rows():
     keys = "".join(f"            Dialect::{camel(name)} => {name}_keys(),\n" for name in NAMES)
     uses = "".join(f"use crate::tables::{name}::{{{name}_keys, {name}_rows}};\n" for name in sorted(NAMES))
     return ("//! The rows of each dialect. `tables/write` writes this file.\n\nghost use Rattle.std.specs.Prelude.{◌≡◌};\n"
-            "ghost use Rattle.timefd_dialect.specs.Groups.{keys_of, rows_at};\n"
-            "ghost use Rattle.timefd_dialect.specs.Rows.{entries};\n"
-            "ghost use Rattle.timefd_dialect.specs.Tables.{groups_of};\n\n"
+            "ghost use Rattle.timefd_lang_dialect.specs.Groups.{keys_of, rows_at};\n"
+            "ghost use Rattle.timefd_lang_dialect.specs.Rows.{entries};\n"
+            "ghost use Rattle.timefd_lang_dialect.specs.Tables.{groups_of};\n\n"
             f"use crate::dialect::Dialect;\nuse crate::row::Row;\n{uses}\nimpl Dialect {{\n"
             "    /// The rows that this byte selects, the longest first.\n"
             "    pub fn rows_at(self, byte: u8) -> &'static [Row]\n"
@@ -247,14 +247,14 @@ def rust_rows():
 
 
 def specified_tables():
-    uses = "".join(f"use Rattle.timefd_dialect.specs.{camel(name)}.{{{name}_groups}}\n" for name in NAMES)
+    uses = "".join(f"use Rattle.timefd_lang_dialect.specs.{camel(name)}.{{{name}_groups}}\n" for name in NAMES)
     rows = "".join(f"groups_of {camel(name)} = {name}_groups\n" for name in NAMES)
     return ("-- The rows of each dialect.\nuse Rattle.std.specs.Prelude.{List, ◌++◌}\n"
-            "use Rattle.timefd_dialect.specs.declared.dialect.Dialect.{Dialect}\n"
-            f"use Rattle.timefd_dialect.specs.declared.dialect.Dialect.TheVariants.{{{', '.join(map(camel, NAMES))}}}\n"
-            "use Rattle.timefd_dialect.specs.Dialects.{leading_of, unknown_rows}\n"
-            "use Rattle.timefd_dialect.specs.Groups.{Group, all_rows}\n"
-            f"use Rattle.timefd_dialect.specs.Rows.{{Entry}}\n{uses}\n"
+            "use Rattle.timefd_lang_dialect.specs.declared.dialect.Dialect.{Dialect}\n"
+            f"use Rattle.timefd_lang_dialect.specs.declared.dialect.Dialect.TheVariants.{{{', '.join(map(camel, NAMES))}}}\n"
+            "use Rattle.timefd_lang_dialect.specs.Dialects.{leading_of, unknown_rows}\n"
+            "use Rattle.timefd_lang_dialect.specs.Groups.{Group, all_rows}\n"
+            f"use Rattle.timefd_lang_dialect.specs.Rows.{{Entry}}\n{uses}\n"
             "-- the rows that a byte selects, in groups\n"
             f"abbrev pub groups_of : Dialect → List Group\n{rows}\n"
             "abbrev pub rows_of : Dialect → List Entry\n"

@@ -9,7 +9,7 @@ import string
 import tomllib
 
 FOLDER = pathlib.Path(__file__).resolve().parent / "dialects"
-CRATE = "crates/timefd_dialect"
+CRATE = "crates/timefd_lang_dialect"
 NAMES = ("python", "c", "gnu", "chrono", "jiff", "ruby", "java", "go", "moment")
 TITLES = {
     "python": "Python", "c": "C", "gnu": "GNU date", "chrono": "chrono", "jiff": "jiff", "ruby": "Ruby", "java": "Java", "go": "Go",

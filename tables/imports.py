@@ -2,7 +2,7 @@
 from component import ALL, BY_MODULE, DEPRECATED, ENDS, MODERN, NAMED, NAMES, TEXTS
 from place import Between, Line, Run, Table
 
-VARIANTS = "use Rattle.timefd_component.specs.declared.component.Component.TheVariants."
+VARIANTS = "use Rattle.timefd_lang_component.specs.declared.component.Component.TheVariants."
 TYPES = "use Rattle.timefd_modifier.specs"
 LAST_ENUM = f"{TYPES}.contracts.enums.TrailingInput"
 

@@ -149,24 +149,24 @@ def types(module):
 
 INNER = "FormatDescriptionV3Inner"
 INNER_FILE = "crates/timefd_items/src/format_description_v3/inner.rt"
-FORMAT = "crates/timefd_format/src"
+FORMAT = "crates/timefd_date_format/src"
 NAME_FILE = "crates/timefd_language/src/name.rt"
-WORDS_FILE = "crates/timefd_diagnosis/src/words.rt"
+WORDS_FILE = "crates/timefd_lint_diagnosis/src/words.rt"
 MATCH = "match component {"
 
 TABLES = [
     *map(types, sorted({it.module for it in ALL})),
-    Table("crates/timefd_component/src/component.rt", Between(("pub enum Component {",), "}"), lambda: variants(ALL)),
+    Table("crates/timefd_lang_component/src/component.rt", Between(("pub enum Component {",), "}"), lambda: variants(ALL)),
     Table(
-        "crates/timefd_component/src/debug.rt", Between(("fn variant_name", MATCH), "    }"),
+        "crates/timefd_lang_component/src/debug.rt", Between(("fn variant_name", MATCH), "    }"),
         lambda: arms(ALL, lambda it: f'"{it.variant}"', "_"),
     ),
     Table(
-        "crates/timefd_component/src/debug.rt", Between(("impl fmt::Debug for ModifiersOf", "match &self.0 {"), "        }"),
+        "crates/timefd_lang_component/src/debug.rt", Between(("impl fmt::Debug for ModifiersOf", "match &self.0 {"), "        }"),
         lambda: arms(ALL, lambda it: "fmt::Debug::fmt(fields, f)", "fields", 12),
     ),
     Table(
-        "crates/timefd_component/src/reserved.rt",
+        "crates/timefd_lang_component/src/reserved.rt",
         Between(("pub fn reserved_bytes", MATCH), "        Component::Subsecond("), reserved,
     ),
     Table(INNER_FILE, Between((f"pub enum {INNER}",), "    /// Text as it is written, borrowed."), lambda: variants(MODERN)),
@@ -191,9 +191,9 @@ TABLES = [
         "crates/timefd_c_nodes/src/formatting/component.rt",
         Between(("pub(crate) fn component_of", "Some(match"), "        _ =>"), from_nodes,
     ),
-    Table("crates/timefd_component/src/bracket/form.rt", Between(("pub fn form", MATCH), "    }"), lambda: arms(ALL, form)),
-    Table("crates/timefd_component/src/bracket/modifiers.rt", Between(("fn first_modifier", MATCH), "    }"), first_words),
-    Table("crates/timefd_component/src/bracket/modifiers.rt", Between(("fn second_modifier", MATCH), "    }"), second_words),
+    Table("crates/timefd_lang_component/src/bracket/form.rt", Between(("pub fn form", MATCH), "    }"), lambda: arms(ALL, form)),
+    Table("crates/timefd_lang_component/src/bracket/modifiers.rt", Between(("fn first_modifier", MATCH), "    }"), first_words),
+    Table("crates/timefd_lang_component/src/bracket/modifiers.rt", Between(("fn second_modifier", MATCH), "    }"), second_words),
     Table(f"{FORMAT}/naming.rt", Between(("pub fn component_name", MATCH), "    }"), named),
     Table(f"{FORMAT}/shown.rt", Between(("fn kind", MATCH), "    }"), kinds),
     all_others("shown.rt", "fn date_field", MODERN, "Date", "Ok(Field::Nothing)"),

@@ -30,8 +30,8 @@ def of_dialect(name):
 
 def code():
     text = ("//! What reads the texts that each dialect's rows write. `tables/write` writes this file.\n\n"
-            "ghost use Rattle.std.specs.Prelude.{◌≡◌};\nghost use Rattle.timefd_dialect.specs.Readings as spec;\n"
-            "ghost use Rattle.timefd_dialect.specs.Rows.{entries};\n\n"
+            "ghost use Rattle.std.specs.Prelude.{◌≡◌};\nghost use Rattle.timefd_lang_dialect.specs.Readings as spec;\n"
+            "ghost use Rattle.timefd_lang_dialect.specs.Rows.{entries};\n\n"
             "use crate::dialect::Dialect;\nuse crate::reason::Reason;\nuse crate::row::{NotBefore, Range, Row, Verdict, row};\n\n"
             "impl Dialect {\n    /// For reading: each text of the dialect's rows that another text reads, with that text.\n"
             "    pub fn readings(self) -> &'static [Row]\n        ensures { entries result.now ≡ spec.readings_of self }\n"
@@ -64,10 +64,10 @@ def rust_row(text, row):
 
 def specification():
     text = ("-- What reads the texts that each dialect's rows write.\nuse Rattle.std.specs.Prelude.{codes, List, [], ◌∷◌}\n"
-            "use Rattle.timefd_dialect.specs.declared.dialect.Dialect.{Dialect}\n"
-            f"use Rattle.timefd_dialect.specs.declared.dialect.Dialect.TheVariants.{{{', '.join(map(dialects.camel, dialects.NAMES))}}}\n"
-            "use Rattle.timefd_dialect.specs.declared.reason.Reason.TheVariants.{TwoDigitYear}\n"
-            "use Rattle.timefd_dialect.specs.Rows.{Entry, ◌means◌, ◌refused_for◌}\n")
+            "use Rattle.timefd_lang_dialect.specs.declared.dialect.Dialect.{Dialect}\n"
+            f"use Rattle.timefd_lang_dialect.specs.declared.dialect.Dialect.TheVariants.{{{', '.join(map(dialects.camel, dialects.NAMES))}}}\n"
+            "use Rattle.timefd_lang_dialect.specs.declared.reason.Reason.TheVariants.{TwoDigitYear}\n"
+            "use Rattle.timefd_lang_dialect.specs.Rows.{Entry, ◌means◌, ◌refused_for◌}\n")
     for name in dialects.NAMES:
         listed = "\n    ∷ ".join([dialect_tables.specified_row(*row) for row in of_dialect(name).items()] + ["[]"])
         text += f"\nunfoldable pub {name}_readings : List Entry\n{name}_readings =\n    {listed}\n"

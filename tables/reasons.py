@@ -32,7 +32,7 @@ def reason_enum():
                   + "\n            | ".join(f"Reason::{camel(row['name'])}" for row in reasons() if row["name"] not in UNKNOWN)
                   + " => false,\n        }\n    }\n")
     return ("//! Why a part of a format has no text of version 3. `tables/write` writes them.\n\n"
-            "ghost use Rattle.std.specs.Prelude.{◌≡◌};\nghost use Rattle.timefd_dialect.specs.Reasons as spec;\n\n"
+            "ghost use Rattle.std.specs.Prelude.{◌≡◌};\nghost use Rattle.timefd_lang_dialect.specs.Reasons as spec;\n\n"
             "/// Why a part of a format has no text of version 3.\n#[derive(Clone, Copy)]\npub enum Reason {\n"
             + rust_variants("    ") + "}\n\nimpl Reason {\n" + functions + "}\n")
 
@@ -40,9 +40,9 @@ def reason_enum():
 def specified_reasons():
     names = [camel(row["name"]) for row in reasons()]
     text = ("-- What is reported about each reason.\nuse Rattle.std.specs.Prelude.{Bool, true, false, codes}\n"
-            "use Rattle.timefd_component.specs.Tree.{Text}\n"
-            "use Rattle.timefd_dialect.specs.declared.reason.Reason.{Reason}\n"
-            f"use Rattle.timefd_dialect.specs.declared.reason.Reason.TheVariants.{{{', '.join(names)}}}\n")
+            "use Rattle.timefd_lang_component.specs.Tree.{Text}\n"
+            "use Rattle.timefd_lang_dialect.specs.declared.reason.Reason.{Reason}\n"
+            f"use Rattle.timefd_lang_dialect.specs.declared.reason.Reason.TheVariants.{{{', '.join(names)}}}\n")
     for key in ("name", "sentence", "cure"):
         text += f"\nabbrev pub {key} : Reason → Text\n" + "".join(
             f"{key} {camel(row['name'])} = {codes(row[key])}\n" for row in reasons())
@@ -55,7 +55,7 @@ def reason_codes():
     arms = "".join(f"        Reason::{camel(row['name'])} => {row['number']},\n" for row in reasons())
     return ("//! The number of each reason for C. `tables/write` writes them.\n\n"
             "ghost use Rattle.std.specs.Prelude.{◌≡◌};\nghost use Rattle.timefd_c.specs.FormatReasons as spec;\n\n"
-            "use timefd_dialect::Reason;\n\n"
+            "use timefd_lang_dialect::Reason;\n\n"
             "/// The number of a reason in `examples/timefd.h`.\npub fn reason_code(reason: Reason) -> u32\n"
             f"    ensures {{ result ≡ spec.reason_number reason }}\n{{\n    match reason {{\n{arms}    }}\n}}\n")
 
@@ -63,8 +63,8 @@ def reason_codes():
 def specified_codes():
     names = [camel(row["name"]) for row in reasons()]
     return ("-- The number of each reason for C.\nuse Rattle.std.specs.Prelude.{ℕ}\n"
-            "use Rattle.timefd_dialect.specs.declared.reason.Reason.{Reason}\n"
-            f"use Rattle.timefd_dialect.specs.declared.reason.Reason.TheVariants.{{{', '.join(names)}}}\n"
+            "use Rattle.timefd_lang_dialect.specs.declared.reason.Reason.{Reason}\n"
+            f"use Rattle.timefd_lang_dialect.specs.declared.reason.Reason.TheVariants.{{{', '.join(names)}}}\n"
             "\nabbrev pub reason_number : Reason → ℕ\n" + "".join(
                 f"reason_number {camel(row['name'])} = {row['number']}\n" for row in reasons()))
 

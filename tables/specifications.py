@@ -89,11 +89,11 @@ def name_list():
 COMPONENT_NUMBERS = "  pub {0.number_name} : (m : {0.variant}) → number_of (components.{0.variant} m) ≡ {0.number}"
 SOUND = ("component_sound ({0.variant} a) ({0.variant} b) e", "ap {0.variant} (sound modifiers.{0.field_name} a b e)")
 NOT_DATES = [it for it in NAMED if it.shows != "Date"]
-COMPONENT = "crates/timefd_component/specs"
+COMPONENT = "crates/timefd_lang_component/specs"
 C_NODES = "crates/timefd_c_nodes/specs"
-FORMAT = "crates/timefd_format/specs"
+FORMAT = "crates/timefd_date_format/specs"
 NAMES_FILE = "crates/timefd_language/specs/Names.antt"
-WORDS = "crates/timefd_component/specs/Bracket/Words.antt"
+WORDS = "crates/timefd_lang_component/specs/Bracket/Words.antt"
 
 TABLES = [
     Table(

@@ -175,7 +175,7 @@ fn each_number_is_that_of_the_header() {
 }
 
 /// The table of the linter's names.
-const CODES: &str = concat!(env!("CARGO_MANIFEST_DIR"), "/../../crates/timefd_fault/src/code.rt");
+const CODES: &str = concat!(env!("CARGO_MANIFEST_DIR"), "/../../crates/timefd_lang_fault/src/code.rt");
 
 #[test]
 fn each_fault_has_the_name_of_the_linter() {
@@ -193,7 +193,7 @@ fn each_fault_has_the_name_of_the_linter() {
 
 /// The table of the linter's names of warnings.
 const WARNINGS: &str =
-    concat!(env!("CARGO_MANIFEST_DIR"), "/../../crates/timefd_warnings/src/warning.rt");
+    concat!(env!("CARGO_MANIFEST_DIR"), "/../../crates/timefd_lang_warnings/src/warning.rt");
 
 #[test]
 fn each_warning_has_the_name_of_the_linter() {

@@ -1,9 +1,9 @@
 -- The line that answers a text.
 use Rattle.std.specs.Prelude.{ℕ, ◌≡◌, List, [], ◌∷◌, ◌++◌, codes, IsUtf8}
 use Rattle.std.specs.Fmt.{decimal}
-use Rattle.timefd_component.specs.Tree.{Text, Tree}
-use Rattle.timefd_fault.specs.Faults.{Fault}
-use Rattle.timefd_fault.specs.Sentences.{sentence}
+use Rattle.timefd_lang_component.specs.Tree.{Text, Tree}
+use Rattle.timefd_lang_fault.specs.Faults.{Fault}
+use Rattle.timefd_lang_fault.specs.Sentences.{sentence}
 use Rattle.timefd_language.specs.declared.description_version.DescriptionVersion.TheVariants.{One, Two, Three}
 use Rattle.timefd_language.specs.declared.language.Language.{Language}
 use Rattle.timefd_language.specs.declared.language.Language.TheVariants.{Version, Strftime}

@@ -15,7 +15,7 @@ mod tests;
 use program::execute;
 use std::env;
 use std::process::ExitCode;
-use timefd_streams::{FromReader, ToWriter};
+use timefd_bin_streams::{FromReader, ToWriter};
 
 // The exit status if the arguments can't be had.
 const NO_ARGUMENTS: u8 = 3;

@@ -8,7 +8,7 @@ ghost use Rattle.timefd.specs.Runs.{Answers, EndsAt};
 use crate::kind::arguments;
 use crate::run::run_within;
 use std::alloc::Global;
-use timefd_streams::{Sink, Source};
+use timefd_bin_streams::{Sink, Source};
 
 /// The exit status if the arguments ask for nothing that the program does.
 pub const WRONG_ARGUMENTS: u8 = 2;

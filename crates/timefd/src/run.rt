@@ -11,8 +11,8 @@ use crate::reply::reply_to;
 use bstr::ByteVec;
 use std::alloc::{AllocError, Global};
 use timefd_parse::NESTING_LIMIT;
-use timefd_streams::transfer::{ReadError, read_all, write_all};
-use timefd_streams::{Failed, Sink, Source};
+use timefd_bin_streams::transfer::{ReadError, read_all, write_all};
+use timefd_bin_streams::{Failed, Sink, Source};
 
 /// Reads a text of this kind to the reader's end, and writes the line that answers it.
 pub fn run<R: Source, W: Sink>(alloc: Global, kind: Kind, reader: &mut R, writer: &mut W) -> RunEnd

@@ -1,8 +1,8 @@
 -- The answer about a text of strftime in which a composite letter is one node.
 use Rattle.std.proofs.Common.{◌≡◌, ◌∙◌, List, [], ◌∷◌, ◌++◌, Some, length, map, IsUtf8, refl, sym, ap, arith}
 use Rattle.std.proofs.lemmas.List.{length-map}
-use Rattle.timefd_component.specs.Tree.{Text, Tree}
-use Rattle.timefd_fault.specs.Faults.{Fault}
+use Rattle.timefd_lang_component.specs.Tree.{Text, Tree}
+use Rattle.timefd_lang_fault.specs.Faults.{Fault}
 use Rattle.timefd_language.specs.Grammar.{nesting_limit}
 use Rattle.timefd_language.specs.Strftime.{SpellsStrftime}
 use Rattle.timefd_language.specs.declared.language.Language.TheVariants.{Strftime}

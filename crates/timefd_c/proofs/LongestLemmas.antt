@@ -1,10 +1,10 @@
 -- How many bytes the longest rendering has.
 use Rattle.std.proofs.Common.{ℕ, ◌≡◌, ◌∙◌, List, Option, Some, sym, arith}
-use Rattle.timefd_component.proofs.Greatest.{reserves_greatest_law}
-use Rattle.timefd_component.specs.Reserved.{reserve_all}
-use Rattle.timefd_component.specs.Tree.{Tree, compound, trees}
+use Rattle.timefd_lang_component.proofs.Greatest.{reserves_greatest_law}
+use Rattle.timefd_lang_component.specs.Reserved.{reserve_all}
+use Rattle.timefd_lang_component.specs.Tree.{Tree, compound, trees}
 use Rattle.timefd_language.specs.declared.description_version.DescriptionVersion.TheVariants.{One, Two, Three}
-use Rattle.timefd_node_list.specs.Nodes.{kept_bytes}
+use Rattle.timefd_lang_node_list.specs.Nodes.{kept_bytes}
 use Rattle.timefd_parse.proofs.CountingLemmas.{pack_sum}
 use Rattle.timefd_parse.specs.Language.{amount}
 use Rattle.timefd_language.specs.declared.language.Language.{Language}

@@ -2,13 +2,13 @@
 use Rattle.std.proofs.Common.{rules, ◌≡◌, ◌∙◌, ◌≤◌, ◌+◌, ◌/◌, ◌%◌, ◌==◌, ℕ, ℤ, pos, ◌+ℤ◌, unsigned_abs, nat_lt, Bool, true, false, Option, Some, None, is_some, refl, sym, ap}
 use Rattle.timefd_c.specs.declared.moment.MomentFields.{MomentFields}
 use Rattle.timefd_c.specs.Moments.{AreNumbers, AreOfDate, AreOfTime, IsDate, IsMoment, IsOffset, IsTime, date_bit, date_range, first_of, offset_bit, offset_number, offset_range, range_fault, time_bit, time_range}
-use Rattle.timefd_moment.specs.Calendar.{IsDay}
-use Rattle.timefd_moment.specs.Faults.{date_fault, time_fault}
-use Rattle.timefd_moment.specs.Signed.{signed}
-use Rattle.timefd_moment.specs.declared.date.Date.{Date}
-use Rattle.timefd_moment.specs.declared.moment.Moment.{Moment}
-use Rattle.timefd_moment.specs.declared.offset.UtcOffset.{UtcOffset}
-use Rattle.timefd_moment.specs.declared.time.Time.{Time}
+use Rattle.timefd_date_moment.specs.Calendar.{IsDay}
+use Rattle.timefd_date_moment.specs.Faults.{date_fault, time_fault}
+use Rattle.timefd_date_moment.specs.Signed.{signed}
+use Rattle.timefd_date_moment.specs.declared.date.Date.{Date}
+use Rattle.timefd_date_moment.specs.declared.moment.Moment.{Moment}
+use Rattle.timefd_date_moment.specs.declared.offset.UtcOffset.{UtcOffset}
+use Rattle.timefd_date_moment.specs.declared.time.Time.{Time}
 
 -- which parts the sum says are known
 

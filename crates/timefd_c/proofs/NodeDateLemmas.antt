@@ -6,10 +6,10 @@ use Rattle.timefd_c.specs.declared.date_answer.DateAnswer.{DateAnswer}
 use Rattle.timefd_c_nodes.specs.Dates.Shown.{IsShown}
 use Rattle.timefd_c_nodes.specs.Formatting.Nodes.{node_trees}
 use Rattle.timefd_c_nodes.specs.declared.node.Node.{Node}
-use Rattle.timefd_component.specs.Tree.{Text}
+use Rattle.timefd_date_moment.specs.declared.moment.Moment.{Moment}
 use Rattle.timefd_description.specs.ReadAnswers.{IsReadAs, fields_in}
 use Rattle.timefd_description.specs.declared.read_error.ReadTextError.{ReadTextError}
-use Rattle.timefd_moment.specs.declared.moment.Moment.{Moment}
+use Rattle.timefd_lang_component.specs.Tree.{Text}
 
 pub read_at_once : (nodes : List Node) (literals date : Text) (m : Moment) (answer : DateAnswer)
     → IsShown nodes literals date m → IsRead m answer → ReadsNodes nodes literals date answer

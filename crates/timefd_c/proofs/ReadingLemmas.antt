@@ -1,12 +1,12 @@
 -- The answer about a text that was read as nodes, and about one that has a fault.
 use Rattle.std.proofs.Common.{◌∙◌, ◌++◌, ◌∷◌, [], IsTrue, take, drop, sym, ℕ, ◌≡◌, ◌+◌, ◌≤◌, length, List, Option, Some, IsUtf8, false, refl, ap, arith}
 use Rattle.std.proofs.Math.Seq.{take-append_seam}
-use Rattle.timefd_component.specs.Tree.{Text, Tree, pack}
+use Rattle.timefd_lang_component.specs.Tree.{Text, Tree, pack}
 use Rattle.timefd_language.proofs.ModernPieces.{pack_modern, modernity_law, strftime_modernity_law}
 use Rattle.timefd_c_nodes.specs.Decoding.{read_nodes}
 use Rattle.timefd_c_nodes.specs.Encoding.{nodes_from, literals_of, own_text}
 use Rattle.timefd_c_nodes.proofs.DecodeLemmas.{trees_back, tree_back}
-use Rattle.timefd_fault.specs.Faults.{Fault}
+use Rattle.timefd_lang_fault.specs.Faults.{Fault}
 use Rattle.timefd_language.specs.declared.language.Language.{Language}
 use Rattle.timefd_parse.specs.Language.{SpellsIn, FaultIn}
 use Rattle.timefd_c_nodes.specs.declared.node.Node.{Node}

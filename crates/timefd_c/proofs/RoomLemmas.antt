@@ -1,6 +1,6 @@
 -- How many nodes, and how many bytes of literals, a text has.
 use Rattle.std.proofs.Common.{ℕ, ◌≡◌, ◌≤◌, List, Some, length, arith}
-use Rattle.timefd_component.specs.Tree.{Text, Tree, trees, pack}
+use Rattle.timefd_lang_component.specs.Tree.{Text, Tree, trees, pack}
 use Rattle.timefd_language.specs.declared.description_version.DescriptionVersion.TheVariants.{One, Two, Three}
 use Rattle.timefd_language.specs.declared.language.Language.{Language}
 use Rattle.timefd_language.specs.declared.language.Language.TheVariants.{Version, Strftime}

@@ -4,23 +4,23 @@ use Rattle.timefd_c.specs.declared.answer.TheConstants.{ACCEPTED, REFUSED, NO_ME
 use Rattle.timefd_c.specs.declared.warning_fields.WarningFields.{WarningFields}
 use Rattle.timefd_c.specs.declared.warning_fields.WarningsAnswer.{WarningsAnswer}
 use Rattle.timefd_c.specs.Warnings.{IsReported, Warns, fields_of, silent, reported_at, reported_of, warnings_of}
-use Rattle.timefd_component.specs.Tree.{Text, Tree}
-use Rattle.timefd_fault.specs.Faults.{Fault}
+use Rattle.timefd_lang_component.specs.Tree.{Text, Tree}
+use Rattle.timefd_lang_fault.specs.Faults.{Fault}
 use Rattle.timefd_language.specs.Grammar.{nesting_limit}
 use Rattle.timefd_lint_warnings.specs.Found.{found_in, style_of}
-use Rattle.timefd_node_list.specs.Leaves.{leaves_in}
+use Rattle.timefd_lang_node_list.specs.Leaves.{leaves_in}
 use Rattle.timefd_language.specs.declared.language.Language.{Language}
 use Rattle.timefd_parse.specs.Language.{FaultIn, SpellsIn, amount}
-use Rattle.timefd_warnings.specs.declared.levels.Level.{Level}
-use Rattle.timefd_warnings.specs.declared.levels.Level.TheVariants.{Allowed, Warned}
-use Rattle.timefd_warnings.specs.declared.levels.Levels.{Levels}
-use Rattle.timefd_warnings.specs.declared.warned.Style.{Style}
-use Rattle.timefd_warnings.specs.declared.warning.Warning.{Warning}
-use Rattle.timefd_warnings.specs.declared.warning.Warning.TheVariants.{NoComponent, OtherLanguage, MonthForMinute, MinuteForMonth, HourWithoutPeriod, PeriodWithHour24, SubsecondWithoutSecond, WeekWithCalendarYear, DateWithIsoYear, ShownTwice, UndeterminedDate, UnsettledWidth, UnsettledYear, DeprecatedComponent}
-use Rattle.timefd_warnings.specs.Codes.{all}
-use Rattle.timefd_warnings.specs.Levels.{all_at, found, level_of}
-use Rattle.timefd_warnings.specs.Warns.{warns}
-use Rattle.timefd_warnings.proofs.LevelLemmas.{found_as_defined}
+use Rattle.timefd_lang_warnings.specs.declared.levels.Level.{Level}
+use Rattle.timefd_lang_warnings.specs.declared.levels.Level.TheVariants.{Allowed, Warned}
+use Rattle.timefd_lang_warnings.specs.declared.levels.Levels.{Levels}
+use Rattle.timefd_lang_warnings.specs.declared.warned.Style.{Style}
+use Rattle.timefd_lang_warnings.specs.declared.warning.Warning.{Warning}
+use Rattle.timefd_lang_warnings.specs.declared.warning.Warning.TheVariants.{NoComponent, OtherLanguage, MonthForMinute, MinuteForMonth, HourWithoutPeriod, PeriodWithHour24, SubsecondWithoutSecond, WeekWithCalendarYear, DateWithIsoYear, ShownTwice, UndeterminedDate, UnsettledWidth, UnsettledYear, DeprecatedComponent}
+use Rattle.timefd_lang_warnings.specs.Codes.{all}
+use Rattle.timefd_lang_warnings.specs.Levels.{all_at, found, level_of}
+use Rattle.timefd_lang_warnings.specs.Warns.{warns}
+use Rattle.timefd_lang_warnings.proofs.LevelLemmas.{found_as_defined}
 
 all_warned : (w : Warning) → level_of (all_at Warned) w ≡ Warned
 all_warned NoComponent = refl

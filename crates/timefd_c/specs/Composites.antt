@@ -1,6 +1,6 @@
 -- The answer to C about a text of strftime in which a composite letter is one node.
 use Rattle.std.specs.Prelude.{◌≡◌, ◌≢◌, ◌≤◌, IsFalse, List, Some, length}
-use Rattle.timefd_component.specs.Tree.{Text, Tree}
+use Rattle.timefd_lang_component.specs.Tree.{Text, Tree}
 use Rattle.timefd_language.specs.Grammar.{nesting_limit}
 use Rattle.timefd_language.specs.declared.language.Language.TheVariants.{Strftime}
 use Rattle.timefd_c_nodes.specs.declared.node.Node.{Node}

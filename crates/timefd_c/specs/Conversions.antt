@@ -1,12 +1,12 @@
 -- The answer to C about a text that is converted from one language to another.
 use Rattle.std.specs.Prelude.{ℕ, ◌≡◌, ◌≢◌, ◌≤◌, ◌<◌, ◌*◌, ◌++◌, Option, Some, None, length, drop, IsUtf8}
-use Rattle.timefd_component.specs.Tree.{Text}
+use Rattle.timefd_lang_component.specs.Tree.{Text}
 use Rattle.timefd_language.specs.Grammar.{nesting_limit}
 use Rattle.timefd_language.specs.declared.description_version.DescriptionVersion.TheVariants.{One, Two}
 use Rattle.timefd_language.specs.declared.language.Language.{Language}
 use Rattle.timefd_language.specs.declared.language.Language.TheVariants.{Version}
-use Rattle.timefd_convert.specs.declared.conversion.Conversion.{Conversion}
-use Rattle.timefd_convert.specs.Conversions as conversions
+use Rattle.timefd_lang_convert.specs.declared.conversion.Conversion.{Conversion}
+use Rattle.timefd_lang_convert.specs.Conversions as conversions
 use Rattle.timefd_lift.specs.Answers.{IsRewritten, HasItemsOf}
 use Rattle.timefd_lift.specs.Modernized.{IsWrittenOf, KeepsItemsOf}
 use Rattle.timefd_c.specs.declared.answer.TheConstants.{ACCEPTED, NO_CONVERSION, NO_MEMORY, UNKNOWN_KIND}

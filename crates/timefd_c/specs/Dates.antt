@@ -6,21 +6,21 @@ use Rattle.timefd_c.specs.declared.date_answer.TheConstants.{UNREAD, CONTRADICTI
 use Rattle.timefd_c.specs.Answers.{Describes, HasFault}
 use Rattle.timefd_c.specs.Moments.{AreNumbers, IsMoment, range_fault, unknown}
 use Rattle.timefd_c_nodes.specs.Encoding.{component_node}
-use Rattle.timefd_component.specs.Tree.{Text, Tree}
-use Rattle.timefd_fault.specs.Faults.{Fault}
-use Rattle.timefd_moment.specs.declared.moment.Moment.{Moment}
+use Rattle.timefd_lang_component.specs.Tree.{Text, Tree}
+use Rattle.timefd_lang_fault.specs.Faults.{Fault}
+use Rattle.timefd_date_moment.specs.declared.moment.Moment.{Moment}
 use Rattle.timefd_language.specs.declared.language.Language.{Language}
-use Rattle.timefd_moment.specs.declared.fields.fault.ReadError.{ReadError}
-use Rattle.timefd_moment.specs.declared.fields.fault.Reason.{Reason}
-use Rattle.timefd_moment.specs.declared.fields.fault.Reason.TheVariants as for
-use Rattle.timefd_moment.specs.declared.reading.error.ValueError.{ValueError}
-use Rattle.timefd_moment.specs.declared.reading.error.ValueError.TheVariants as error
-use Rattle.timefd_moment.specs.declared.reading.part.DatePart.{DatePart}
-use Rattle.timefd_moment.specs.declared.reading.part.TimePart.{TimePart}
-use Rattle.timefd_moment.specs.declared.reading.part.OffsetPart.{OffsetPart}
-use Rattle.timefd_moment.specs.declared.reading.part.InstantPart.{InstantPart}
-use Rattle.timefd_moment.specs.declared.reading.part.Part.{Part}
-use Rattle.timefd_moment.specs.declared.reading.part.Part.TheVariants as part
+use Rattle.timefd_date_moment.specs.declared.fields.fault.ReadError.{ReadError}
+use Rattle.timefd_date_moment.specs.declared.fields.fault.Reason.{Reason}
+use Rattle.timefd_date_moment.specs.declared.fields.fault.Reason.TheVariants as for
+use Rattle.timefd_date_moment.specs.declared.reading.error.ValueError.{ValueError}
+use Rattle.timefd_date_moment.specs.declared.reading.error.ValueError.TheVariants as error
+use Rattle.timefd_date_moment.specs.declared.reading.part.DatePart.{DatePart}
+use Rattle.timefd_date_moment.specs.declared.reading.part.TimePart.{TimePart}
+use Rattle.timefd_date_moment.specs.declared.reading.part.OffsetPart.{OffsetPart}
+use Rattle.timefd_date_moment.specs.declared.reading.part.InstantPart.{InstantPart}
+use Rattle.timefd_date_moment.specs.declared.reading.part.Part.{Part}
+use Rattle.timefd_date_moment.specs.declared.reading.part.Part.TheVariants as part
 use Rattle.timefd_description.specs.ReadAnswers.{IsReadAs, fields_in}
 use Rattle.timefd_description.specs.declared.read_error.ReadTextError.{ReadTextError}
 use Rattle.timefd_description.specs.declared.read_error.ReadTextError.TheVariants as fails

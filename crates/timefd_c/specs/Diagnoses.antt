@@ -1,14 +1,14 @@
 -- The answer to C about a fault.
 use Rattle.std.specs.Prelude.{ℕ, ◌≡◌, ◌≤◌, ◌<◌, ◌++◌, true, false, Option, Some, None, length, drop}
-use Rattle.timefd_component.specs.Tree.{Text}
-use Rattle.timefd_fault.specs.Faults.{Fault}
+use Rattle.timefd_lang_component.specs.Tree.{Text}
+use Rattle.timefd_lang_fault.specs.Faults.{Fault}
 use Rattle.timefd_language.specs.declared.language.Language.{Language}
-use Rattle.timefd_fault.specs.Codes.{code_of}
-use Rattle.timefd_diagnosis.specs.Helps.{IsHelpFor, nearest_in}
+use Rattle.timefd_lang_fault.specs.Codes.{code_of}
+use Rattle.timefd_lint_diagnosis.specs.Helps.{IsHelpFor, nearest_in}
 use Rattle.timefd_language.specs.Spans.{end_of}
-use Rattle.timefd_fault.specs.declared.code.Code.{Code}
-use Rattle.timefd_fault.specs.declared.code.Code.TheVariants.{UnclosedBracket, UnknownName, InvalidModifier, MissingName, MissingModifier, InvalidEscape, UnescapedBracket, MissingSpace, MissingDescription, MissingAlternative, NestedTooDeep, SeveralDescriptions, OptionalItem, FirstItem, UnsupportedFlag, UnsupportedLetter, NestedInComponent, DuplicateModifier, RefusedModifier}
-use Rattle.timefd_diagnosis.specs.declared.help.Help.{Help}
+use Rattle.timefd_lang_fault.specs.declared.code.Code.{Code}
+use Rattle.timefd_lang_fault.specs.declared.code.Code.TheVariants.{UnclosedBracket, UnknownName, InvalidModifier, MissingName, MissingModifier, InvalidEscape, UnescapedBracket, MissingSpace, MissingDescription, MissingAlternative, NestedTooDeep, SeveralDescriptions, OptionalItem, FirstItem, UnsupportedFlag, UnsupportedLetter, NestedInComponent, DuplicateModifier, RefusedModifier}
+use Rattle.timefd_lint_diagnosis.specs.declared.help.Help.{Help}
 use Rattle.timefd_c.specs.declared.diagnosis.FaultFields.{FaultFields}
 
 -- the numbers of the codes

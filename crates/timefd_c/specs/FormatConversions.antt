@@ -1,14 +1,14 @@
 -- The answer to C about a format of another language that is converted to version 3.
 use Rattle.std.specs.Prelude.{ℕ, ◌≡◌, ◌≤◌, ◌<◌, ◌++◌, ◌==◌, if◌then◌else◌, Option, Some, None, Result, Ok, Err, false, length, drop, string_bytes, IsUtf8}
-use Rattle.timefd_component.specs.Tree.{Text}
-use Rattle.timefd_dialect.specs.Answers.{IsConverted, IsRefusedFor}
-use Rattle.timefd_dialect.specs.Items.{IsSpelledBy}
-use Rattle.timefd_dialect.specs.declared.dialect.Dialect.{Dialect}
-use Rattle.timefd_dialect.specs.declared.dialect.Dialect.TheVariants as dialects
-use Rattle.timefd_dialect.specs.declared.error.DialectError.{DialectError}
-use Rattle.timefd_dialect.specs.declared.error.DialectError.TheVariants.{Refused, Memory}
-use Rattle.timefd_dialect.specs.declared.error.Refusal.{Refusal}
-use Rattle.timefd_dialect.specs.declared.reading.Converted.{Converted}
+use Rattle.timefd_lang_component.specs.Tree.{Text}
+use Rattle.timefd_lang_dialect.specs.Answers.{IsConverted, IsRefusedFor}
+use Rattle.timefd_lang_dialect.specs.Items.{IsSpelledBy}
+use Rattle.timefd_lang_dialect.specs.declared.dialect.Dialect.{Dialect}
+use Rattle.timefd_lang_dialect.specs.declared.dialect.Dialect.TheVariants as dialects
+use Rattle.timefd_lang_dialect.specs.declared.error.DialectError.{DialectError}
+use Rattle.timefd_lang_dialect.specs.declared.error.DialectError.TheVariants.{Refused, Memory}
+use Rattle.timefd_lang_dialect.specs.declared.error.Refusal.{Refusal}
+use Rattle.timefd_lang_dialect.specs.declared.reading.Converted.{Converted}
 use Rattle.timefd_c.specs.declared.answer.TheConstants.{ACCEPTED, REFUSED, NOT_UTF8, NO_MEMORY, UNKNOWN_KIND}
 use Rattle.timefd_c.specs.declared.convert_answer.ConvertAnswer.{ConvertAnswer}
 use Rattle.timefd_c.specs.FormatReasons.{reason_number}

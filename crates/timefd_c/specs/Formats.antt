@@ -7,15 +7,15 @@ use Rattle.timefd_c.specs.declared.moment.MomentFields.{MomentFields}
 use Rattle.timefd_c.specs.Answers.{Describes, HasFault}
 use Rattle.timefd_c.specs.Moments.{IsMoment, range_fault}
 use Rattle.timefd_c_nodes.specs.Encoding.{component_node}
-use Rattle.timefd_component.specs.Tree.{Text, Tree, trees}
-use Rattle.timefd_fault.specs.Faults.{Fault}
-use Rattle.timefd_format.specs.declared.field.Lack.{Lack}
-use Rattle.timefd_format.specs.declared.field.Lack.TheVariants as lacks
-use Rattle.timefd_format.specs.declared.unshown.Unshown.{Unshown}
-use Rattle.timefd_format.specs.Written.{written_all}
-use Rattle.timefd_moment.specs.declared.component_range.ComponentRange.{ComponentRange}
-use Rattle.timefd_moment.specs.declared.component_range.ComponentRange.TheVariants as ranges
-use Rattle.timefd_moment.specs.declared.moment.Moment.{Moment}
+use Rattle.timefd_lang_component.specs.Tree.{Text, Tree, trees}
+use Rattle.timefd_lang_fault.specs.Faults.{Fault}
+use Rattle.timefd_date_format.specs.declared.field.Lack.{Lack}
+use Rattle.timefd_date_format.specs.declared.field.Lack.TheVariants as lacks
+use Rattle.timefd_date_format.specs.declared.unshown.Unshown.{Unshown}
+use Rattle.timefd_date_format.specs.Written.{written_all}
+use Rattle.timefd_date_moment.specs.declared.component_range.ComponentRange.{ComponentRange}
+use Rattle.timefd_date_moment.specs.declared.component_range.ComponentRange.TheVariants as ranges
+use Rattle.timefd_date_moment.specs.declared.moment.Moment.{Moment}
 use Rattle.timefd_language.specs.declared.language.Language.{Language}
 
 -- the number of the reason why a component shows nothing

@@ -1,15 +1,15 @@
 -- The moment with the numbers that C passes.
 use Rattle.std.specs.Prelude.{ℕ, ◌≡◌, ◌+◌, ◌/◌, ◌%◌, ◌==◌, nat_lt, if◌then◌else◌, Bool, IsTrue, IsFalse, Option, Some, None, Result, Ok, Err, ℤ, pos, ◌+ℤ◌, unsigned_abs}
 use Rattle.timefd_c.specs.declared.moment.MomentFields.{MomentFields}
-use Rattle.timefd_moment.specs.Calendar.{counted}
-use Rattle.timefd_moment.specs.Faults.{date_fault, time_fault}
-use Rattle.timefd_moment.specs.Signed.{signed}
-use Rattle.timefd_moment.specs.declared.component_range.ComponentRange.{ComponentRange}
-use Rattle.timefd_moment.specs.declared.component_range.ComponentRange.TheVariants.{Offset}
-use Rattle.timefd_moment.specs.declared.date.Date.{Date}
-use Rattle.timefd_moment.specs.declared.moment.Moment.{Moment}
-use Rattle.timefd_moment.specs.declared.offset.UtcOffset.{UtcOffset}
-use Rattle.timefd_moment.specs.declared.time.Time.{Time}
+use Rattle.timefd_date_moment.specs.Calendar.{counted}
+use Rattle.timefd_date_moment.specs.Faults.{date_fault, time_fault}
+use Rattle.timefd_date_moment.specs.Signed.{signed}
+use Rattle.timefd_date_moment.specs.declared.component_range.ComponentRange.{ComponentRange}
+use Rattle.timefd_date_moment.specs.declared.component_range.ComponentRange.TheVariants.{Offset}
+use Rattle.timefd_date_moment.specs.declared.date.Date.{Date}
+use Rattle.timefd_date_moment.specs.declared.moment.Moment.{Moment}
+use Rattle.timefd_date_moment.specs.declared.offset.UtcOffset.{UtcOffset}
+use Rattle.timefd_date_moment.specs.declared.time.Time.{Time}
 
 -- What is known: 1 for the date, 2 for the time of day, 4 for the offset.
 

@@ -10,7 +10,7 @@ use Rattle.timefd_c_nodes.specs.Formatting.Literals.{is_text}
 use Rattle.timefd_c_nodes.specs.Formatting.Nodes.{node_fault, node_trees}
 use Rattle.timefd_c_nodes.specs.Formatting.Parts.{role_in}
 use Rattle.timefd_c_nodes.specs.declared.node.Node.{Node}
-use Rattle.timefd_component.specs.Tree.{Text}
+use Rattle.timefd_lang_component.specs.Tree.{Text}
 
 -- whether each literal of nodes is UTF-8 by itself
 abbrev pub are_texts : Text → List Node → Bool

@@ -8,12 +8,12 @@ use Rattle.timefd_c.specs.Formats.{range_answer, silent, unshown_answer}
 use Rattle.timefd_c.specs.Moments.{IsMoment, range_fault}
 use Rattle.timefd_c_nodes.specs.Formatting.Nodes.{node_fault, node_trees}
 use Rattle.timefd_c_nodes.specs.declared.node.Node.{Node}
-use Rattle.timefd_component.specs.Tree.{Text, trees}
-use Rattle.timefd_format.specs.declared.unshown.Unshown.{Unshown}
-use Rattle.timefd_format.specs.Written.{written_all}
-use Rattle.timefd_moment.specs.declared.component_range.ComponentRange.{ComponentRange}
-use Rattle.timefd_moment.specs.declared.moment.Moment.{Moment}
-use Rattle.timefd_node_list.specs.Nodes.{kept_bytes}
+use Rattle.timefd_lang_component.specs.Tree.{Text, trees}
+use Rattle.timefd_date_format.specs.declared.unshown.Unshown.{Unshown}
+use Rattle.timefd_date_format.specs.Written.{written_all}
+use Rattle.timefd_date_moment.specs.declared.component_range.ComponentRange.{ComponentRange}
+use Rattle.timefd_date_moment.specs.declared.moment.Moment.{Moment}
+use Rattle.timefd_lang_node_list.specs.Nodes.{kept_bytes}
 
 -- The buffer begins with the text if all of it fits, and is otherwise unchanged. The answer has the length,
 -- at most the greatest `usize`.

@@ -1,7 +1,7 @@
 -- The answer to C about a text that is read as nodes.
 use Rattle.std.specs.Prelude.{ℕ, ◌≡◌, ◌≢◌, ◌+◌, ◌-◌, ◌*◌, ◌^◌, ◌<◌, ◌≤◌, IsFalse, IsTrue, List, Option, Some, None, length, take}
-use Rattle.timefd_component.specs.Texts.{RendersAll}
-use Rattle.timefd_component.specs.Tree.{Text, Tree, trees}
+use Rattle.timefd_lang_component.specs.Texts.{RendersAll}
+use Rattle.timefd_lang_component.specs.Tree.{Text, Tree, trees}
 use Rattle.timefd_language.specs.declared.description_version.DescriptionVersion.TheVariants.{One, Two, Three}
 use Rattle.timefd_language.specs.declared.language.Language.{Language}
 use Rattle.timefd_language.specs.declared.language.Language.TheVariants.{Version, Strftime}

@@ -4,20 +4,20 @@ use Rattle.timefd_c.specs.declared.answer.TheConstants.{ACCEPTED, REFUSED, NOT_U
 use Rattle.timefd_c.specs.declared.warning_fields.WarningFields.{WarningFields}
 use Rattle.timefd_c.specs.declared.warning_fields.WarningsAnswer.{WarningsAnswer}
 use Rattle.timefd_c.specs.Answers.{Describes, HasFault}
-use Rattle.timefd_component.specs.Tree.{Text, Tree}
-use Rattle.timefd_fault.specs.Faults.{Fault}
+use Rattle.timefd_lang_component.specs.Tree.{Text, Tree}
+use Rattle.timefd_lang_fault.specs.Faults.{Fault}
 use Rattle.timefd_lint_warnings.specs.Found.{style_of}
-use Rattle.timefd_node_list.specs.Leaves.{leaves_in}
+use Rattle.timefd_lang_node_list.specs.Leaves.{leaves_in}
 use Rattle.timefd_language.specs.declared.language.Language.{Language}
 use Rattle.timefd_parse.specs.Language.{amount}
-use Rattle.timefd_warnings.specs.declared.levels.Level.{Level}
-use Rattle.timefd_warnings.specs.declared.levels.Level.TheVariants.{Allowed, Warned, Denied}
-use Rattle.timefd_warnings.specs.declared.levels.Levels.{Levels}
-use Rattle.timefd_warnings.specs.declared.warning.Warning.{Warning}
-use Rattle.timefd_warnings.specs.declared.warning.Warning.TheVariants.{NoComponent, OtherLanguage, MonthForMinute, MinuteForMonth, HourWithoutPeriod, PeriodWithHour24, SubsecondWithoutSecond, WeekWithCalendarYear, DateWithIsoYear, ShownTwice, UndeterminedDate, UnsettledWidth, UnsettledYear, DeprecatedComponent}
-use Rattle.timefd_warnings.specs.Codes.{all}
-use Rattle.timefd_warnings.specs.Levels.{level_of}
-use Rattle.timefd_warnings.specs.Warns.{warns}
+use Rattle.timefd_lang_warnings.specs.declared.levels.Level.{Level}
+use Rattle.timefd_lang_warnings.specs.declared.levels.Level.TheVariants.{Allowed, Warned, Denied}
+use Rattle.timefd_lang_warnings.specs.declared.levels.Levels.{Levels}
+use Rattle.timefd_lang_warnings.specs.declared.warning.Warning.{Warning}
+use Rattle.timefd_lang_warnings.specs.declared.warning.Warning.TheVariants.{NoComponent, OtherLanguage, MonthForMinute, MinuteForMonth, HourWithoutPeriod, PeriodWithHour24, SubsecondWithoutSecond, WeekWithCalendarYear, DateWithIsoYear, ShownTwice, UndeterminedDate, UnsettledWidth, UnsettledYear, DeprecatedComponent}
+use Rattle.timefd_lang_warnings.specs.Codes.{all}
+use Rattle.timefd_lang_warnings.specs.Levels.{level_of}
+use Rattle.timefd_lang_warnings.specs.Warns.{warns}
 
 -- the numbers of the warnings
 abbrev pub warning_number : Warning → ℕ

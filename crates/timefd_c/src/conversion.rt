@@ -7,7 +7,7 @@ use crate::answer::{ACCEPTED, Answer, NO_CONVERSION, NOT_UTF8, UNKNOWN_KIND};
 use crate::whole::write_whole;
 use std::alloc::Global;
 use timefd_c_nodes::reading::text_of;
-use timefd_convert::{Conversion, conversion_between, convert_by_borrowed};
+use timefd_lang_convert::{Conversion, conversion_between, convert_by_borrowed};
 use timefd_parse::Language;
 
 /// Converts a text of one language to another, if both exist and there is a conversion, and writes

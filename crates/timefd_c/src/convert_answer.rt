@@ -5,7 +5,7 @@ ghost use Rattle.timefd_c.specs.FormatConversions as spec;
 
 use crate::answer::{ACCEPTED, REFUSED};
 use crate::reason_code::reason_code;
-use timefd_dialect::{Converted, Refusal};
+use timefd_lang_dialect::{Converted, Refusal};
 
 /// The answer about a format of another language that is converted to version 3.
 #[repr(C)]

@@ -8,7 +8,7 @@ use crate::numbers::dialect_from;
 use crate::whole::write_whole;
 use std::alloc::Global;
 use timefd_c_nodes::reading::text_of;
-use timefd_dialect::{Converted, Dialect, DialectError, to_version_three};
+use timefd_lang_dialect::{Converted, Dialect, DialectError, to_version_three};
 
 /// Converts a format of the dialect with this number to a text of version 3 that writes the same,
 /// and writes that text to the front of the buffer if all of it fits.

@@ -6,10 +6,10 @@ ghost use Rattle.timefd_c.specs.Dates.{Answers, IsRead, component_in, date_part_
 use crate::answer::{ACCEPTED, NO_MEMORY, REFUSED};
 use crate::moment::MomentFields;
 use timefd_c_nodes::component_node;
+use timefd_date_moment::Moment;
+use timefd_date_moment::fields::{ReadError, Reason};
+use timefd_date_moment::reading::{DatePart, InstantPart, OffsetPart, Part, TimePart, ValueError};
 use timefd_description::ReadTextError;
-use timefd_moment::Moment;
-use timefd_moment::fields::{ReadError, Reason};
-use timefd_moment::reading::{DatePart, InstantPart, OffsetPart, Part, TimePart, ValueError};
 
 /// The status if a part of the date doesn't match the description. The value is the byte index
 /// where that part begins, and the answer says why it doesn't match.

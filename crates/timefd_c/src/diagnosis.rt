@@ -1,8 +1,8 @@
 //! The answer to C with all that there is to say of a fault.
 
 ghost use Rattle.std.specs.Prelude.{◌≡◌, option_map};
-ghost use Rattle.timefd_fault.specs.BorrowedFaults.{to_borrowed_fault};
-ghost use Rattle.timefd_fault.specs.Placed.{IsPlaced};
+ghost use Rattle.timefd_lang_fault.specs.BorrowedFaults.{to_borrowed_fault};
+ghost use Rattle.timefd_lang_fault.specs.Placed.{IsPlaced};
 ghost use Rattle.timefd_language.specs.Spans.{IsSpanned};
 ghost use Rattle.timefd_c.specs.Diagnoses as spec;
 ghost use Rattle.timefd_c.specs.Diagnoses.{IsDiagnosed, IsWordReported, no_fault};
@@ -10,7 +10,7 @@ ghost use Rattle.timefd_c.specs.Diagnoses.{IsDiagnosed, IsWordReported, no_fault
 use crate::answer::Answer;
 use crate::whole::write_whole;
 use std::alloc::Global;
-use timefd_diagnosis::{Code, help_against};
+use timefd_lint_diagnosis::{Code, help_against};
 use timefd_parse::{BorrowedFault, Language};
 
 /// What there is to say of a fault, besides its sentence. All of it is 0 if the text is not

@@ -11,8 +11,8 @@ use crate::numbers::from_number;
 use crate::whole::write_bytes;
 use std::alloc::Global;
 use timefd_c_nodes::reading::text_of;
+use timefd_date_moment::Moment;
 use timefd_description::{FormatTextError, format_text};
-use timefd_moment::Moment;
 use timefd_parse::Language;
 
 /// Writes the moment by a text of the language with this number, to the front of the buffer if all

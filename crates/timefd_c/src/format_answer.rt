@@ -4,8 +4,8 @@ ghost use Rattle.std.specs.Prelude.{◌≡◌};
 ghost use Rattle.timefd_c.specs.Formats.{lack_number, range_answer, range_number, silent, unshown_answer};
 
 use timefd_c_nodes::component_node;
-use timefd_format::{Lack, Unshown};
-use timefd_moment::ComponentRange;
+use timefd_date_format::{Lack, Unshown};
+use timefd_date_moment::ComponentRange;
 
 /// The status if a component shows nothing of the moment. The answer says which one, and why.
 pub const UNSHOWN: u32 = 5;

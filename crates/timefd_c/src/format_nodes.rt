@@ -7,7 +7,7 @@ use crate::format_answer::{FormatAnswer, NO_DESCRIPTION};
 use crate::moment::MomentFields;
 use timefd_c_nodes::Node;
 use timefd_c_nodes::formatting::{NodesError, format_nodes};
-use timefd_moment::Moment;
+use timefd_date_moment::Moment;
 
 /// Writes the moment by nodes, as `timefd_read` writes them, and the bytes of their literals, to
 /// the front of the buffer if all that they write fits. It takes no memory.

@@ -4,7 +4,7 @@ ghost use Rattle.std.specs.Prelude.{◌≡◌, ◌≤◌, None};
 ghost use Rattle.timefd_c.specs.Moments as spec;
 ghost use Rattle.timefd_c.specs.Moments.{AreNumbers, AreOfDate, AreOfTime, IsDate, IsMoment, IsMomentOf, IsOffset, IsPart, IsTime, date_range, offset_range, range_fault, time_range, unknown};
 
-use timefd_moment::{ComponentRange, Date, Moment, Time, UtcOffset};
+use timefd_date_moment::{ComponentRange, Date, Moment, Time, UtcOffset};
 
 /// What is known of a value, in plain numbers.
 #[repr(C)]

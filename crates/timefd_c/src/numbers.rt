@@ -5,7 +5,7 @@ ghost use Rattle.timefd_language.specs.Grammar.{nesting_limit};
 ghost use Rattle.timefd_c.specs.FormatConversions.{dialect_of};
 ghost use Rattle.timefd_c.specs.Languages.{language_of};
 
-use timefd_dialect::Dialect;
+use timefd_lang_dialect::Dialect;
 use timefd_parse::{DescriptionVersion, Language, NESTING_LIMIT};
 
 /// The language with a number: each version has its own, strftime has 4, and no other number has

@@ -7,9 +7,9 @@ ghost use Rattle.timefd_c.specs.NodeDates.{ReadsNodes};
 ghost use Rattle.timefd_c_nodes.specs.Formatting.Literals.{is_text};
 ghost use Rattle.timefd_c_nodes.specs.Formatting.Nodes.{node_fault, node_trees};
 ghost use Rattle.timefd_c_nodes.specs.Formatting.Parts.{role_in};
-ghost use Rattle.timefd_node_list.specs.LeafMeaning.{leaf_tree};
-ghost use Rattle.timefd_node_list.specs.Views.{view_tree};
-ghost use Rattle.timefd_moment.specs.Fields.Reads.{fields_of};
+ghost use Rattle.timefd_lang_node_list.specs.LeafMeaning.{leaf_tree};
+ghost use Rattle.timefd_lang_node_list.specs.Views.{view_tree};
+ghost use Rattle.timefd_date_moment.specs.Fields.Reads.{fields_of};
 ghost use Rattle.timefd_description.specs.ReadAnswers.{IsReadAs, fields_in};
 
 use crate::answer::NOT_UTF8;
@@ -20,11 +20,11 @@ use timefd_c_nodes::Node;
 use timefd_c_nodes::dates::moment_shown;
 use timefd_c_nodes::formatting::{are_texts, leaves_of, listed, node_fault};
 use timefd_c_nodes::reading::text_of;
+use timefd_date_moment::Moment;
+use timefd_date_moment::fields::{NO_FIELDS, fill_leaf_fields, read_fields};
+use timefd_date_moment::reading::moment;
 use timefd_description::ReadTextError;
-use timefd_moment::Moment;
-use timefd_moment::fields::{NO_FIELDS, fill_leaf_fields, read_fields};
-use timefd_moment::reading::moment;
-use timefd_node_list::{Leaf, View};
+use timefd_lang_node_list::{Leaf, View};
 
 /// Reads a date by nodes, as `timefd_read` writes them, and the bytes of their literals, and
 /// returns the moment that the date shows.

@@ -3,7 +3,7 @@
 ghost use Rattle.std.specs.Prelude.{◌≡◌};
 ghost use Rattle.timefd_c.specs.FormatReasons as spec;
 
-use timefd_dialect::Reason;
+use timefd_lang_dialect::Reason;
 
 /// The number of a reason in `examples/timefd.h`.
 pub fn reason_code(reason: Reason) -> u32

@@ -4,7 +4,7 @@ ghost use Rattle.std.specs.Prelude.{◌≡◌, ◌++◌, OnOk};
 ghost use Rattle.timefd_c.specs.Warnings as spec;
 
 use std::alloc::AllocError;
-use timefd_warnings::{Level, Warning};
+use timefd_lang_warnings::{Level, Warning};
 
 /// A warning about an accepted text.
 #[repr(C)]

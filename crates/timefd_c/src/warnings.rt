@@ -1,7 +1,7 @@
 //! The function that C calls for the warnings of a description.
 
 ghost use Rattle.std.specs.Prelude.{◌≡◌, ◌++◌, List, IfOk, drop, length, min, take};
-ghost use Rattle.timefd_component.specs.Tree.{Tree};
+ghost use Rattle.timefd_lang_component.specs.Tree.{Tree};
 ghost use Rattle.timefd_language.specs.Grammar.{nesting_limit};
 ghost use Rattle.timefd_parse.specs.Language.{SpellsIn, amount};
 ghost use Rattle.timefd_c.specs.Languages.{language_of};
@@ -13,9 +13,9 @@ use crate::numbers::from_number;
 use crate::warning_fields::{WarningFields, WarningsAnswer, push_warning};
 use std::alloc::{AllocError, Global};
 use timefd_c_nodes::reading::text_of;
+use timefd_lang_warnings::{Level, Levels, Warning};
 use timefd_lint_warnings::found_in;
 use timefd_parse::{BorrowedParseError, Language, NESTING_LIMIT, amount_all_borrowed};
-use timefd_warnings::{Level, Levels, Warning};
 
 /// Says what `timefd_judge` says, and writes the warnings of an accepted text to the front of the
 /// buffer, as far as they fit, in the order in which the linter reports them.

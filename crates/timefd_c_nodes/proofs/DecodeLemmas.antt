@@ -3,12 +3,12 @@ use Rattle.std.proofs.Common.{◌≡◌, ◌∙◌, ℕ, ◌+◌, ◌-◌, ◌�
 use Rattle.std.proofs.lemmas.Bool.{le-leb}
 use Rattle.std.proofs.lemmas.List.{append-nil}
 use Rattle.std.proofs.Math.Seq.{drop-append_seam, take-append_seam}
-use Rattle.timefd_component.specs.declared.component.Component.{Component}
-use Rattle.timefd_component.specs.declared.component.Component.TheVariants.{Subsecond}
-use Rattle.timefd_component.specs.Modern.{modern, IsModern, AreModern}
-use Rattle.timefd_component.specs.Tree.{Text, Tree, component, literal, compound, optional, first, pack, Trees, no_trees, more_trees, trees}
-use Rattle.timefd_node_list.specs.Views.{walked, walked_all}
-use Rattle.timefd_node_list.proofs.NodeLemmas.{before-append, ending-append}
+use Rattle.timefd_lang_component.specs.declared.component.Component.{Component}
+use Rattle.timefd_lang_component.specs.declared.component.Component.TheVariants.{Subsecond}
+use Rattle.timefd_lang_component.specs.Modern.{modern, IsModern, AreModern}
+use Rattle.timefd_lang_component.specs.Tree.{Text, Tree, component, literal, compound, optional, first, pack, Trees, no_trees, more_trees, trees}
+use Rattle.timefd_lang_node_list.specs.Views.{walked, walked_all}
+use Rattle.timefd_lang_node_list.proofs.NodeLemmas.{before-append, ending-append}
 use Rattle.timefd_c_nodes.specs.declared.node.Node.{Node}
 use Rattle.timefd_c_nodes.specs.declared.node.TheConstants.{COMPONENT}
 use Rattle.timefd_c_nodes.specs.Encoding.{component_table, component_node, node_for, nodes_from, own_text, literals_of, trees_len}

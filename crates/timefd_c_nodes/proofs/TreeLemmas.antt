@@ -2,12 +2,12 @@
 use Rattle.std.proofs.Common.{◌≡◌, ◌∙◌, Bool, ℕ, zero, suc, ◌+◌, ◌-◌, ◌<◌, ◌≤◌, List, [], ◌∷◌, ◌++◌, length, map, drop, get_or, min, refl, sym, ap, subst, arith, length-append}
 use Rattle.std.proofs.lemmas.List.{drop_all, drop_more}
 use Rattle.timefd_modifier.specs.declared.enums.SubsecondDigits.{SubsecondDigits}
-use Rattle.timefd_component.specs.declared.component.Component.{Component}
-use Rattle.timefd_component.specs.declared.component.Component.TheVariants.{Subsecond}
-use Rattle.timefd_node_list.specs.Nodes.{kept_bytes}
-use Rattle.timefd_component.specs.Reserved.{reserve, reserved, tree_count, trees_count, digits_shown}
-use Rattle.timefd_component.specs.Tree.{Tree, component, literal, compound, optional, first, Trees, no_trees, more_trees, trees}
-use Rattle.timefd_node_list.specs.Views.{walked, walked_all}
+use Rattle.timefd_lang_component.specs.declared.component.Component.{Component}
+use Rattle.timefd_lang_component.specs.declared.component.Component.TheVariants.{Subsecond}
+use Rattle.timefd_lang_node_list.specs.Nodes.{kept_bytes}
+use Rattle.timefd_lang_component.specs.Reserved.{reserve, reserved, tree_count, trees_count, digits_shown}
+use Rattle.timefd_lang_component.specs.Tree.{Tree, component, literal, compound, optional, first, Trees, no_trees, more_trees, trees}
+use Rattle.timefd_lang_node_list.specs.Views.{walked, walked_all}
 use Rattle.timefd_c_nodes.specs.declared.node.Node.{Node}
 use Rattle.timefd_c_nodes.specs.Encoding.{component_table, compound_node, digits_number, first_node, node_for, optional_node, trees_len}
 

@@ -1,11 +1,11 @@
 -- What is written as far as there is room, one part after another.
 use Rattle.std.proofs.Common.{◌≡◌, ◌∙◌, ℕ, ◌+◌, inl, inr, true, Option, Some, None, IfSome, List, [], ◌∷◌, ◌++◌, length, set, take, drop, refl, sym, ap, subst, arith, length-append, append-nil, append_assoc}
 use Rattle.std.proofs.lemmas.List.{take-append-drop}
-use Rattle.timefd_component.specs.declared.component.Component.{Component}
-use Rattle.timefd_component.specs.Reserved.{reserve, reserve_all}
-use Rattle.timefd_component.specs.Tree.{Text, Tree, component, compound, optional, first, trees}
-use Rattle.timefd_node_list.specs.Nodes.{kept_bytes}
-use Rattle.timefd_node_list.specs.Views.{walked, walked_all}
+use Rattle.timefd_lang_component.specs.declared.component.Component.{Component}
+use Rattle.timefd_lang_component.specs.Reserved.{reserve, reserve_all}
+use Rattle.timefd_lang_component.specs.Tree.{Text, Tree, component, compound, optional, first, trees}
+use Rattle.timefd_lang_node_list.specs.Nodes.{kept_bytes}
+use Rattle.timefd_lang_node_list.specs.Views.{walked, walked_all}
 use Rattle.timefd_c_nodes.specs.declared.node.Node.{Node}
 use Rattle.timefd_c_nodes.specs.declared.position.WritePosition.{WritePosition}
 use Rattle.timefd_c_nodes.specs.declared.position.Written.{Written}

@@ -2,7 +2,7 @@
 use Rattle.std.proofs.Common.{◌≡◌, ◌∙◌, ℕ, ◌+◌, ◌≤◌, get_or, List, [], ◌∷◌, ◌++◌, length, take, drop, set, refl, sym, ap, append_assoc, arith, length-append}
 use Rattle.std.proofs.lemmas.List.{take-append-drop, take_more_set, drop-set-lt, length-take-le, length-set, length-drop, append-nil, drop-drop}
 use Rattle.std.proofs.Math.Seq.{drop-append-add, take-append-add}
-use Rattle.timefd_component.specs.Tree.{Text, Tree}
+use Rattle.timefd_lang_component.specs.Tree.{Text, Tree}
 use Rattle.timefd_c_nodes.specs.declared.node.Node.{Node}
 use Rattle.timefd_c_nodes.specs.declared.position.WritePosition.{WritePosition}
 use Rattle.timefd_c_nodes.specs.Encoding.{nodes_by, own_text, texts_of, literals_of}

@@ -1,8 +1,8 @@
 -- What holds for nodes.
 use Rattle.std.specs.Prelude.{◌≡◌, List, Some}
-use Rattle.timefd_component.specs.Modern.{AreModern}
-use Rattle.timefd_component.specs.Tree.{Tree, trees}
-use Rattle.timefd_node_list.specs.Views.{walked_all}
+use Rattle.timefd_lang_component.specs.Modern.{AreModern}
+use Rattle.timefd_lang_component.specs.Tree.{Tree, trees}
+use Rattle.timefd_lang_node_list.specs.Views.{walked_all}
 use Rattle.timefd_c_nodes.specs.Decoding.{read_nodes}
 use Rattle.timefd_c_nodes.specs.Encoding.{nodes_from, literals_of}
 

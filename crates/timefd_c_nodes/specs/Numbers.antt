@@ -40,8 +40,8 @@ use Rattle.timefd_modifier.specs.declared.week.WeekNumberSunday.{WeekNumberSunda
 use Rattle.timefd_modifier.specs.declared.enums.Padding.TheVariants as paddings
 use Rattle.timefd_modifier.specs.declared.enums.SubsecondDigits.TheVariants as digits
 use Rattle.timefd_modifier.specs.declared.enums.TrailingInput.TheVariants as inputs
-use Rattle.timefd_component.specs.declared.component.Component.{Component}
-use Rattle.timefd_component.specs.declared.component.Component.TheVariants as components
+use Rattle.timefd_lang_component.specs.declared.component.Component.{Component}
+use Rattle.timefd_lang_component.specs.declared.component.Component.TheVariants as components
 use Rattle.timefd_c_nodes.specs.declared.node.TheConstants.{LITERAL, COMPONENT, COMPOUND, OPTIONAL, FIRST, COMPOSITE}
 use Rattle.timefd_c_nodes.specs.Encoding.{component_table, digits_number, flag_number, padding_number, trailing_input_number}
 

@@ -1,7 +1,7 @@
 //! The fields of a node that a component has. Each function writes them right into the node.
 
 ghost use Rattle.std.specs.Prelude.{◌≡◌};
-ghost use Rattle.timefd_component.specs.Reserved.{digits_shown};
+ghost use Rattle.timefd_lang_component.specs.Reserved.{digits_shown};
 ghost use Rattle.timefd_c_nodes.specs.Encoding as spec;
 
 use crate::node::{Node, flag_number};

@@ -1,11 +1,11 @@
 //! The nodes of items.
 
 ghost use Rattle.std.specs.Prelude.{◌≡◌, ◌+◌, None, IfSome, true};
-ghost use Rattle.timefd_node_list.specs.Item.Meaning.{item_tree, item_trees};
-ghost use Rattle.timefd_node_list.specs.Nodes.{kept_bytes};
-ghost use Rattle.timefd_component.specs.Reserved.{reserve, reserve_all};
-ghost use Rattle.timefd_component.specs.Tree.{compound, first, optional, trees};
-ghost use Rattle.timefd_node_list.specs.Views.{walked, walked_all};
+ghost use Rattle.timefd_lang_node_list.specs.Item.Meaning.{item_tree, item_trees};
+ghost use Rattle.timefd_lang_node_list.specs.Nodes.{kept_bytes};
+ghost use Rattle.timefd_lang_component.specs.Reserved.{reserve, reserve_all};
+ghost use Rattle.timefd_lang_component.specs.Tree.{compound, first, optional, trees};
+ghost use Rattle.timefd_lang_node_list.specs.Views.{walked, walked_all};
 ghost use Rattle.timefd_c_nodes.specs.Writing.{IsPast, IsWritten};
 
 use crate::node::Node;

@@ -1,8 +1,8 @@
 //! One part of a description of version 3 is written.
 
 ghost use Rattle.std.specs.Prelude.{◌≡◌, ◌-◌, ◌∷◌, [], None, IfSome};
-ghost use Rattle.timefd_component.specs.Reserved.{tree_count};
-ghost use Rattle.timefd_node_list.specs.Views.{view_tree};
+ghost use Rattle.timefd_lang_component.specs.Reserved.{tree_count};
+ghost use Rattle.timefd_lang_node_list.specs.Views.{view_tree};
 ghost use Rattle.timefd_c_nodes.specs.Writing.{IsPast, WritesWithin};
 
 use crate::node::Node;

@@ -1,9 +1,9 @@
 //! Where nodes and the bytes of literals are written.
 
 ghost use Rattle.std.specs.Prelude.{◌≡◌, ◌+◌, ◌≤◌, ◌^◌, None, IfSome, length};
-ghost use Rattle.timefd_component.specs.Reserved.{reserve};
-ghost use Rattle.timefd_component.specs.Tree.{literal};
-ghost use Rattle.timefd_node_list.specs.Views.{walked};
+ghost use Rattle.timefd_lang_component.specs.Reserved.{reserve};
+ghost use Rattle.timefd_lang_component.specs.Tree.{literal};
+ghost use Rattle.timefd_lang_node_list.specs.Views.{walked};
 ghost use Rattle.timefd_c_nodes.specs.Encoding as spec;
 ghost use Rattle.timefd_c_nodes.specs.Writing.{IsPast, IsWritten, Puts, overwritten};
 

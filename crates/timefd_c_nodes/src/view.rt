@@ -1,7 +1,7 @@
 //! The nodes of a description of version 3.
 
 ghost use Rattle.std.specs.Prelude.{◌≡◌, None, IfSome};
-ghost use Rattle.timefd_node_list.specs.Views.{view_tree, walked};
+ghost use Rattle.timefd_lang_node_list.specs.Views.{view_tree, walked};
 ghost use Rattle.timefd_c_nodes.specs.Writing.{IsPast, WritesWithin};
 
 use crate::node::Node;

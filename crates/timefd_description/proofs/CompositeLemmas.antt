@@ -4,13 +4,13 @@ use Rattle.std.proofs.lemmas.Bool.{and_parts}
 use Rattle.std.proofs.lemmas.List.{length-map}
 use Rattle.std.proofs.lemmas.Result.{on_ok_weaker}
 use Rattle.std.specs.List.{list_all}
-use Rattle.timefd_component.specs.Tree.{Tree, compound, pack, trees}
+use Rattle.timefd_lang_component.specs.Tree.{Tree, compound, pack, trees}
 use Rattle.timefd_description.specs.Modern.{is_leaf, modern_list, modern_tree}
-use Rattle.timefd_node_list.specs.Item.Meaning.{item_tree, item_trees}
-use Rattle.timefd_node_list.specs.declared.item.borrowed_format_item.BorrowedFormatItem.{BorrowedFormatItem}
+use Rattle.timefd_lang_node_list.specs.Item.Meaning.{item_tree, item_trees}
+use Rattle.timefd_lang_node_list.specs.declared.item.borrowed_format_item.BorrowedFormatItem.{BorrowedFormatItem}
 use Rattle.timefd_language.specs.Strings.{are_of_strings, is_of_strings}
-use Rattle.timefd_node_list.proofs.NodeLemmas.{before-append, ending-append}
-use Rattle.timefd_node_list.specs.Nodes.{before, ending}
+use Rattle.timefd_lang_node_list.proofs.NodeLemmas.{before-append, ending-append}
+use Rattle.timefd_lang_node_list.specs.Nodes.{before, ending}
 use Rattle.timefd_language.specs.Directives.LetterMeaning.{composite_list}
 use Rattle.timefd_language.specs.declared.strftime.letter.Composite.{Composite}
 use Rattle.timefd_language.specs.declared.strftime.letter.Composite.TheVariants.{DateAndTime, ShortDate, IsoDate, TimeOf12, HourAndMinute, TimeOf24, Offset}

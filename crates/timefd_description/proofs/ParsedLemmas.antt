@@ -1,11 +1,11 @@
 -- The answers for a text.
 use Rattle.std.proofs.Common.{◌≡◌, ◌<◌, Ok, Err, List, [], length, refl, ap, subst, arith}
-use Rattle.timefd_fault.specs.declared.borrowed_parse_error.BorrowedParseError.{BorrowedParseError}
-use Rattle.timefd_fault.specs.declared.borrowed_parse_error.BorrowedParseError.TheVariants.{Memory}
+use Rattle.timefd_lang_fault.specs.declared.borrowed_parse_error.BorrowedParseError.{BorrowedParseError}
+use Rattle.timefd_lang_fault.specs.declared.borrowed_parse_error.BorrowedParseError.TheVariants.{Memory}
 use Rattle.std.specs.declared.alloc.AllocError.{AllocError}
-use Rattle.timefd_fault.specs.BorrowedFaults.{IsBorrowed, IsBorrowedOf, IsMemory}
-use Rattle.timefd_component.specs.Tree.{Text, Tree}
-use Rattle.timefd_fault.specs.Faults.{Fault}
+use Rattle.timefd_lang_fault.specs.BorrowedFaults.{IsBorrowed, IsBorrowedOf, IsMemory}
+use Rattle.timefd_lang_component.specs.Tree.{Text, Tree}
+use Rattle.timefd_lang_fault.specs.Faults.{Fault}
 use Rattle.timefd_items.specs.declared.format_description_v3.FormatDescriptionV3.{FormatDescriptionV3}
 use Rattle.timefd_language.specs.Grammar.{nesting_limit}
 use Rattle.timefd_language.specs.Strftime.{SpellsStrftime, no_directives}

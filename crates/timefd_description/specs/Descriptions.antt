@@ -1,8 +1,8 @@
 -- The tree of a description, whatever its language.
 use Rattle.std.specs.Prelude.{◌≡◌, List}
-use Rattle.timefd_component.specs.Tree.{Tree, pack}
 use Rattle.timefd_description.specs.declared.description.Description.{Description}
 use Rattle.timefd_items.specs.Description.{description_tree}
+use Rattle.timefd_lang_component.specs.Tree.{Tree, pack}
 
 abbrev pub tree : Description → Tree
 tree d = description_tree d.nodes

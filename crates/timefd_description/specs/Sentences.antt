@@ -1,11 +1,11 @@
 -- The sentence about a part of a text that doesn't read.
 use Rattle.std.specs.Prelude.{◌++◌, codes}
 use Rattle.std.specs.Fmt.{decimal}
-use Rattle.timefd_component.specs.Tree.{Text}
-use Rattle.timefd_format.specs.Sentences.{name}
-use Rattle.timefd_moment.specs.declared.fields.fault.ReadError.{ReadError}
-use Rattle.timefd_moment.specs.declared.fields.fault.Reason.{Reason}
-use Rattle.timefd_moment.specs.declared.fields.fault.Reason.TheVariants as for
+use Rattle.timefd_lang_component.specs.Tree.{Text}
+use Rattle.timefd_date_format.specs.Sentences.{name}
+use Rattle.timefd_date_moment.specs.declared.fields.fault.ReadError.{ReadError}
+use Rattle.timefd_date_moment.specs.declared.fields.fault.Reason.{Reason}
+use Rattle.timefd_date_moment.specs.declared.fields.fault.Reason.TheVariants as for
 
 -- Why it doesn't read, without the position.
 abbrev pub reason_sentence : Reason → Text

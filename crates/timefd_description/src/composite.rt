@@ -2,9 +2,9 @@
 
 ghost use Rattle.std.specs.Prelude.{◌≡◌, ◌∷◌, ◌++◌, [], IsTrue, OnOk};
 ghost use Rattle.std.specs.List.{list_all};
-ghost use Rattle.timefd_component.specs.Tree.{compound, trees};
+ghost use Rattle.timefd_lang_component.specs.Tree.{compound, trees};
 ghost use Rattle.timefd_description.specs.Modern.{is_leaf, modern_list, modern_tree};
-ghost use Rattle.timefd_node_list.specs.Item.Meaning.{item_tree, item_trees};
+ghost use Rattle.timefd_lang_node_list.specs.Item.Meaning.{item_tree, item_trees};
 ghost use Rattle.timefd_items.specs.Builder.{built};
 ghost use Rattle.timefd_language.specs.Strings.{are_of_strings, is_of_strings};
 ghost use Rattle.timefd_language.specs.Directives.LetterMeaning.{composite_list};
@@ -12,8 +12,8 @@ ghost use Rattle.timefd_language.specs.Directives.LetterMeaning.{composite_list}
 use crate::nodes::pack_last;
 use std::alloc::AllocError;
 use timefd_items::DescriptionBuilder;
+use timefd_lang_node_list::item::BorrowedFormatItem;
 use timefd_language::strftime::{Composite, StrftimeTables};
-use timefd_node_list::item::BorrowedFormatItem;
 
 /// Adds the list of a composite letter as one tree.
 pub fn add_composite(

@@ -1,16 +1,16 @@
 //! A description of any language.
 
 ghost use Rattle.timefd_description.specs.Descriptions.{tree};
-ghost use Rattle.timefd_component.specs.Reserved.{reserve};
+ghost use Rattle.timefd_lang_component.specs.Reserved.{reserve};
 
 use crate::strftime::read_strftime;
 use crate::version::read_version;
 use std::alloc::{AllocError, Global};
-use timefd_format::{TextError, format};
+use timefd_date_format::{TextError, format};
+use timefd_date_moment::Moment;
+use timefd_date_moment::fields::{Fields, ReadError, read_fields};
 use timefd_items::FormatDescriptionV3;
-use timefd_moment::Moment;
-use timefd_moment::fields::{Fields, ReadError, read_fields};
-use timefd_node_list::View;
+use timefd_lang_node_list::View;
 use timefd_parse::{BorrowedParseError, Language};
 
 /// A format description, opened. It borrows its text. Whatever the language of the text, formatting and
@@ -23,16 +23,16 @@ pub struct Description<'a> {
 impl<'a> Description<'a> {
     ghost use Rattle.std.specs.Prelude.{◌≡◌, [], IfOk, IsOk, List, MatchResult};
     ghost use Rattle.std.specs.Result.{IfErr};
-    ghost use Rattle.timefd_fault.specs.BorrowedFaults.{IsBorrowed, IsBorrowedOf, IsMemory};
-    ghost use Rattle.timefd_component.specs.Tree.{Tree};
+    ghost use Rattle.timefd_lang_fault.specs.BorrowedFaults.{IsBorrowed, IsBorrowedOf, IsMemory};
+    ghost use Rattle.timefd_lang_component.specs.Tree.{Tree};
     ghost use Rattle.timefd_description.specs.Descriptions.{IsOf};
-    ghost use Rattle.timefd_fault.specs.Faults as spec;
-    ghost use Rattle.timefd_format.specs.Answers.{IsAnswer};
-    ghost use Rattle.timefd_format.specs.Written.{written};
+    ghost use Rattle.timefd_lang_fault.specs.Faults as spec;
+    ghost use Rattle.timefd_date_format.specs.Answers.{IsAnswer};
+    ghost use Rattle.timefd_date_format.specs.Written.{written};
     ghost use Rattle.timefd_language.specs.Grammar.{nesting_limit};
-    ghost use Rattle.timefd_node_list.specs.Views.{view_tree};
+    ghost use Rattle.timefd_lang_node_list.specs.Views.{view_tree};
     ghost use Rattle.timefd_parse.specs.Language.{FaultIn, SpellsIn};
-    ghost use Rattle.timefd_moment.specs.Fields.Reads.{fields_of};
+    ghost use Rattle.timefd_date_moment.specs.Fields.Reads.{fields_of};
 
     /// Opens a text of a language.
     ///

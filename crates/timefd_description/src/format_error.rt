@@ -1,12 +1,12 @@
 //! Why a text writes nothing.
 
 ghost use Rattle.std.specs.Prelude.{◌≡◌};
-ghost use Rattle.timefd_fault.specs.BorrowedFaults as borrowed;
-ghost use Rattle.timefd_fault.specs.Faults as spec;
+ghost use Rattle.timefd_lang_fault.specs.BorrowedFaults as borrowed;
+ghost use Rattle.timefd_lang_fault.specs.Faults as spec;
 ghost use Rattle.timefd_description.specs.Formatted.{IsFaulty, IsMemory, of_text_error};
 
 use std::alloc::AllocError;
-use timefd_format::{TextError, Unshown};
+use timefd_date_format::{TextError, Unshown};
 use timefd_parse::{BorrowedFault, BorrowedParseError};
 
 /// Why a text writes nothing of a moment.

@@ -1,10 +1,10 @@
 //! Writes a moment by the text of a description.
 
 ghost use Rattle.std.specs.Prelude.{List};
-ghost use Rattle.timefd_component.specs.Tree.{Tree, trees};
-ghost use Rattle.timefd_fault.specs.Faults as spec;
-ghost use Rattle.timefd_format.specs.Written.{written, written_all};
-ghost use Rattle.timefd_node_list.specs.Item.Meaning.{item_trees};
+ghost use Rattle.timefd_lang_component.specs.Tree.{Tree, trees};
+ghost use Rattle.timefd_lang_fault.specs.Faults as spec;
+ghost use Rattle.timefd_date_format.specs.Written.{written, written_all};
+ghost use Rattle.timefd_lang_node_list.specs.Item.Meaning.{item_trees};
 ghost use Rattle.timefd_description.specs.Formatted.{IsFaulty, IsMemory, IsRefusedFor, IsShownAs};
 ghost use Rattle.timefd_items.specs.Description.{description_tree};
 ghost use Rattle.timefd_language.specs.Grammar.{nesting_limit};
@@ -12,9 +12,9 @@ ghost use Rattle.timefd_parse.specs.Language.{FaultIn, SpellsIn};
 
 use crate::format_error::{FormatTextError, of_parse_error, of_text_error};
 use std::alloc::{AllocError, Global};
-use timefd_format::{format, format_items};
-use timefd_moment::Moment;
-use timefd_node_list::item::BorrowedFormatItem;
+use timefd_date_format::{format, format_items};
+use timefd_date_moment::Moment;
+use timefd_lang_node_list::item::BorrowedFormatItem;
 use timefd_parse::{
     BorrowedOutput, DescriptionVersion, FormatDescriptionV3, Language, NESTING_LIMIT,
     StrftimeTables, count_strftime, parse_all_borrowed, parse_strftime_all_borrowed,

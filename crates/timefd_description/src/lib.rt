@@ -27,14 +27,14 @@ pub use reading::{read_text, read_text_fields};
 pub use sentence::{reason_sentence, unread_sentence};
 
 // The languages, the faults of texts, and what is wrong with one.
-pub use timefd_diagnosis::{Diagnostic, diagnose};
-pub use timefd_fault::{BorrowedFault, BorrowedParseError};
+pub use timefd_lang_fault::{BorrowedFault, BorrowedParseError};
 pub use timefd_language::{DescriptionVersion, Language};
+pub use timefd_lint_diagnosis::{Diagnostic, diagnose};
 
 // A text in another language.
-pub use timefd_convert::{ConvertError, convert};
+pub use timefd_lang_convert::{ConvertError, convert};
 
 // What is written and read.
-pub use timefd_format::TextError;
-pub use timefd_moment::fields::{Fields, ReadError};
-pub use timefd_moment::{Date, Moment, Time, UnixTime, UtcOffset};
+pub use timefd_date_format::TextError;
+pub use timefd_date_moment::fields::{Fields, ReadError};
+pub use timefd_date_moment::{Date, Moment, Time, UnixTime, UtcOffset};

@@ -1,12 +1,12 @@
 //! Literals, components and lists, added one after another as nodes.
 
 ghost use Rattle.std.specs.Prelude.{◌≡◌, ◌∷◌, ◌++◌, ◌≤◌, [], IfOk, IsOk, OnOk, length};
-ghost use Rattle.timefd_component.specs.Tree as spec;
-ghost use Rattle.timefd_component.specs.Tree.{pack};
+ghost use Rattle.timefd_lang_component.specs.Tree as spec;
+ghost use Rattle.timefd_lang_component.specs.Tree.{pack};
 ghost use Rattle.timefd_description.specs.Modern.{modern_tree};
 ghost use Rattle.timefd_items.specs.Builder.{built};
 ghost use Rattle.timefd_items.specs.Description.{description_tree};
-ghost use Rattle.timefd_node_list.specs.Nodes.{before, ending};
+ghost use Rattle.timefd_lang_node_list.specs.Nodes.{before, ending};
 
 use std::alloc::AllocError;
 use timefd_items::{DescriptionBuilder, FormatDescriptionV3};

@@ -4,8 +4,8 @@ ghost use Rattle.std.specs.Prelude.{◌≡◌};
 ghost use Rattle.timefd_description.specs.ReadAnswers as spec;
 
 use std::alloc::AllocError;
-use timefd_moment::fields::ReadError;
-use timefd_moment::reading::ValueError;
+use timefd_date_moment::fields::ReadError;
+use timefd_date_moment::reading::ValueError;
 use timefd_parse::{BorrowedFault, BorrowedParseError};
 
 /// Why a text shows nothing by the text of a description.

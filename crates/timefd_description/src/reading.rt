@@ -2,21 +2,21 @@
 
 ghost use Rattle.std.specs.Prelude.{◌≡◌, List};
 ghost use Rattle.std.specs.Result.{IfErr};
-ghost use Rattle.timefd_component.specs.Tree.{Tree, compound, trees};
-ghost use Rattle.timefd_fault.specs.Faults as spec;
-ghost use Rattle.timefd_node_list.specs.Item.Meaning.{item_trees};
+ghost use Rattle.timefd_lang_component.specs.Tree.{Tree, compound, trees};
+ghost use Rattle.timefd_lang_fault.specs.Faults as spec;
+ghost use Rattle.timefd_lang_node_list.specs.Item.Meaning.{item_trees};
 ghost use Rattle.timefd_items.specs.Description.{description_tree};
 ghost use Rattle.timefd_language.specs.Grammar.{nesting_limit};
 ghost use Rattle.timefd_parse.specs.Language.{FaultIn, SpellsIn};
-ghost use Rattle.timefd_moment.specs.Fields.Reads.{fields_of};
+ghost use Rattle.timefd_date_moment.specs.Fields.Reads.{fields_of};
 ghost use Rattle.timefd_description.specs.ReadAnswers.{AreFieldsAs, HasFaultOf, IsFaulty, IsMemory, IsReadAs, IsRefusedFor, fields_in, read_answer};
 
 use crate::read_error::{ReadTextError, of_parse_error};
 use std::alloc::{AllocError, Global};
-use timefd_moment::Moment;
-use timefd_moment::fields::{Fields, ReadError, read_fields, read_item_fields};
-use timefd_moment::reading::moment;
-use timefd_node_list::item::BorrowedFormatItem;
+use timefd_date_moment::Moment;
+use timefd_date_moment::fields::{Fields, ReadError, read_fields, read_item_fields};
+use timefd_date_moment::reading::moment;
+use timefd_lang_node_list::item::BorrowedFormatItem;
 use timefd_parse::{
     BorrowedOutput, DescriptionVersion, FormatDescriptionV3, Language, NESTING_LIMIT,
     StrftimeTables, count_strftime, parse_all_borrowed, parse_strftime_all_borrowed,

@@ -4,8 +4,8 @@ ghost use Rattle.std.specs.Prelude.{◌≡◌, IfOk, string_bytes};
 ghost use Rattle.timefd_description.specs.Sentences as spec;
 
 use std::alloc::{AllocError, Global};
-use timefd_format::component_name;
-use timefd_moment::fields::{ReadError, Reason};
+use timefd_date_format::component_name;
+use timefd_date_moment::fields::{ReadError, Reason};
 
 /// Why a part of a text doesn't read, and the byte index where it begins: `another text was expected at
 /// byte 4`. An `Err` says that memory ran out.

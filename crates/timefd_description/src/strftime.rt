@@ -2,11 +2,11 @@
 
 ghost use Rattle.std.specs.Prelude.{◌≡◌, ◌∷◌, ◌++◌, ◌<◌, [], List, MatchResult, OnOk, length};
 ghost use Rattle.std.specs.Result.{IfErr};
-ghost use Rattle.timefd_component.specs.Tree.{Tree};
+ghost use Rattle.timefd_lang_component.specs.Tree.{Tree};
 ghost use Rattle.timefd_description.specs.Modern.{modern_tree};
 ghost use Rattle.timefd_description.specs.Parsed.{IsParsed};
 ghost use Rattle.timefd_items.specs.Builder.{built};
-ghost use Rattle.timefd_fault.specs.ReadErrors.{MemoryOr};
+ghost use Rattle.timefd_lang_fault.specs.ReadErrors.{MemoryOr};
 ghost use Rattle.timefd_language.specs.Strftime.{SpellsStrftime};
 ghost use Rattle.timefd_language.specs.declared.language.Language.TheVariants.{Strftime};
 ghost use Rattle.timefd_language.specs.Directives.PieceMeaning.{piece_tree};
@@ -15,8 +15,8 @@ ghost use Rattle.timefd_language.specs.Directives.StrftimeReading.{IsStrftimeFau
 use crate::composite::add_composite;
 use crate::nodes::finished;
 use std::alloc::{AllocError, Global};
-use timefd_fault::read_error::ReadError;
 use timefd_items::{DescriptionBuilder, FormatDescriptionV3};
+use timefd_lang_fault::read_error::ReadError;
 use timefd_language::strftime::{StrftimePiece, next_strftime_piece, strftime_error};
 use timefd_parse::BorrowedParseError;
 

@@ -2,12 +2,12 @@
 
 ghost use Rattle.std.specs.Prelude.{◌≡◌, ◌∷◌, ◌++◌, ◌<◌, [], List, IsFalse, MatchResult, OnOk, length};
 ghost use Rattle.std.specs.Result.{IfErr};
-ghost use Rattle.timefd_component.specs.Tree.{Tree};
+ghost use Rattle.timefd_lang_component.specs.Tree.{Tree};
 ghost use Rattle.timefd_description.specs.Modern.{modern_tree};
 ghost use Rattle.timefd_description.specs.Parsed.{IsParsed};
 ghost use Rattle.timefd_items.specs.Builder.{built};
 ghost use Rattle.timefd_language.specs.Bytes.{is_version_three};
-ghost use Rattle.timefd_fault.specs.ReadErrors.{MemoryOr};
+ghost use Rattle.timefd_lang_fault.specs.ReadErrors.{MemoryOr};
 ghost use Rattle.timefd_language.specs.Grammar.{nesting_limit};
 ghost use Rattle.timefd_language.specs.declared.description_version.DescriptionVersion.TheVariants.{Three};
 ghost use Rattle.timefd_parse.specs.Pieces.{IsLeaf, IsLeafTree};
@@ -16,8 +16,8 @@ ghost use Rattle.timefd_language.specs.declared.language.Language.TheVariants.{V
 
 use crate::nodes::finished;
 use std::alloc::{AllocError, Global};
-use timefd_fault::read_error::ReadError;
 use timefd_items::{DescriptionBuilder, FormatDescriptionV3};
+use timefd_lang_fault::read_error::ReadError;
 use timefd_parse::{
     BorrowedOutput, BorrowedParseError, DescriptionVersion, NESTING_LIMIT, Piece, error_of,
     next_piece, parse_all_borrowed,

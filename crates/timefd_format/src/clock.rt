@@ -1,123 +1,33 @@
-//! The field of a component that shows a time of day or an offset.
+//! The current moment.
 
-ghost use Rattle.std.specs.Prelude.{◌≡◌, ◌≤◌};
-ghost use Rattle.timefd_format.specs.Fields as spec;
-ghost use Rattle.timefd_format.specs.Fields.{IsField};
+ghost use Rattle.std.specs.Prelude.{IfSome};
+ghost use Rattle.timefd_format.specs.FromJiff.Zones.{IsOnClock, instant};
+ghost use Rattle.timefd_date_moment.specs.declared.unix_time.UnixTime.{UnixTime as Instant};
 
-use crate::field::Field;
-use crate::numbers::{plain, sign_of, signed};
-use timefd_component::Component;
-use timefd_moment::{Time, UtcOffset};
+use crate::from_jiff::moment_in_zone;
+use jiff_tz::TimeZone;
+use std::time::{Clock, SystemTime};
+use timefd_date_moment::{Moment, UnixTime};
 
-pub(crate) fn time_field(time: Time, component: Component) -> Field
-    ensures table { result ≡ spec.time_field time component }
-    ensures field { IsField result }
+/// What a clock in the zone shows now. `None` if the clock can't be read, or is set before 1970.
+pub fn moment_now<C: Clock>(clock: &C, zone: &TimeZone<'_>) -> Option<Moment>
+    ensures { IfSome result (λ moment. (known : Instant) × IsOnClock zone.now (instant known) moment) }
 {
-    match component {
-        Component::Hour12(m) => plain(m.padding, 2, time.hour_of_twelve() as u64),
-        Component::Hour24(m) => plain(m.padding, 2, time.hour as u64),
-        Component::Minute(m) => plain(m.padding, 2, time.minute as u64),
-        Component::Second(m) => plain(m.padding, 2, time.second as u64),
-        Component::Period(m) => Field::Period {
-            is_uppercase: m.is_uppercase,
-            is_afternoon: time.hour >= 12,
-        },
-        Component::Subsecond(m) => Field::Fraction {
-            digits: m.digits,
-            nanosecond: time.nanosecond,
-        },
-        Component::Day(_)
-        | Component::MonthShort(_)
-        | Component::MonthLong(_)
-        | Component::MonthNumerical(_)
-        | Component::Ordinal(_)
-        | Component::WeekdayShort(_)
-        | Component::WeekdayLong(_)
-        | Component::WeekdaySunday(_)
-        | Component::WeekdayMonday(_)
-        | Component::WeekNumberIso(_)
-        | Component::WeekNumberSunday(_)
-        | Component::WeekNumberMonday(_)
-        | Component::CalendarYearFullExtendedRange(_)
-        | Component::CalendarYearFullStandardRange(_)
-        | Component::CalendarYearCenturyExtendedRange(_)
-        | Component::CalendarYearCenturyStandardRange(_)
-        | Component::IsoYearFullExtendedRange(_)
-        | Component::IsoYearFullStandardRange(_)
-        | Component::IsoYearCenturyExtendedRange(_)
-        | Component::IsoYearCenturyStandardRange(_)
-        | Component::CalendarYearLastTwo(_)
-        | Component::IsoYearLastTwo(_)
-        | Component::OffsetHour(_)
-        | Component::OffsetMinute(_)
-        | Component::OffsetSecond(_)
-        | Component::UnixTimestampSecond(_)
-        | Component::UnixTimestampMillisecond(_)
-        | Component::UnixTimestampMicrosecond(_)
-        | Component::UnixTimestampNanosecond(_)
-        | Component::Ignore(_)
-        | Component::End(_)
-        | Component::Month(_)
-        | Component::Weekday(_)
-        | Component::WeekNumber(_)
-        | Component::Hour(_)
-        | Component::UnixTimestamp(_)
-        | Component::Year(_) => Field::Nothing,
-    }
+    let now = SystemTime::now(clock).ok()?;
+    let since_1970 = now.duration_since(SystemTime::UNIX_EPOCH).ok()?;
+    let unix = UnixTime {
+        is_negative: false,
+        nanoseconds: since_1970.as_nanos(),
+    };
+    shown_at(zone, unix)
 }
 
-pub(crate) fn offset_field(offset: UtcOffset, component: Component) -> Field
-    ensures table { result ≡ spec.offset_field offset component }
-    ensures field { IsField result }
+// What a clock in the zone shows at an instant.
+fn shown_at(zone: &TimeZone<'_>, unix: UnixTime) -> Option<Moment>
+    ensures { IfSome result (λ moment. (known : Instant) × IsOnClock zone.now (instant known) moment) }
 {
-    match component {
-        Component::OffsetHour(m) => signed(
-            sign_of(offset.is_negative, m.sign_is_mandatory),
-            m.padding,
-            2,
-            (offset.seconds / 3_600) as u128,
-        ),
-        Component::OffsetMinute(m) => plain(m.padding, 2, (offset.seconds / 60 % 60) as u64),
-        Component::OffsetSecond(m) => plain(m.padding, 2, (offset.seconds % 60) as u64),
-        Component::Day(_)
-        | Component::MonthShort(_)
-        | Component::MonthLong(_)
-        | Component::MonthNumerical(_)
-        | Component::Ordinal(_)
-        | Component::WeekdayShort(_)
-        | Component::WeekdayLong(_)
-        | Component::WeekdaySunday(_)
-        | Component::WeekdayMonday(_)
-        | Component::WeekNumberIso(_)
-        | Component::WeekNumberSunday(_)
-        | Component::WeekNumberMonday(_)
-        | Component::CalendarYearFullExtendedRange(_)
-        | Component::CalendarYearFullStandardRange(_)
-        | Component::CalendarYearCenturyExtendedRange(_)
-        | Component::CalendarYearCenturyStandardRange(_)
-        | Component::IsoYearFullExtendedRange(_)
-        | Component::IsoYearFullStandardRange(_)
-        | Component::IsoYearCenturyExtendedRange(_)
-        | Component::IsoYearCenturyStandardRange(_)
-        | Component::CalendarYearLastTwo(_)
-        | Component::IsoYearLastTwo(_)
-        | Component::Hour12(_)
-        | Component::Hour24(_)
-        | Component::Minute(_)
-        | Component::Second(_)
-        | Component::Period(_)
-        | Component::Subsecond(_)
-        | Component::UnixTimestampSecond(_)
-        | Component::UnixTimestampMillisecond(_)
-        | Component::UnixTimestampMicrosecond(_)
-        | Component::UnixTimestampNanosecond(_)
-        | Component::Ignore(_)
-        | Component::End(_)
-        | Component::Month(_)
-        | Component::Weekday(_)
-        | Component::WeekNumber(_)
-        | Component::Hour(_)
-        | Component::UnixTimestamp(_)
-        | Component::Year(_) => Field::Nothing,
+    match moment_in_zone(zone, unix) {
+        Ok(moment) => Some(moment),
+        Err(_) => None,
     }
 }

@@ -3,13 +3,13 @@ use Rattle.std.proofs.Common.{◌≡◌, ◌∙◌, ℕ, zero, suc, ◌+◌, ◌
 use Rattle.std.proofs.Common.{◌++◌, length, take, drop, Some, None, is_some, refl, sym, ap, arith, length-append}
 use Rattle.std.proofs.lemmas.Bool.Decides.{nat_tests}
 use Rattle.std.proofs.lemmas.List.{take-append-drop}
-use Rattle.timefd_node_list.specs.declared.node_list.NodeList.{NodeList}
-use Rattle.timefd_node_list.specs.Nodes.{before, ending, kept_bytes, largest}
-use Rattle.timefd_node_list.specs.NodeTrees.{node_count}
-use Rattle.timefd_component.specs.Reserved.{reserve, reserve_all, reserve_first, within}
-use Rattle.timefd_node_list.specs.Tallies.{kept_sum, sum_within}
-use Rattle.timefd_component.specs.Tree.{Tree, trees, pack}
-use Rattle.timefd_node_list.proofs.NodeLemmas.{length-before, length-ending}
+use Rattle.timefd_lang_node_list.specs.declared.node_list.NodeList.{NodeList}
+use Rattle.timefd_lang_node_list.specs.Nodes.{before, ending, kept_bytes, largest}
+use Rattle.timefd_lang_node_list.specs.NodeTrees.{node_count}
+use Rattle.timefd_lang_component.specs.Reserved.{reserve, reserve_all, reserve_first, within}
+use Rattle.timefd_lang_node_list.specs.Tallies.{kept_sum, sum_within}
+use Rattle.timefd_lang_component.specs.Tree.{Tree, trees, pack}
+use Rattle.timefd_lang_node_list.proofs.NodeLemmas.{length-before, length-ending}
 
 -- How many there are. A `Vec` has fewer nodes than this.
 pub few_nodes : (l : NodeList) → node_count l < 2 ^ 63

@@ -3,18 +3,18 @@ use Rattle.std.proofs.Common.{rules, Bool, false, ◌≡◌, ◌∙◌, ℕ, ◌
 use Rattle.std.proofs.lemmas.List.{drop_all}
 use Rattle.std.proofs.lemmas.Bool.{true≢false}
 use Rattle.std.specs.Borrow.{Bor}
-use Rattle.timefd_component.specs.ComponentEquality.{component_same}
-use Rattle.timefd_component.specs.Equality.{same_component}
-use Rattle.timefd_component.specs.declared.component.Component.{Component}
-use Rattle.timefd_component.specs.declared.component.Component.TheVariants.{Month, Weekday, WeekNumber, Hour, UnixTimestamp, Year}
-use Rattle.timefd_component.specs.Modern.{modern}
-use Rattle.timefd_component.specs.Reserved.{reserve, reserve_all, reserved}
-use Rattle.timefd_component.specs.Tree.{Tree, first, trees}
-use Rattle.timefd_node_list.specs.declared.item.borrowed_format_item.BorrowedFormatItem.{BorrowedFormatItem}
-use Rattle.timefd_node_list.specs.declared.item.borrowed_format_item.BorrowedFormatItem.TheVariants as item
-use Rattle.timefd_node_list.specs.declared.item.borrowed_format_item.BorrowedFormatItem.TheFolds.{the_lemmas}
-use Rattle.timefd_node_list.specs.Item.Meaning.{item_tree}
-use Rattle.timefd_node_list.specs.Nodes.{kept_bytes}
+use Rattle.timefd_lang_component.specs.ComponentEquality.{component_same}
+use Rattle.timefd_lang_component.specs.Equality.{same_component}
+use Rattle.timefd_lang_component.specs.declared.component.Component.{Component}
+use Rattle.timefd_lang_component.specs.declared.component.Component.TheVariants.{Month, Weekday, WeekNumber, Hour, UnixTimestamp, Year}
+use Rattle.timefd_lang_component.specs.Modern.{modern}
+use Rattle.timefd_lang_component.specs.Reserved.{reserve, reserve_all, reserved}
+use Rattle.timefd_lang_component.specs.Tree.{Tree, first, trees}
+use Rattle.timefd_lang_node_list.specs.declared.item.borrowed_format_item.BorrowedFormatItem.{BorrowedFormatItem}
+use Rattle.timefd_lang_node_list.specs.declared.item.borrowed_format_item.BorrowedFormatItem.TheVariants as item
+use Rattle.timefd_lang_node_list.specs.declared.item.borrowed_format_item.BorrowedFormatItem.TheFolds.{the_lemmas}
+use Rattle.timefd_lang_node_list.specs.Item.Meaning.{item_tree}
+use Rattle.timefd_lang_node_list.specs.Nodes.{kept_bytes}
 
 pub first_tree : (members : Bor (List BorrowedFormatItem))
     → item_tree (item.First members) ≡ first (trees (map item_tree members.now))

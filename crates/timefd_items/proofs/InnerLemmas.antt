@@ -4,13 +4,13 @@ use Rattle.std.proofs.Common.{get_or, is_some, vec_len, vec_capacity, refl, ◌=
 use Rattle.std.proofs.lemmas.Bool.Decides.{nat_tests}
 use Rattle.std.proofs.lemmas.List.{map-append}
 use Rattle.timefd_items.specs.declared.format_description_v3.inner.FormatDescriptionV3Inner.{FormatDescriptionV3Inner}
-use Rattle.timefd_node_list.specs.declared.node_list.NodeList.{NodeList}
+use Rattle.timefd_lang_node_list.specs.declared.node_list.NodeList.{NodeList}
 use Rattle.timefd_items.specs.Meaning.{inner_tree}
-use Rattle.timefd_node_list.specs.Nodes.{Part, arity, made, before, ending, grown}
-use Rattle.timefd_node_list.specs.NodeTrees.{Adds, AddsNode, HasRoom, list_trees}
-use Rattle.timefd_component.specs.Reserved.{tree_count, trees_count, within}
-use Rattle.timefd_component.specs.Tree.{Tree, component, literal, compound, first, optional, trees, pack, no_trees, more_trees, is_none}
-use Rattle.timefd_node_list.proofs.NodeLemmas.{before_zero, before-append, ending-append}
+use Rattle.timefd_lang_node_list.specs.Nodes.{Part, arity, made, before, ending, grown}
+use Rattle.timefd_lang_node_list.specs.NodeTrees.{Adds, AddsNode, HasRoom, list_trees}
+use Rattle.timefd_lang_component.specs.Reserved.{tree_count, trees_count, within}
+use Rattle.timefd_lang_component.specs.Tree.{Tree, component, literal, compound, first, optional, trees, pack, no_trees, more_trees, is_none}
+use Rattle.timefd_lang_node_list.proofs.NodeLemmas.{before_zero, before-append, ending-append}
 
 -- Adding.
 append_nil : (ts : List Tree) → ts ++ [] ≡ ts

@@ -1,9 +1,9 @@
 -- The trees of a builder, and the room that it has for more.
 use Rattle.std.specs.Prelude.{ℕ, List}
 use Rattle.timefd_items.specs.declared.format_description_v3.builder.DescriptionBuilder.{DescriptionBuilder}
-use Rattle.timefd_node_list.specs.NodeTrees as list
-use Rattle.timefd_node_list.specs.NodeTrees.{list_trees}
-use Rattle.timefd_component.specs.Tree.{Tree}
+use Rattle.timefd_lang_node_list.specs.NodeTrees as list
+use Rattle.timefd_lang_node_list.specs.NodeTrees.{list_trees}
+use Rattle.timefd_lang_component.specs.Tree.{Tree}
 
 abbrev pub built : DescriptionBuilder → List Tree
 built b = list_trees b.list

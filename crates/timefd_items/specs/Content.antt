@@ -3,8 +3,8 @@ use Rattle.std.specs.Prelude.{ℕ, ◌≡◌, ◌+◌, map, sum}
 use Rattle.timefd_items.specs.declared.format_description_v3.content.Content.{Content}
 use Rattle.timefd_items.specs.declared.format_description_v3.content.Content.TheVariants as content
 use Rattle.timefd_items.specs.Meaning.{inner_tree, owned_parts}
-use Rattle.timefd_component.specs.Modern.{modern}
-use Rattle.timefd_component.specs.Tree.{Tree, component, literal, compound, optional, first, trees}
+use Rattle.timefd_lang_component.specs.Modern.{modern}
+use Rattle.timefd_lang_component.specs.Tree.{Tree, component, literal, compound, optional, first, trees}
 
 abbrev pub content_tree : Content → Tree
 content_tree (content.Component c) = component (modern c)

@@ -1,9 +1,9 @@
 -- The tree of a description, and what the description owns of it.
 use Rattle.std.specs.Prelude.{Bool, List, ℕ}
 use Rattle.timefd_items.specs.declared.format_description_v3.FormatDescriptionV3.{FormatDescriptionV3}
-use Rattle.timefd_node_list.specs.NodeTrees as list
-use Rattle.timefd_node_list.specs.NodeTrees.{list_owners, list_trees}
-use Rattle.timefd_component.specs.Tree.{Tree, pack}
+use Rattle.timefd_lang_node_list.specs.NodeTrees as list
+use Rattle.timefd_lang_node_list.specs.NodeTrees.{list_owners, list_trees}
+use Rattle.timefd_lang_component.specs.Tree.{Tree, pack}
 
 abbrev pub description_tree : FormatDescriptionV3 → Tree
 description_tree d = pack (list_trees d.list)

@@ -1,22 +1,22 @@
 -- The tree that a description means.
 use Rattle.std.specs.Prelude.{ℕ, ◌+◌, Bool, true, false, sum, string_bytes, box_value}
-use Rattle.timefd_component.specs.declared.component.Component.TheVariants.{Day, MonthShort, MonthLong, MonthNumerical, Ordinal}
-use Rattle.timefd_component.specs.declared.component.Component.TheVariants.{WeekdayShort, WeekdayLong, WeekdaySunday, WeekdayMonday}
-use Rattle.timefd_component.specs.declared.component.Component.TheVariants.{WeekNumberIso, WeekNumberSunday, WeekNumberMonday}
-use Rattle.timefd_component.specs.declared.component.Component.TheVariants.{CalendarYearFullExtendedRange, CalendarYearFullStandardRange}
-use Rattle.timefd_component.specs.declared.component.Component.TheVariants.{CalendarYearCenturyExtendedRange}
-use Rattle.timefd_component.specs.declared.component.Component.TheVariants.{CalendarYearCenturyStandardRange, IsoYearFullExtendedRange}
-use Rattle.timefd_component.specs.declared.component.Component.TheVariants.{IsoYearFullStandardRange, IsoYearCenturyExtendedRange}
-use Rattle.timefd_component.specs.declared.component.Component.TheVariants.{IsoYearCenturyStandardRange, CalendarYearLastTwo}
-use Rattle.timefd_component.specs.declared.component.Component.TheVariants.{IsoYearLastTwo, Hour12, Hour24, Minute, Period, Second}
-use Rattle.timefd_component.specs.declared.component.Component.TheVariants.{Subsecond, OffsetHour, OffsetMinute, OffsetSecond, Ignore}
-use Rattle.timefd_component.specs.declared.component.Component.TheVariants.{UnixTimestampSecond, UnixTimestampMillisecond}
-use Rattle.timefd_component.specs.declared.component.Component.TheVariants.{UnixTimestampMicrosecond, UnixTimestampNanosecond, End}
+use Rattle.timefd_lang_component.specs.declared.component.Component.TheVariants.{Day, MonthShort, MonthLong, MonthNumerical, Ordinal}
+use Rattle.timefd_lang_component.specs.declared.component.Component.TheVariants.{WeekdayShort, WeekdayLong, WeekdaySunday, WeekdayMonday}
+use Rattle.timefd_lang_component.specs.declared.component.Component.TheVariants.{WeekNumberIso, WeekNumberSunday, WeekNumberMonday}
+use Rattle.timefd_lang_component.specs.declared.component.Component.TheVariants.{CalendarYearFullExtendedRange, CalendarYearFullStandardRange}
+use Rattle.timefd_lang_component.specs.declared.component.Component.TheVariants.{CalendarYearCenturyExtendedRange}
+use Rattle.timefd_lang_component.specs.declared.component.Component.TheVariants.{CalendarYearCenturyStandardRange, IsoYearFullExtendedRange}
+use Rattle.timefd_lang_component.specs.declared.component.Component.TheVariants.{IsoYearFullStandardRange, IsoYearCenturyExtendedRange}
+use Rattle.timefd_lang_component.specs.declared.component.Component.TheVariants.{IsoYearCenturyStandardRange, CalendarYearLastTwo}
+use Rattle.timefd_lang_component.specs.declared.component.Component.TheVariants.{IsoYearLastTwo, Hour12, Hour24, Minute, Period, Second}
+use Rattle.timefd_lang_component.specs.declared.component.Component.TheVariants.{Subsecond, OffsetHour, OffsetMinute, OffsetSecond, Ignore}
+use Rattle.timefd_lang_component.specs.declared.component.Component.TheVariants.{UnixTimestampSecond, UnixTimestampMillisecond}
+use Rattle.timefd_lang_component.specs.declared.component.Component.TheVariants.{UnixTimestampMicrosecond, UnixTimestampNanosecond, End}
 use Rattle.timefd_items.specs.declared.format_description_v3.inner.FormatDescriptionV3Inner.{FormatDescriptionV3Inner}
 use Rattle.timefd_items.specs.declared.format_description_v3.inner.FormatDescriptionV3Inner.TheOpen.{FormatDescriptionV3Inner-F}
 use Rattle.timefd_items.specs.declared.format_description_v3.inner.FormatDescriptionV3Inner.TheOpen as inner
 use Rattle.timefd_items.specs.declared.format_description_v3.inner.FormatDescriptionV3Inner.TheFolds.{fold-FormatDescriptionV3Inner}
-use Rattle.timefd_component.specs.Tree.{Tree, component, literal, compound, optional, first, trees}
+use Rattle.timefd_lang_component.specs.Tree.{Tree, component, literal, compound, optional, first, trees}
 
 -- one description, with the tree of each inner one instead of it
 abbrev pub inner_step : FormatDescriptionV3Inner-F Tree → Tree

@@ -1,9 +1,9 @@
 //! A description of version 3, whose reserved bytes are known.
 
 ghost use Rattle.std.specs.Prelude.{◌-◌, ◌^◌, ◌≤◌, length};
-ghost use Rattle.timefd_node_list.specs.NodeTrees.{list_trees};
-ghost use Rattle.timefd_component.specs.Reserved.{reserve};
-ghost use Rattle.timefd_component.specs.Tree.{pack};
+ghost use Rattle.timefd_lang_node_list.specs.NodeTrees.{list_trees};
+ghost use Rattle.timefd_lang_component.specs.Reserved.{reserve};
+ghost use Rattle.timefd_lang_component.specs.Tree.{pack};
 
 pub mod builder;
 mod content;
@@ -17,8 +17,8 @@ mod reserved;
 
 use inner::FormatDescriptionV3Inner;
 use std::alloc::{AllocError, Global};
-use timefd_node_list::View;
-use timefd_node_list::node_list::NodeList;
+use timefd_lang_node_list::View;
+use timefd_lang_node_list::node_list::NodeList;
 
 /// A description of version 3, as a formatter takes it: a tree whose reserved bytes fit a `usize`.
 /// `FormatDescriptionV3Inner::into_opaque` makes one. It is `time`'s struct of that name.
@@ -34,9 +34,9 @@ impl<'a> FormatDescriptionV3<'a> {
     ghost use Rattle.std.specs.Prelude.{◌≡◌, IfOk};
     ghost use Rattle.timefd_items.specs.Description.{description_owners, description_tree, unused_parts};
     ghost use Rattle.timefd_items.specs.Meaning.{inner_tree};
-    ghost use Rattle.timefd_component.specs.Texts.{Renders};
-    ghost use Rattle.timefd_component.specs.Tree.{Text, compound, no_trees};
-    ghost use Rattle.timefd_node_list.specs.Views.{view_tree};
+    ghost use Rattle.timefd_lang_component.specs.Texts.{Renders};
+    ghost use Rattle.timefd_lang_component.specs.Tree.{Text, compound, no_trees};
+    ghost use Rattle.timefd_lang_node_list.specs.Views.{view_tree};
 
     fn empty(alloc: Global) -> Self
         ensures { description_tree result ≡ compound no_trees }

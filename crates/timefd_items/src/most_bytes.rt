@@ -1,15 +1,15 @@
 //! How many bytes items take at most.
 
 ghost use Rattle.std.specs.Prelude.{◌≡◌, ◌+◌};
-ghost use Rattle.timefd_component.specs.Reserved as spec;
-ghost use Rattle.timefd_component.specs.Reserved.{reserve, reserve_all};
-ghost use Rattle.timefd_component.specs.Tree.{trees};
-ghost use Rattle.timefd_node_list.specs.Item.Meaning.{item_tree, item_trees};
-ghost use Rattle.timefd_node_list.specs.Nodes.{kept_bytes};
+ghost use Rattle.timefd_lang_component.specs.Reserved as spec;
+ghost use Rattle.timefd_lang_component.specs.Reserved.{reserve, reserve_all};
+ghost use Rattle.timefd_lang_component.specs.Tree.{trees};
+ghost use Rattle.timefd_lang_node_list.specs.Item.Meaning.{item_tree, item_trees};
+ghost use Rattle.timefd_lang_node_list.specs.Nodes.{kept_bytes};
 
-use timefd_component::Component;
-use timefd_component::reserved::reserved_bytes;
-use timefd_node_list::item::BorrowedFormatItem;
+use timefd_lang_component::Component;
+use timefd_lang_component::reserved::reserved_bytes;
+use timefd_lang_node_list::item::BorrowedFormatItem;
 
 /// The greatest number of bytes that items of versions 1 and 2 and of strftime are written as, one
 /// after another, at most `usize::MAX`. For a description of version 3 `max_bytes_needed` returns

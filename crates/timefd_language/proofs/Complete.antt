@@ -2,7 +2,7 @@
 use Rattle.std.proofs.Common.{ℕ, zero, suc, ◌≡◌, ◌+◌, ◌≤◌, ◌==◌, false, ◌∷◌, ◌++◌, length, refl, ◌∙◌, ap, arith, Ok}
 use Rattle.timefd_language.specs.declared.description_version.DescriptionVersion.{DescriptionVersion}
 use Rattle.timefd_language.specs.declared.description_version.DescriptionVersion.TheVariants.{One, Two, Three}
-use Rattle.timefd_component.specs.Tree.{Text, Tree}
+use Rattle.timefd_lang_component.specs.Tree.{Text, Tree}
 use Rattle.timefd_language.specs.Bytes.{left, right, is_white, is_word_byte, is_run_byte, ZeroOrMore, StopsBefore}
 use Rattle.timefd_language.specs.Head.{Head}
 use Rattle.timefd_language.specs.Grammar.{Pieces, no_pieces, run, escape, closing, bracket, Nested, no_nested, nested, ArePieces, AreNested, BeginsNoRun, bracket_verdict}

@@ -8,7 +8,7 @@ use Rattle.std.proofs.lemmas.Bool.{and_parts}
 use Rattle.std.proofs.lemmas.Bool.Decides.{nat_tests}
 use Rattle.std.proofs.lemmas.Str.Parse.{digit_from_value}
 use Rattle.std.specs.declared.num.NonZeroU16.{NonZeroU16}
-use Rattle.timefd_component.specs.Tree.{Text}
+use Rattle.timefd_lang_component.specs.Tree.{Text}
 use Rattle.timefd_language.specs.declared.setting.Setting.{Setting}
 use Rattle.timefd_language.specs.Bytes.{plus}
 use Rattle.timefd_language.specs.Values.{digits_value, digits_of, counted, count_of, not_zero}

@@ -9,7 +9,7 @@ use Rattle.std.specs.Str.{IsCharBoundary}
 use Rattle.timefd_language.specs.declared.description_version.DescriptionVersion.TheVariants.{One, Three}
 use Rattle.timefd_language.specs.declared.text.Class.{Class}
 use Rattle.timefd_language.specs.declared.text.Class.TheVariants.{White, Word, Key, Run, RunWithBackslash, Plain}
-use Rattle.timefd_component.specs.Tree.{Text}
+use Rattle.timefd_lang_component.specs.Tree.{Text}
 use Rattle.timefd_language.specs.Bytes.{is_white, is_special, is_word_byte, is_key_byte, is_run_byte, ZeroOrMore, StopsBefore}
 use Rattle.timefd_language.specs.Strftime.{is_plain}
 use Rattle.timefd_language.specs.Cut.{class_test, IsCut}

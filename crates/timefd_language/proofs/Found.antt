@@ -3,9 +3,9 @@ use Rattle.std.proofs.Common.{ℕ, zero, suc, ◌≡◌, ◌<◌, ◌≤◌, ◌
 use Rattle.std.specs.List.{list_all}
 use Rattle.std.proofs.lemmas.Bool.{both_ways, and_parts, or_from}
 use Rattle.timefd_language.specs.declared.description_version.DescriptionVersion.{DescriptionVersion}
-use Rattle.timefd_component.specs.Tree.{Text, Tree}
+use Rattle.timefd_lang_component.specs.Tree.{Text, Tree}
 use Rattle.timefd_language.specs.Bytes.{left, right, is_white, is_word_byte, is_run_byte, ZeroOrMore, StopsBefore}
-use Rattle.timefd_fault.specs.Faults.{Fault}
+use Rattle.timefd_lang_fault.specs.Faults.{Fault}
 use Rattle.timefd_language.specs.Head.{Head, IsHead, head_text}
 use Rattle.timefd_language.specs.Grammar.{spelling, nested_text, Pieces, no_pieces, run, escape, closing, bracket, Nested, no_nested, nested, ArePieces, AreNested, BeginsNoRun, bracket_verdict}
 use Rattle.timefd_language.specs.Broken.{unclosed, IsBroken, IsWholeBefore, is_bracket_byte}

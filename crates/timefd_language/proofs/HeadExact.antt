@@ -1,7 +1,7 @@
 -- A text that is put together from words, modifiers and a head is read as those.
 use Rattle.std.proofs.Common.{ℕ, zero, suc, ◌≡◌, ◌<◌, List, [], ◌∷◌, ◌++◌, length, refl, sym, ◌∙◌, ap, append_assoc, arith}
 use Rattle.std.proofs.lemmas.Bool.{and_parts}
-use Rattle.timefd_component.specs.Tree.{Text}
+use Rattle.timefd_lang_component.specs.Tree.{Text}
 use Rattle.timefd_language.specs.Bytes.{colon, is_white, is_word_byte, is_key_byte, ZeroOrMore, OneOrMore, StopsBefore}
 use Rattle.timefd_language.specs.Head.{Modifier, Head, AreModifiers, IsHead}
 use Rattle.timefd_language.specs.Broken.{Misfit, no_colon, no_key, no_value, misfit_text, IsMisfit, nameless, ill_modified}

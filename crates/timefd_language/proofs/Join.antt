@@ -1,9 +1,9 @@
 -- Pieces after pieces: where two runs meet, they become one.
 use Rattle.std.proofs.Common.{ℕ, ◌≡◌, ◌+◌, Bool, List, [], ◌∷◌, ◌++◌, length, length-append, refl, sym, ◌∙◌, ap, arith, append_assoc}
 use Rattle.timefd_language.specs.declared.description_version.DescriptionVersion.{DescriptionVersion}
-use Rattle.timefd_component.specs.Tree.{Text, Tree, component, literal, compound, optional, first, joined, before_joined}
+use Rattle.timefd_lang_component.specs.Tree.{Text, Tree, component, literal, compound, optional, first, joined, before_joined}
 use Rattle.timefd_language.specs.Bytes.{right, is_run_byte, OneOrMore}
-use Rattle.timefd_fault.specs.Faults.{Fault, fault}
+use Rattle.timefd_lang_fault.specs.Faults.{Fault, fault}
 use Rattle.timefd_language.specs.Fault.{raised}
 use Rattle.timefd_language.specs.Head.{head_text}
 use Rattle.timefd_language.specs.Grammar.{Pieces, no_pieces, run, escape, closing, bracket, nested_text, spelling, items, ArePieces}

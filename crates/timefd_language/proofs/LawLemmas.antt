@@ -1,8 +1,8 @@
 -- The laws.
 use Rattle.std.proofs.Common.{MatchResult, ℕ, suc, ◌≡◌, ◌≤◌, inl, inr, List, ◌++◌, length, refl, sym, ◌∙◌, ap, subst, arith, append-nil}
 use Rattle.timefd_language.specs.declared.description_version.DescriptionVersion.{DescriptionVersion}
-use Rattle.timefd_component.specs.Tree.{Text, Tree}
-use Rattle.timefd_fault.specs.Faults.{Fault}
+use Rattle.timefd_lang_component.specs.Tree.{Text, Tree}
+use Rattle.timefd_lang_fault.specs.Faults.{Fault}
 use Rattle.timefd_language.specs.Fault.{raised}
 use Rattle.timefd_language.specs.Grammar.{Pieces, spelling, items, Spells}
 use Rattle.timefd_language.specs.Broken.{broken_fault, FaultOf}

@@ -3,10 +3,10 @@ use Rattle.std.proofs.Common.{ℕ, ◌≡◌, ◌+◌, ◌==◌, ◌&&◌, ◌�
 use Rattle.std.specs.List.{list_all}
 use Rattle.std.proofs.lemmas.Bool.{and_parts, or_cases, or_left, both_ways}
 use Rattle.timefd_language.specs.declared.description_version.DescriptionVersion.TheVariants.{One, Two}
-use Rattle.timefd_component.specs.Tree.{Text, Tree, literal, joined, before_joined}
+use Rattle.timefd_lang_component.specs.Tree.{Text, Tree, literal, joined, before_joined}
 use Rattle.timefd_language.specs.Bytes.{left, right, backslash, is_special, is_run_byte, same, ZeroOrMore, OneOrMore}
-use Rattle.timefd_fault.specs.Faults.{Fault, fault}
-use Rattle.timefd_fault.specs.Words.{optional_item, first_item}
+use Rattle.timefd_lang_fault.specs.Faults.{Fault, fault}
+use Rattle.timefd_lang_fault.specs.Words.{optional_item, first_item}
 use Rattle.timefd_language.specs.Head.{Head, placed, head_text}
 use Rattle.timefd_language.specs.Values.{format}
 use Rattle.timefd_language.specs.Verdict.{PlacedDescription, ◌or◌, unless, bad_modifiers, touching, too_many, any_modifier, optional_verdict, first_verdict, verdict}

@@ -1,9 +1,9 @@
 -- What stays the same with a greater limit.
 use Rattle.std.proofs.Common.{ℕ, suc, ◌≡◌, ◌≢◌, ◌≤◌, refl, ◌∙◌, ap, arith}
 use Rattle.timefd_language.specs.declared.description_version.DescriptionVersion.{DescriptionVersion}
-use Rattle.timefd_fault.specs.Faults.{Kind}
+use Rattle.timefd_lang_fault.specs.Faults.{Kind}
 use Rattle.timefd_language.specs.Fault.{enclosed}
-use Rattle.timefd_fault.specs.Words.{too_highly_nested}
+use Rattle.timefd_lang_fault.specs.Words.{too_highly_nested}
 use Rattle.timefd_language.specs.Grammar.{Pieces, no_pieces, run, escape, closing, bracket, Nested, no_nested, nested, ArePieces, AreNested}
 use Rattle.timefd_language.specs.Broken.{Broken, bare_closing, half_escape, nameless, ill_modified, too_deep, broken_inside, cut_off, unclosed, refused, IsBroken, broken_fault}
 use Rattle.timefd_language.specs.Laws.{GreaterLimit}

@@ -2,11 +2,11 @@
 use Rattle.std.proofs.Common.{ℕ, suc, ◌+◌, ◌≡◌, sym, Bool, true, false, ◌&&◌, List, [], ◌∷◌, ◌++◌, map, Result, Ok, Option, Some, None, length, refl, subst}
 use Rattle.std.proofs.lemmas.Bool.{and_parts}
 use Rattle.std.specs.declared.num.NonZeroU16.{NonZeroU16}
-use Rattle.timefd_component.specs.declared.component.Component.{Component}
-use Rattle.timefd_component.specs.Tree.{Text, Tree, component, literal, compound, optional, first, Trees, no_trees, more_trees, trees, pack}
-use Rattle.timefd_fault.specs.Faults.{Kind}
-use Rattle.timefd_component.specs.Modern.{modern, IsModern, AreModern}
-use Rattle.timefd_component.proofs.ModernLemmas.{modern_twice_law}
+use Rattle.timefd_lang_component.specs.declared.component.Component.{Component}
+use Rattle.timefd_lang_component.specs.Tree.{Text, Tree, component, literal, compound, optional, first, Trees, no_trees, more_trees, trees, pack}
+use Rattle.timefd_lang_fault.specs.Faults.{Kind}
+use Rattle.timefd_lang_component.specs.Modern.{modern, IsModern, AreModern}
+use Rattle.timefd_lang_component.proofs.ModernLemmas.{modern_twice_law}
 use Rattle.timefd_language.specs.declared.description_version.DescriptionVersion.{DescriptionVersion}
 use Rattle.timefd_language.specs.Bytes.{named, same, is_version_three}
 use Rattle.timefd_language.specs.Head.{Head, head_text, placed}

@@ -1,18 +1,18 @@
 -- The index of a fault is in its text, between two characters.
 use Rattle.std.proofs.Common.{ℕ, IsUtf8}
-use Rattle.timefd_component.specs.Tree.{Text}
-use Rattle.timefd_fault.specs.Faults.{Fault}
+use Rattle.timefd_lang_component.specs.Tree.{Text}
+use Rattle.timefd_lang_fault.specs.Faults.{Fault}
 use Rattle.timefd_language.specs.declared.description_version.DescriptionVersion.{DescriptionVersion}
-use Rattle.timefd_fault.specs.declared.parse_error.ParseError.{ParseError}
-use Rattle.timefd_fault.specs.declared.parse_error.ParseError.TheVariants as reported
+use Rattle.timefd_lang_fault.specs.declared.parse_error.ParseError.{ParseError}
+use Rattle.timefd_lang_fault.specs.declared.parse_error.ParseError.TheVariants as reported
 use Rattle.timefd_language.specs.Broken.{FaultOf}
 use Rattle.timefd_language.specs.Strftime.{StrftimeFaultOf}
 use Rattle.timefd_language.proofs.PositionsBetween.{placed_between_law, strftime_placed_between_law}
-use Rattle.timefd_fault.specs.declared.borrowed_parse_error.BorrowedParseError.{BorrowedParseError}
-use Rattle.timefd_fault.specs.declared.borrowed_parse_error.BorrowedParseError.TheVariants.{Invalid, Memory}
-use Rattle.timefd_fault.specs.BorrowedFaults.{to_borrowed_fault, IsBorrowedOf, IsOwned}
-use Rattle.timefd_fault.specs.Placed.{IsPlaced, HasPlacedFault}
-use Rattle.timefd_fault.proofs.OwnedLemmas.{owned_of}
+use Rattle.timefd_lang_fault.specs.declared.borrowed_parse_error.BorrowedParseError.{BorrowedParseError}
+use Rattle.timefd_lang_fault.specs.declared.borrowed_parse_error.BorrowedParseError.TheVariants.{Invalid, Memory}
+use Rattle.timefd_lang_fault.specs.BorrowedFaults.{to_borrowed_fault, IsBorrowedOf, IsOwned}
+use Rattle.timefd_lang_fault.specs.Placed.{IsPlaced, HasPlacedFault}
+use Rattle.timefd_lang_fault.proofs.OwnedLemmas.{owned_of}
 
 pub is_placed : (v : DescriptionVersion) (limit : ℕ) (text : Text) → IsUtf8 text → (f : Fault)
     → FaultOf v limit text f → IsPlaced text f

@@ -1,8 +1,8 @@
 -- The index of each fault is in its text, or at its end.
 use Rattle.std.proofs.Common.{ℕ, suc, ◌≡◌, ◌+◌, ◌≤◌, List, [], ◌∷◌, ◌++◌, length, length-append, ap, subst, arith, Result, Err}
 use Rattle.timefd_language.specs.declared.description_version.DescriptionVersion.{DescriptionVersion}
-use Rattle.timefd_component.specs.Tree.{Tree}
-use Rattle.timefd_fault.specs.Faults.{Kind, Fault, unclosed_bracket, invalid_name, invalid_modifier, missing_name, missing_modifier, expected, not_supported, duplicate_modifier, invalid_combination}
+use Rattle.timefd_lang_component.specs.Tree.{Tree}
+use Rattle.timefd_lang_fault.specs.Faults.{Kind, Fault, unclosed_bracket, invalid_name, invalid_modifier, missing_name, missing_modifier, expected, not_supported, duplicate_modifier, invalid_combination}
 use Rattle.timefd_language.specs.Bytes.{left, right, colon, is_version_three}
 use Rattle.timefd_language.specs.Fault.{enclosed}
 use Rattle.timefd_language.specs.Head.{Modifier, Head, placed_from, name_index, modifier_text, modifiers_text, head_text}

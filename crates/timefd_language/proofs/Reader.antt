@@ -3,9 +3,9 @@
 use Rattle.std.proofs.Common.{ℕ, zero, suc, ◌==◌, nat_lt, Bool, true, false, List, [], ◌∷◌, Result, Ok, Err, length}
 use Rattle.timefd_language.specs.declared.description_version.DescriptionVersion.{DescriptionVersion}
 use Rattle.timefd_language.specs.declared.description_version.DescriptionVersion.TheVariants.{One, Two, Three}
-use Rattle.timefd_component.specs.Tree.{Text, Tree}
+use Rattle.timefd_lang_component.specs.Tree.{Text, Tree}
 use Rattle.timefd_language.specs.Bytes.{left, backslash, right, is_white, is_special, is_word_byte, is_key_byte, is_run_byte, is_version_three}
-use Rattle.timefd_fault.specs.Faults.{Fault}
+use Rattle.timefd_lang_fault.specs.Faults.{Fault}
 use Rattle.timefd_language.specs.Fault.{raised}
 use Rattle.timefd_language.specs.Head.{Modifier, Head}
 use Rattle.timefd_language.specs.Grammar.{Pieces, no_pieces, run, escape, closing, bracket, Nested, no_nested, nested, spelling, items, bracket_verdict}

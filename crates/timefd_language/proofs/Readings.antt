@@ -2,9 +2,9 @@
 use Rattle.std.proofs.Common.{ℕ, zero, suc, pred, ◌≡◌, ◌+◌, ◌<◌, ◌≤◌, ◌==◌, [], ◌∷◌, ◌++◌, length, refl, sym, ◌∙◌, ap, arith, Err}
 use Rattle.std.proofs.lemmas.Bool.{or_parts}
 use Rattle.timefd_language.specs.declared.description_version.DescriptionVersion.{DescriptionVersion}
-use Rattle.timefd_component.specs.Tree.{Text}
+use Rattle.timefd_lang_component.specs.Tree.{Text}
 use Rattle.timefd_language.specs.Bytes.{left, right, is_white, is_run_byte, ZeroOrMore, StopsBefore}
-use Rattle.timefd_fault.specs.Faults.{Fault}
+use Rattle.timefd_lang_fault.specs.Faults.{Fault}
 use Rattle.timefd_language.specs.Head.{Head, IsHead}
 use Rattle.timefd_language.specs.Grammar.{Pieces, no_pieces, Nested, no_nested, ArePieces, AreNested, bracket_verdict}
 use Rattle.timefd_language.specs.Broken.{Broken, bare_closing, half_escape, nameless, ill_modified, too_deep, broken_inside, cut_off, unclosed, refused, IsBroken, IsWholeBefore, is_bracket_byte}

@@ -3,17 +3,17 @@ use Rattle.std.proofs.Common.{ℕ, ◌≡◌, ◌+◌, ◌-◌, ◌*◌, ◌<◌
 use Rattle.std.specs.List.{list_all}
 use Rattle.std.proofs.lemmas.Bool.{and_parts, and_from, both_ways, false≢true, lt-leb}
 use Rattle.timefd_language.specs.declared.description_version.DescriptionVersion.{DescriptionVersion}
-use Rattle.timefd_component.specs.Tree.{Text, Tree, literal, optional, first, trees}
+use Rattle.timefd_lang_component.specs.Tree.{Text, Tree, literal, optional, first, trees}
 use Rattle.timefd_language.specs.Bytes.{lowered, equal, same, is_word_byte, is_key_byte, is_version_three, plus, colon, right, ZeroOrMore, OneOrMore}
-use Rattle.timefd_fault.specs.Faults.{Fault, Kind, fault}
-use Rattle.timefd_fault.specs.Words.{expected_nested, first_item}
+use Rattle.timefd_lang_fault.specs.Faults.{Fault, Kind, fault}
+use Rattle.timefd_lang_fault.specs.Words.{expected_nested, first_item}
 use Rattle.timefd_language.specs.Head.{Modifier, Head, AreModifiers, IsHead, Placed, placed_at, placed_from, placed, name_index, modifier_text, head_text}
 use Rattle.timefd_language.specs.declared.setting.Setting.{Setting}
 use Rattle.timefd_language.specs.declared.setting.Settings.{Settings}
 use Rattle.timefd_language.specs.Settings.{defaults}
 use Rattle.timefd_language.specs.Values.{Values, words, numbers, Key, sets_of, key_in, setting_in, counted, count_of, digits_of, digits_value, format}
 use Rattle.timefd_language.specs.Names.{Row, rows, row_of}
-use Rattle.timefd_component.specs.declared.component.Component.{Component}
+use Rattle.timefd_lang_component.specs.declared.component.Component.{Component}
 use Rattle.timefd_language.specs.Verdict.{PlacedDescription, ◌or◌, unless, after, refuse, bad_modifier, bad_modifiers, setting_of, with_option, settings_from, settings, made, any_modifier, is_formatted, only, optional_verdict, first_verdict, component_verdict, verdict}
 use Rattle.timefd_language.specs.Grammar.{Pieces, no_pieces, run, escape, closing, bracket, Nested, no_nested, nested, items, nested_text, BeginsNoRun, ArePieces, bracket_verdict, parts_from}
 use Rattle.timefd_language.specs.Laws.{Recasing}

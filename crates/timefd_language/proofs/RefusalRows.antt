@@ -1,7 +1,7 @@
 -- Examples of each combination that version 3 refuses.
 use Rattle.std.proofs.Common.{ℕ, ◌≡◌, refl, codes, List, [], ◌∷◌, ◌++◌, map, Result, Err}
-use Rattle.timefd_component.specs.Tree.{Text, Tree}
-use Rattle.timefd_fault.specs.Faults.{Fault, fault, invalid_combination}
+use Rattle.timefd_lang_component.specs.Tree.{Text, Tree}
+use Rattle.timefd_lang_fault.specs.Faults.{Fault, fault, invalid_combination}
 use Rattle.timefd_language.specs.declared.description_version.DescriptionVersion.TheVariants.{Three}
 use Rattle.timefd_language.proofs.Reader.{answer_of}
 

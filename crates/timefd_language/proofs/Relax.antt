@@ -15,13 +15,13 @@ use Rattle.timefd_modifier.specs.declared.day.Weekday.{Weekday}
 use Rattle.timefd_modifier.specs.declared.week.WeekNumber.{WeekNumber}
 use Rattle.timefd_modifier.specs.declared.clock.Hour.{Hour}
 use Rattle.timefd_modifier.specs.declared.timestamp.UnixTimestamp.{UnixTimestamp}
-use Rattle.timefd_component.specs.declared.component.Component.{Component}
-use Rattle.timefd_component.specs.Tree.{Text, Tree, component, optional, first, trees}
-use Rattle.timefd_fault.specs.Faults.{Kind, fault}
-use Rattle.timefd_component.specs.Modern.{modern_month, modern_weekday, modern_week_number, modern_hour, modern_timestamp, modern_year}
+use Rattle.timefd_lang_component.specs.declared.component.Component.{Component}
+use Rattle.timefd_lang_component.specs.Tree.{Text, Tree, component, optional, first, trees}
+use Rattle.timefd_lang_fault.specs.Faults.{Kind, fault}
+use Rattle.timefd_lang_component.specs.Modern.{modern_month, modern_weekday, modern_week_number, modern_hour, modern_timestamp, modern_year}
 use Rattle.timefd_language.specs.declared.description_version.DescriptionVersion.TheVariants.{Two, Three}
 use Rattle.timefd_language.specs.Bytes.{right, equal, same, named, lowered}
-use Rattle.timefd_fault.specs.Words.{expected_nested, expected_alternative}
+use Rattle.timefd_lang_fault.specs.Words.{expected_nested, expected_alternative}
 use Rattle.timefd_language.specs.Head.{Head, Placed, placed, head_text}
 use Rattle.timefd_language.specs.declared.setting.Setting.{Setting}
 use Rattle.timefd_language.specs.declared.setting.Settings.{Settings}

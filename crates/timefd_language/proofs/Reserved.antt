@@ -1,13 +1,13 @@
 -- What a text of version 3 reserves.
 use Rattle.std.proofs.Common.{ℕ, suc, ◌≡◌, ◌+◌, ◌≤◌, Bool, true, false, List, [], ◌∷◌, ◌++◌, map, Ok, length, length-append, refl, ap, subst, arith}
 use Rattle.timefd_language.specs.declared.description_version.DescriptionVersion.TheVariants.{Three}
-use Rattle.timefd_component.specs.Tree.{Text, Tree, component, optional, first, trees, pack}
+use Rattle.timefd_lang_component.specs.Tree.{Text, Tree, component, optional, first, trees, pack}
 use Rattle.timefd_language.specs.Bytes.{right, left, is_run_byte}
 use Rattle.timefd_language.specs.Head.{Head, IsHead, head_text, placed}
 use Rattle.timefd_language.specs.Names.{row_of}
 use Rattle.timefd_language.specs.Verdict.{PlacedDescription, is_formatted, only, component_verdict, verdict}
 use Rattle.timefd_language.specs.Grammar.{Pieces, no_pieces, run, escape, closing, bracket, Nested, no_nested, nested, spelling, nested_text, items, ArePieces, AreNested, parts_from}
-use Rattle.timefd_component.specs.Reserved.{reserved, reserve, reserve_all, reserve_first, tree_count, trees_count}
+use Rattle.timefd_lang_component.specs.Reserved.{reserved, reserve, reserve_all, reserve_first, tree_count, trees_count}
 use Rattle.timefd_language.specs.Laws.{ReservesWithin}
 use Rattle.timefd_language.proofs.Sizes.{length_one}
 use Rattle.timefd_language.proofs.Roomy.{verdict_has, component-room}

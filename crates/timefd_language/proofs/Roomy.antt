@@ -16,11 +16,11 @@ use Rattle.timefd_modifier.specs.declared.week.WeekNumber.{WeekNumber}
 use Rattle.timefd_modifier.specs.declared.clock.Hour.{Hour}
 use Rattle.timefd_modifier.specs.declared.timestamp.UnixTimestamp.{UnixTimestamp}
 use Rattle.timefd_modifier.specs.declared.year.Year.{Year}
-use Rattle.timefd_component.specs.declared.component.Component.{Component}
-use Rattle.timefd_component.specs.Tree.{Text, Tree, component, optional, first, trees, pack}
-use Rattle.timefd_fault.specs.Faults.{Kind, Fault}
-use Rattle.timefd_component.specs.Modern.{modern_month, modern_weekday, modern_week_number, modern_hour, modern_timestamp, modern_year}
-use Rattle.timefd_component.specs.Reserved.{digits_shown, reserved}
+use Rattle.timefd_lang_component.specs.declared.component.Component.{Component}
+use Rattle.timefd_lang_component.specs.Tree.{Text, Tree, component, optional, first, trees, pack}
+use Rattle.timefd_lang_fault.specs.Faults.{Kind, Fault}
+use Rattle.timefd_lang_component.specs.Modern.{modern_month, modern_weekday, modern_week_number, modern_hour, modern_timestamp, modern_year}
+use Rattle.timefd_lang_component.specs.Reserved.{digits_shown, reserved}
 use Rattle.timefd_language.specs.Bytes.{colon, named, same}
 use Rattle.timefd_language.specs.Head.{Modifier, Head, IsHead, modifier_text, modifiers_text, head_text, placed_from, placed, name_index}
 use Rattle.timefd_language.specs.declared.setting.Setting.{Setting}

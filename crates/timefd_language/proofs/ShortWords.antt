@@ -2,10 +2,10 @@
 use Rattle.std.proofs.Common.{ℕ, suc, ◌++◌, ◌+◌, ◌≤◌, ◌==◌, ◌&&◌, not, is_some, map, Bool, true, false, if◌then◌else◌, List, [], ◌∷◌, length, Option, Some, None, Result, Ok, Err, sym, subst, arith, codes}
 use Rattle.std.specs.Prelude.{⊤}
 use Rattle.std.specs.declared.num.NonZeroU16.{NonZeroU16}
-use Rattle.timefd_component.specs.declared.component.Component.{Component}
-use Rattle.timefd_component.specs.declared.component.Component.TheVariants.{Day, MonthShort, MonthLong, MonthNumerical, Ordinal, WeekdayShort, WeekdayLong, WeekdaySunday, WeekdayMonday, WeekNumberIso, WeekNumberSunday, WeekNumberMonday, CalendarYearFullExtendedRange, CalendarYearFullStandardRange, CalendarYearCenturyExtendedRange, CalendarYearCenturyStandardRange, IsoYearFullExtendedRange, IsoYearFullStandardRange, IsoYearCenturyExtendedRange, IsoYearCenturyStandardRange, CalendarYearLastTwo, IsoYearLastTwo, Hour12, Hour24, Minute, Period, Second, Subsecond, OffsetHour, OffsetMinute, OffsetSecond, Ignore, UnixTimestampSecond, UnixTimestampMillisecond, UnixTimestampMicrosecond, UnixTimestampNanosecond, End, Month, Weekday, WeekNumber, Hour, UnixTimestamp, Year}
-use Rattle.timefd_component.specs.Tree.{Text, Tree, component, first, optional, pack, trees}
-use Rattle.timefd_fault.specs.Faults.{Kind, Fault, fault, unclosed_bracket, invalid_name, invalid_modifier, missing_name, missing_modifier, expected, not_supported, duplicate_modifier, invalid_combination}
+use Rattle.timefd_lang_component.specs.declared.component.Component.{Component}
+use Rattle.timefd_lang_component.specs.declared.component.Component.TheVariants.{Day, MonthShort, MonthLong, MonthNumerical, Ordinal, WeekdayShort, WeekdayLong, WeekdaySunday, WeekdayMonday, WeekNumberIso, WeekNumberSunday, WeekNumberMonday, CalendarYearFullExtendedRange, CalendarYearFullStandardRange, CalendarYearCenturyExtendedRange, CalendarYearCenturyStandardRange, IsoYearFullExtendedRange, IsoYearFullStandardRange, IsoYearCenturyExtendedRange, IsoYearCenturyStandardRange, CalendarYearLastTwo, IsoYearLastTwo, Hour12, Hour24, Minute, Period, Second, Subsecond, OffsetHour, OffsetMinute, OffsetSecond, Ignore, UnixTimestampSecond, UnixTimestampMillisecond, UnixTimestampMicrosecond, UnixTimestampNanosecond, End, Month, Weekday, WeekNumber, Hour, UnixTimestamp, Year}
+use Rattle.timefd_lang_component.specs.Tree.{Text, Tree, component, first, optional, pack, trees}
+use Rattle.timefd_lang_fault.specs.Faults.{Kind, Fault, fault, unclosed_bracket, invalid_name, invalid_modifier, missing_name, missing_modifier, expected, not_supported, duplicate_modifier, invalid_combination}
 use Rattle.timefd_language.specs.declared.description_version.DescriptionVersion.{DescriptionVersion}
 use Rattle.timefd_language.specs.declared.name.ComponentName.{ComponentName}
 use Rattle.timefd_language.specs.declared.name.ComponentName.TheVariants as names
@@ -14,7 +14,7 @@ use Rattle.timefd_language.specs.Broken.{Broken, before_inner, IsBroken, FaultOf
 use Rattle.timefd_language.specs.Bytes.{is_version_three, equal, named, same}
 use Rattle.timefd_language.specs.Combinations.{Refusal, refusals}
 use Rattle.timefd_language.specs.Fault.{enclosed}
-use Rattle.timefd_fault.specs.Words.{expected_white, expected_nested, expected_alternative, optional_item, first_item}
+use Rattle.timefd_lang_fault.specs.Words.{expected_white, expected_nested, expected_alternative, optional_item, first_item}
 use Rattle.timefd_language.specs.Head.{Head, Placed, head_text, placed}
 use Rattle.timefd_language.specs.Grammar.{spelling, nested_text, parts_from}
 use Rattle.timefd_language.specs.Names.{Row, ignore, ignored, row_for, row_of, rows, component_names}
@@ -22,9 +22,9 @@ use Rattle.timefd_language.specs.Strftime.{StrftimeFaultOf, IllDirective, cut_sh
 use Rattle.timefd_language.specs.Values.{Key, format, key_in, setting_in}
 use Rattle.timefd_language.specs.Verdict.{PlacedDescription, ◌or◌, refuse, unless, is_set, bad_value, bad_modifier, is_formatted, only, bad_modifiers, misplaced, combined, combination, made, after, component_verdict, touching, too_many, nested_refused, nested_wanted, any_modifier, optional_verdict, first_verdict, settings, verdict}
 use Rattle.timefd_language.proofs.Lookup.{Each, each-map}
-use Rattle.timefd_fault.specs.BorrowedFaults.{HasShortWords, HasShortFault, IsBorrowedOf, to_borrowed_fault}
-use Rattle.timefd_fault.specs.declared.borrowed_parse_error.BorrowedParseError.{BorrowedParseError}
-use Rattle.timefd_fault.specs.declared.borrowed_parse_error.BorrowedParseError.TheVariants.{Invalid, Memory}
+use Rattle.timefd_lang_fault.specs.BorrowedFaults.{HasShortWords, HasShortFault, IsBorrowedOf, to_borrowed_fault}
+use Rattle.timefd_lang_fault.specs.declared.borrowed_parse_error.BorrowedParseError.{BorrowedParseError}
+use Rattle.timefd_lang_fault.specs.declared.borrowed_parse_error.BorrowedParseError.TheVariants.{Invalid, Memory}
 
 abbrev Short : Option Fault → Type 0
 Short None = ⊤

@@ -2,7 +2,7 @@
 use Rattle.std.proofs.Common.{ℕ, ◌≡◌, Bool, true, false, not, ◌||◌, [], ◌∷◌, ◌++◌, refl, ap, ◌==◌, ◌⊎◌, inl, inr, eqb-true}
 use Rattle.std.specs.List.{list_all}
 use Rattle.std.proofs.lemmas.Bool.{and_parts, and_from, and_left, and_right, or_cases, not-true, both_ways, false_from_ne_true}
-use Rattle.timefd_component.specs.Tree.{Text}
+use Rattle.timefd_lang_component.specs.Tree.{Text}
 use Rattle.timefd_language.specs.Bytes.{ZeroOrMore, OneOrMore, StopsBefore, left, right, backslash, is_white, is_special, is_word_byte, is_key_byte}
 use Rattle.timefd_language.proofs.Reader.{Cut, cut, span, after_one}
 

@@ -4,7 +4,7 @@ use Rattle.std.specs.List.{list_all}
 use Rattle.std.proofs.lemmas.Bool.{and_parts, or_parts, false≢true}
 use Rattle.timefd_language.specs.declared.description_version.DescriptionVersion.{DescriptionVersion}
 use Rattle.timefd_language.specs.declared.description_version.DescriptionVersion.TheVariants.{One, Two, Three}
-use Rattle.timefd_component.specs.Tree.{Text}
+use Rattle.timefd_lang_component.specs.Tree.{Text}
 use Rattle.timefd_language.specs.Bytes.{left, right, backslash, is_white, is_special, is_word_byte, is_run_byte, is_version_one, is_version_three, ZeroOrMore, OneOrMore, StopsBefore}
 use Rattle.timefd_language.specs.Head.{Head, IsHead}
 use Rattle.timefd_language.specs.Grammar.{Nested, no_nested, nested, IsEscape, AreNested}

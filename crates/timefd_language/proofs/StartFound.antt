@@ -3,7 +3,7 @@ use Rattle.std.proofs.Common.{ℕ, zero, suc, ◌≡◌, ◌<◌, ◌≤◌, ◌
 use Rattle.std.proofs.lemmas.Bool.{or_parts, or_cases, both_ways, not-false, and_from}
 use Rattle.timefd_language.specs.declared.description_version.DescriptionVersion.{DescriptionVersion}
 use Rattle.timefd_language.specs.declared.description_version.DescriptionVersion.TheVariants.{One, Two, Three}
-use Rattle.timefd_component.specs.Tree.{Text}
+use Rattle.timefd_lang_component.specs.Tree.{Text}
 use Rattle.timefd_language.specs.Bytes.{left, right, backslash, is_white, is_special, is_word_byte, is_run_byte, is_version_one, is_version_three, ZeroOrMore, OneOrMore, StopsBefore}
 use Rattle.timefd_language.specs.Head.{IsHead}
 use Rattle.timefd_language.specs.Grammar.{IsEscape}

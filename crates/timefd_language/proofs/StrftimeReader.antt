@@ -3,9 +3,9 @@ use Rattle.std.proofs.Common.{ℕ, zero, suc, ◌≡◌, ◌+◌, ◌<◌, ◌�
 use Rattle.std.specs.Bool.{⊤}
 use Rattle.std.specs.List.{list_all}
 use Rattle.std.proofs.lemmas.Bool.{and_parts, and_from, both_ways, not-false}
-use Rattle.timefd_component.specs.Tree.{Text, Tree, literal, joined, before_joined}
+use Rattle.timefd_lang_component.specs.Tree.{Text, Tree, literal, joined, before_joined}
 use Rattle.timefd_language.specs.Bytes.{OneOrMore, StopsBefore}
-use Rattle.timefd_fault.specs.Faults.{Fault}
+use Rattle.timefd_lang_fault.specs.Faults.{Fault}
 use Rattle.timefd_language.specs.Fault.{raised}
 use Rattle.timefd_language.specs.Strftime.{percent, is_flag, is_plain, flag_text, IsFlag, Directives, no_directives, plain, directive, directives_text, directive_items, BeginsNoPlain, IsAfter, AreDirectives, SpellsStrftime, IllDirective, cut_short, unknown, ill_text, ill_fault, IsIll, StrftimeFaultOf}
 use Rattle.timefd_language.specs.Letters.{Flag, unflagged, flagged, item_of}

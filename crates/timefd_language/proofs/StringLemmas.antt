@@ -1,7 +1,7 @@
 -- One more item after items whose literals are strings.
 use Rattle.std.proofs.Common.{true, List, [], ◌∷◌, ◌++◌, refl, IsTrue}
 use Rattle.std.proofs.lemmas.Bool.{and_from, and_parts}
-use Rattle.timefd_node_list.specs.declared.item.borrowed_format_item.BorrowedFormatItem.{BorrowedFormatItem}
+use Rattle.timefd_lang_node_list.specs.declared.item.borrowed_format_item.BorrowedFormatItem.{BorrowedFormatItem}
 use Rattle.timefd_language.specs.Strings.{is_of_strings, are_of_strings}
 
 pub more_strings : (items : List BorrowedFormatItem) (item : BorrowedFormatItem)

@@ -3,10 +3,10 @@ use Rattle.std.proofs.Common.{◌≡◌, refl, codes, List, [], ◌∷◌, ◌++
 use Rattle.timefd_modifier.specs.declared.enums.Padding.{Padding}
 use Rattle.timefd_modifier.specs.declared.enums.SubsecondDigits.{SubsecondDigits}
 use Rattle.timefd_modifier.specs.declared.enums.TrailingInput.{TrailingInput}
-use Rattle.timefd_component.specs.declared.component.Component.{Component}
-use Rattle.timefd_component.specs.declared.component.Component.TheVariants.{Day, Minute, OffsetMinute, OffsetSecond, Ordinal, Second, Hour24, MonthNumerical, WeekNumberIso, End, Hour12, MonthLong, MonthShort, OffsetHour, Period, Subsecond, UnixTimestampSecond, UnixTimestampMillisecond, UnixTimestampMicrosecond, UnixTimestampNanosecond, WeekdayLong, WeekdayShort, WeekdaySunday, WeekdayMonday, WeekNumberSunday, WeekNumberMonday, CalendarYearFullStandardRange, CalendarYearFullExtendedRange, CalendarYearCenturyStandardRange, CalendarYearCenturyExtendedRange, CalendarYearLastTwo, IsoYearFullStandardRange, IsoYearFullExtendedRange, IsoYearCenturyStandardRange, IsoYearCenturyExtendedRange, IsoYearLastTwo}
-use Rattle.timefd_component.specs.Tree.{Text, Tree, component}
-use Rattle.timefd_fault.specs.Faults.{Fault}
+use Rattle.timefd_lang_component.specs.declared.component.Component.{Component}
+use Rattle.timefd_lang_component.specs.declared.component.Component.TheVariants.{Day, Minute, OffsetMinute, OffsetSecond, Ordinal, Second, Hour24, MonthNumerical, WeekNumberIso, End, Hour12, MonthLong, MonthShort, OffsetHour, Period, Subsecond, UnixTimestampSecond, UnixTimestampMillisecond, UnixTimestampMicrosecond, UnixTimestampNanosecond, WeekdayLong, WeekdayShort, WeekdaySunday, WeekdayMonday, WeekNumberSunday, WeekNumberMonday, CalendarYearFullStandardRange, CalendarYearFullExtendedRange, CalendarYearCenturyStandardRange, CalendarYearCenturyExtendedRange, CalendarYearLastTwo, IsoYearFullStandardRange, IsoYearFullExtendedRange, IsoYearCenturyStandardRange, IsoYearCenturyExtendedRange, IsoYearLastTwo}
+use Rattle.timefd_lang_component.specs.Tree.{Text, Tree, component}
+use Rattle.timefd_lang_fault.specs.Faults.{Fault}
 use Rattle.timefd_language.specs.declared.description_version.DescriptionVersion.TheVariants.{Three}
 use Rattle.timefd_language.proofs.Reader.{answer_of}
 

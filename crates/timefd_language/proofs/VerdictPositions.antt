@@ -1,11 +1,11 @@
 -- What holds of all indices in a bracket holds of the index of its fault.
 use Rattle.std.proofs.Common.{ℕ, Bool, true, false, List, [], ◌∷◌, ◌++◌, Result, Ok, Err, Option, Some, None, not}
 use Rattle.std.specs.Prelude.{codes, map, if◌then◌else◌, ⊤}
-use Rattle.timefd_component.specs.Tree.{Tree, optional, first, trees, pack}
-use Rattle.timefd_component.specs.declared.component.Component.{Component}
-use Rattle.timefd_fault.specs.Faults.{Kind, Fault, fault}
+use Rattle.timefd_lang_component.specs.Tree.{Tree, optional, first, trees, pack}
+use Rattle.timefd_lang_component.specs.declared.component.Component.{Component}
+use Rattle.timefd_lang_fault.specs.Faults.{Kind, Fault, fault}
 use Rattle.timefd_language.specs.Bytes.{same}
-use Rattle.timefd_fault.specs.Words.{expected_nested, expected_alternative, optional_item, first_item}
+use Rattle.timefd_lang_fault.specs.Words.{expected_nested, expected_alternative, optional_item, first_item}
 use Rattle.timefd_language.specs.Values.{Key, format}
 use Rattle.timefd_language.specs.Names.{Row, row_of}
 use Rattle.timefd_language.specs.Combinations.{Refusal, refusals}

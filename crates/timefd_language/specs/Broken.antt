@@ -2,11 +2,11 @@
 use Rattle.std.specs.Prelude.{ℕ, suc, ◌≡◌, ◌+◌, ◌<◌, Bool, [], ◌∷◌, ◌++◌, length, Err, IsTrue, IsFalse, ⊤, ◌==◌, ◌||◌}
 use Rattle.timefd_language.specs.declared.description_version.DescriptionVersion.{DescriptionVersion}
 use Rattle.timefd_language.specs.declared.description_version.DescriptionVersion.TheVariants.{One, Two, Three}
-use Rattle.timefd_component.specs.Tree.{Text}
+use Rattle.timefd_lang_component.specs.Tree.{Text}
 use Rattle.timefd_language.specs.Bytes.{left, backslash, right, colon, is_white, is_special, is_word_byte, is_key_byte, is_version_one, is_version_three, ZeroOrMore, OneOrMore, StopsBefore}
-use Rattle.timefd_fault.specs.Faults.{Fault, fault, unclosed_bracket, missing_name, invalid_modifier}
+use Rattle.timefd_lang_fault.specs.Faults.{Fault, fault, unclosed_bracket, missing_name, invalid_modifier}
 use Rattle.timefd_language.specs.Fault.{raised, enclosed}
-use Rattle.timefd_fault.specs.Words.{expected_escape, expected_closing_escape, too_highly_nested}
+use Rattle.timefd_lang_fault.specs.Words.{expected_escape, expected_closing_escape, too_highly_nested}
 use Rattle.timefd_language.specs.Head.{Head, IsHead, head_text}
 use Rattle.timefd_language.specs.Grammar.{Pieces, Nested, no_nested, nested, spelling, nested_text, ArePieces, AreNested, bracket_verdict}
 

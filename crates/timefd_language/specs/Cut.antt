@@ -5,7 +5,7 @@ use Rattle.timefd_language.specs.declared.text.Class.{Class}
 use Rattle.timefd_language.specs.declared.text.Class.TheVariants.{White, Word, Key, Run, RunWithBackslash, Plain}
 use Rattle.timefd_language.specs.declared.text.Start.{Start}
 use Rattle.timefd_language.specs.declared.text.Start.TheVariants.{End, Opening, Closing, Backslash, Other}
-use Rattle.timefd_component.specs.Tree.{Text}
+use Rattle.timefd_lang_component.specs.Tree.{Text}
 use Rattle.timefd_language.specs.Strftime.{is_plain}
 use Rattle.timefd_language.specs.Bytes.{left, right, backslash, is_white, is_word_byte, is_key_byte, is_run_byte, ZeroOrMore, StopsBefore}
 

@@ -1,6 +1,6 @@
 -- How a fault of a part becomes a fault of the whole text.
 use Rattle.std.specs.Prelude.{ℕ, ◌+◌}
-use Rattle.timefd_fault.specs.Faults.{Kind, Fault, fault, unclosed_bracket}
+use Rattle.timefd_lang_fault.specs.Faults.{Kind, Fault, fault, unclosed_bracket}
 
 -- the fault of a text that follows k other bytes: its index is k greater
 abbrev pub raised : Fault → ℕ → Fault

@@ -1,8 +1,8 @@
 -- How the faults of the code relate to those of the rules.
 use Rattle.std.specs.Prelude.{ℕ, ◌≡◌, length}
-use Rattle.timefd_component.specs.Tree.{Text}
-use Rattle.timefd_fault.specs.ReadErrors.{IsFault}
-use Rattle.timefd_fault.specs.declared.read_error.Fault as code_fault
+use Rattle.timefd_lang_component.specs.Tree.{Text}
+use Rattle.timefd_lang_fault.specs.ReadErrors.{IsFault}
+use Rattle.timefd_lang_fault.specs.declared.read_error.Fault as code_fault
 use Rattle.timefd_language.specs.Broken.{Broken, IsBroken, broken_text, broken_fault}
 use Rattle.timefd_language.specs.declared.description_version.DescriptionVersion.{DescriptionVersion}
 

@@ -1,7 +1,7 @@
 -- What follows the pieces that a text begins with.
 use Rattle.std.specs.Prelude.{ℕ, ◌<◌, ◌≡◌, [], ◌∷◌, ◌++◌, ⊤}
 use Rattle.timefd_language.specs.declared.description_version.DescriptionVersion.{DescriptionVersion}
-use Rattle.timefd_component.specs.Tree.{Text}
+use Rattle.timefd_lang_component.specs.Tree.{Text}
 use Rattle.timefd_language.specs.Bytes.{right}
 use Rattle.timefd_language.specs.Grammar.{Pieces, spelling, ArePieces}
 use Rattle.timefd_language.specs.Broken.{Broken, broken_text, IsBroken}

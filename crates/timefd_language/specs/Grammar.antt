@@ -2,9 +2,9 @@
 use Rattle.std.specs.Prelude.{ℕ, suc, ◌≡◌, ◌+◌, ◌<◌, Bool, true, false, not, List, [], ◌∷◌, ◌++◌, length, Result, Ok, IsTrue, IsFalse, ⊤}
 use Rattle.timefd_language.specs.declared.description_version.DescriptionVersion.{DescriptionVersion}
 use Rattle.timefd_language.specs.declared.description_version.DescriptionVersion.TheVariants.{One, Two, Three}
-use Rattle.timefd_component.specs.Tree.{Text, Tree, literal}
+use Rattle.timefd_lang_component.specs.Tree.{Text, Tree, literal}
 use Rattle.timefd_language.specs.Bytes.{left, backslash, right, is_white, is_special, is_run_byte, is_version_three, ZeroOrMore, OneOrMore}
-use Rattle.timefd_fault.specs.Faults.{Fault}
+use Rattle.timefd_lang_fault.specs.Faults.{Fault}
 use Rattle.timefd_language.specs.Head.{Head, IsHead, head_text}
 use Rattle.timefd_language.specs.Verdict.{PlacedDescription, verdict}
 

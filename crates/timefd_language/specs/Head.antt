@@ -1,6 +1,6 @@
 -- The head of a bracket: `[`, white bytes, a name, modifiers.
 use Rattle.std.specs.Prelude.{ℕ, ◌+◌, List, [], ◌∷◌, ◌++◌, length, ⊤}
-use Rattle.timefd_component.specs.Tree.{Text}
+use Rattle.timefd_lang_component.specs.Tree.{Text}
 use Rattle.timefd_language.specs.Bytes.{left, colon, is_white, is_word_byte, is_key_byte, ZeroOrMore, OneOrMore}
 
 pub record Modifier : Type 0 where

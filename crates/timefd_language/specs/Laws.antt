@@ -2,18 +2,18 @@
 use Rattle.std.specs.Prelude.{ℕ, ◌≡◌, ◌≢◌, ◌+◌, ◌≤◌, ◌⊎◌, List, ◌++◌, length, IsFalse}
 use Rattle.timefd_language.specs.declared.description_version.DescriptionVersion.{DescriptionVersion}
 use Rattle.timefd_language.specs.declared.description_version.DescriptionVersion.TheVariants.{One, Two, Three}
-use Rattle.timefd_component.specs.Tree.{Text, Tree, joined, pack, trees}
-use Rattle.timefd_component.specs.Modern.{AreModern}
+use Rattle.timefd_lang_component.specs.Tree.{Text, Tree, joined, pack, trees}
+use Rattle.timefd_lang_component.specs.Modern.{AreModern}
 use Rattle.timefd_language.specs.Bytes.{is_version_three}
 use Rattle.timefd_language.specs.Recased.{Recased}
 use Rattle.timefd_language.specs.Relaxed.{IsFlat, AreStandard, relaxed}
-use Rattle.timefd_fault.specs.Faults.{Fault}
+use Rattle.timefd_lang_fault.specs.Faults.{Fault}
 use Rattle.timefd_language.specs.Fault.{raised}
-use Rattle.timefd_fault.specs.Words.{too_highly_nested}
+use Rattle.timefd_lang_fault.specs.Words.{too_highly_nested}
 use Rattle.timefd_language.specs.Grammar.{Pieces, ArePieces, spelling, items, Spells}
 use Rattle.timefd_language.specs.Broken.{FaultOf}
 use Rattle.timefd_language.specs.Rewritten.{rewritten}
-use Rattle.timefd_component.specs.Reserved.{reserve, tree_count}
+use Rattle.timefd_lang_component.specs.Reserved.{reserve, tree_count}
 use Rattle.timefd_language.specs.Front.{Reading, Reads}
 use Rattle.timefd_language.specs.Strftime.{Directives, AreDirectives, directives_text, SpellsStrftime, StrftimeFaultOf}
 

@@ -1,6 +1,6 @@
 -- What the words of a head mean.
 use Rattle.std.specs.Prelude.{◌≡◌, Bool, true, false, codes, List, [], ◌∷◌, Option, Some, None}
-use Rattle.timefd_component.specs.Tree.{Text}
+use Rattle.timefd_lang_component.specs.Tree.{Text}
 use Rattle.timefd_language.specs.declared.combination.Refusal as code_refusal
 use Rattle.timefd_language.specs.declared.key.Key as code_key
 use Rattle.timefd_language.specs.declared.key.Key.TheVariants as keys

@@ -1,11 +1,11 @@
 -- The names of components, their keys, and the component that a name makes with its settings.
 use Rattle.std.specs.Prelude.{Bool, codes, List, [], ◌∷◌, Option, Some, None, Result, Ok, Err, map}
 use Rattle.std.specs.declared.num.NonZeroU16.{NonZeroU16}
-use Rattle.timefd_component.specs.Tree.{Text}
-use Rattle.timefd_fault.specs.Faults.{Kind, missing_modifier}
-use Rattle.timefd_component.specs.Modern.{modern}
-use Rattle.timefd_component.specs.declared.component.Component.{Component}
-use Rattle.timefd_component.specs.declared.component.Component.TheVariants.{Day, End, Hour, Ignore, Minute, Month, OffsetHour, OffsetMinute, OffsetSecond, Ordinal, Period, Second, Subsecond, UnixTimestamp, Weekday, WeekNumber, Year}
+use Rattle.timefd_lang_component.specs.Tree.{Text}
+use Rattle.timefd_lang_fault.specs.Faults.{Kind, missing_modifier}
+use Rattle.timefd_lang_component.specs.Modern.{modern}
+use Rattle.timefd_lang_component.specs.declared.component.Component.{Component}
+use Rattle.timefd_lang_component.specs.declared.component.Component.TheVariants.{Day, End, Hour, Ignore, Minute, Month, OffsetHour, OffsetMinute, OffsetSecond, Ordinal, Period, Second, Subsecond, UnixTimestamp, Weekday, WeekNumber, Year}
 use Rattle.timefd_language.specs.declared.name.ComponentName.{ComponentName}
 use Rattle.timefd_language.specs.Bytes.{named}
 use Rattle.timefd_language.specs.declared.setting.Settings.{Settings}

@@ -1,6 +1,6 @@
 -- Pieces that differ only in the case of letters in heads.
 use Rattle.std.specs.Prelude.{◌≡◌, List, [], ◌∷◌, map}
-use Rattle.timefd_component.specs.Tree.{Text}
+use Rattle.timefd_lang_component.specs.Tree.{Text}
 use Rattle.timefd_language.specs.Bytes.{lowered}
 use Rattle.timefd_language.specs.Head.{Modifier, Head}
 use Rattle.timefd_language.specs.Grammar.{Pieces, no_pieces, run, escape, closing, bracket}

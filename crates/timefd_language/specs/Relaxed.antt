@@ -1,8 +1,8 @@
 -- What a text of version 3 means in version 2.
 use Rattle.std.specs.Prelude.{◌≡◌, true, false, codes, if◌then◌else◌, ⊤}
-use Rattle.timefd_component.specs.declared.component.Component.{Component}
-use Rattle.timefd_component.specs.declared.component.Component.TheVariants.{CalendarYearFullExtendedRange, CalendarYearFullStandardRange, CalendarYearCenturyExtendedRange, CalendarYearCenturyStandardRange, IsoYearFullExtendedRange, IsoYearFullStandardRange, IsoYearCenturyExtendedRange, IsoYearCenturyStandardRange}
-use Rattle.timefd_component.specs.Tree.{Tree, component}
+use Rattle.timefd_lang_component.specs.declared.component.Component.{Component}
+use Rattle.timefd_lang_component.specs.declared.component.Component.TheVariants.{CalendarYearFullExtendedRange, CalendarYearFullStandardRange, CalendarYearCenturyExtendedRange, CalendarYearCenturyStandardRange, IsoYearFullExtendedRange, IsoYearFullStandardRange, IsoYearCenturyExtendedRange, IsoYearCenturyStandardRange}
+use Rattle.timefd_lang_component.specs.Tree.{Tree, component}
 use Rattle.timefd_language.specs.Head.{Head, placed}
 use Rattle.timefd_language.specs.Verdict.{is_set}
 use Rattle.timefd_language.specs.Grammar.{Pieces, no_pieces, run, escape, closing, bracket, Nested, no_nested, nested}

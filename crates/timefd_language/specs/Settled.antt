@@ -1,8 +1,8 @@
 -- Faults that stay the same, however the text goes on.
 use Rattle.std.specs.Prelude.{ℕ, ◌≡◌, ◌≢◌, [], ◌++◌, length}
 use Rattle.timefd_language.specs.declared.description_version.DescriptionVersion.{DescriptionVersion}
-use Rattle.timefd_component.specs.Tree.{Text}
-use Rattle.timefd_fault.specs.Faults.{Fault}
+use Rattle.timefd_lang_component.specs.Tree.{Text}
+use Rattle.timefd_lang_fault.specs.Faults.{Fault}
 use Rattle.timefd_language.specs.Fault.{raised}
 use Rattle.timefd_language.specs.Grammar.{Pieces, ArePieces, spelling}
 use Rattle.timefd_language.specs.Broken.{Broken, bare_closing, half_escape, nameless, ill_modified, too_deep, broken_inside, cut_off, unclosed, refused, IsBroken, broken_text, broken_fault, FaultOf}

@@ -2,14 +2,14 @@
 use Rattle.std.specs.Char.{len_utf8}
 use Rattle.std.specs.Prelude.{ℕ, ◌≡◌, ◌+◌, ◌≤◌, List, [], ◌∷◌, ◌++◌, chars, length, drop, min, ⊤}
 use Rattle.std.specs.List.{prefix_len}
-use Rattle.timefd_component.specs.Tree.{Text}
-use Rattle.timefd_fault.specs.Faults.{Kind, Fault, unclosed_bracket, invalid_name, invalid_modifier, missing_name, missing_modifier, expected, not_supported, duplicate_modifier, invalid_combination}
-use Rattle.timefd_fault.specs.BorrowedFaults.{to_borrowed_fault}
-use Rattle.timefd_fault.specs.RuleKinds.{rule_kind}
-use Rattle.timefd_fault.specs.declared.read_error.Fault as code_fault
-use Rattle.timefd_fault.specs.declared.borrowed_fault.BorrowedFault.{BorrowedFault}
-use Rattle.timefd_fault.specs.declared.borrowed_parse_error.BorrowedParseError.{BorrowedParseError}
-use Rattle.timefd_fault.specs.declared.borrowed_parse_error.BorrowedParseError.TheVariants.{Invalid, Memory}
+use Rattle.timefd_lang_component.specs.Tree.{Text}
+use Rattle.timefd_lang_fault.specs.Faults.{Kind, Fault, unclosed_bracket, invalid_name, invalid_modifier, missing_name, missing_modifier, expected, not_supported, duplicate_modifier, invalid_combination}
+use Rattle.timefd_lang_fault.specs.BorrowedFaults.{to_borrowed_fault}
+use Rattle.timefd_lang_fault.specs.RuleKinds.{rule_kind}
+use Rattle.timefd_lang_fault.specs.declared.read_error.Fault as code_fault
+use Rattle.timefd_lang_fault.specs.declared.borrowed_fault.BorrowedFault.{BorrowedFault}
+use Rattle.timefd_lang_fault.specs.declared.borrowed_parse_error.BorrowedParseError.{BorrowedParseError}
+use Rattle.timefd_lang_fault.specs.declared.borrowed_parse_error.BorrowedParseError.TheVariants.{Invalid, Memory}
 use Rattle.timefd_language.specs.Bytes.{is_word_byte, is_key_byte}
 use Rattle.timefd_language.specs.declared.language.Language.{Language}
 use Rattle.timefd_language.specs.declared.language.Language.TheVariants.{Version, Strftime}

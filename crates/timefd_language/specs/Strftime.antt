@@ -1,11 +1,11 @@
 -- The texts of strftime.
 use Rattle.std.specs.Prelude.{ℕ, ◌≡◌, ◌+◌, Bool, not, ◌==◌, ◌||◌, nat_lt, if◌then◌else◌, List, [], ◌∷◌, ◌++◌, length, Some, None, IsTrue, IsFalse, ⊤}
-use Rattle.timefd_component.specs.Tree.{Text, Tree, literal}
-use Rattle.timefd_fault.specs.Faults.{Kind, Fault, fault, invalid_name}
-use Rattle.timefd_fault.specs.Words.{unsupported_flag, unsupported_letter}
+use Rattle.timefd_lang_component.specs.Tree.{Text, Tree, literal}
+use Rattle.timefd_lang_fault.specs.Faults.{Kind, Fault, fault, invalid_name}
+use Rattle.timefd_lang_fault.specs.Words.{unsupported_flag, unsupported_letter}
 use Rattle.timefd_language.specs.Bytes.{OneOrMore}
 use Rattle.timefd_language.specs.Fault.{raised}
-use Rattle.timefd_fault.specs.Words.{expected_escape}
+use Rattle.timefd_lang_fault.specs.Words.{expected_escape}
 use Rattle.timefd_language.specs.Letters.{Flag, unflagged, flagged, item_of}
 
 abbrev pub percent : ℕ

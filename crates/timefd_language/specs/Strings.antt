@@ -3,12 +3,12 @@ use Rattle.std.specs.Prelude.{◌≡◌, Bool, true, false, List, map, IsTrue}
 use Rattle.std.specs.List.{list_all}
 use Rattle.std.specs.Coded.{×_prop}
 use Rattle.std.proofs.Math.Bool.{Bool-set}
-use Rattle.timefd_node_list.specs.declared.item.borrowed_format_item.BorrowedFormatItem.{BorrowedFormatItem}
-use Rattle.timefd_node_list.specs.declared.item.borrowed_format_item.BorrowedFormatItem.TheOpen.{BorrowedFormatItem-F}
-use Rattle.timefd_node_list.specs.declared.item.borrowed_format_item.BorrowedFormatItem.TheOpen as item
-use Rattle.timefd_node_list.specs.declared.item.borrowed_format_item.BorrowedFormatItem.TheFolds.{fold-BorrowedFormatItem}
-use Rattle.timefd_node_list.specs.Item.Meaning.{item_trees}
-use Rattle.timefd_component.specs.Tree.{Tree}
+use Rattle.timefd_lang_node_list.specs.declared.item.borrowed_format_item.BorrowedFormatItem.{BorrowedFormatItem}
+use Rattle.timefd_lang_node_list.specs.declared.item.borrowed_format_item.BorrowedFormatItem.TheOpen.{BorrowedFormatItem-F}
+use Rattle.timefd_lang_node_list.specs.declared.item.borrowed_format_item.BorrowedFormatItem.TheOpen as item
+use Rattle.timefd_lang_node_list.specs.declared.item.borrowed_format_item.BorrowedFormatItem.TheFolds.{fold-BorrowedFormatItem}
+use Rattle.timefd_lang_node_list.specs.Item.Meaning.{item_trees}
+use Rattle.timefd_lang_component.specs.Tree.{Tree}
 use Rattle.timefd_language.specs.TreeLists.{lists_equal_once}
 
 abbrev pub all_true : List Bool → Bool

@@ -4,9 +4,9 @@ use mathlib.Core.List.{List-discrete}
 use Rattle.std.specs.Prelude.{◌≡◌, Bool, true, false, List}
 use Rattle.std.proofs.Common.{refl, sym, ap, ◌∙◌}
 use Rattle.std.proofs.lemmas.Bool.{false≢true}
-use Rattle.timefd_component.specs.Tree.{Tree}
-use Rattle.timefd_node_list.specs.Item.Equality.{same_tree}
-use Rattle.timefd_node_list.specs.Item.TreeEquality.{tree_same, tree_sound}
+use Rattle.timefd_lang_component.specs.Tree.{Tree}
+use Rattle.timefd_lang_node_list.specs.Item.Equality.{same_tree}
+use Rattle.timefd_lang_node_list.specs.Item.TreeEquality.{tree_same, tree_sound}
 
 by_test : (a b : Tree) (t : Bool) → same_tree a b ≡ t → Dec (a ≡ b)
 by_test a b true e = yes (tree_sound a b e)

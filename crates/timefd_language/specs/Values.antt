@@ -11,7 +11,7 @@ use Rattle.timefd_modifier.specs.declared.enums.YearRange.{YearRange}
 use Rattle.timefd_modifier.specs.declared.enums.SubsecondDigits.{SubsecondDigits}
 use Rattle.timefd_modifier.specs.declared.enums.UnixTimestampPrecision.{UnixTimestampPrecision}
 use Rattle.timefd_modifier.specs.declared.enums.TrailingInput.{TrailingInput}
-use Rattle.timefd_component.specs.Tree.{Text}
+use Rattle.timefd_lang_component.specs.Tree.{Text}
 use Rattle.timefd_language.specs.Bytes.{plus, named}
 use Rattle.timefd_language.specs.declared.setting.Setting.{Setting}
 

@@ -1,10 +1,10 @@
 -- What a closed bracket means: a tree, or the fault of the first rule that it breaks.
 use Rattle.std.specs.Prelude.{ℕ, Bool, true, false, not, ◌&&◌, ◌||◌, codes, List, [], ◌∷◌, ◌++◌, map, Option, Some, None, is_some, Result, Ok, Err, if◌then◌else◌}
-use Rattle.timefd_component.specs.Tree.{Text, Tree, component, optional, first, trees, pack}
-use Rattle.timefd_fault.specs.Faults.{Kind, Fault, fault, invalid_name, invalid_modifier, duplicate_modifier, invalid_combination}
-use Rattle.timefd_component.specs.declared.component.Component.{Component}
+use Rattle.timefd_lang_component.specs.Tree.{Text, Tree, component, optional, first, trees, pack}
+use Rattle.timefd_lang_fault.specs.Faults.{Kind, Fault, fault, invalid_name, invalid_modifier, duplicate_modifier, invalid_combination}
+use Rattle.timefd_lang_component.specs.declared.component.Component.{Component}
 use Rattle.timefd_language.specs.Bytes.{same, equal}
-use Rattle.timefd_fault.specs.Words.{expected_white, expected_nested, expected_alternative, many_nested, optional_item, first_item, nested_here}
+use Rattle.timefd_lang_fault.specs.Words.{expected_white, expected_nested, expected_alternative, many_nested, optional_item, first_item, nested_here}
 use Rattle.timefd_language.specs.declared.setting.Setting.{Setting}
 use Rattle.timefd_language.specs.declared.setting.Settings.{Settings}
 use Rattle.timefd_language.specs.Settings.{defaults, with}

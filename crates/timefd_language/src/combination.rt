@@ -5,7 +5,7 @@ ghost use Rattle.timefd_language.specs.Combinations as spec;
 ghost use Rattle.timefd_language.specs.Lookup.{refusal_for};
 
 use crate::key::Key;
-use timefd_component::Component;
+use timefd_lang_component::Component;
 
 /// A key that is refused, and the words that say when.
 #[derive(Clone, Copy)]

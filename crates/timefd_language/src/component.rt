@@ -1,13 +1,13 @@
 //! The component that a name and its modifiers make.
 
 ghost use Rattle.std.specs.Prelude.{◌≡◌, codes, MatchOption, Ok, Err};
-ghost use Rattle.timefd_fault.specs.Faults.{missing_modifier};
+ghost use Rattle.timefd_lang_fault.specs.Faults.{missing_modifier};
 ghost use Rattle.timefd_language.specs.Names as spec;
 ghost use Rattle.timefd_language.specs.Names.{row_for};
 
 use crate::name::ComponentName;
 use crate::setting::Settings;
-use timefd_component::Component;
+use timefd_lang_component::Component;
 use timefd_modifier as modifier;
 
 /// The component with this name and these settings. `None` only for `ignore` without a count.

@@ -16,5 +16,5 @@ pub use letter::Composite;
 pub use parsing::{parse_strftime_all_borrowed, parse_strftime_borrowed, strftime_error};
 pub use piece::{StrftimePiece, next_strftime_piece};
 pub use tables::StrftimeTables;
-pub use timefd_fault::ParseError;
-pub use timefd_node_list::item::BorrowedFormatItem;
+pub use timefd_lang_fault::ParseError;
+pub use timefd_lang_node_list::item::BorrowedFormatItem;

@@ -1,7 +1,7 @@
 -- Rules about brackets that go wrong before they are closed.
 use Rattle.std.proofs.Common.{ℕ, ◌≡◌, ◌≢◌, ◌+◌, [], ◌∷◌, ◌++◌, length, append_assoc, refl, sym, ap, ap₂, ◌∙◌}
-use Rattle.timefd_component.specs.Tree.{Text}
-use Rattle.timefd_fault.specs.Faults.{Kind, fault, unclosed_bracket}
+use Rattle.timefd_lang_component.specs.Tree.{Text}
+use Rattle.timefd_lang_fault.specs.Faults.{Kind, fault, unclosed_bracket}
 use Rattle.timefd_language.specs.Bytes.{left}
 use Rattle.timefd_language.specs.Fault.{raised, enclosed}
 use Rattle.timefd_language.specs.Grammar.{spelling}

@@ -1,8 +1,8 @@
 -- Rules about strftime.
 use Rattle.std.proofs.Common.{ℕ, ◌≡◌, ◌≢◌, ◌==◌, ◌||◌, ◌+◌, Bool, true, false, codes, if◌then◌else◌, List, [], ◌∷◌, ◌++◌, length, append-nil, Some, None, eqb-true, refl, sym, ap, ◌∙◌}
 use Rattle.std.proofs.lemmas.Bool.{or_parts}
-use Rattle.timefd_component.specs.Tree.{Text}
-use Rattle.timefd_fault.specs.Faults.{fault, not_supported, invalid_name}
+use Rattle.timefd_lang_component.specs.Tree.{Text}
+use Rattle.timefd_lang_fault.specs.Faults.{fault, not_supported, invalid_name}
 use Rattle.timefd_language.specs.Distinct.{letters_in}
 use Rattle.timefd_language.specs.Fault.{raised}
 use Rattle.timefd_language.specs.Letters.{Flag, unflagged, flagged, Letter, letters, is_one_of, item_in, item_of}

@@ -1,11 +1,11 @@
 -- Examples of texts, by computing the answer.
 use Rattle.std.proofs.Common.{◌≡◌, codes, List, [], ◌∷◌, MatchResult, Result, Ok, Err, refl, subst}
-use Rattle.timefd_component.specs.declared.component.Component.TheVariants.{Ignore}
-use Rattle.timefd_component.specs.Tree.{Text, Tree, component}
-use Rattle.timefd_fault.specs.Faults.{Fault, unclosed_bracket, invalid_name, invalid_modifier, missing_name, missing_modifier}
+use Rattle.timefd_lang_component.specs.declared.component.Component.TheVariants.{Ignore}
+use Rattle.timefd_lang_component.specs.Tree.{Text, Tree, component}
+use Rattle.timefd_lang_fault.specs.Faults.{Fault, unclosed_bracket, invalid_name, invalid_modifier, missing_name, missing_modifier}
 use Rattle.timefd_language.specs.declared.description_version.DescriptionVersion.{DescriptionVersion}
 use Rattle.timefd_language.specs.declared.description_version.DescriptionVersion.TheVariants.{One, Two, Three}
-use Rattle.timefd_fault.specs.Words.{expected_white, nested_here}
+use Rattle.timefd_lang_fault.specs.Words.{expected_white, nested_here}
 use Rattle.timefd_language.specs.Values.{not_zero}
 use Rattle.timefd_language.specs.Grammar.{Spells, nesting_limit}
 use Rattle.timefd_language.specs.Broken.{FaultOf}

@@ -1,11 +1,11 @@
 -- The verdict on a bracket whose modifiers before one are good.
 use Rattle.std.proofs.Common.{ℕ, ◌≡◌, ◌+◌, Bool, true, false, not, ◌&&◌, ◌||◌, codes, if◌then◌else◌, List, [], ◌∷◌, ◌++◌, length, length-append, append_assoc, append-nil, map, Option, Some, None, is_some, Result, Err, refl, sym, ap, ◌∙◌, arith}
-use Rattle.timefd_component.specs.Tree.{Text, Tree, optional, first, trees, pack}
-use Rattle.timefd_fault.specs.Faults.{Fault, fault, invalid_modifier, duplicate_modifier}
+use Rattle.timefd_lang_component.specs.Tree.{Text, Tree, optional, first, trees, pack}
+use Rattle.timefd_lang_fault.specs.Faults.{Fault, fault, invalid_modifier, duplicate_modifier}
 use Rattle.timefd_language.specs.declared.description_version.DescriptionVersion.{DescriptionVersion}
 use Rattle.timefd_language.specs.declared.name.Name.{Name}
 use Rattle.timefd_language.specs.Bytes.{same, is_version_three}
-use Rattle.timefd_fault.specs.Words.{expected_white, expected_nested, expected_alternative, optional_item, first_item}
+use Rattle.timefd_lang_fault.specs.Words.{expected_white, expected_nested, expected_alternative, optional_item, first_item}
 use Rattle.timefd_language.specs.Head.{Head, Modifier, Placed, placed_at, placed_from, placed, modifier_text, modifiers_text, name_index, head_text}
 use Rattle.timefd_language.specs.Values.{Key, setting_in}
 use Rattle.timefd_language.specs.Names.{row_for, row_of}

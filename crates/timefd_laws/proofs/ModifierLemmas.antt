@@ -1,9 +1,9 @@
 -- Rules about modifiers.
 use Rattle.std.proofs.Common.{ℕ, ◌≡◌, ◌+◌, Bool, true, false, not, ◌&&◌, List, [], ◌∷◌, ◌++◌, length, Some, None, is_some, IsTrue, refl, sym, ap, ◌∙◌}
 use Rattle.std.proofs.lemmas.Bool.{or_parts}
-use Rattle.timefd_component.specs.Tree.{Text, component}
-use Rattle.timefd_component.specs.declared.component.Component.{Component}
-use Rattle.timefd_fault.specs.Faults.{fault, invalid_modifier, duplicate_modifier, invalid_combination}
+use Rattle.timefd_lang_component.specs.Tree.{Text, component}
+use Rattle.timefd_lang_component.specs.declared.component.Component.{Component}
+use Rattle.timefd_lang_fault.specs.Faults.{fault, invalid_modifier, duplicate_modifier, invalid_combination}
 use Rattle.timefd_language.specs.declared.description_version.DescriptionVersion.{DescriptionVersion}
 use Rattle.timefd_language.specs.declared.description_version.DescriptionVersion.TheVariants.{Three}
 use Rattle.timefd_language.specs.declared.name.ComponentName.{ComponentName}

@@ -1,12 +1,12 @@
 -- Rules about nested descriptions.
 use Rattle.std.proofs.Common.{ℕ, ◌≡◌, ◌+◌, Bool, not, if◌then◌else◌, List, [], ◌∷◌, ◌++◌, append-nil, length, map, Some, Ok, Err, refl, ap, ◌∙◌, arith}
-use Rattle.timefd_component.specs.Tree.{Text, optional, first, trees, pack}
-use Rattle.timefd_fault.specs.Faults.{fault}
+use Rattle.timefd_lang_component.specs.Tree.{Text, optional, first, trees, pack}
+use Rattle.timefd_lang_fault.specs.Faults.{fault}
 use Rattle.timefd_language.specs.declared.description_version.DescriptionVersion.{DescriptionVersion}
 use Rattle.timefd_language.specs.declared.description_version.DescriptionVersion.TheVariants.{Three}
 use Rattle.timefd_language.specs.declared.name.Name.{Name}
 use Rattle.timefd_language.specs.Bytes.{is_version_three}
-use Rattle.timefd_fault.specs.Words.{expected_white, expected_nested, expected_alternative, optional_item, first_item}
+use Rattle.timefd_lang_fault.specs.Words.{expected_white, expected_nested, expected_alternative, optional_item, first_item}
 use Rattle.timefd_language.specs.Head.{Head, placed, placed_from, name_index, head_text}
 use Rattle.timefd_language.specs.Verdict.{PlacedDescription, ◌or◌, refuse, unless, too_many, nested_wanted, any_modifier, is_formatted, only}
 use Rattle.timefd_language.specs.Grammar.{Nested, no_nested, nested, items, spelling, nested_text, parts_from, bracket_verdict}

@@ -1,11 +1,11 @@
 -- Rules about brackets that go wrong before they are closed, and about where a fault is reported.
 use Rattle.std.specs.Prelude.{ℕ, suc, ◌≡◌, ◌≢◌, ◌+◌, ◌<◌, [], ◌∷◌, ◌++◌, length}
-use Rattle.timefd_component.specs.Tree.{Text}
-use Rattle.timefd_fault.specs.Faults.{Kind, Fault, fault, unclosed_bracket, missing_name, invalid_modifier}
+use Rattle.timefd_lang_component.specs.Tree.{Text}
+use Rattle.timefd_lang_fault.specs.Faults.{Kind, Fault, fault, unclosed_bracket, missing_name, invalid_modifier}
 use Rattle.timefd_language.specs.declared.description_version.DescriptionVersion.{DescriptionVersion}
 use Rattle.timefd_language.specs.Bytes.{left, right, colon, is_white, is_word_byte, is_key_byte, ZeroOrMore, OneOrMore, StopsBefore}
 use Rattle.timefd_language.specs.Fault.{raised}
-use Rattle.timefd_fault.specs.Words.{too_highly_nested}
+use Rattle.timefd_lang_fault.specs.Words.{too_highly_nested}
 use Rattle.timefd_language.specs.Head.{Head, IsHead, head_text}
 use Rattle.timefd_language.specs.Grammar.{Pieces, Nested, spelling, nested_text, ArePieces, AreNested}
 use Rattle.timefd_language.specs.Broken.{BeginsNoEscape, IsWholeBefore, is_bracket_byte, Bad, FaultOf}

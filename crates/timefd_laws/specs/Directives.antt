@@ -1,11 +1,11 @@
 -- Rules about strftime.
 use Rattle.std.specs.Prelude.{ℕ, ◌≡◌, ◌≢◌, ◌+◌, codes, [], ◌∷◌, ◌++◌, length, Some, IsTrue, IsFalse}
-use Rattle.timefd_component.specs.Tree.{Text, Tree, literal}
-use Rattle.timefd_fault.specs.Faults.{fault, not_supported, invalid_name}
+use Rattle.timefd_lang_component.specs.Tree.{Text, Tree, literal}
+use Rattle.timefd_lang_fault.specs.Faults.{fault, not_supported, invalid_name}
 use Rattle.timefd_language.specs.Bytes.{OneOrMore}
 use Rattle.timefd_language.specs.Distinct.{letters_in}
 use Rattle.timefd_language.specs.Fault.{raised}
-use Rattle.timefd_fault.specs.Words.{expected_escape}
+use Rattle.timefd_lang_fault.specs.Words.{expected_escape}
 use Rattle.timefd_language.specs.Letters.{Flag, letters, is_one_of, item_of}
 use Rattle.timefd_language.specs.Strftime.{percent, is_flag, is_plain, flag_text, name_of, Directives, directives_text, AreDirectives, IsFlag, IsAfter, SpellsStrftime, StrftimeFaultOf}
 

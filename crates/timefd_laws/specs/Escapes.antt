@@ -1,11 +1,11 @@
 -- Rules about runs, escapes and closing brackets.
 use Rattle.std.specs.Prelude.{ℕ, [], ◌∷◌, IsTrue, IsFalse}
-use Rattle.timefd_component.specs.Tree.{Text, literal}
-use Rattle.timefd_fault.specs.Faults.{fault}
+use Rattle.timefd_lang_component.specs.Tree.{Text, literal}
+use Rattle.timefd_lang_fault.specs.Faults.{fault}
 use Rattle.timefd_language.specs.declared.description_version.DescriptionVersion.{DescriptionVersion}
 use Rattle.timefd_language.specs.declared.description_version.DescriptionVersion.TheVariants.{One, Three}
 use Rattle.timefd_language.specs.Bytes.{left, backslash, right, is_special, is_run_byte, is_version_one, is_version_three, OneOrMore}
-use Rattle.timefd_fault.specs.Words.{expected_escape, expected_closing_escape}
+use Rattle.timefd_lang_fault.specs.Words.{expected_escape, expected_closing_escape}
 use Rattle.timefd_language.specs.Grammar.{Spells}
 use Rattle.timefd_language.specs.Broken.{Bad}
 

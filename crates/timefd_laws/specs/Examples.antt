@@ -1,12 +1,12 @@
 -- Examples of texts: each row of the page on the languages is a law.
 use Rattle.std.specs.Prelude.{ℕ, true, false, codes, List, [], ◌∷◌}
 use Rattle.timefd_modifier.specs.declared.enums.Padding.{Padding}
-use Rattle.timefd_component.specs.declared.component.Component.TheVariants.{Day, Hour24, Ignore, MonthLong, MonthNumerical, CalendarYearFullStandardRange, CalendarYearFullExtendedRange}
-use Rattle.timefd_component.specs.Tree.{Text, Tree, component, literal, compound, optional, first, trees, no_trees}
-use Rattle.timefd_fault.specs.Faults.{Kind, fault, unclosed_bracket, invalid_name, invalid_modifier, missing_name, missing_modifier, duplicate_modifier, invalid_combination}
+use Rattle.timefd_lang_component.specs.declared.component.Component.TheVariants.{Day, Hour24, Ignore, MonthLong, MonthNumerical, CalendarYearFullStandardRange, CalendarYearFullExtendedRange}
+use Rattle.timefd_lang_component.specs.Tree.{Text, Tree, component, literal, compound, optional, first, trees, no_trees}
+use Rattle.timefd_lang_fault.specs.Faults.{Kind, fault, unclosed_bracket, invalid_name, invalid_modifier, missing_name, missing_modifier, duplicate_modifier, invalid_combination}
 use Rattle.timefd_language.specs.declared.description_version.DescriptionVersion.{DescriptionVersion}
 use Rattle.timefd_language.specs.declared.description_version.DescriptionVersion.TheVariants.{One, Two, Three}
-use Rattle.timefd_fault.specs.Words.{expected_escape, expected_closing_escape, expected_white, optional_item, nested_here}
+use Rattle.timefd_lang_fault.specs.Words.{expected_escape, expected_closing_escape, expected_white, optional_item, nested_here}
 use Rattle.timefd_language.specs.Values.{not_zero}
 use Rattle.timefd_language.specs.Grammar.{Spells, nesting_limit}
 use Rattle.timefd_language.specs.Broken.{FaultOf}

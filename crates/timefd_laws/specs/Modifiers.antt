@@ -1,8 +1,8 @@
 -- Rules about modifiers: the first bad one decides.
 use Rattle.std.specs.Prelude.{◌≡◌, true, false, ◌&&◌, codes, List, [], ◌∷◌, ◌++◌, Some, None, is_some, Ok, IsTrue, IsFalse}
-use Rattle.timefd_component.specs.Tree.{Text, component}
-use Rattle.timefd_component.specs.declared.component.Component.{Component}
-use Rattle.timefd_fault.specs.Faults.{invalid_modifier, missing_modifier, duplicate_modifier, invalid_combination}
+use Rattle.timefd_lang_component.specs.Tree.{Text, component}
+use Rattle.timefd_lang_component.specs.declared.component.Component.{Component}
+use Rattle.timefd_lang_fault.specs.Faults.{invalid_modifier, missing_modifier, duplicate_modifier, invalid_combination}
 use Rattle.timefd_language.specs.declared.description_version.DescriptionVersion.{DescriptionVersion}
 use Rattle.timefd_language.specs.declared.description_version.DescriptionVersion.TheVariants.{Three}
 use Rattle.timefd_language.specs.declared.name.ComponentName.{ComponentName}

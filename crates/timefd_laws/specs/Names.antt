@@ -1,7 +1,7 @@
 -- Rules about names.
 use Rattle.std.specs.Prelude.{◌≡◌, Bool, true, false, codes, Option, Some, None}
-use Rattle.timefd_component.specs.Tree.{Text}
-use Rattle.timefd_fault.specs.Faults.{invalid_name}
+use Rattle.timefd_lang_component.specs.Tree.{Text}
+use Rattle.timefd_lang_fault.specs.Faults.{invalid_name}
 use Rattle.timefd_language.specs.declared.description_version.DescriptionVersion.{DescriptionVersion}
 use Rattle.timefd_language.specs.declared.name.Name.{Name}
 use Rattle.timefd_language.specs.Head.{Head, name_index}

@@ -10,4 +10,4 @@ pub mod value_laws;
 pub mod written_examples;
 pub mod written_laws;
 
-pub use timefd_warnings::settled::Bound;
+pub use timefd_lang_warnings::settled::Bound;

@@ -1,7 +1,7 @@
 -- What the contracts say about a text that was written byte by byte, if version 1 spells the text
 -- that it was made from.
 use Rattle.std.proofs.Common.{◌≡◌, List, ap, sym, ◌∙◌}
-use Rattle.timefd_component.specs.Tree.{Text, Tree, joined}
+use Rattle.timefd_lang_component.specs.Tree.{Text, Tree, joined}
 use Rattle.timefd_language.specs.declared.description_version.DescriptionVersion.TheVariants.{One}
 use Rattle.timefd_language.specs.Grammar.{Pieces, Spells, nesting_limit}
 use Rattle.timefd_language.specs.Laws.{Lifting}

@@ -1,10 +1,10 @@
 -- What is appended, in other words.
 use Rattle.std.proofs.Common.{◌≡◌, ◌∙◌, ◌++◌, Result, OnOk, [], ◌∷◌, ap, subst, append_assoc}
-use Rattle.timefd_component.specs.declared.component.Component.{Component}
-use Rattle.timefd_component.specs.Tree.{Text}
+use Rattle.timefd_lang_component.specs.declared.component.Component.{Component}
+use Rattle.timefd_lang_component.specs.Tree.{Text}
 use Rattle.timefd_language.specs.Bytes.{left, right}
-use Rattle.timefd_component.specs.Bracket.Words.{form, count_digits, first_modifier, second_modifier, words}
-use Rattle.timefd_component.specs.declared.bracket.defaults.Defaults.{Defaults}
+use Rattle.timefd_lang_component.specs.Bracket.Words.{form, count_digits, first_modifier, second_modifier, words}
+use Rattle.timefd_lang_component.specs.declared.bracket.defaults.Defaults.{Defaults}
 use Rattle.timefd_lift.specs.Written.{component_text, in_brackets}
 
 closed : (old one two three : Text)

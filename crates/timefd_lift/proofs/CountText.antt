@@ -8,8 +8,8 @@ use Rattle.std.proofs.lemmas.Bool.Decides.{nat_tests}
 use Rattle.std.proofs.lemmas.Fmt.{decimal_is_IsNumeral, first_decimal}
 use Rattle.std.proofs.lemmas.Str.Parse.{digit_from_value, without_leading_plus_none}
 use Rattle.std.specs.declared.num.NonZeroU16.{NonZeroU16}
-use Rattle.timefd_component.specs.Tree.{Text, component}
-use Rattle.timefd_component.specs.declared.component.Component.TheVariants.{Ignore}
+use Rattle.timefd_lang_component.specs.Tree.{Text, component}
+use Rattle.timefd_lang_component.specs.declared.component.Component.TheVariants.{Ignore}
 use Rattle.timefd_language.specs.Bytes.{right, is_word_byte, ZeroOrMore, OneOrMore}
 use Rattle.timefd_language.specs.Head.{head_text}
 use Rattle.timefd_language.specs.declared.setting.Setting.{Setting}

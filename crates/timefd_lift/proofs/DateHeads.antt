@@ -1,7 +1,7 @@
 -- The brackets of days, weeks and months.
 use Rattle.std.proofs.Common.{Bool, true, false, refl}
 use Rattle.timefd_modifier.specs.declared.enums.Padding.{Padding}
-use Rattle.timefd_component.specs.declared.component.Component.TheVariants.{Day, MonthShort, MonthLong, MonthNumerical, Ordinal, WeekdayShort, WeekdayLong, WeekdaySunday, WeekdayMonday, WeekNumberIso, WeekNumberSunday, WeekNumberMonday}
+use Rattle.timefd_lang_component.specs.declared.component.Component.TheVariants.{Day, MonthShort, MonthLong, MonthNumerical, Ordinal, WeekdayShort, WeekdayLong, WeekdaySunday, WeekdayMonday, WeekNumberIso, WeekNumberSunday, WeekNumberMonday}
 use Rattle.timefd_lift.proofs.Heads.{IsShownAs, shown}
 
 pub day : (p : Padding) → IsShownAs (Day (record { padding = p }))

@@ -2,8 +2,8 @@
 use Rattle.std.proofs.Common.{ℕ, ◌≡◌, ◌-◌, ◌==◌, ◌&&◌, Bool, true, false, List, [], ◌∷◌, ◌++◌, map, length, take, drop, Ok, codes}
 use Rattle.std.specs.List.{list_all, slice_split}
 use Rattle.std.proofs.lemmas.Bool.{and_parts, false≢true}
-use Rattle.timefd_component.specs.Tree.{Text, component}
-use Rattle.timefd_component.specs.declared.component.Component.{Component}
+use Rattle.timefd_lang_component.specs.Tree.{Text, component}
+use Rattle.timefd_lang_component.specs.declared.component.Component.{Component}
 use Rattle.timefd_language.specs.Bytes.{right, colon, is_white, is_word_byte, is_key_byte, OneOrMore}
 use Rattle.timefd_language.specs.Head.{Head, IsHead, Modifier, IsModifier, AreModifiers, head_text}
 use Rattle.timefd_language.specs.Verdict.{verdict}

@@ -2,13 +2,13 @@
 use Rattle.std.proofs.Common.{ℕ, suc, zero, ◌≡◌, ◌≤◌, ◌==◌, cond, Bool, true, false, List, [], ◌∷◌, Option, Some, None, Result, Ok, codes, nat_le, refl, sym, subst, leb-true}
 use Rattle.std.specs.Prelude.{⊤}
 use Rattle.std.specs.declared.num.NonZeroU16.{NonZeroU16}
-use Rattle.timefd_component.specs.declared.component.Component.{Component}
-use Rattle.timefd_component.specs.Tree.{Text, Tree, component}
-use Rattle.timefd_fault.specs.Faults.{Kind, Fault, fault}
-use Rattle.timefd_component.specs.Modern.{modern}
-use Rattle.timefd_component.proofs.ModernLemmas.{IsReplacement, month_replaced, weekday_replaced, week_replaced, hour_replaced, timestamp_replaced, year_replaced}
+use Rattle.timefd_lang_component.specs.declared.component.Component.{Component}
+use Rattle.timefd_lang_component.specs.Tree.{Text, Tree, component}
+use Rattle.timefd_lang_fault.specs.Faults.{Kind, Fault, fault}
+use Rattle.timefd_lang_component.specs.Modern.{modern}
+use Rattle.timefd_lang_component.proofs.ModernLemmas.{IsReplacement, month_replaced, weekday_replaced, week_replaced, hour_replaced, timestamp_replaced, year_replaced}
 use Rattle.timefd_language.specs.Bytes.{same}
-use Rattle.timefd_fault.specs.Words.{expected_nested, optional_item, first_item}
+use Rattle.timefd_lang_fault.specs.Words.{expected_nested, optional_item, first_item}
 use Rattle.timefd_language.specs.Head.{Head, Placed, placed}
 use Rattle.timefd_language.specs.declared.setting.Setting.{Setting}
 use Rattle.timefd_language.specs.declared.setting.Settings.{Settings}

@@ -1,6 +1,6 @@
 -- What is written for a text is at most twice as long as the text.
 use Rattle.std.proofs.Common.{ℕ, ◌≤◌, ◌+◌, ◌*◌, ◌==◌, cond, Bool, true, false, [], ◌∷◌, length, arith}
-use Rattle.timefd_component.specs.Tree.{Text}
+use Rattle.timefd_lang_component.specs.Tree.{Text}
 use Rattle.timefd_language.specs.Bytes.{left, right, backslash, is_special}
 use Rattle.timefd_lift.specs.Bytewise.{outside, after_left, inside}
 

@@ -4,7 +4,7 @@ use Rattle.std.specs.List.{list_all}
 use Rattle.std.proofs.lemmas.Bool.{and_parts, and_from, cases_Bool}
 use Rattle.std.proofs.lemmas.Bool.Decides.{nat_tests}
 use Rattle.timefd_language.specs.declared.description_version.DescriptionVersion.TheVariants.{One}
-use Rattle.timefd_component.specs.Tree.{Text}
+use Rattle.timefd_lang_component.specs.Tree.{Text}
 use Rattle.timefd_language.specs.Bytes.{left, right, backslash, colon, is_special, is_run_byte, is_white, is_word_byte, is_key_byte, ZeroOrMore, OneOrMore}
 use Rattle.timefd_language.specs.Head.{Head, IsHead, Modifier, AreModifiers, IsModifier, modifier_text, modifiers_text}
 use Rattle.timefd_language.specs.Grammar.{Pieces, no_pieces, run, escape, closing, bracket, no_nested, nested, spelling, ArePieces}

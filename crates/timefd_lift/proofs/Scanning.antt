@@ -3,7 +3,7 @@ use Rattle.std.proofs.Common.{ℕ, ◌≡◌, ◌+◌, ◌<◌, ◌==◌, ◌||�
 use Rattle.std.proofs.lemmas.Bool.{cases_Bool}
 use Rattle.std.proofs.lemmas.Bool.Decides.{nat_tests}
 use Rattle.std.proofs.lemmas.List.{take_more}
-use Rattle.timefd_component.specs.Tree.{Text}
+use Rattle.timefd_lang_component.specs.Tree.{Text}
 use Rattle.timefd_language.specs.Bytes.{left, right, backslash}
 use Rattle.timefd_lift.specs.Bytewise.{outside, inside, is_escaped}
 

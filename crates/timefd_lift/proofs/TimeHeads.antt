@@ -3,7 +3,7 @@ use Rattle.std.proofs.Common.{Bool, true, false, refl}
 use Rattle.timefd_modifier.specs.declared.enums.Padding.{Padding}
 use Rattle.timefd_modifier.specs.declared.enums.SubsecondDigits.{SubsecondDigits}
 use Rattle.timefd_modifier.specs.declared.enums.TrailingInput.{TrailingInput}
-use Rattle.timefd_component.specs.declared.component.Component.TheVariants.{Hour12, Hour24, Minute, Period, Second, Subsecond, OffsetHour, OffsetMinute, OffsetSecond, UnixTimestampSecond, UnixTimestampMillisecond, UnixTimestampMicrosecond, UnixTimestampNanosecond, End}
+use Rattle.timefd_lang_component.specs.declared.component.Component.TheVariants.{Hour12, Hour24, Minute, Period, Second, Subsecond, OffsetHour, OffsetMinute, OffsetSecond, UnixTimestampSecond, UnixTimestampMillisecond, UnixTimestampMicrosecond, UnixTimestampNanosecond, End}
 use Rattle.timefd_lift.proofs.Heads.{IsShownAs, shown}
 
 pub hour_12 : (p : Padding) → IsShownAs (Hour12 (record { padding = p }))

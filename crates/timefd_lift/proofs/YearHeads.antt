@@ -1,7 +1,7 @@
 -- The brackets of years.
 use Rattle.std.proofs.Common.{Bool, true, false, refl}
 use Rattle.timefd_modifier.specs.declared.enums.Padding.{Padding}
-use Rattle.timefd_component.specs.declared.component.Component.TheVariants.{CalendarYearFullExtendedRange, CalendarYearFullStandardRange, CalendarYearCenturyExtendedRange, CalendarYearCenturyStandardRange, CalendarYearLastTwo, IsoYearFullExtendedRange, IsoYearFullStandardRange, IsoYearCenturyExtendedRange, IsoYearCenturyStandardRange, IsoYearLastTwo}
+use Rattle.timefd_lang_component.specs.declared.component.Component.TheVariants.{CalendarYearFullExtendedRange, CalendarYearFullStandardRange, CalendarYearCenturyExtendedRange, CalendarYearCenturyStandardRange, CalendarYearLastTwo, IsoYearFullExtendedRange, IsoYearFullStandardRange, IsoYearCenturyExtendedRange, IsoYearCenturyStandardRange, IsoYearLastTwo}
 use Rattle.timefd_lift.proofs.Heads.{IsShownAs, shown}
 
 pub full_extended : (p : Padding) (s : Bool) → IsShownAs (CalendarYearFullExtendedRange (record { padding = p; sign_is_mandatory = s }))

@@ -1,7 +1,7 @@
 -- A text of version 1 rewritten byte by byte. Brackets end at their first `]`.
 use Rattle.std.specs.Prelude.{◌≡◌, ◌<◌, Bool, false, ◌&&◌, ◌||◌, ◌==◌, ◌⊎◌, if◌then◌else◌, [], ◌∷◌, ◌++◌, length, IsTrue}
 use Rattle.std.specs.Str.{IsUtf8}
-use Rattle.timefd_component.specs.Tree.{Text}
+use Rattle.timefd_lang_component.specs.Tree.{Text}
 use Rattle.timefd_language.specs.Bytes.{left, right, backslash, is_special}
 
 abbrev mutual

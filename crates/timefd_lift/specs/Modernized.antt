@@ -1,6 +1,6 @@
 -- How the answer relates to the text of version 2 that it was made from.
 use Rattle.std.specs.Prelude.{◌≡◌, List}
-use Rattle.timefd_component.specs.Tree.{Text, Tree}
+use Rattle.timefd_lang_component.specs.Tree.{Text, Tree}
 use Rattle.timefd_language.specs.declared.description_version.DescriptionVersion.TheVariants.{Two, Three}
 use Rattle.timefd_language.specs.Grammar.{Spells, nesting_limit}
 use Rattle.timefd_lift.specs.Written.{written}

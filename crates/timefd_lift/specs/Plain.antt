@@ -1,10 +1,10 @@
 -- Lists of literals and components.
 use Rattle.std.specs.Prelude.{◌≤◌, List, [], ◌∷◌, IsTrue, ⊤}
-use Rattle.timefd_node_list.specs.declared.item.borrowed_format_item.BorrowedFormatItem.{BorrowedFormatItem}
-use Rattle.timefd_component.specs.declared.component.Component.{Component}
-use Rattle.timefd_component.specs.declared.component.Component.TheVariants.{Ignore}
-use Rattle.timefd_node_list.specs.Item.Meaning.{item_tree}
-use Rattle.timefd_component.specs.Tree.{Tree, component, literal}
+use Rattle.timefd_lang_node_list.specs.declared.item.borrowed_format_item.BorrowedFormatItem.{BorrowedFormatItem}
+use Rattle.timefd_lang_component.specs.declared.component.Component.{Component}
+use Rattle.timefd_lang_component.specs.declared.component.Component.TheVariants.{Ignore}
+use Rattle.timefd_lang_node_list.specs.Item.Meaning.{item_tree}
+use Rattle.timefd_lang_component.specs.Tree.{Tree, component, literal}
 use Rattle.timefd_language.specs.Strings.{is_of_strings}
 
 abbrev pub IsPlain : Tree → Type 0

@@ -2,11 +2,11 @@
 -- version 3's default. The range of a year is always written if there is one, since version 2 has
 -- another default.
 use Rattle.std.specs.Prelude.{if◌then◌else◌, List, [], ◌∷◌, ◌++◌}
-use Rattle.timefd_component.specs.declared.component.Component.{Component}
-use Rattle.timefd_component.specs.Modern.{modern}
-use Rattle.timefd_component.specs.Tree.{Text, Tree, component, literal}
-use Rattle.timefd_component.specs.Bracket.Words.{form, count_digits, first_modifier, second_modifier}
-use Rattle.timefd_component.specs.declared.bracket.defaults.Defaults.{Defaults}
+use Rattle.timefd_lang_component.specs.declared.component.Component.{Component}
+use Rattle.timefd_lang_component.specs.Modern.{modern}
+use Rattle.timefd_lang_component.specs.Tree.{Text, Tree, component, literal}
+use Rattle.timefd_lang_component.specs.Bracket.Words.{form, count_digits, first_modifier, second_modifier}
+use Rattle.timefd_lang_component.specs.declared.bracket.defaults.Defaults.{Defaults}
 use Rattle.timefd_language.specs.Bytes.{left, right, backslash, is_special}
 
 -- Components: version 3's defaults are omitted. Instead of a deprecated component, the one that it

@@ -1,12 +1,12 @@
 //! Writes components in version 3.
 
 ghost use Rattle.std.specs.Prelude.{◌≡◌, ◌++◌, OnOk, string_bytes};
-ghost use Rattle.timefd_component.specs.Modern.{modern};
+ghost use Rattle.timefd_lang_component.specs.Modern.{modern};
 ghost use Rattle.timefd_lift.specs.Written as spec;
 
 use std::alloc::{AllocError, Global};
-use timefd_component::bracket::{Defaults, push_words};
 use timefd_items::Component;
+use timefd_lang_component::bracket::{Defaults, push_words};
 
 /// Appends the text of a component. For a deprecated one, this is the text of the component that it
 /// stands for. An `Err` says that memory ran out.

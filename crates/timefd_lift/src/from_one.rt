@@ -3,14 +3,14 @@
 ghost use Rattle.std.specs.Prelude.{◌≡◌, ◌≤◌, ◌*◌, [], length, IfOk, IsOk, MatchResult, string_bytes};
 ghost use Rattle.std.specs.Result.{IfErr};
 ghost use Rattle.std.specs.String.{string_capacity};
-ghost use Rattle.timefd_fault.specs.Faults as spec;
+ghost use Rattle.timefd_lang_fault.specs.Faults as spec;
 ghost use Rattle.timefd_language.specs.declared.description_version.DescriptionVersion.TheVariants.{One};
 ghost use Rattle.timefd_language.specs.Grammar.{Pieces, nesting_limit};
 ghost use Rattle.timefd_language.specs.Broken.{FaultOf};
-ghost use Rattle.timefd_fault.specs.BorrowedFaults.{HasShortFault, IsBorrowed, IsBorrowedOf, IsMemory};
-ghost use Rattle.timefd_fault.specs.Placed.{HasPlacedFault, IsPlaced};
+ghost use Rattle.timefd_lang_fault.specs.BorrowedFaults.{HasShortFault, IsBorrowed, IsBorrowedOf, IsMemory};
+ghost use Rattle.timefd_lang_fault.specs.Placed.{HasPlacedFault, IsPlaced};
 ghost use Rattle.timefd_parse.specs.Answers.{IsAssigned};
-ghost use Rattle.timefd_fault.specs.Reported.{IsFaultOrMemory};
+ghost use Rattle.timefd_lang_fault.specs.Reported.{IsFaultOrMemory};
 ghost use Rattle.timefd_language.specs.Rewritten.{rewritten};
 ghost use Rattle.timefd_lift.specs.Bytewise.{outside};
 ghost use Rattle.timefd_lift.specs.Answers.{IsSpelledBy, IsRewritten, HasItemsOf, IsTextOrMemory};

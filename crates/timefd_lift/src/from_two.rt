@@ -2,16 +2,16 @@
 
 ghost use Rattle.std.specs.Prelude.{◌≡◌, [], List, IfOk, IsOk, MatchResult, string_bytes};
 ghost use Rattle.std.specs.Result.{IfErr};
-ghost use Rattle.timefd_fault.specs.Faults as spec;
-ghost use Rattle.timefd_node_list.specs.Item.Meaning.{item_trees};
-ghost use Rattle.timefd_component.specs.Tree.{Tree};
+ghost use Rattle.timefd_lang_fault.specs.Faults as spec;
+ghost use Rattle.timefd_lang_node_list.specs.Item.Meaning.{item_trees};
+ghost use Rattle.timefd_lang_component.specs.Tree.{Tree};
 ghost use Rattle.timefd_language.specs.declared.description_version.DescriptionVersion.TheVariants.{Two};
 ghost use Rattle.timefd_language.specs.Grammar.{Spells, nesting_limit};
 ghost use Rattle.timefd_language.specs.Broken.{FaultOf};
-ghost use Rattle.timefd_fault.specs.BorrowedFaults.{HasShortFault, IsBorrowed, IsBorrowedOf, IsMemory};
-ghost use Rattle.timefd_fault.specs.Placed.{HasPlacedFault, IsPlaced};
+ghost use Rattle.timefd_lang_fault.specs.BorrowedFaults.{HasShortFault, IsBorrowed, IsBorrowedOf, IsMemory};
+ghost use Rattle.timefd_lang_fault.specs.Placed.{HasPlacedFault, IsPlaced};
 ghost use Rattle.timefd_parse.specs.Answers.{IsAssigned};
-ghost use Rattle.timefd_fault.specs.Reported.{IsFaultOrMemory};
+ghost use Rattle.timefd_lang_fault.specs.Reported.{IsFaultOrMemory};
 ghost use Rattle.timefd_lift.specs.Answers.{IsTextOrMemory};
 ghost use Rattle.timefd_lift.specs.Modernized.{IsReadAlike, IsWrittenOf, KeepsItemsOf};
 ghost use Rattle.timefd_lift.specs.Plain.{ArePlainItems};

@@ -1,7 +1,7 @@
 //! Writes items in version 3.
 
 ghost use Rattle.std.specs.Prelude.{◌≡◌, ◌++◌, OnOk, string_bytes};
-ghost use Rattle.timefd_node_list.specs.Item.Meaning.{item_tree};
+ghost use Rattle.timefd_lang_node_list.specs.Item.Meaning.{item_tree};
 ghost use Rattle.timefd_lift.specs.Plain.{IsPlainItem};
 ghost use Rattle.timefd_lift.specs.Written as spec;
 

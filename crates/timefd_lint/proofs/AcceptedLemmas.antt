@@ -3,16 +3,16 @@ use Rattle.std.proofs.Common.{◌≡◌, Bool, true, false, List, [], ◌++◌, 
 use Rattle.std.specs.Prelude.{IsUtf8}
 use Rattle.std.specs.Io.KnownBytes.{Appends}
 use Rattle.std.proofs.KnownBytes.{Appends-nil, Appends-trans}
-use Rattle.timefd_component.specs.Tree.{Text, Tree}
-use Rattle.timefd_drawing.specs.declared.position.Origin.{Origin}
-use Rattle.timefd_explain.specs.Lines.{IsExplained, IsExplainedIf}
+use Rattle.timefd_lang_component.specs.Tree.{Text, Tree}
+use Rattle.timefd_lint_drawing.specs.declared.position.Origin.{Origin}
+use Rattle.timefd_lint_explain.specs.Lines.{IsExplained, IsExplainedIf}
 use Rattle.timefd_language.specs.Grammar.{nesting_limit}
 use Rattle.timefd_language.specs.declared.language.Language.{Language}
 use Rattle.timefd_parse.specs.Language.{SpellsIn}
 use Rattle.timefd_lint_options.specs.declared.wording.Wording.TheVariants.{Own}
-use Rattle.timefd_warnings.specs.declared.levels.Level.TheVariants.{Allowed}
-use Rattle.timefd_warnings.specs.declared.levels.Levels.{Levels}
-use Rattle.timefd_warnings.specs.Levels.{all_at}
+use Rattle.timefd_lang_warnings.specs.declared.levels.Level.TheVariants.{Allowed}
+use Rattle.timefd_lang_warnings.specs.declared.levels.Levels.{Levels}
+use Rattle.timefd_lang_warnings.specs.Levels.{all_at}
 use Rattle.timefd_lint_warnings.specs.Messages.{messages as warning_messages}
 use Rattle.timefd_lint.specs.declared.line.TextEnd.TheVariants.{Accepted}
 use Rattle.timefd_lint_sources.specs.declared.reported.Reporting.{Reporting}

@@ -1,13 +1,13 @@
 -- What becomes of a file that may be rewritten.
 use Rattle.std.proofs.Common.{◌≡◌, Bool, true, false, [], Option, Some, None, refl, sym, ap, string_bytes, subst, ◌∙◌}
 use Rattle.std.specs.Io.KnownBytes.{Appends}
-use Rattle.timefd_component.specs.Tree.{Text}
+use Rattle.timefd_lang_component.specs.Tree.{Text}
 use Rattle.timefd_lint_options.specs.declared.wording.Wording.{Wording}
 use Rattle.timefd_lint_sources.specs.declared.reported.Finder.{Finder}
 use Rattle.timefd_lint_sources.specs.declared.reported.Reporting.{Reporting}
-use Rattle.timefd_rewrite.specs.Diffs.{WritesDiff}
-use Rattle.timefd_rewrite.specs.Rewriting.{AreRewritten}
-use Rattle.timefd_rewrite.specs.declared.line_change.LineChange.{LineChange}
+use Rattle.timefd_lint_rewrite.specs.Diffs.{WritesDiff}
+use Rattle.timefd_lint_rewrite.specs.Rewriting.{AreRewritten}
+use Rattle.timefd_lint_rewrite.specs.declared.line_change.LineChange.{LineChange}
 use Rattle.timefd_lint.specs.declared.found.Found.{Found}
 use Rattle.timefd_lint.specs.declared.options.Options.{Options}
 use Rattle.timefd_lint.specs.declared.output.Audience.{Audience}

@@ -4,22 +4,22 @@ use Rattle.std.specs.Prelude.{IfSome, IsUtf8, String, option_map}
 use Rattle.std.specs.List.{list_any}
 use Rattle.std.specs.declared.alloc.Global.{Global}
 use denote.Ref.{Bor}
-use Rattle.timefd_component.specs.Tree.{Text}
-use Rattle.timefd_fault.specs.declared.invalid_format_description.InvalidFormatDescription.{InvalidFormatDescription}
-use Rattle.timefd_fault.specs.declared.parse_error.ParseError.{ParseError}
-use Rattle.timefd_fault.specs.declared.parse_error.ParseError.TheVariants.{Invalid}
-use Rattle.timefd_rewrite.specs.declared.layout.Layout.{Layout}
-use Rattle.timefd_rewrite.specs.Layouts.{IsRefusal}
-use Rattle.timefd_sources.specs.declared.description.Description.{Description}
-use Rattle.timefd_sources.specs.Found.{AreDescriptionsOf}
+use Rattle.timefd_lang_component.specs.Tree.{Text}
+use Rattle.timefd_lang_fault.specs.declared.invalid_format_description.InvalidFormatDescription.{InvalidFormatDescription}
+use Rattle.timefd_lang_fault.specs.declared.parse_error.ParseError.{ParseError}
+use Rattle.timefd_lang_fault.specs.declared.parse_error.ParseError.TheVariants.{Invalid}
+use Rattle.timefd_lint_rewrite.specs.declared.layout.Layout.{Layout}
+use Rattle.timefd_lint_rewrite.specs.Layouts.{IsRefusal}
+use Rattle.timefd_lint_scan.specs.declared.description.Description.{Description}
+use Rattle.timefd_lint_scan.specs.Found.{AreDescriptionsOf}
 use Rattle.timefd_lint_sources.specs.Judged.{text_of}
 use Rattle.timefd_lint_sources.specs.Rewriting.Changes.{layout_of}
 use Rattle.timefd_lint_sources.specs.Rewriting.Written.{Becoming, IsLaidOutBy}
 use Rattle.timefd_lint_sources.specs.declared.rewriting.change.Change.{Change}
 use Rattle.timefd_lint_sources.specs.declared.rewriting.outcome.Outcome.{Outcome}
 use Rattle.timefd_lint_sources.proofs.RewritingLemmas.AnswerLemmas.{is_refused}
-use Rattle.timefd_drawing.specs.Positions.{column, line_number}
-use Rattle.timefd_drawing.specs.Shown.{safe}
+use Rattle.timefd_lint_drawing.specs.Positions.{column, line_number}
+use Rattle.timefd_lint_drawing.specs.Shown.{safe}
 use Rattle.timefd_lint.specs.ByHand.{AddsNote, AddsReason, AreNotes, AreNotesIf, AreNotesOn, AreNotesTo, BecomesNothing, note, place, position, version_of, wants_hand}
 use Rattle.timefd_lint.specs.ByHand.Literals.{IsLiteralOf}
 use Rattle.timefd_lint.specs.ByHand.Reasons.{reason}

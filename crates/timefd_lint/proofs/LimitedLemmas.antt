@@ -3,15 +3,15 @@ use Rattle.std.proofs.Common.{ℕ, ◌≡◌, ◌∙◌, ◌+◌, ◌<◌, ◌�
 use Rattle.std.specs.Prelude.{IfSome, IsUtf8}
 use Rattle.std.specs.Io.BufRead.{take_through, DropsThrough}
 use denote.Ref.{Bor}
-use Rattle.timefd_component.specs.Tree.{Text}
-use Rattle.timefd_dialect.specs.declared.dialect.Dialect.{Dialect}
-use Rattle.timefd_dialect.specs.declared.error.Refusal.{Refusal}
-use Rattle.timefd_dialect.specs.declared.reading.Converted.{Converted}
-use Rattle.timefd_dialect.specs.Answers.{IsConverted}
-use Rattle.timefd_dialect.specs.Reading.{RefusedAt}
-use Rattle.timefd_drawing.specs.Shown.{safe}
-use Rattle.timefd_rewrite.specs.Lines.{AreLinesUpTo, is_passed_over, without_newline}
-use Rattle.timefd_rewrite.proofs.LineLemmas.{all_lines, next_line, no_line, up_to_more}
+use Rattle.timefd_lang_component.specs.Tree.{Text}
+use Rattle.timefd_lang_dialect.specs.declared.dialect.Dialect.{Dialect}
+use Rattle.timefd_lang_dialect.specs.declared.error.Refusal.{Refusal}
+use Rattle.timefd_lang_dialect.specs.declared.reading.Converted.{Converted}
+use Rattle.timefd_lang_dialect.specs.Answers.{IsConverted}
+use Rattle.timefd_lang_dialect.specs.Reading.{RefusedAt}
+use Rattle.timefd_lint_drawing.specs.Shown.{safe}
+use Rattle.timefd_lint_rewrite.specs.Lines.{AreLinesUpTo, is_passed_over, without_newline}
+use Rattle.timefd_lint_rewrite.proofs.LineLemmas.{all_lines, next_line, no_line, up_to_more}
 use Rattle.timefd_lint.specs.Limited.{AddsNote, AddsTextNote, AreNoted, AreNotes, IsNextNoted, note}
 
 pub passed_over : (comment : Option (Bor Text)) (dialect : Dialect) (file : Text) (number : ℕ) (line text before : Text)

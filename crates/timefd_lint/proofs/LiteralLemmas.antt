@@ -3,10 +3,10 @@ use Rattle.std.proofs.Common.{ℕ, ◌≡◌, ◌∙◌, ◌-◌, ◌++◌, Opti
 use Rattle.std.specs.Prelude.{IfSome}
 use Rattle.std.specs.declared.alloc.Global.{Global}
 use Rattle.std.specs.declared.vec.Vec.{Vec}
-use Rattle.timefd_component.specs.Tree.{Text}
-use Rattle.timefd_sources.specs.declared.description.Description.{Description}
-use Rattle.timefd_sources.specs.Literals.{body_end}
-use Rattle.timefd_sources.specs.Written.{IsBodyFor}
+use Rattle.timefd_lang_component.specs.Tree.{Text}
+use Rattle.timefd_lint_scan.specs.declared.description.Description.{Description}
+use Rattle.timefd_lint_scan.specs.Literals.{body_end}
+use Rattle.timefd_lint_scan.specs.Written.{IsBodyFor}
 use Rattle.timefd_lint.specs.ByHand.Literals.{IsLiteralOf, IsPart, IsQuoted, IsTextOf, old_length}
 
 pub quoted_of : (source : Text) (d : Description) (body opening text closing : Text) (end from : ℕ)

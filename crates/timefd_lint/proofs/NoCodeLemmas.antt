@@ -2,8 +2,8 @@
 use Rattle.std.proofs.Common.{◌≡◌, List, [], ◌∷◌, ◌++◌, append_assoc, append-nil, map, sym, ap, ◌∙◌}
 use Rattle.std.proofs.lemmas.List.{map-append}
 use denote.Ref.{Bor}
-use Rattle.timefd_component.specs.Tree.{Text}
-use Rattle.timefd_diagnosis.specs.Words.{texts}
+use Rattle.timefd_lang_component.specs.Tree.{Text}
+use Rattle.timefd_lint_diagnosis.specs.Words.{texts}
 
 -- One more code after others.
 pub one_more : {A : Type 0} (code : A → Text) (old new : List (Bor Text)) (word : Bor Text) (first : A)

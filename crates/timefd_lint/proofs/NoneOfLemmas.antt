@@ -5,10 +5,10 @@ use Rattle.std.specs.List.{join_by}
 use Rattle.std.specs.declared.alloc.Global.{Global}
 use Rattle.std.specs.declared.string.String.{String}
 use denote.Ref.{Bor}
-use Rattle.timefd_component.specs.Tree.{Text}
-use Rattle.timefd_diagnosis.specs.Nearest.{IsNearest}
-use Rattle.timefd_diagnosis.specs.Words.{texts}
+use Rattle.timefd_lang_component.specs.Tree.{Text}
 use Rattle.timefd_lint.specs.NoneOf.{IsNoneOf, sentence}
+use Rattle.timefd_lint_diagnosis.specs.Nearest.{IsNearest}
+use Rattle.timefd_lint_diagnosis.specs.Words.{texts}
 
 after_each : (sep : Text) (words : List (Bor Text))
     → flat_map (λ (w : Bor Text). sep ++ w.now) words ≡ flat_map (λ (t : Text). sep ++ t) (texts words)

@@ -2,9 +2,9 @@
 use Rattle.std.proofs.Common.{◌≡◌, Bool, Option, Result, refl, sym, subst}
 use Rattle.std.specs.Prelude.{IfOk, OnOk, Ok, Err, IsUtf8, is_some}
 use Rattle.std.specs.Io.KnownBytes.{Appends}
-use Rattle.timefd_component.specs.Tree.{Text}
-use Rattle.timefd_dialect.specs.declared.dialect.Dialect.{Dialect}
-use Rattle.timefd_drawing.specs.declared.position.Origin.{Origin}
+use Rattle.timefd_lang_component.specs.Tree.{Text}
+use Rattle.timefd_lang_dialect.specs.declared.dialect.Dialect.{Dialect}
+use Rattle.timefd_lint_drawing.specs.declared.position.Origin.{Origin}
 use Rattle.timefd_lint_warnings.specs.declared.dialects.judging.Judgement.{Judgement}
 use Rattle.timefd_lint_warnings.specs.declared.dialects.judging.Judgement.TheVariants.{Converted, Refused}
 use Rattle.timefd_lint_warnings.specs.Dialects.Judging.{IsJudged}

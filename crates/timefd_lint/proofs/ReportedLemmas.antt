@@ -12,20 +12,20 @@ use Rattle.std.proofs.lemmas.Grind.{flat_map-append}
 use Rattle.std.proofs.lemmas.Bool.{true≢false, false≢true}
 use mathlib.Core.Logic.{inl, inr}
 use denote.Ref.{Bor}
-use Rattle.timefd_component.specs.Tree.{Text}
-use Rattle.timefd_drawing.specs.declared.draw.Style.{Style}
-use Rattle.timefd_drawing.specs.declared.position.Origin.{Origin}
+use Rattle.timefd_lang_component.specs.Tree.{Text}
+use Rattle.timefd_lint_drawing.specs.declared.draw.Style.{Style}
+use Rattle.timefd_lint_drawing.specs.declared.position.Origin.{Origin}
 use Rattle.timefd_lint_options.specs.declared.wording.Wording.{Wording}
 use Rattle.timefd_lint.specs.declared.line.TextEnd.{TextEnd}
 use Rattle.timefd_lint.specs.declared.line.TextEnd.TheVariants.{PassedOver, Accepted, Converted, Refused, NotText, Failed, UnreadCall, UnreadValue}
 use Rattle.timefd_lint_sources.specs.declared.reported.Reporting.{Reporting}
 use Rattle.timefd_lint.specs.declared.tally.Tally.{Tally}
-use Rattle.timefd_warnings.specs.declared.levels.Level.TheVariants.{Warned}
-use Rattle.timefd_warnings.specs.Codes.{all as all_warnings}
-use Rattle.timefd_warnings.specs.Levels.{count as warning_count}
-use Rattle.timefd_warnings.proofs.LevelLemmas.{count_within}
-use Rattle.timefd_rewrite.specs.Lines.{AreLinesUpTo, AreLinesOf, without_newline}
-use Rattle.timefd_rewrite.proofs.LineLemmas.{all_lines, front_lines, next_line, no_line, up_to_more}
+use Rattle.timefd_lang_warnings.specs.declared.levels.Level.TheVariants.{Warned}
+use Rattle.timefd_lang_warnings.specs.Codes.{all as all_warnings}
+use Rattle.timefd_lang_warnings.specs.Levels.{count as warning_count}
+use Rattle.timefd_lang_warnings.proofs.LevelLemmas.{count_within}
+use Rattle.timefd_lint_rewrite.specs.Lines.{AreLinesUpTo, AreLinesOf, without_newline}
+use Rattle.timefd_lint_rewrite.proofs.LineLemmas.{all_lines, front_lines, next_line, no_line, up_to_more}
 use Rattle.timefd_lint.specs.Lines.{IsEndOf, IsLineEnd}
 use Rattle.timefd_lint.specs.Failures.{note_of, unread}
 use Rattle.timefd_lint.specs.declared.failure.Failure.{Failure}

@@ -5,23 +5,23 @@ use Rattle.std.specs.Prelude.{IfOk}
 use Rattle.std.specs.Result.{OnOk}
 use Rattle.std.specs.declared.alloc.Global.{Global}
 use Rattle.std.specs.declared.vec.Vec.{Vec}
-use Rattle.timefd_fault.specs.declared.code.Code.{Code}
+use Rattle.timefd_lang_fault.specs.declared.code.Code.{Code}
 use Rattle.timefd_lint.specs.Logs.{IsHead, WritesLog, joined, program}
 use Rattle.std.proofs.lemmas.List.{append_assoc}
-use Rattle.timefd_fault.specs.Codes as faults
-use Rattle.timefd_lsp.specs.Editor.Each.{Adds, AreOf}
-use Rattle.timefd_component.specs.Tree.{Text}
+use Rattle.timefd_lang_fault.specs.Codes as faults
+use Rattle.timefd_lint_lsp.specs.Editor.Each.{Adds, AreOf}
+use Rattle.timefd_lang_component.specs.Tree.{Text}
 use Rattle.timefd_lint.specs.declared.error_code.ErrorCode.{ErrorCode}
 use Rattle.timefd_lint.specs.ErrorCodes.{name_of}
-use Rattle.timefd_dialect.specs.declared.reason.Reason.{Reason}
-use Rattle.timefd_dialect.specs.declared.trap.Trap.{Trap}
-use Rattle.timefd_dialect.specs.Reasons as reasons
-use Rattle.timefd_dialect.specs.TrapWords as traps
+use Rattle.timefd_lang_dialect.specs.declared.reason.Reason.{Reason}
+use Rattle.timefd_lang_dialect.specs.declared.trap.Trap.{Trap}
+use Rattle.timefd_lang_dialect.specs.Reasons as reasons
+use Rattle.timefd_lang_dialect.specs.TrapWords as traps
 use Rattle.timefd_lint_warnings.specs.Dialects.Codes.{all_reasons}
 use Rattle.timefd_lint.specs.Rules.{AreOtherRules, AreRules, IsErrorRule, IsFaultRule, IsReasonRule, IsTrapRule, IsWarningRule, others, own_traps, rule}
-use Rattle.timefd_warnings.specs.declared.warning.Warning.{Warning}
-use Rattle.timefd_warnings.specs.Explanations.{explanation_of}
-use Rattle.timefd_warnings.specs.Codes as warnings
+use Rattle.timefd_lang_warnings.specs.declared.warning.Warning.{Warning}
+use Rattle.timefd_lang_warnings.specs.Explanations.{explanation_of}
+use Rattle.timefd_lang_warnings.specs.Codes as warnings
 
 pub all_rules : (before first second third last : List ℕ)
     → Adds (AreOf IsFaultRule faults.all) before first → Adds (AreOf IsErrorRule others) first second

@@ -8,9 +8,9 @@ use Rattle.std.proofs.lemmas.List.Elements.{All-append, All-cons, All-head, All-
 use Rattle.std.proofs.lemmas.Grind.{flat_map-append}
 use mathlib.Core.Logic.{inl, inr}
 use denote.Ref.{Bor}
-use Rattle.timefd_component.specs.Tree.{Text}
+use Rattle.timefd_lang_component.specs.Tree.{Text}
 use Rattle.timefd_lint_options.specs.declared.wording.Wording.{Wording}
-use Rattle.timefd_sources.specs.declared.description.Description.{Description}
+use Rattle.timefd_lint_scan.specs.declared.description.Description.{Description}
 use Rattle.timefd_lint_sources.specs.declared.remark.Remark.{Remark}
 use Rattle.timefd_lint_sources.specs.declared.source.Report.{Report}
 use Rattle.timefd_lint_sources.specs.Remarks.{end_of, ends_of, message_of, messages_of}

@@ -2,19 +2,19 @@
 use Rattle.std.proofs.Common.{◌≡◌, List, Option, Result, refl, sym, subst}
 use Rattle.std.specs.Prelude.{IfOk, OnOk, Ok, Err, IsUtf8}
 use Rattle.std.specs.Io.KnownBytes.{Appends}
-use Rattle.timefd_component.specs.Tree.{Text, Tree}
-use Rattle.timefd_fault.specs.Faults.{fault_of}
+use Rattle.timefd_lang_component.specs.Tree.{Text, Tree}
+use Rattle.timefd_lang_fault.specs.Faults.{fault_of}
 use Rattle.timefd_language.specs.Grammar.{nesting_limit}
 use Rattle.timefd_language.specs.declared.language.Language.{Language}
 use Rattle.timefd_lint_options.specs.declared.wording.Wording.{Wording}
 use Rattle.timefd_lint_options.specs.declared.wording.Wording.TheVariants.{Own}
 use Rattle.timefd_parse.specs.Language.{SpellsIn, FaultIn}
-use Rattle.timefd_diagnosis.specs.declared.diagnostic.Diagnostic.{Diagnostic}
-use Rattle.timefd_diagnosis.specs.Diagnoses.{IsDiagnosis}
-use Rattle.timefd_drawing.specs.declared.draw.Style.{Style}
-use Rattle.timefd_diagnosis.specs.Further.{AreFurther, most_further, without}
-use Rattle.timefd_drawing.specs.declared.position.Origin.{Origin}
-use Rattle.timefd_drawing.specs.Drawing.{drawn_all}
+use Rattle.timefd_lint_diagnosis.specs.declared.diagnostic.Diagnostic.{Diagnostic}
+use Rattle.timefd_lint_diagnosis.specs.Diagnoses.{IsDiagnosis}
+use Rattle.timefd_lint_drawing.specs.declared.draw.Style.{Style}
+use Rattle.timefd_lint_diagnosis.specs.Further.{AreFurther, most_further, without}
+use Rattle.timefd_lint_drawing.specs.declared.position.Origin.{Origin}
+use Rattle.timefd_lint_drawing.specs.Drawing.{drawn_all}
 use Rattle.timefd_lint_sources.specs.declared.reported.Reporting.{Reporting}
 use Rattle.timefd_lint_sources.specs.Reported.{no_text_note}
 use Rattle.timefd_lint.specs.declared.line.RunError.{RunError}

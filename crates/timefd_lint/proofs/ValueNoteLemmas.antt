@@ -3,14 +3,14 @@ use Rattle.std.proofs.Common.{ℕ, ◌≡◌, ◌<◌, ◌≤◌, ◌+◌, ◌�
 use Rattle.std.specs.Prelude.{IsUtf8, Option, None, Some}
 use Rattle.std.proofs.lemmas.Bool.{cases_lt}
 use Rattle.std.proofs.lemmas.List.{drop_all, drop_more}
-use Rattle.timefd_component.specs.Tree.{Text}
-use Rattle.timefd_dialect.specs.declared.dialect.Dialect.{Dialect}
-use Rattle.timefd_drawing.specs.Positions.{line_number}
-use Rattle.timefd_drawing.specs.Shown.{safe}
-use Rattle.timefd_rewrite.specs.declared.layout.Layout.{Layout}
-use Rattle.timefd_rewrite.specs.declared.line_change.LineChange.{LineChange}
-use Rattle.timefd_rewrite.specs.declared.line_change.LineChange.TheVariants.{Own, Other}
-use Rattle.timefd_sources.specs.declared.description.Description.{Description}
+use Rattle.timefd_lang_component.specs.Tree.{Text}
+use Rattle.timefd_lang_dialect.specs.declared.dialect.Dialect.{Dialect}
+use Rattle.timefd_lint_drawing.specs.Positions.{line_number}
+use Rattle.timefd_lint_drawing.specs.Shown.{safe}
+use Rattle.timefd_lint_rewrite.specs.declared.layout.Layout.{Layout}
+use Rattle.timefd_lint_rewrite.specs.declared.line_change.LineChange.{LineChange}
+use Rattle.timefd_lint_rewrite.specs.declared.line_change.LineChange.TheVariants.{Own, Other}
+use Rattle.timefd_lint_scan.specs.declared.description.Description.{Description}
 use Rattle.timefd_lint_sources.specs.Judged.{text_of}
 use Rattle.timefd_lint_sources.specs.Rewriting.Values.{value_change}
 use Rattle.timefd_lint_sources.specs.declared.rewriting.change.Change.{Change}

@@ -1,11 +1,11 @@
 -- What is wrong with the arguments, in a sentence.
 use Rattle.std.specs.Prelude.{◌≡◌, ◌++◌, codes, Option, Some, None}
 use Rattle.std.specs.List.{join_by}
-use Rattle.timefd_component.specs.Tree.{Text}
-use Rattle.timefd_diagnosis.specs.Nearest.{IsNearest}
-use Rattle.timefd_drawing.specs.Shown.{safe}
-use Rattle.timefd_sources.specs.declared.keys.key.KeyFault.{KeyFault}
-use Rattle.timefd_sources.specs.declared.keys.key.KeyFault.TheVariants.{NoEqualsSign, EmptyName, UnknownLanguage}
+use Rattle.timefd_lang_component.specs.Tree.{Text}
+use Rattle.timefd_lint_diagnosis.specs.Nearest.{IsNearest}
+use Rattle.timefd_lint_drawing.specs.Shown.{safe}
+use Rattle.timefd_lint_scan.specs.declared.keys.key.KeyFault.{KeyFault}
+use Rattle.timefd_lint_scan.specs.declared.keys.key.KeyFault.TheVariants.{NoEqualsSign, EmptyName, UnknownLanguage}
 use Rattle.timefd_lint_options.specs.declared.error.Conflict.{Conflict as Conflicts}
 use Rattle.timefd_lint_options.specs.declared.error.Conflict.TheVariants as conflicts
 use Rattle.timefd_lint_options.specs.declared.error.OptionError.{OptionError}
@@ -13,7 +13,7 @@ use Rattle.timefd_lint_options.specs.declared.error.OptionError.TheVariants.{Unk
 use Rattle.timefd_lint_options.specs.declared.word.Valued.{Valued}
 use Rattle.timefd_lint_options.specs.declared.word.Valued.TheVariants.{Language, Format, Color, Comment, Key, To, Deny, Allow}
 use Rattle.timefd_lint_options.specs.Suggestions.{long_names}
-use Rattle.timefd_warnings.specs.Codes as warnings
+use Rattle.timefd_lang_warnings.specs.Codes as warnings
 
 abbrev pub name : Valued → Text
 name Language = codes "--language"

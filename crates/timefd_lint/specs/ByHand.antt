@@ -2,15 +2,15 @@
 use Rattle.std.specs.Prelude.{ℕ, ◌≡◌, ◌⊎◌, ◌++◌, Bool, true, false, codes, List, [], ◌∷◌, Option, Some, None, IsUtf8}
 use Rattle.std.specs.Fmt.{decimal}
 use Rattle.std.specs.List.{list_any}
-use Rattle.timefd_component.specs.Tree.{Text}
-use Rattle.timefd_drawing.specs.Positions.{column, line_number}
-use Rattle.timefd_drawing.specs.Shown.{safe}
-use Rattle.timefd_fault.specs.Faults.{Fault}
+use Rattle.timefd_lang_component.specs.Tree.{Text}
+use Rattle.timefd_lint_drawing.specs.Positions.{column, line_number}
+use Rattle.timefd_lint_drawing.specs.Shown.{safe}
+use Rattle.timefd_lang_fault.specs.Faults.{Fault}
 use Rattle.timefd_language.specs.declared.description_version.DescriptionVersion.TheVariants as versions
-use Rattle.timefd_rewrite.specs.declared.layout.Layout.{Layout}
-use Rattle.timefd_rewrite.specs.Layouts.{IsRefusedFor}
-use Rattle.timefd_sources.specs.declared.description.Description.{Description}
-use Rattle.timefd_sources.specs.Found.{AreDescriptionsOf}
+use Rattle.timefd_lint_rewrite.specs.declared.layout.Layout.{Layout}
+use Rattle.timefd_lint_rewrite.specs.Layouts.{IsRefusedFor}
+use Rattle.timefd_lint_scan.specs.declared.description.Description.{Description}
+use Rattle.timefd_lint_scan.specs.Found.{AreDescriptionsOf}
 use Rattle.timefd_lint_sources.specs.Judged.{text_of}
 use Rattle.timefd_lint_sources.specs.Rewriting.Changes.{layout_of}
 use Rattle.timefd_lint_sources.specs.Rewriting.Written.{Becoming, IsLaidOutBy}

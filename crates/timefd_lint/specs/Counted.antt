@@ -1,11 +1,11 @@
 -- What of the settings counts in a run.
 use Rattle.std.specs.Prelude.{Bool, not, ◌&&◌, ◌||◌, ◌==◌, List, [], ◌∷◌, Option, Some, None, codes, length, if◌then◌else◌}
-use Rattle.timefd_component.specs.Tree.{Text}
-use Rattle.timefd_sources.specs.declared.keys.key.Key.{Key}
+use Rattle.timefd_lang_component.specs.Tree.{Text}
+use Rattle.timefd_lint_scan.specs.declared.keys.key.Key.{Key}
 use Rattle.timefd_lint_options.specs.declared.config.keys.OwnedKey.{OwnedKey}
 use Rattle.timefd_lint_options.specs.declared.settings.Settings.{Settings}
 use Rattle.timefd_lint_options.specs.Settings.{reads_lines}
-use Rattle.timefd_warnings.specs.declared.levels.Levels.{Levels}
+use Rattle.timefd_lang_warnings.specs.declared.levels.Levels.{Levels}
 use Rattle.timefd_lint.specs.declared.rewriting.Rewriting.{Rewriting}
 
 -- The keys of the file of settings count, unless files are mended or rewritten.

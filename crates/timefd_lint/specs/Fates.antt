@@ -2,11 +2,11 @@
 use Rattle.std.specs.Prelude.{◌≡◌, ◌⊎◌, ◌==◌, Bool, true, false, ◌&&◌, not, nat_eq, nat_lt, if◌then◌else◌, length, Option, Some, None, [], IsTrue, string_bytes}
 use Rattle.std.specs.Io.KnownBytes.{Appends}
 use denote.Ref.{Bor}
-use Rattle.timefd_component.specs.Tree.{Text}
-use Rattle.timefd_rewrite.specs.Diffs.{WritesDiff}
-use Rattle.timefd_rewrite.specs.Rewriting.{AreRewritten}
-use Rattle.timefd_rewrite.specs.declared.counts.Counts.{Counts}
-use Rattle.timefd_rewrite.specs.declared.line_change.LineChange.{LineChange}
+use Rattle.timefd_lang_component.specs.Tree.{Text}
+use Rattle.timefd_lint_rewrite.specs.Diffs.{WritesDiff}
+use Rattle.timefd_lint_rewrite.specs.Rewriting.{AreRewritten}
+use Rattle.timefd_lint_rewrite.specs.declared.counts.Counts.{Counts}
+use Rattle.timefd_lint_rewrite.specs.declared.line_change.LineChange.{LineChange}
 use Rattle.timefd_lint.specs.declared.fix.FixError.{FixError}
 use Rattle.timefd_lint.specs.declared.fix.FixError.TheVariants.{Memory, Failed}
 use Rattle.timefd_lint.specs.declared.found.Found.{Found}

@@ -3,16 +3,16 @@ use Rattle.std.specs.Prelude.{ℕ, ◌≡◌, ◌==◌, ◌&&◌, Bool, true, fa
 use Rattle.std.specs.Fmt.{decimal}
 use Rattle.std.specs.Io.KnownBytes.{IsAtEnd}
 use denote.Ref.{Bor}
-use Rattle.timefd_component.specs.Tree.{Text}
-use Rattle.timefd_dialect.specs.declared.dialect.Dialect.{Dialect}
-use Rattle.timefd_dialect.specs.declared.limits.Limits.{Limits}
-use Rattle.timefd_dialect.specs.declared.reason.Reason.{Reason}
-use Rattle.timefd_dialect.specs.Limits.{all_limits, limits_from}
-use Rattle.timefd_dialect.specs.Reading.{Piece, Means, RefusedAt}
-use Rattle.timefd_drawing.specs.Shown.{safe}
-use Rattle.timefd_rewrite.specs.declared.line_change.LineChange.{LineChange}
-use Rattle.timefd_rewrite.specs.declared.line_change.LineChange.TheVariants.{Own, Other}
-use Rattle.timefd_rewrite.specs.Lines.{AreLinesOf, IsNextLine, is_passed_over, without_newline}
+use Rattle.timefd_lang_component.specs.Tree.{Text}
+use Rattle.timefd_lang_dialect.specs.declared.dialect.Dialect.{Dialect}
+use Rattle.timefd_lang_dialect.specs.declared.limits.Limits.{Limits}
+use Rattle.timefd_lang_dialect.specs.declared.reason.Reason.{Reason}
+use Rattle.timefd_lang_dialect.specs.Limits.{all_limits, limits_from}
+use Rattle.timefd_lang_dialect.specs.Reading.{Piece, Means, RefusedAt}
+use Rattle.timefd_lint_drawing.specs.Shown.{safe}
+use Rattle.timefd_lint_rewrite.specs.declared.line_change.LineChange.{LineChange}
+use Rattle.timefd_lint_rewrite.specs.declared.line_change.LineChange.TheVariants.{Own, Other}
+use Rattle.timefd_lint_rewrite.specs.Lines.{AreLinesOf, IsNextLine, is_passed_over, without_newline}
 
 abbrev pub from_year : ℕ → Text
 from_year year =

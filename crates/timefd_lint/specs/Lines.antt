@@ -1,20 +1,20 @@
 -- How the check of a text ends.
 use Rattle.std.specs.Prelude.{ℕ, ◌≡◌, List, Option, IsUtf8, IsTrue, IsFalse}
 use denote.Ref.{Bor}
-use Rattle.timefd_component.specs.Tree.{Text, Tree}
-use Rattle.timefd_fault.specs.Faults.{Fault}
+use Rattle.timefd_lang_component.specs.Tree.{Text, Tree}
+use Rattle.timefd_lang_fault.specs.Faults.{Fault}
 use Rattle.timefd_language.specs.Grammar.{nesting_limit}
-use Rattle.timefd_dialect.specs.declared.reason.Reason.{Reason}
-use Rattle.timefd_dialect.specs.Reading.{Piece, Means, RefusedAt}
+use Rattle.timefd_lang_dialect.specs.declared.reason.Reason.{Reason}
+use Rattle.timefd_lang_dialect.specs.Reading.{Piece, Means, RefusedAt}
 use Rattle.timefd_lint_options.specs.declared.wording.Wording.{Wording}
 use Rattle.timefd_lint_options.specs.declared.wording.Wording.TheVariants.{Own, Other}
 use Rattle.timefd_parse.specs.Language.{SpellsIn, FaultIn}
-use Rattle.timefd_rewrite.specs.Lines.{is_passed_over}
+use Rattle.timefd_lint_rewrite.specs.Lines.{is_passed_over}
 use Rattle.timefd_lint_warnings.specs.declared.dialects.judging.Judgement.{Judgement}
 use Rattle.timefd_lint_warnings.specs.declared.dialects.judging.Judgement.TheVariants as judgements
 use Rattle.timefd_lint_sources.specs.declared.reported.Reporting.{Reporting}
 use Rattle.timefd_lint_warnings.specs.Found.{found_by}
-use Rattle.timefd_warnings.specs.declared.levels.Levels.{Levels}
+use Rattle.timefd_lang_warnings.specs.declared.levels.Levels.{Levels}
 use Rattle.timefd_lint.specs.declared.line.TextEnd.{TextEnd}
 use Rattle.timefd_lint.specs.declared.line.TextEnd.TheVariants.{PassedOver, Accepted, Converted, Refused, NotText, Failed, UnreadCall, UnreadValue}
 

@@ -2,17 +2,17 @@
 use Rattle.std.specs.Prelude.{◌≡◌, Bool, true, false, [], ◌∷◌, ◌++◌, Option, codes, nat_eq}
 use Rattle.std.specs.Io.KnownBytes.{Appends}
 use Rattle.std.specs.List.{starts_with}
-use Rattle.timefd_component.specs.Tree.{Text}
-use Rattle.timefd_drawing.specs.declared.draw.Format.{Format}
-use Rattle.timefd_drawing.specs.declared.draw.Format.TheVariants.{Human, Json, Short, Github, Sarif}
-use Rattle.timefd_drawing.specs.declared.draw.Style.{Style}
-use Rattle.timefd_drawing.specs.declared.github.Command.TheVariants.{Warning}
-use Rattle.timefd_drawing.specs.declared.position.Origin.{Origin}
-use Rattle.timefd_drawing.specs.Drawing.{note}
-use Rattle.timefd_drawing.specs.Github.{annotation}
-use Rattle.timefd_drawing.specs.Json.{note_object}
-use Rattle.timefd_drawing.specs.Sarif.{note_result}
-use Rattle.timefd_warnings.specs.declared.levels.Level.TheVariants.{Warned}
+use Rattle.timefd_lang_component.specs.Tree.{Text}
+use Rattle.timefd_lint_drawing.specs.declared.draw.Format.{Format}
+use Rattle.timefd_lint_drawing.specs.declared.draw.Format.TheVariants.{Human, Json, Short, Github, Sarif}
+use Rattle.timefd_lint_drawing.specs.declared.draw.Style.{Style}
+use Rattle.timefd_lint_drawing.specs.declared.github.Command.TheVariants.{Warning}
+use Rattle.timefd_lint_drawing.specs.declared.position.Origin.{Origin}
+use Rattle.timefd_lint_drawing.specs.Drawing.{note}
+use Rattle.timefd_lint_drawing.specs.Github.{annotation}
+use Rattle.timefd_lint_drawing.specs.Json.{note_object}
+use Rattle.timefd_lint_drawing.specs.Sarif.{note_result}
+use Rattle.timefd_lang_warnings.specs.declared.levels.Level.TheVariants.{Warned}
 use Rattle.timefd_lint_warnings.specs.Messages.{head, position}
 
 -- U+FEFF in UTF-8

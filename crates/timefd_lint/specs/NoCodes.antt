@@ -1,12 +1,12 @@
 -- A word that should be the code of an error or a warning, or a level.
 use Rattle.std.specs.Prelude.{List, [], ◌∷◌, ◌++◌, codes, map}
-use Rattle.timefd_component.specs.Tree.{Text}
-use Rattle.timefd_fault.specs.Codes as faults
-use Rattle.timefd_warnings.specs.declared.warning.Warning.{Warning}
-use Rattle.timefd_warnings.specs.Codes as warnings
+use Rattle.timefd_lang_component.specs.Tree.{Text}
+use Rattle.timefd_lang_fault.specs.Codes as faults
+use Rattle.timefd_lang_warnings.specs.declared.warning.Warning.{Warning}
+use Rattle.timefd_lang_warnings.specs.Codes as warnings
 use Rattle.timefd_lint.specs.ErrorCodes.{name_of}
-use Rattle.timefd_dialect.specs.Reasons as reasons
-use Rattle.timefd_dialect.specs.TrapWords as traps
+use Rattle.timefd_lang_dialect.specs.Reasons as reasons
+use Rattle.timefd_lang_dialect.specs.TrapWords as traps
 use Rattle.timefd_lint_warnings.specs.Dialects.Codes.{all_reasons}
 use Rattle.timefd_lint.specs.NoneOf.{IsNoneOf}
 use Rattle.timefd_lint.specs.Rules.{others, own_traps}

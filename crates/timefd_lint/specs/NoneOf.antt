@@ -1,9 +1,9 @@
 -- A word that is none of those that there are.
 use Rattle.std.specs.Prelude.{◌≡◌, List, ◌++◌, Option, Some, None, codes}
 use Rattle.std.specs.List.{join_by}
-use Rattle.timefd_component.specs.Tree.{Text}
-use Rattle.timefd_diagnosis.specs.Nearest.{IsNearest}
-use Rattle.timefd_drawing.specs.Shown.{safe}
+use Rattle.timefd_lang_component.specs.Tree.{Text}
+use Rattle.timefd_lint_diagnosis.specs.Nearest.{IsNearest}
+use Rattle.timefd_lint_drawing.specs.Shown.{safe}
 
 abbrev pub front : Text → Text → Text
 front what name = what ++ (codes " `" ++ (safe name ++ codes "`"))

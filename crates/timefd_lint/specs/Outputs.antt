@@ -1,8 +1,8 @@
 -- What reaches who reads a stream.
 use Rattle.std.specs.Prelude.{◌≡◌, Bool, true, false, Option, None, chars, ⊤}
 use Rattle.std.specs.Io.KnownBytes.{Appends}
-use Rattle.timefd_component.specs.Tree.{Text}
-use Rattle.timefd_drawing.specs.People.{AllSeen, for_people}
+use Rattle.timefd_lang_component.specs.Tree.{Text}
+use Rattle.timefd_lint_drawing.specs.People.{AllSeen, for_people}
 use Rattle.timefd_lint_options.specs.declared.settings.Color.{Color}
 use Rattle.timefd_lint_options.specs.declared.settings.Color.TheVariants.{Always, Never, Auto}
 use Rattle.timefd_lint.specs.declared.output.Audience.{Audience}

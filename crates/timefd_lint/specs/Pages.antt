@@ -2,17 +2,17 @@
 use Rattle.std.specs.Prelude.{List, [], ◌∷◌, ◌++◌, Option, Some, None, ◌&&◌, not, codes, bytes_eq, nat_eq, if◌then◌else◌}
 use Rattle.std.specs.List.{starts_with}
 use denote.Ref.{Bor}
-use Rattle.timefd_component.specs.Tree.{Text}
-use Rattle.timefd_warnings.specs.declared.warning.Warning as warnings
-use Rattle.timefd_warnings.specs.Codes as of_warnings
+use Rattle.timefd_lang_component.specs.Tree.{Text}
+use Rattle.timefd_lang_warnings.specs.declared.warning.Warning as warnings
+use Rattle.timefd_lang_warnings.specs.Codes as of_warnings
 use Rattle.timefd_lint.specs.declared.error_code.ErrorCode.{ErrorCode}
 use Rattle.timefd_lint.specs.declared.page.Subject.{Subject}
 use Rattle.timefd_lint.specs.declared.page.Subject.TheVariants.{Error, Warning, Reason, Trap}
-use Rattle.timefd_warnings.specs.Explanations.{explanation_of}
-use Rattle.timefd_dialect.specs.declared.reason.Reason as reasons
-use Rattle.timefd_dialect.specs.declared.trap.Trap as traps
-use Rattle.timefd_dialect.specs.Reasons as of_reasons
-use Rattle.timefd_dialect.specs.TrapWords as of_traps
+use Rattle.timefd_lang_warnings.specs.Explanations.{explanation_of}
+use Rattle.timefd_lang_dialect.specs.declared.reason.Reason as reasons
+use Rattle.timefd_lang_dialect.specs.declared.trap.Trap as traps
+use Rattle.timefd_lang_dialect.specs.Reasons as of_reasons
+use Rattle.timefd_lang_dialect.specs.TrapWords as of_traps
 use Rattle.timefd_lint_warnings.specs.Dialects.Codes.{reason_named, trap_named}
 use Rattle.timefd_lint.specs.ErrorCodes.{name_of, named}
 use Rattle.timefd_lint.specs.ErrorPages.{explanation, summary}

@@ -4,28 +4,28 @@ use Rattle.std.specs.List.{list_any}
 use Rattle.std.specs.Io.KnownBytes.{Appends, Keeps, IsAtEnd}
 use Rattle.std.specs.Io.Iter.{u64_saturate}
 use denote.Ref.{Bor}
-use Rattle.timefd_component.specs.Tree.{Text}
+use Rattle.timefd_lang_component.specs.Tree.{Text}
 use Rattle.timefd_language.specs.declared.language.Language.{Language}
 use Rattle.timefd_lint_options.specs.declared.wording.Wording.{Wording}
 use Rattle.timefd_lint_options.specs.declared.wording.Wording.TheVariants.{Own, Other}
 use Rattle.timefd_lint_warnings.specs.Dialects.Judging.{AreTrapsDrawn, IsRefusalDrawn}
-use Rattle.timefd_diagnosis.specs.declared.diagnostic.Diagnostic.{Diagnostic}
-use Rattle.timefd_diagnosis.specs.Further.{AreDiagnosed}
+use Rattle.timefd_lint_diagnosis.specs.declared.diagnostic.Diagnostic.{Diagnostic}
+use Rattle.timefd_lint_diagnosis.specs.Further.{AreDiagnosed}
 use Rattle.timefd_lint.specs.declared.failure.Failure.{Failure}
 use Rattle.timefd_lint.specs.declared.line.TextEnd.{TextEnd}
 use Rattle.timefd_lint.specs.declared.line.TextEnd.TheVariants.{PassedOver, Accepted, Converted, Refused, NotText, Failed, UnreadCall, UnreadValue}
 use Rattle.timefd_lint.specs.declared.tally.Tally.{Tally}
-use Rattle.timefd_drawing.specs.declared.draw.Style.{Style}
-use Rattle.timefd_drawing.specs.declared.position.Origin.{Origin}
-use Rattle.timefd_drawing.specs.Drawing.{drawn_all}
-use Rattle.timefd_explain.specs.Lines.{IsExplainedIf}
-use Rattle.timefd_warnings.specs.declared.levels.Level.TheVariants.{Warned, Denied}
-use Rattle.timefd_warnings.specs.declared.levels.Levels.{Levels}
-use Rattle.timefd_warnings.specs.Levels.{count as warning_count}
+use Rattle.timefd_lint_drawing.specs.declared.draw.Style.{Style}
+use Rattle.timefd_lint_drawing.specs.declared.position.Origin.{Origin}
+use Rattle.timefd_lint_drawing.specs.Drawing.{drawn_all}
+use Rattle.timefd_lint_explain.specs.Lines.{IsExplainedIf}
+use Rattle.timefd_lang_warnings.specs.declared.levels.Level.TheVariants.{Warned, Denied}
+use Rattle.timefd_lang_warnings.specs.declared.levels.Levels.{Levels}
+use Rattle.timefd_lang_warnings.specs.Levels.{count as warning_count}
 use Rattle.timefd_lint_warnings.specs.Messages.{messages as warning_messages}
 use Rattle.timefd_lint_sources.specs.declared.reported.Reporting.{Reporting}
 use Rattle.timefd_lint_sources.specs.Reported.{no_text_note}
-use Rattle.timefd_rewrite.specs.Lines.{AreLinesOf, IsNextLine, without_newline}
+use Rattle.timefd_lint_rewrite.specs.Lines.{AreLinesOf, IsNextLine, without_newline}
 use Rattle.timefd_lint.specs.Failures.{IsUnreadNote, note_of}
 use Rattle.timefd_lint.specs.Lines.{IsEndOf, IsLineEnd}
 use Rattle.timefd_lint.specs.Marks.{IsNote, has_mark}

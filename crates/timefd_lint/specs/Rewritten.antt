@@ -1,7 +1,7 @@
 -- Sources that are rewritten.
 use Rattle.std.specs.Prelude.{◌≡◌, List, [], count_by, length, IsUtf8}
-use Rattle.timefd_component.specs.Tree.{Text}
-use Rattle.timefd_rewrite.specs.declared.counts.Counts.{Counts}
+use Rattle.timefd_lang_component.specs.Tree.{Text}
+use Rattle.timefd_lint_rewrite.specs.declared.counts.Counts.{Counts}
 use Rattle.timefd_lint_sources.specs.declared.rewriting.change.Change.{Change}
 use Rattle.timefd_lint_sources.specs.declared.rewriting.outcome.Outcome.{Outcome}
 use Rattle.timefd_lint_sources.specs.declared.rewriting.source.NewSource.{NewSource}
@@ -9,8 +9,8 @@ use Rattle.timefd_lint_sources.specs.declared.reported.Finder.{Finder}
 use Rattle.timefd_lint_sources.specs.declared.reported.Finder.TheVariants.{Rust, Keys}
 use Rattle.timefd_lint_sources.specs.Rewriting.Values.{IsFoundRewritten}
 use Rattle.timefd_lint_sources.specs.Rewriting.Written.{is_refusing, is_rewriting}
-use Rattle.timefd_sources.specs.declared.description.Description.{Description}
-use Rattle.timefd_sources.specs.Keys.Found.{AreAllValues}
+use Rattle.timefd_lint_scan.specs.declared.description.Description.{Description}
+use Rattle.timefd_lint_scan.specs.Keys.Found.{AreAllValues}
 use Rattle.timefd_lint.specs.ByHand.{AreNotes}
 use Rattle.timefd_lint.specs.ValueNotes.{AreLimits, unwritable}
 

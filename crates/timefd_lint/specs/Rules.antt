@@ -1,22 +1,22 @@
 -- The rules of a log: one for each code that a result may have.
 use Rattle.std.specs.Prelude.{◌≡◌, List, [], ◌∷◌, ◌++◌, codes}
-use Rattle.timefd_component.specs.Tree.{Text}
-use Rattle.timefd_fault.specs.declared.code.Code.{Code}
-use Rattle.timefd_fault.specs.Codes as faults
-use Rattle.timefd_drawing.specs.Json.{quoted}
-use Rattle.timefd_lsp.specs.Editor.Each.{AreOf}
+use Rattle.timefd_lang_component.specs.Tree.{Text}
+use Rattle.timefd_lang_fault.specs.declared.code.Code.{Code}
+use Rattle.timefd_lang_fault.specs.Codes as faults
+use Rattle.timefd_lint_drawing.specs.Json.{quoted}
+use Rattle.timefd_lint_lsp.specs.Editor.Each.{AreOf}
 use Rattle.timefd_lint.specs.declared.error_code.ErrorCode.{ErrorCode}
 use Rattle.timefd_lint.specs.declared.error_code.ErrorCode.TheVariants.{Fault, NotText, Unreadable, Unwritable, ByteOrderMark, UnknownLanguage}
 use Rattle.timefd_lint.specs.ErrorCodes.{name_of}
-use Rattle.timefd_dialect.specs.declared.reason.Reason.{Reason}
-use Rattle.timefd_dialect.specs.declared.trap.Trap.{Trap}
-use Rattle.timefd_dialect.specs.declared.trap.Trap.TheVariants.{WeekYearBesideMonth, DayOfYearBesideMonth, MinuteBesideDay, SecondBeforeMinute, TwoLetterWeekday, WeekdayFromZero, Panic, YearWithoutCentury}
-use Rattle.timefd_dialect.specs.Reasons as reasons
-use Rattle.timefd_dialect.specs.TrapWords as traps
+use Rattle.timefd_lang_dialect.specs.declared.reason.Reason.{Reason}
+use Rattle.timefd_lang_dialect.specs.declared.trap.Trap.{Trap}
+use Rattle.timefd_lang_dialect.specs.declared.trap.Trap.TheVariants.{WeekYearBesideMonth, DayOfYearBesideMonth, MinuteBesideDay, SecondBeforeMinute, TwoLetterWeekday, WeekdayFromZero, Panic, YearWithoutCentury}
+use Rattle.timefd_lang_dialect.specs.Reasons as reasons
+use Rattle.timefd_lang_dialect.specs.TrapWords as traps
 use Rattle.timefd_lint_warnings.specs.Dialects.Codes.{all_reasons}
-use Rattle.timefd_warnings.specs.declared.warning.Warning.{Warning}
-use Rattle.timefd_warnings.specs.Codes as warnings
-use Rattle.timefd_warnings.specs.Explanations.{explanation_of}
+use Rattle.timefd_lang_warnings.specs.declared.warning.Warning.{Warning}
+use Rattle.timefd_lang_warnings.specs.Codes as warnings
+use Rattle.timefd_lang_warnings.specs.Explanations.{explanation_of}
 
 -- A rule begins with a comma, its name, and how bad a result of it is.
 abbrev pub rule_front : Text → Text → Text

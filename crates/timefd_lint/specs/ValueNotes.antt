@@ -1,12 +1,12 @@
 -- Notes on values of keys that are rewritten.
 use Rattle.std.specs.Prelude.{ℕ, ◌≡◌, Bool, true, false, List, [], ◌∷◌, ◌++◌, codes, if◌then◌else◌, Option, None, Some, IsUtf8, ◌⊎◌}
 use Rattle.std.specs.Fmt.{decimal}
-use Rattle.timefd_component.specs.Tree.{Text}
-use Rattle.timefd_drawing.specs.Positions.{column, line_number}
-use Rattle.timefd_drawing.specs.Shown.{safe}
-use Rattle.timefd_rewrite.specs.declared.line_change.LineChange.{LineChange}
-use Rattle.timefd_rewrite.specs.declared.line_change.LineChange.TheVariants.{Own, Other}
-use Rattle.timefd_sources.specs.declared.description.Description.{Description}
+use Rattle.timefd_lang_component.specs.Tree.{Text}
+use Rattle.timefd_lint_drawing.specs.Positions.{column, line_number}
+use Rattle.timefd_lint_drawing.specs.Shown.{safe}
+use Rattle.timefd_lint_rewrite.specs.declared.line_change.LineChange.{LineChange}
+use Rattle.timefd_lint_rewrite.specs.declared.line_change.LineChange.TheVariants.{Own, Other}
+use Rattle.timefd_lint_scan.specs.declared.description.Description.{Description}
 use Rattle.timefd_lint_sources.specs.Judged.{text_of}
 use Rattle.timefd_lint_sources.specs.Rewriting.Values.{value_change}
 use Rattle.timefd_lint_sources.specs.declared.rewriting.change.Change.{Change}

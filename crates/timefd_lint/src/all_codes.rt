@@ -1,20 +1,20 @@
 //! The codes of all that the linter reports.
 
 ghost use Rattle.std.specs.Prelude.{◌≡◌, ◌++◌, IfOk, OnOk, map};
-ghost use Rattle.timefd_diagnosis.specs.Words.{texts};
+ghost use Rattle.timefd_lint_diagnosis.specs.Words.{texts};
 ghost use Rattle.timefd_lint.specs.NoCodes as spec;
 
 use crate::error_code::ErrorCode;
 use crate::other_rules::own_traps;
 use std::alloc::{AllocError, Global};
-use timefd_diagnosis::Code;
-use timefd_dialect::{Reason, Trap};
+use timefd_lang_dialect::{Reason, Trap};
+use timefd_lang_warnings::Warning;
+use timefd_lint_diagnosis::Code;
 use timefd_lint_warnings::dialects::all_reasons;
-use timefd_warnings::Warning;
 
 /// What has a code.
 pub trait Coded {
-    ghost use Rattle.timefd_component.specs.Tree.{Text};
+    ghost use Rattle.timefd_lang_component.specs.Tree.{Text};
 
     ghost code: { Self → Text };
 
@@ -24,7 +24,7 @@ pub trait Coded {
 }
 
 impl Coded for Code {
-    ghost use Rattle.timefd_fault.specs.Codes.{name_of};
+    ghost use Rattle.timefd_lang_fault.specs.Codes.{name_of};
 
     ghost code = { name_of };
 
@@ -44,7 +44,7 @@ impl Coded for ErrorCode {
 }
 
 impl Coded for Warning {
-    ghost use Rattle.timefd_warnings.specs.Codes.{name_of};
+    ghost use Rattle.timefd_lang_warnings.specs.Codes.{name_of};
 
     ghost code = { name_of };
 
@@ -54,7 +54,7 @@ impl Coded for Warning {
 }
 
 impl Coded for Reason {
-    ghost use Rattle.timefd_dialect.specs.Reasons.{name};
+    ghost use Rattle.timefd_lang_dialect.specs.Reasons.{name};
 
     ghost code = { name };
 
@@ -64,7 +64,7 @@ impl Coded for Reason {
 }
 
 impl Coded for Trap {
-    ghost use Rattle.timefd_dialect.specs.TrapWords.{name};
+    ghost use Rattle.timefd_lang_dialect.specs.TrapWords.{name};
 
     ghost code = { name };
 

@@ -2,14 +2,14 @@
 
 ghost use Rattle.std.specs.Prelude.{◌≡◌, ◌++◌, IfOk, OnOk, codes, flat_map, option_map, string_bytes};
 ghost use Rattle.std.specs.List.{join_by};
-ghost use Rattle.timefd_warnings.specs.Codes.{name_of};
+ghost use Rattle.timefd_lang_warnings.specs.Codes.{name_of};
 ghost use Rattle.timefd_lint.specs.Arguments as spec;
 
 use std::alloc::{AllocError, Global};
-use timefd_drawing::shown::safe;
+use timefd_lang_warnings::Warning;
+use timefd_lint_drawing::shown::safe;
 use timefd_lint_options::{Conflict, OptionError, Valued, nearest_option};
-use timefd_sources::keys::KeyFault;
-use timefd_warnings::Warning;
+use timefd_lint_scan::keys::KeyFault;
 
 /// What is wrong with the arguments, in a sentence. An `Err` says that memory ran out.
 pub fn sentence(alloc: Global, error: OptionError<'_>) -> Result<String, AllocError>

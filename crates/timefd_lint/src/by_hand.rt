@@ -13,12 +13,12 @@ use crate::by_hand::literal::literal_of;
 use crate::by_hand::reason::{reason, with_items};
 use crate::by_hand::text::new_text;
 use std::alloc::{AllocError, Global};
-use timefd_drawing::position_of;
-use timefd_drawing::shown::safe;
+use timefd_lint_drawing::position_of;
+use timefd_lint_drawing::shown::safe;
+use timefd_lint_scan::{Description, descriptions_of};
 use timefd_lint_sources::FIRST_LINE;
 use timefd_lint_sources::rewriting::{Change, Outcome};
 use timefd_parse::DescriptionVersion;
-use timefd_sources::{Description, descriptions_of};
 
 /// One line for each description of a source that has to be changed manually: no number says its version, its
 /// literal can't hold the converted text, or no conversion takes it. The line says where the description is,

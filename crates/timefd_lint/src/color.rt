@@ -3,8 +3,8 @@
 ghost use Rattle.timefd_lint.specs.Outputs as spec;
 
 use std::io::IsTerminal;
+use timefd_bin_streams::shows_colors;
 use timefd_lint_options::Color;
-use timefd_streams::shows_colors;
 
 /// Whether drawings are coloured. `auto` asks the terminal and the environment.
 pub fn is_colored(rt: &HostRuntime, color: Color) -> bool

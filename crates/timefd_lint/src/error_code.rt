@@ -4,7 +4,7 @@ ghost use Rattle.std.specs.Prelude.{◌≡◌};
 ghost use Rattle.timefd_lint.specs.ErrorCodes as spec;
 ghost use Rattle.timefd_lint.specs.Rules as rules;
 
-use timefd_diagnosis::Code;
+use timefd_lint_diagnosis::Code;
 
 /// What kind of error it is.
 #[derive(Clone, Copy)]

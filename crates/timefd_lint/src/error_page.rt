@@ -4,7 +4,7 @@ ghost use Rattle.std.specs.Prelude.{◌≡◌};
 ghost use Rattle.timefd_lint.specs.ErrorPages as spec;
 
 use crate::error_code::ErrorCode;
-use timefd_diagnosis::Code;
+use timefd_lint_diagnosis::Code;
 
 /// What an error is, in a few words.
 pub fn summary(code: ErrorCode) -> &'static str

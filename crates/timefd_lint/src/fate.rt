@@ -1,7 +1,7 @@
 //! What becomes of a file that may be rewritten.
 
 ghost use Rattle.std.specs.Prelude.{◌≡◌, [], Some, IfErr, IfOk, OnOk};
-ghost use Rattle.timefd_rewrite.specs.Diffs.{WritesDiff};
+ghost use Rattle.timefd_lint_rewrite.specs.Diffs.{WritesDiff};
 ghost use Rattle.timefd_lint.specs.Causes.{IsCausedBy};
 ghost use Rattle.timefd_lint.specs.Fates as fates;
 ghost use Rattle.timefd_lint.specs.Stores as stores;
@@ -18,9 +18,9 @@ use crate::rewriting::Rewriting;
 use crate::store::Store;
 use crate::tally::Tally;
 use std::alloc::Global;
-use timefd_drawing::shown::safe;
-use timefd_rewrite::{Counts, write_diff};
-use timefd_streams::Sink;
+use timefd_bin_streams::Sink;
+use timefd_lint_drawing::shown::safe;
+use timefd_lint_rewrite::{Counts, write_diff};
 
 // What becomes of a file.
 #[derive(Clone, Copy)]

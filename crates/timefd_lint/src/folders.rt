@@ -5,7 +5,7 @@ ghost use Rattle.timefd_lint.specs.Folders as spec;
 
 use std::alloc::{AllocError, Global};
 use std::io::ErrorKind;
-use timefd_drawing::shown::safe;
+use timefd_lint_drawing::shown::safe;
 use timefd_lint_files::Reason;
 
 /// Why the sources below a folder aren't known, in a sentence that names this folder, or this file in it. An

@@ -1,7 +1,7 @@
 //! What is found in a file that is rewritten or mended, and its new bytes.
 
 ghost use Rattle.std.specs.Prelude.{◌≡◌, Bool, Option, Some, [], IfErr, IfOk, string_bytes};
-ghost use Rattle.timefd_component.specs.Tree.{Text};
+ghost use Rattle.timefd_lang_component.specs.Tree.{Text};
 ghost use Rattle.timefd_lint.specs.Causes.{IsCausedBy};
 ghost use Rattle.timefd_lint.specs.declared.line.RunError.TheVariants as errors;
 ghost use Rattle.timefd_lint.specs.Limited.{AreNotesFor};
@@ -9,7 +9,7 @@ ghost use Rattle.timefd_lint.specs.Rewritten.{AreCounted, AreNotesByHand, AreNot
 ghost use Rattle.timefd_lint.specs.Sources.{IsRunOfSource};
 ghost use Rattle.timefd_lint.specs.Sources as sources;
 ghost use Rattle.timefd_lint.specs.Reported.{IsRunOver};
-ghost use Rattle.timefd_rewrite.specs.Rewriting.{AreRewritten};
+ghost use Rattle.timefd_lint_rewrite.specs.Rewriting.{AreRewritten};
 
 use crate::by_hand::notes;
 use crate::limited::limit_notes;
@@ -26,10 +26,10 @@ use std::str;
 use timefd_lint_sources::rewriting::{
     Change, Outcome, count_refused, count_rewritten, rewrite_found,
 };
+use timefd_bin_streams::{BufferedSource, FromBufReader, Sink};
+use timefd_lint_rewrite::{Counts, LineChange, rewrite_lines};
+use timefd_lint_scan::keys::descriptions_by;
 use timefd_lint_sources::{Finder, Source};
-use timefd_rewrite::{Counts, LineChange, rewrite_lines};
-use timefd_sources::keys::descriptions_by;
-use timefd_streams::{BufferedSource, FromBufReader, Sink};
 
 /// What is counted in a file: lines or descriptions.
 #[derive(Clone, Copy)]

@@ -6,9 +6,9 @@ ghost use Rattle.timefd_lint.specs.Limited as spec;
 use std::alloc::{AllocError, Global};
 use std::io::BufRead;
 use std::str;
-use timefd_dialect::{Dialect, DialectError, Limits, to_version_three};
-use timefd_drawing::shown::safe;
-use timefd_rewrite::{is_passed_over, without_newline};
+use timefd_lang_dialect::{Dialect, DialectError, Limits, to_version_three};
+use timefd_lint_drawing::shown::safe;
+use timefd_lint_rewrite::{is_passed_over, without_newline};
 
 /// A line for each line of a file whose format and text of version 3 write the same for some moments alone: it says for
 /// which. An `Err` says that memory ran out.

@@ -2,8 +2,8 @@
 
 ghost use Rattle.std.specs.Prelude.{◌≡◌, List, IfErr, IfOk, OnOk};
 ghost use Rattle.std.specs.Io.KnownBytes.{Appends};
-ghost use Rattle.timefd_component.specs.Tree.{Tree};
-ghost use Rattle.timefd_drawing.specs.Drawing as drawing;
+ghost use Rattle.timefd_lang_component.specs.Tree.{Tree};
+ghost use Rattle.timefd_lint_drawing.specs.Drawing as drawing;
 ghost use Rattle.timefd_language.specs.Grammar.{nesting_limit};
 ghost use Rattle.timefd_parse.specs.Language.{SpellsIn};
 ghost use Rattle.timefd_lint_sources.specs.Reported.{no_text_note};
@@ -16,18 +16,18 @@ ghost use Rattle.timefd_lint.specs.Reported.{Says, WritesTree};
 use crate::options::Options;
 use std::alloc::{AllocError, Global};
 use std::str;
-use timefd_diagnosis::{Diagnostic, MOST_FURTHER, diagnose, further_faults};
-use timefd_dialect::Dialect;
-use timefd_drawing::{Origin, Style, drawn_all, note};
-use timefd_explain::explained;
+use timefd_bin_streams::{Failed, Sink};
+use timefd_lang_dialect::Dialect;
+use timefd_lang_warnings::{Level, Levels};
+use timefd_lint_diagnosis::{Diagnostic, MOST_FURTHER, diagnose, further_faults};
+use timefd_lint_drawing::{Origin, Style, drawn_all, note};
+use timefd_lint_explain::explained;
 use timefd_lint_options::Wording;
+use timefd_lint_rewrite::is_passed_over;
 use timefd_lint_sources::Reporting;
 use timefd_lint_warnings::dialects::{Judged, Judgement, judge};
 use timefd_lint_warnings::{found_in, messages};
 use timefd_parse::Language;
-use timefd_rewrite::is_passed_over;
-use timefd_streams::{Failed, Sink};
-use timefd_warnings::{Level, Levels};
 
 /// Why a run ends before its last text.
 #[derive(Clone, Copy)]

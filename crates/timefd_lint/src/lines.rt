@@ -15,9 +15,9 @@ use crate::options::Options;
 use crate::tally::Tally;
 use std::alloc::Global;
 use std::io::ErrorKind;
-use timefd_drawing::{Origin, note};
-use timefd_rewrite::without_newline;
-use timefd_streams::{BufferedError, BufferedSource, Sink};
+use timefd_bin_streams::{BufferedError, BufferedSource, Sink};
+use timefd_lint_drawing::{Origin, note};
+use timefd_lint_rewrite::without_newline;
 
 /// Checks each line of a reader, in order, and writes what is wrong.
 #[tactic(auto, using(crate::proofs::ReportedLemmas::no_lines))]

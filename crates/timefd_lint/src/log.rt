@@ -7,7 +7,7 @@ ghost use Rattle.timefd_lint.specs.Logs as spec;
 use crate::line::{RunError, write};
 use crate::rules::push_rules;
 use std::alloc::{AllocError, Global};
-use timefd_streams::Sink;
+use timefd_bin_streams::Sink;
 
 /// The part of the log before the rules: it names the program.
 const PROGRAM: &str =

@@ -73,8 +73,8 @@ use timefd_lint_options::config::{OwnedKey, same_keys, with_keys, with_levels};
 use timefd_lint_options::{
     Asked, OptionError, Settings, is_log, keys_of, lines_conflict, options_of, ordered,
 };
-use timefd_sources::keys::Key;
-use timefd_streams::{Sink, ToWriter, WordsError, all_words, borrowed};
+use timefd_bin_streams::{Sink, ToWriter, WordsError, all_words, borrowed};
+use timefd_lint_scan::keys::Key;
 
 // Writes a text to the standard output, and returns the status.
 fn written(rt: &HostRuntime, text: &str) -> u8 {

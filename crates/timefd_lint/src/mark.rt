@@ -8,13 +8,13 @@ ghost use Rattle.timefd_lint.specs.Marks as spec;
 use crate::line::{RunError, write};
 use crate::options::Options;
 use std::alloc::{AllocError, Global};
-use timefd_drawing::github::{Command, annotation};
-use timefd_drawing::json::{Entry, note_object};
-use timefd_drawing::sarif::note_result;
-use timefd_drawing::{Format, Origin, Style, note};
+use timefd_bin_streams::Sink;
+use timefd_lang_warnings::Level;
+use timefd_lint_drawing::github::{Command, annotation};
+use timefd_lint_drawing::json::{Entry, note_object};
+use timefd_lint_drawing::sarif::note_result;
+use timefd_lint_drawing::{Format, Origin, Style, note};
 use timefd_lint_warnings::{head, position};
-use timefd_streams::Sink;
-use timefd_warnings::Level;
 
 // The code of the note.
 const CODE: &str = "byte-order-mark";

@@ -6,7 +6,7 @@ ghost use Rattle.timefd_lint.specs.NoCodes as spec;
 use crate::all_codes::{all_codes, warning_codes};
 use crate::none_of::none_of;
 use std::alloc::{AllocError, Global};
-use timefd_warnings::Warning;
+use timefd_lang_warnings::Warning;
 
 // The words for levels.
 const LEVELS: &[&str] = &["allow", "warn", "deny"];

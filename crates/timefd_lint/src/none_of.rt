@@ -1,12 +1,12 @@
 //! A word that is none of those that there are.
 
 ghost use Rattle.std.specs.Prelude.{◌≡◌, IfOk, option_map, string_bytes};
-ghost use Rattle.timefd_diagnosis.specs.Words.{texts};
+ghost use Rattle.timefd_lint_diagnosis.specs.Words.{texts};
 ghost use Rattle.timefd_lint.specs.NoneOf as spec;
 
 use std::alloc::{AllocError, Global};
-use timefd_diagnosis::nearest::nearest;
-use timefd_drawing::shown::safe;
+use timefd_lint_diagnosis::nearest::nearest;
+use timefd_lint_drawing::shown::safe;
 
 /// Says, after these words, that a name is none of these, which one is nearest, and which there are. An `Err` says
 /// that memory ran out.

@@ -2,11 +2,11 @@
 
 ghost use Rattle.std.specs.Prelude.{◌≡◌, length, max, if◌then◌else◌, Some, None};
 
-use timefd_drawing::Style;
+use timefd_lang_warnings::Levels;
+use timefd_lint_drawing::Style;
 use timefd_lint_options::{Settings, Wording};
+use timefd_lint_scan::keys::Key;
 use timefd_lint_sources::Reporting;
-use timefd_sources::keys::Key;
-use timefd_warnings::Levels;
 
 /// What a run does.
 #[derive(Clone, Copy)]

@@ -1,13 +1,13 @@
 //! The rules of a log on formats of other languages: what is refused, and traps.
 
 ghost use Rattle.std.specs.Prelude.{◌≡◌, OnOk};
-ghost use Rattle.timefd_lsp.specs.Editor.Each.{Adds, AreOf};
+ghost use Rattle.timefd_lint_lsp.specs.Editor.Each.{Adds, AreOf};
 ghost use Rattle.timefd_lint.specs.Rules as spec;
 ghost use Rattle.timefd_lint.specs.Rules.{AreOtherRules, IsReasonRule, IsTrapRule};
 
 use crate::rule::{Rule, push_rule};
 use std::alloc::AllocError;
-use timefd_dialect::{Reason, Trap};
+use timefd_lang_dialect::{Reason, Trap};
 use timefd_lint_warnings::dialects::all_reasons;
 
 /// Appends the rules of what is refused, and of traps. A comma precedes each. An `Err` says that memory ran out.
@@ -34,7 +34,7 @@ pub fn own_traps() -> &'static [Trap]
     ]
 }
 
-#[tactic(auto, using(timefd_lsp::proofs::EditorLemmas::EachLemmas::at_first, timefd_lsp::proofs::EditorLemmas::EachLemmas::at_last))]
+#[tactic(auto, using(timefd_lint_lsp::proofs::EditorLemmas::EachLemmas::at_first, timefd_lint_lsp::proofs::EditorLemmas::EachLemmas::at_last))]
 fn push_reasons(out: &mut Vec<u8>, reasons: &[Reason]) -> Result<(), AllocError>
     ensures { OnOk result (Adds (AreOf IsReasonRule reasons.now) out.old.items out.new.items) }
 {
@@ -44,7 +44,7 @@ fn push_reasons(out: &mut Vec<u8>, reasons: &[Reason]) -> Result<(), AllocError>
     Ok(())
 }
 
-#[tactic(auto, using(timefd_lsp::proofs::EditorLemmas::EachLemmas::at_first, timefd_lsp::proofs::EditorLemmas::EachLemmas::at_last))]
+#[tactic(auto, using(timefd_lint_lsp::proofs::EditorLemmas::EachLemmas::at_first, timefd_lint_lsp::proofs::EditorLemmas::EachLemmas::at_last))]
 fn push_traps(out: &mut Vec<u8>, traps: &[Trap]) -> Result<(), AllocError>
     ensures { OnOk result (Adds (AreOf IsTrapRule traps.now) out.old.items out.new.items) }
 {

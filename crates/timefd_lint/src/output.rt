@@ -3,13 +3,13 @@
 ghost use Rattle.std.specs.Prelude.{◌≡◌, IfOk, None, OnOk, false};
 ghost use Rattle.std.specs.Io.{WritesAtMost};
 ghost use Rattle.std.specs.Io.KnownBytes.{WriteAppends};
-ghost use Rattle.timefd_drawing.specs.People.{for_people};
+ghost use Rattle.timefd_lint_drawing.specs.People.{for_people};
 ghost use Rattle.timefd_lint.specs.Outputs.{IsShown, IsShownInColor, IsWithoutColor, known};
 ghost use Rattle.timefd_lint.specs.Outputs as spec;
 
 use std::alloc::{AllocError, Global};
 use std::io::{IsTerminal, Result, Stderr, Write};
-use timefd_drawing::people::show;
+use timefd_lint_drawing::people::show;
 
 /// Who reads a stream.
 #[derive(Clone, Copy)]

@@ -6,9 +6,9 @@ ghost use Rattle.timefd_lint.specs.Pages as spec;
 use crate::error_code::ErrorCode;
 use crate::error_page::{explanation, summary};
 use std::alloc::{AllocError, Global};
-use timefd_dialect::{Reason, Trap};
+use timefd_lang_dialect::{Reason, Trap};
+use timefd_lang_warnings::Warning;
 use timefd_lint_warnings::dialects::{reason_named, trap_named};
-use timefd_warnings::Warning;
 
 /// What a page explains.
 #[derive(Clone, Copy)]

@@ -10,7 +10,7 @@ use std::cell::Cell;
 use std::io::{IsTerminal, Write};
 use std::rt::Files;
 use std::time::{Duration, Instant};
-use timefd_streams::FromBufReader;
+use timefd_bin_streams::FromBufReader;
 
 /// The first line of progress comes after this many milliseconds.
 const FIRST: u64 = 1000;

@@ -5,7 +5,7 @@ ghost use Rattle.timefd_lint.specs.Rewriting as spec;
 
 use crate::found::Unit;
 use std::alloc::{AllocError, Global};
-use timefd_rewrite::Counts;
+use timefd_lint_rewrite::Counts;
 
 fn noun(unit: Unit, count: u64) -> &'static str
     ensures { result.now ≡ spec.noun unit count }

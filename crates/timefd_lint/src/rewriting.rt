@@ -4,12 +4,12 @@
 ghost use Rattle.std.specs.Prelude.{◌≡◌};
 ghost use Rattle.timefd_lint.specs.Rewriting as spec;
 
-use timefd_convert::conversion_between;
-use timefd_dialect::Dialect;
+use timefd_lang_convert::conversion_between;
+use timefd_lang_dialect::Dialect;
 use timefd_lint_options::{Settings, Wording, target};
+use timefd_lint_rewrite::{Fixes, Layout, LineChange};
 use timefd_lint_sources::rewriting::Change;
 use timefd_parse::{DescriptionVersion, Language};
-use timefd_rewrite::{Fixes, Layout, LineChange};
 
 /// How files are rewritten.
 #[derive(Clone, Copy)]

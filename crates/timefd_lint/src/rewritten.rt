@@ -18,7 +18,7 @@ use crate::rust::is_source;
 use crate::store::Store;
 use crate::tally::Tally;
 use std::alloc::Global;
-use timefd_streams::Sink;
+use timefd_bin_streams::Sink;
 
 /// Checks each file in order, its lines or the descriptions of a source, and shows what changes in it or
 /// writes it back. A file with several names is taken once. A file that can't be read or written back is

@@ -1,11 +1,11 @@
 //! A rule of a log: a code that a result may have, and what it means.
 
 ghost use Rattle.std.specs.Prelude.{◌≡◌, ◌++◌, OnOk};
-ghost use Rattle.timefd_drawing.specs.Json.{quoted};
+ghost use Rattle.timefd_lint_drawing.specs.Json.{quoted};
 ghost use Rattle.timefd_lint.specs.Rules as spec;
 
 use std::alloc::AllocError;
-use timefd_drawing::json::push_quoted;
+use timefd_lint_drawing::json::push_quoted;
 
 /// What a log says of a code.
 #[derive(Clone, Copy)]

@@ -1,7 +1,7 @@
 //! The rules of a log: each code that a result may have, and what it means.
 
 ghost use Rattle.std.specs.Prelude.{OnOk};
-ghost use Rattle.timefd_lsp.specs.Editor.Each.{Adds, AreOf};
+ghost use Rattle.timefd_lint_lsp.specs.Editor.Each.{Adds, AreOf};
 ghost use Rattle.timefd_lint.specs.Rules.{AreRules, IsErrorRule, IsFaultRule, IsWarningRule};
 
 use crate::error_code::ErrorCode;
@@ -9,8 +9,8 @@ use crate::error_page::{explanation, summary};
 use crate::other_rules::push_other_rules;
 use crate::rule::{Rule, push_rule};
 use std::alloc::AllocError;
-use timefd_diagnosis::Code;
-use timefd_warnings::Warning;
+use timefd_lang_warnings::Warning;
+use timefd_lint_diagnosis::Code;
 
 /// Appends all rules: those of faults, of other errors, of warnings, and of formats of other languages. A comma precedes
 /// each. An `Err` says that memory ran out.
@@ -23,7 +23,7 @@ pub fn push_rules(out: &mut Vec<u8>) -> Result<(), AllocError>
     push_other_rules(out)
 }
 
-#[tactic(auto, using(timefd_lsp::proofs::EditorLemmas::EachLemmas::at_first, timefd_lsp::proofs::EditorLemmas::EachLemmas::at_last))]
+#[tactic(auto, using(timefd_lint_lsp::proofs::EditorLemmas::EachLemmas::at_first, timefd_lint_lsp::proofs::EditorLemmas::EachLemmas::at_last))]
 fn push_faults(out: &mut Vec<u8>, faults: &[Code]) -> Result<(), AllocError>
     ensures { OnOk result (Adds (AreOf IsFaultRule faults.now) out.old.items out.new.items) }
 {
@@ -33,7 +33,7 @@ fn push_faults(out: &mut Vec<u8>, faults: &[Code]) -> Result<(), AllocError>
     Ok(())
 }
 
-#[tactic(auto, using(timefd_lsp::proofs::EditorLemmas::EachLemmas::at_first, timefd_lsp::proofs::EditorLemmas::EachLemmas::at_last))]
+#[tactic(auto, using(timefd_lint_lsp::proofs::EditorLemmas::EachLemmas::at_first, timefd_lint_lsp::proofs::EditorLemmas::EachLemmas::at_last))]
 fn push_errors(out: &mut Vec<u8>, errors: &[ErrorCode]) -> Result<(), AllocError>
     ensures { OnOk result (Adds (AreOf IsErrorRule errors.now) out.old.items out.new.items) }
 {
@@ -43,7 +43,7 @@ fn push_errors(out: &mut Vec<u8>, errors: &[ErrorCode]) -> Result<(), AllocError
     Ok(())
 }
 
-#[tactic(auto, using(timefd_lsp::proofs::EditorLemmas::EachLemmas::at_first, timefd_lsp::proofs::EditorLemmas::EachLemmas::at_last))]
+#[tactic(auto, using(timefd_lint_lsp::proofs::EditorLemmas::EachLemmas::at_first, timefd_lint_lsp::proofs::EditorLemmas::EachLemmas::at_last))]
 fn push_warnings(out: &mut Vec<u8>, warnings: &[Warning]) -> Result<(), AllocError>
     ensures { OnOk result (Adds (AreOf IsWarningRule warnings.now) out.old.items out.new.items) }
 {

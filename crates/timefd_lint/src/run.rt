@@ -15,8 +15,8 @@ use crate::rust::{is_source, lint_source};
 use crate::source::Source;
 use crate::tally::Tally;
 use std::alloc::Global;
+use timefd_bin_streams::{BufferedSource, Sink};
 use timefd_lint_options::is_input;
-use timefd_streams::{BufferedSource, Sink};
 
 /// The name that reports use for the standard input.
 const INPUT: &str = "<stdin>";

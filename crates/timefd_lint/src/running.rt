@@ -17,8 +17,8 @@ use crate::run::run;
 use crate::source::BUFFER;
 use crate::tally::Tally;
 use std::io::BufReader;
+use timefd_bin_streams::{FromBufReader, Sink, ToWriter};
 use timefd_lint_options::{Settings, is_log};
-use timefd_streams::{FromBufReader, Sink, ToWriter};
 
 /// Checks the files or rewrites them, and writes the report in the chosen format.
 pub fn run_in_form<W: Sink>(

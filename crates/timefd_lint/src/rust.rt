@@ -12,10 +12,10 @@ use crate::options::Options;
 use crate::tally::Tally;
 use std::alloc::Global;
 use std::str;
-use timefd_drawing::{Origin, note};
+use timefd_bin_streams::{BufferedError, BufferedSource, Sink};
+use timefd_lint_drawing::{Origin, note};
+use timefd_lint_scan::keys::format_named;
 use timefd_lint_sources::{End, Finder, Source};
-use timefd_sources::keys::format_named;
-use timefd_streams::{BufferedError, BufferedSource, Sink};
 
 /// Whether a file with this name is read as a source of Rust.
 fn is_rust(options: Options<'_>, name: &str) -> bool

@@ -3,10 +3,10 @@
 use crate::options::reported_levels;
 use crate::status::{FAILED, no_memory, reported, write_failed};
 use std::io::BufReader;
+use timefd_bin_streams::{FromReader, ToWriter};
+use timefd_lint_lsp::{End, serve};
 use timefd_lint_options::Settings;
-use timefd_lsp::{End, serve};
-use timefd_sources::keys::Key;
-use timefd_streams::{FromReader, ToWriter};
+use timefd_lint_scan::keys::Key;
 
 // The status of a session that the editor left without `shutdown`, or whose input ended early.
 const LEFT: u8 = 1;
@@ -18,7 +18,7 @@ pub fn session_status(rt: &HostRuntime, settings: Settings<'_>, keys: &[Key<'_>]
     };
     let mut source = FromReader::new(input);
     let mut sink = ToWriter::new(rt.stdout());
-    let served = timefd_lsp::Settings {
+    let served = timefd_lint_lsp::Settings {
         keys,
         levels: reported_levels(settings),
     };

@@ -1,12 +1,12 @@
 //! Which files below folders are checked.
 
 ghost use Rattle.std.specs.Prelude.{◌≡◌};
-ghost use Rattle.timefd_diagnosis.specs.Words.{texts};
+ghost use Rattle.timefd_lint_diagnosis.specs.Words.{texts};
 ghost use Rattle.timefd_lint.specs.Counted as spec;
 
 use timefd_lint_files::{Excluded, Sought};
 use timefd_lint_options::{Settings, reads_lines};
-use timefd_sources::keys::Key;
+use timefd_lint_scan::keys::Key;
 
 /// The working directory.
 const HERE: &[&str] = &["."];

@@ -1,7 +1,7 @@
 //! Where a run gets its files from.
 
 ghost use Rattle.std.specs.Prelude.{Option, IfOk, IfErr, ⊤};
-ghost use Rattle.timefd_component.specs.Tree.{Text};
+ghost use Rattle.timefd_lang_component.specs.Tree.{Text};
 ghost use Rattle.timefd_lint.specs.declared.failure.OpenError.{OpenError};
 
 use crate::failure::{OpenError, unread};
@@ -9,7 +9,7 @@ use std::alloc::Global;
 use std::fs::File;
 use std::io::BufReader;
 use std::rt::Files;
-use timefd_streams::{BufferedSource, FromBufReader};
+use timefd_bin_streams::{BufferedSource, FromBufReader};
 
 /// How many bytes are read at once.
 pub const BUFFER: usize = 65_536;

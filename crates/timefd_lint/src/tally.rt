@@ -4,7 +4,7 @@ ghost use Rattle.std.specs.Prelude.{◌≡◌, ◌||◌, nat_lt, if◌then◌els
 ghost use Rattle.timefd_lint.specs.Reported as spec;
 
 use crate::line::TextEnd;
-use timefd_warnings::Level;
+use timefd_lang_warnings::Level;
 
 /// What was found in the texts so far.
 #[derive(Clone, Copy)]

@@ -6,12 +6,12 @@ ghost use Rattle.timefd_lint.specs.ValueNotes as spec;
 use crate::limited::push_text_note;
 use std::alloc::{AllocError, Global};
 use std::str;
-use timefd_drawing::shown::safe;
-use timefd_drawing::{Position, position_of};
+use timefd_lint_drawing::shown::safe;
+use timefd_lint_drawing::{Position, position_of};
+use timefd_lint_rewrite::LineChange;
+use timefd_lint_scan::Description;
 use timefd_lint_sources::FIRST_LINE;
 use timefd_lint_sources::rewriting::{Change, Outcome, value_change};
-use timefd_rewrite::LineChange;
-use timefd_sources::Description;
 
 /// A line for each of these values of a file whose new text no string can hold: it says where the value is. An `Err` says
 /// that memory ran out.

@@ -1,7 +1,7 @@
 -- One more word.
 use Rattle.std.proofs.Common.{◌≡◌, List, ◌∷◌, sym, ap, ◌∙◌}
 use denote.Ref.{Bor}
-use Rattle.timefd_component.specs.Tree.{Text}
+use Rattle.timefd_lang_component.specs.Tree.{Text}
 use Rattle.timefd_lint_options.specs.declared.asked.State.{State}
 use Rattle.timefd_lint_options.specs.declared.asked.Step.{Step}
 use Rattle.timefd_lint_options.specs.declared.asked.Step.TheVariants.{Next, Done}

@@ -1,7 +1,7 @@
 -- What the arguments ask for, read from the first to the last.
 use Rattle.std.specs.Prelude.{List, [], ◌∷◌, Option, Some, None, Result, Ok, Err}
 use denote.Ref.{Bor}
-use Rattle.timefd_component.specs.Tree.{Text}
+use Rattle.timefd_lang_component.specs.Tree.{Text}
 use Rattle.timefd_lint_options.specs.declared.asked.Asked.{Asked}
 use Rattle.timefd_lint_options.specs.declared.asked.Asked.TheVariants as asks
 use Rattle.timefd_lint_options.specs.declared.asked.State.{State}

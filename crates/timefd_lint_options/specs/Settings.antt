@@ -1,8 +1,8 @@
 -- What each option sets.
 use Rattle.std.specs.Prelude.{Bool, true, false, ◌||◌, Option, Some, None, is_some, option_map, Result, Ok, Err, if◌then◌else◌}
 use denote.Ref.{Bor}
-use Rattle.timefd_component.specs.Tree.{Text}
-use Rattle.timefd_drawing.specs.declared.draw.Format.TheVariants as formats
+use Rattle.timefd_lang_component.specs.Tree.{Text}
+use Rattle.timefd_lint_drawing.specs.declared.draw.Format.TheVariants as formats
 use Rattle.timefd_language.specs.declared.description_version.DescriptionVersion.{DescriptionVersion}
 use Rattle.timefd_language.specs.declared.description_version.DescriptionVersion.TheVariants.{One, Two, Three}
 use Rattle.timefd_language.specs.Grammar.{is_empty}
@@ -19,12 +19,12 @@ use Rattle.timefd_lint_options.specs.declared.word.Flag.TheVariants.{Whole, Sour
 use Rattle.timefd_lint_options.specs.declared.word.Valued.{Valued}
 use Rattle.timefd_lint_options.specs.declared.word.Valued.TheVariants.{Language, Format, Color, Comment, Key, To, Deny, Allow}
 use Rattle.timefd_lint_options.specs.Values.{wording_named, format_named, color_named, version_named}
-use Rattle.timefd_sources.specs.declared.keys.key.KeyFault.{KeyFault}
-use Rattle.timefd_sources.specs.Keys.Keys.{key_fault}
-use Rattle.timefd_warnings.specs.declared.levels.Level.{Level}
-use Rattle.timefd_warnings.specs.declared.levels.Level.TheVariants.{Allowed, Warned, Denied}
-use Rattle.timefd_warnings.specs.Codes as warnings
-use Rattle.timefd_warnings.specs.Levels.{all_at, with_level}
+use Rattle.timefd_lint_scan.specs.declared.keys.key.KeyFault.{KeyFault}
+use Rattle.timefd_lint_scan.specs.Keys.Keys.{key_fault}
+use Rattle.timefd_lang_warnings.specs.declared.levels.Level.{Level}
+use Rattle.timefd_lang_warnings.specs.declared.levels.Level.TheVariants.{Allowed, Warned, Denied}
+use Rattle.timefd_lang_warnings.specs.Codes as warnings
+use Rattle.timefd_lang_warnings.specs.Levels.{all_at, with_level}
 
 abbrev pub initial : Settings
 initial = record {

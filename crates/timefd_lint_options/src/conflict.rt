@@ -7,7 +7,7 @@ use crate::error::Conflict;
 use crate::names::Names;
 use crate::settings::{Settings, target};
 use crate::wording::Wording;
-use timefd_drawing::Format;
+use timefd_lint_drawing::Format;
 use timefd_parse::{DescriptionVersion, Language};
 
 /// The conflict between the settings of a run over these files, if there is one.

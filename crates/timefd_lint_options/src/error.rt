@@ -1,7 +1,7 @@
 //! What is wrong with the arguments of the program.
 
 use crate::word::Valued;
-use timefd_sources::keys::KeyFault;
+use timefd_lint_scan::keys::KeyFault;
 
 /// What is wrong with the arguments of the program.
 #[derive(Clone, Copy)]

@@ -1,12 +1,12 @@
 //! The keys that the arguments name, one after another.
 
 ghost use Rattle.std.specs.Prelude.{◌≡◌, ◌++◌, IfOk, OnOk};
-ghost use Rattle.timefd_sources.specs.Keys.Keys.{keys_in, named_all};
+ghost use Rattle.timefd_lint_scan.specs.Keys.Keys.{keys_in, named_all};
 ghost use Rattle.timefd_lint_options.specs.KeyWords as spec;
 
 use crate::word::{Valued, Word, word_of};
 use std::alloc::{AllocError, Global};
-use timefd_sources::keys::{Key, key_of};
+use timefd_lint_scan::keys::{Key, key_of};
 
 /// What kind of word is expected, by the words before it.
 #[derive(Clone, Copy)]

@@ -1,7 +1,7 @@
 //! The arguments in order: first the options, each value a word of its own, and then the names of files.
 
 ghost use Rattle.std.specs.Prelude.{◌≡◌, ◌∷◌, ◌++◌, [], codes, IfOk, OnOk};
-ghost use Rattle.timefd_diagnosis.specs.Words.{texts};
+ghost use Rattle.timefd_lint_diagnosis.specs.Words.{texts};
 ghost use Rattle.timefd_lint_options.specs.Order as spec;
 ghost use Rattle.timefd_lint_options.specs.Words.{word_of};
 

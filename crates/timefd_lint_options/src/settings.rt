@@ -4,9 +4,9 @@ ghost use Rattle.std.specs.Prelude.{◌≡◌};
 ghost use Rattle.timefd_lint_options.specs.Settings as spec;
 
 use crate::wording::Wording;
-use timefd_drawing::Format;
+use timefd_lang_warnings::{Level, Levels};
+use timefd_lint_drawing::Format;
 use timefd_parse::{DescriptionVersion, Language};
-use timefd_warnings::{Level, Levels};
 
 /// Whether drawings are coloured.
 #[derive(Clone, Copy)]

@@ -1,13 +1,13 @@
 //! The option that may have been meant.
 
 ghost use Rattle.std.specs.Prelude.{◌≡◌, IfOk, IfSome, IsTrue, option_map};
-ghost use Rattle.timefd_diagnosis.specs.Nearest.{IsNearest};
-ghost use Rattle.timefd_diagnosis.specs.Words.{texts};
+ghost use Rattle.timefd_lint_diagnosis.specs.Nearest.{IsNearest};
+ghost use Rattle.timefd_lint_diagnosis.specs.Words.{texts};
 ghost use Rattle.timefd_lint_options.specs.Suggestions as spec;
 ghost use Rattle.timefd_lint_options.specs.Words.{is_option};
 
 use std::alloc::{AllocError, Global};
-use timefd_diagnosis::nearest::nearest;
+use timefd_lint_diagnosis::nearest::nearest;
 
 // The long names of the options.
 fn long_names() -> &'static [&'static str]

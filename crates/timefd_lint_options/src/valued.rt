@@ -8,8 +8,8 @@ use crate::settings::Settings;
 use crate::values::{color_named, format_named, version_named};
 use crate::word::Valued;
 use crate::wording::wording_named;
-use timefd_sources::keys::key_fault;
-use timefd_warnings::{Level, Warning};
+use timefd_lang_warnings::{Level, Warning};
+use timefd_lint_scan::keys::key_fault;
 
 /// The settings with the value of an option. `NotAValue` or `NotAKey` if the option doesn't take the value.
 pub fn with_value<'a>(

@@ -4,7 +4,7 @@ ghost use Rattle.std.specs.Prelude.{◌≡◌};
 ghost use Rattle.timefd_lint_options.specs.Values as spec;
 
 use crate::settings::Color;
-use timefd_drawing::Format;
+use timefd_lint_drawing::Format;
 use timefd_parse::{DescriptionVersion, Language};
 
 /// The language that a word names.

@@ -4,7 +4,7 @@ ghost use Rattle.std.specs.Prelude.{◌≡◌};
 ghost use Rattle.timefd_lint_options.specs.Values as spec;
 
 use crate::values::language_named;
-use timefd_dialect::Dialect;
+use timefd_lang_dialect::Dialect;
 use timefd_parse::Language;
 
 /// What a text is written in.

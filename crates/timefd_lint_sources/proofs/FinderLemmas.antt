@@ -2,11 +2,11 @@
 use Rattle.std.proofs.Common.{◌≡◌, List, sym, subst}
 use Rattle.std.specs.List.{All}
 use denote.Ref.{Bor}
-use Rattle.timefd_sources.specs.declared.keys.format.Format.{Format}
-use Rattle.timefd_sources.specs.declared.keys.key.Key.{Key}
-use Rattle.timefd_sources.specs.Keys.Found as keyed
-use Rattle.timefd_sources.specs.declared.description.Description.{Description}
-use Rattle.timefd_sources.specs.Found.{AllStandIn, AreDescriptionsOf}
+use Rattle.timefd_lint_scan.specs.declared.keys.format.Format.{Format}
+use Rattle.timefd_lint_scan.specs.declared.keys.key.Key.{Key}
+use Rattle.timefd_lint_scan.specs.Keys.Found as keyed
+use Rattle.timefd_lint_scan.specs.declared.description.Description.{Description}
+use Rattle.timefd_lint_scan.specs.Found.{AllStandIn, AreDescriptionsOf}
 use Rattle.timefd_lint_sources.specs.declared.reported.Finder.TheVariants.{Rust, Keys}
 use Rattle.timefd_lint_sources.specs.declared.reported.Source.{Source}
 use Rattle.timefd_lint_sources.specs.Reported.{AllFound, AreAllBy, AreAllOf, IsFoundBy}

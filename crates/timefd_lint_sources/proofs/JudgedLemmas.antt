@@ -1,9 +1,9 @@
 -- Descriptions as they are checked.
 use Rattle.std.proofs.Common.{◌≡◌, List, [], ◌∷◌, ◌++◌, length, inl, inr, refl, sym, ap, subst}
 use Rattle.std.specs.Prelude.{Bool, false, IfOk, Option, None, Some, Result, Ok, Err, IsUtf8}
-use Rattle.timefd_component.specs.Tree.{Text}
+use Rattle.timefd_lang_component.specs.Tree.{Text}
 use Rattle.timefd_language.specs.declared.description_version.DescriptionVersion.{DescriptionVersion}
-use Rattle.timefd_sources.specs.declared.description.Description.{Description}
+use Rattle.timefd_lint_scan.specs.declared.description.Description.{Description}
 use Rattle.timefd_lint_sources.specs.Items.{AreJudgedAs, HoldsItem, IsAllOpened, IsJudgedAs, IsJudgedText, IsOpened, taking}
 
 pub as_it_is : (d : Description) → taking d.items d.dialect ≡ None → IsJudgedAs d d

@@ -1,8 +1,8 @@
 -- What the linter reports about several descriptions.
 use Rattle.std.proofs.Common.{ℕ, ◌≡◌, ◌<◌, ◌≤◌, ◌+◌, List, [], ◌∷◌, ◌++◌, length, drop, get_or, refl, sym, ap, subst, ◌∙◌}
 use Rattle.std.proofs.lemmas.List.{append_assoc, append-nil, drop_all, drop_more}
-use Rattle.timefd_component.specs.Tree.{Text}
-use Rattle.timefd_sources.specs.declared.description.Description.{Description}
+use Rattle.timefd_lang_component.specs.Tree.{Text}
+use Rattle.timefd_lint_scan.specs.declared.description.Description.{Description}
 use Rattle.timefd_lint_sources.specs.declared.reported.End.{End}
 use Rattle.timefd_lint_sources.specs.declared.reported.Source.{Source}
 use Rattle.timefd_lint_sources.specs.declared.reported.Reporting.{Reporting}

@@ -4,25 +4,25 @@ use Rattle.std.specs.Prelude.{IfOk, IfSome, IsUtf8, Result, Ok, Err}
 use Rattle.std.specs.List.{flat_map}
 use Rattle.std.specs.declared.alloc.Global.{Global}
 use Rattle.std.specs.declared.vec.Vec.{Vec}
-use Rattle.timefd_component.specs.Tree.{Text, Tree}
-use Rattle.timefd_fault.specs.Faults.{Fault, fault_of}
+use Rattle.timefd_lang_component.specs.Tree.{Text, Tree}
+use Rattle.timefd_lang_fault.specs.Faults.{Fault, fault_of}
 use Rattle.timefd_language.specs.Grammar.{nesting_limit}
 use Rattle.timefd_language.specs.declared.language.Language.{Language}
 use Rattle.timefd_parse.specs.Language.{SpellsIn, FaultIn}
-use Rattle.timefd_diagnosis.specs.declared.diagnostic.Diagnostic.{Diagnostic}
-use Rattle.timefd_diagnosis.specs.Diagnoses.{IsDiagnosis}
-use Rattle.timefd_diagnosis.specs.Further.{AreDiagnosed, AreFurther, most_further, without}
-use Rattle.timefd_diagnosis.specs.declared.span.Span.{Span}
-use Rattle.timefd_drawing.specs.Positions.{reported_column, line_number}
-use Rattle.timefd_explain.specs.Lines.{IsExplainedIf}
-use Rattle.timefd_dialect.specs.declared.dialect.Dialect.{Dialect as Other}
-use Rattle.timefd_sources.specs.declared.description.Description.{Description}
-use Rattle.timefd_sources.specs.declared.dialect.Dialect.{Dialect}
-use Rattle.timefd_sources.specs.declared.dialect.Dialect.TheVariants.{One, Two, Three, Strftime, Python, C, Gnu, Chrono, Jiff, Ruby, Java, Go, Moment}
-use Rattle.timefd_sources.specs.declared.known.Items.TheVariants.{Taken, Refused as RefusedItems}
-use Rattle.timefd_warnings.specs.declared.levels.Level.TheVariants.{Allowed}
-use Rattle.timefd_warnings.specs.declared.levels.Levels.{Levels}
-use Rattle.timefd_warnings.specs.Levels.{all_at}
+use Rattle.timefd_lint_diagnosis.specs.declared.diagnostic.Diagnostic.{Diagnostic}
+use Rattle.timefd_lint_diagnosis.specs.Diagnoses.{IsDiagnosis}
+use Rattle.timefd_lint_diagnosis.specs.Further.{AreDiagnosed, AreFurther, most_further, without}
+use Rattle.timefd_lint_diagnosis.specs.declared.span.Span.{Span}
+use Rattle.timefd_lint_drawing.specs.Positions.{reported_column, line_number}
+use Rattle.timefd_lint_explain.specs.Lines.{IsExplainedIf}
+use Rattle.timefd_lang_dialect.specs.declared.dialect.Dialect.{Dialect as Other}
+use Rattle.timefd_lint_scan.specs.declared.description.Description.{Description}
+use Rattle.timefd_lint_scan.specs.declared.dialect.Dialect.{Dialect}
+use Rattle.timefd_lint_scan.specs.declared.dialect.Dialect.TheVariants.{One, Two, Three, Strftime, Python, C, Gnu, Chrono, Jiff, Ruby, Java, Go, Moment}
+use Rattle.timefd_lint_scan.specs.declared.known.Items.TheVariants.{Taken, Refused as RefusedItems}
+use Rattle.timefd_lang_warnings.specs.declared.levels.Level.TheVariants.{Allowed}
+use Rattle.timefd_lang_warnings.specs.declared.levels.Levels.{Levels}
+use Rattle.timefd_lang_warnings.specs.Levels.{all_at}
 use Rattle.timefd_lint_warnings.specs.Messages.{messages_at}
 use Rattle.timefd_lint_sources.specs.declared.reported.End.{End}
 use Rattle.timefd_lint_sources.specs.declared.reported.End.TheVariants.{Accepted, Refused, NotText}

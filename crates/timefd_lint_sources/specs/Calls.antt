@@ -1,14 +1,14 @@
 -- The note at a call that takes a description by name.
 use Rattle.std.specs.Prelude.{ℕ, ◌++◌, codes, decimal, Option, Some, None, []}
-use Rattle.timefd_component.specs.Tree.{Text}
-use Rattle.timefd_drawing.specs.declared.draw.Format.{Format}
-use Rattle.timefd_drawing.specs.declared.draw.Format.TheVariants.{Human, Json, Short, Github, Sarif}
-use Rattle.timefd_drawing.specs.declared.draw.Style.{Style}
-use Rattle.timefd_drawing.specs.declared.github.Command.TheVariants.{Notice}
-use Rattle.timefd_drawing.specs.Github.{annotation}
-use Rattle.timefd_drawing.specs.Positions.{column, line_number}
-use Rattle.timefd_drawing.specs.Shown.{safe}
-use Rattle.timefd_sources.specs.declared.description.Description.{Description}
+use Rattle.timefd_lang_component.specs.Tree.{Text}
+use Rattle.timefd_lint_drawing.specs.declared.draw.Format.{Format}
+use Rattle.timefd_lint_drawing.specs.declared.draw.Format.TheVariants.{Human, Json, Short, Github, Sarif}
+use Rattle.timefd_lint_drawing.specs.declared.draw.Style.{Style}
+use Rattle.timefd_lint_drawing.specs.declared.github.Command.TheVariants.{Notice}
+use Rattle.timefd_lint_drawing.specs.Github.{annotation}
+use Rattle.timefd_lint_drawing.specs.Positions.{column, line_number}
+use Rattle.timefd_lint_drawing.specs.Shown.{safe}
+use Rattle.timefd_lint_scan.specs.declared.description.Description.{Description}
 use Rattle.timefd_lint_sources.specs.declared.reported.Source.{Source}
 
 abbrev pub code : Text

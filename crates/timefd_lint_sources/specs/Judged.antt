@@ -1,24 +1,24 @@
 -- Which outcome a description of a source has.
 use Rattle.std.specs.Prelude.{◌≡◌, Bool, true, false, List, [], ◌∷◌, if◌then◌else◌, Option, Some, None, IsUtf8, IsTrue, IsFalse}
 use Rattle.std.specs.List.{flat_map}
-use Rattle.timefd_component.specs.Tree.{Text, Tree}
-use Rattle.timefd_diagnosis.specs.declared.diagnostic.Diagnostic.{Diagnostic}
-use Rattle.timefd_diagnosis.specs.Further.{AreDiagnosed}
-use Rattle.timefd_dialect.specs.declared.dialect.Dialect as other
-use Rattle.timefd_dialect.specs.declared.dialect.Dialect.TheVariants as others
-use Rattle.timefd_fault.specs.Faults.{Fault}
+use Rattle.timefd_lang_component.specs.Tree.{Text, Tree}
+use Rattle.timefd_lint_diagnosis.specs.declared.diagnostic.Diagnostic.{Diagnostic}
+use Rattle.timefd_lint_diagnosis.specs.Further.{AreDiagnosed}
+use Rattle.timefd_lang_dialect.specs.declared.dialect.Dialect as other
+use Rattle.timefd_lang_dialect.specs.declared.dialect.Dialect.TheVariants as others
+use Rattle.timefd_lang_fault.specs.Faults.{Fault}
 use Rattle.timefd_language.specs.Grammar.{nesting_limit}
 use Rattle.timefd_language.specs.declared.description_version.DescriptionVersion.TheVariants as versions
 use Rattle.timefd_language.specs.declared.language.Language.{Language}
 use Rattle.timefd_language.specs.declared.language.Language.TheVariants as languages
 use Rattle.timefd_parse.specs.Language.{SpellsIn, FaultIn}
-use Rattle.timefd_sources.specs.declared.description.Description.{Description}
-use Rattle.timefd_sources.specs.declared.dialect.Dialect.{Dialect}
-use Rattle.timefd_sources.specs.declared.dialect.Dialect.TheVariants.{One, Two, Three, Strftime, Python, C, Gnu, Chrono, Jiff, Ruby, Java, Go, Moment}
-use Rattle.timefd_sources.specs.declared.known.Items.{Items}
-use Rattle.timefd_sources.specs.declared.known.Items.TheVariants.{Taken, Refused as RefusedItems}
-use Rattle.timefd_sources.specs.Chrono.{is_of_chrono, is_of_jiff}
-use Rattle.timefd_warnings.specs.declared.levels.Levels.{Levels}
+use Rattle.timefd_lint_scan.specs.declared.description.Description.{Description}
+use Rattle.timefd_lint_scan.specs.declared.dialect.Dialect.{Dialect}
+use Rattle.timefd_lint_scan.specs.declared.dialect.Dialect.TheVariants.{One, Two, Three, Strftime, Python, C, Gnu, Chrono, Jiff, Ruby, Java, Go, Moment}
+use Rattle.timefd_lint_scan.specs.declared.known.Items.{Items}
+use Rattle.timefd_lint_scan.specs.declared.known.Items.TheVariants.{Taken, Refused as RefusedItems}
+use Rattle.timefd_lint_scan.specs.Chrono.{is_of_chrono, is_of_jiff}
+use Rattle.timefd_lang_warnings.specs.declared.levels.Levels.{Levels}
 use Rattle.timefd_lint_warnings.specs.Found.{found_by}
 use Rattle.timefd_lint_sources.specs.declared.reported.End.{End}
 use Rattle.timefd_lint_sources.specs.Items.{is_of_item}

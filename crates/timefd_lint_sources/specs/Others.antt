@@ -1,16 +1,16 @@
 -- What the linter reports about a format of another language or library.
 use Rattle.std.specs.Prelude.{ℕ, ◌≡◌, Bool, true, false, List, [], ◌++◌, flat_map, is_some, length}
-use Rattle.timefd_component.specs.Tree.{Text}
-use Rattle.timefd_dialect.specs.declared.dialect.Dialect.{Dialect}
-use Rattle.timefd_dialect.specs.declared.error.Refusal.{Refusal}
-use Rattle.timefd_dialect.specs.declared.reason.Reason.{Reason}
-use Rattle.timefd_dialect.specs.declared.trapping.Found.{Found}
-use Rattle.timefd_dialect.specs.Traps.{AreTraps}
-use Rattle.timefd_drawing.specs.declared.draw.Style.{Style}
-use Rattle.timefd_drawing.specs.declared.position.Origin.{Origin}
+use Rattle.timefd_lang_component.specs.Tree.{Text}
+use Rattle.timefd_lang_dialect.specs.declared.dialect.Dialect.{Dialect}
+use Rattle.timefd_lang_dialect.specs.declared.error.Refusal.{Refusal}
+use Rattle.timefd_lang_dialect.specs.declared.reason.Reason.{Reason}
+use Rattle.timefd_lang_dialect.specs.declared.trapping.Found.{Found}
+use Rattle.timefd_lang_dialect.specs.Traps.{AreTraps}
+use Rattle.timefd_lint_drawing.specs.declared.draw.Style.{Style}
+use Rattle.timefd_lint_drawing.specs.declared.position.Origin.{Origin}
 use Rattle.timefd_lint_warnings.specs.Dialects.Judging.{refusal_drawn, trap_drawn}
-use Rattle.timefd_sources.specs.declared.description.Description.{Description}
-use Rattle.timefd_sources.specs.Found.{index_in_source}
+use Rattle.timefd_lint_scan.specs.declared.description.Description.{Description}
+use Rattle.timefd_lint_scan.specs.Found.{index_in_source}
 use Rattle.timefd_lint_sources.specs.declared.reported.End.{End}
 use Rattle.timefd_lint_sources.specs.declared.reported.End.TheVariants.{PassedOver, Accepted, Converted, Refused, NotText, UnreadCall, UnreadValue}
 use Rattle.timefd_lint_sources.specs.declared.reported.Reporting.{Reporting}

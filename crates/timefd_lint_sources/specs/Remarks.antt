@@ -1,15 +1,15 @@
 -- What the linter reports about a source besides its descriptions.
 use Rattle.std.specs.Prelude.{ℕ, ◌≡◌, List, [], ◌∷◌, ◌++◌, codes}
-use Rattle.timefd_component.specs.Tree.{Text}
-use Rattle.timefd_drawing.specs.declared.draw.Style.{Style}
-use Rattle.timefd_drawing.specs.Drawing.{note}
-use Rattle.timefd_drawing.specs.Positions.{line_number}
-use Rattle.timefd_sources.specs.declared.keys.format.Format.{Format}
-use Rattle.timefd_sources.specs.declared.keys.key.Key.{Key}
-use Rattle.timefd_sources.specs.Keys.Found.{AreValues}
-use Rattle.timefd_sources.specs.declared.description.Description.{Description}
-use Rattle.timefd_sources.specs.declared.look.Look.{Look}
-use Rattle.timefd_sources.specs.Looks.{IsLook}
+use Rattle.timefd_lang_component.specs.Tree.{Text}
+use Rattle.timefd_lint_drawing.specs.declared.draw.Style.{Style}
+use Rattle.timefd_lint_drawing.specs.Drawing.{note}
+use Rattle.timefd_lint_drawing.specs.Positions.{line_number}
+use Rattle.timefd_lint_scan.specs.declared.keys.format.Format.{Format}
+use Rattle.timefd_lint_scan.specs.declared.keys.key.Key.{Key}
+use Rattle.timefd_lint_scan.specs.Keys.Found.{AreValues}
+use Rattle.timefd_lint_scan.specs.declared.description.Description.{Description}
+use Rattle.timefd_lint_scan.specs.declared.look.Look.{Look}
+use Rattle.timefd_lint_scan.specs.Looks.{IsLook}
 use Rattle.timefd_lint_sources.specs.declared.remark.Remark.{Remark}
 use Rattle.timefd_lint_sources.specs.declared.remark.Remark.TheVariants.{Call, Language, Value}
 use Rattle.timefd_lint_sources.specs.declared.reported.End.{End}

@@ -1,19 +1,19 @@
 -- What the linter reports about the descriptions of a source.
 use Rattle.std.specs.List.{All}
 use Rattle.std.specs.Prelude.{ℕ, ◌≡◌, ◌⊎◌, List, [], ◌∷◌, ◌++◌, codes, map, IsUtf8, Option, Some, None}
-use Rattle.timefd_component.specs.Tree.{Text}
-use Rattle.timefd_diagnosis.specs.declared.diagnostic.Diagnostic.{Diagnostic}
-use Rattle.timefd_dialect.specs.declared.dialect.Dialect.{Dialect}
-use Rattle.timefd_diagnosis.specs.declared.span.Span.{Span}
-use Rattle.timefd_drawing.specs.declared.draw.Style.{Style}
-use Rattle.timefd_drawing.specs.declared.position.Origin.{Origin}
-use Rattle.timefd_drawing.specs.Drawing.{drawn_all, note}
-use Rattle.timefd_drawing.specs.Positions.{reported_column, line_number}
-use Rattle.timefd_explain.specs.Lines.{IsExplainedIf}
-use Rattle.timefd_sources.specs.declared.description.Description.{Description}
-use Rattle.timefd_sources.specs.Keys.Found as keys
-use Rattle.timefd_sources.specs.Found.{AreDescriptionsOf, AreInOrder, StandsIn, index_in_source}
-use Rattle.timefd_warnings.specs.declared.levels.Levels.{Levels}
+use Rattle.timefd_lang_component.specs.Tree.{Text}
+use Rattle.timefd_lint_diagnosis.specs.declared.diagnostic.Diagnostic.{Diagnostic}
+use Rattle.timefd_lang_dialect.specs.declared.dialect.Dialect.{Dialect}
+use Rattle.timefd_lint_diagnosis.specs.declared.span.Span.{Span}
+use Rattle.timefd_lint_drawing.specs.declared.draw.Style.{Style}
+use Rattle.timefd_lint_drawing.specs.declared.position.Origin.{Origin}
+use Rattle.timefd_lint_drawing.specs.Drawing.{drawn_all, note}
+use Rattle.timefd_lint_drawing.specs.Positions.{reported_column, line_number}
+use Rattle.timefd_lint_explain.specs.Lines.{IsExplainedIf}
+use Rattle.timefd_lint_scan.specs.declared.description.Description.{Description}
+use Rattle.timefd_lint_scan.specs.Keys.Found as keys
+use Rattle.timefd_lint_scan.specs.Found.{AreDescriptionsOf, AreInOrder, StandsIn, index_in_source}
+use Rattle.timefd_lang_warnings.specs.declared.levels.Levels.{Levels}
 use Rattle.timefd_lint_warnings.specs.Messages.{messages_at}
 use Rattle.timefd_lint_sources.specs.declared.remark.Remark.{Remark}
 use Rattle.timefd_lint_sources.specs.declared.source.Report.{Report}

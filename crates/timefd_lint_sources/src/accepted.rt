@@ -1,26 +1,26 @@
 //! What the linter reports about an accepted description.
 
 ghost use Rattle.std.specs.Prelude.{◌≡◌, List, IfOk};
-ghost use Rattle.timefd_component.specs.Tree.{Tree};
-ghost use Rattle.timefd_drawing.specs.Counted.{IsCounted};
+ghost use Rattle.timefd_lang_component.specs.Tree.{Tree};
+ghost use Rattle.timefd_lint_drawing.specs.Counted.{IsCounted};
 ghost use Rattle.timefd_language.specs.Grammar.{nesting_limit};
 ghost use Rattle.timefd_parse.specs.Language.{SpellsIn};
 ghost use Rattle.timefd_lint_sources.specs.declared.reported.End.TheVariants as ends;
 ghost use Rattle.timefd_lint_warnings.specs.Found.{found_by};
-ghost use Rattle.timefd_explain.specs.Lines.{IsExplainedIf};
+ghost use Rattle.timefd_lint_explain.specs.Lines.{IsExplainedIf};
 ghost use Rattle.timefd_lint_sources.specs.Judged.{language_in, text_of};
 ghost use Rattle.timefd_lint_sources.specs.Reported.{IsMessageOn};
 
 use crate::position::reported_position_of;
 use crate::reported::{End, Reported, Reporting, Source};
 use std::alloc::{AllocError, Global};
-use timefd_diagnosis::Span;
-use timefd_drawing::{Counter, Origin};
-use timefd_explain::explained;
+use timefd_lang_warnings::{Level, Levels};
+use timefd_lint_diagnosis::Span;
+use timefd_lint_drawing::{Counter, Origin};
+use timefd_lint_explain::explained;
+use timefd_lint_scan::Description;
 use timefd_lint_warnings::{found_by, messages_at};
 use timefd_parse::Language;
-use timefd_sources::Description;
-use timefd_warnings::{Level, Levels};
 
 /// Reports on a description that its language accepts: its tree, if that is asked for, and its
 /// warnings. An `Err` says that memory ran out.

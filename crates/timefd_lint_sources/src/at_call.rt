@@ -1,17 +1,17 @@
 //! The note at a call that takes a description by name.
 
 ghost use Rattle.std.specs.Prelude.{◌≡◌, IfOk, string_bytes};
-ghost use Rattle.timefd_drawing.specs.Counted.{IsCounted};
+ghost use Rattle.timefd_lint_drawing.specs.Counted.{IsCounted};
 ghost use Rattle.timefd_lint_sources.specs.Calls as spec;
 
 use crate::position::FIRST_LINE;
 use crate::reported::Source;
 use std::alloc::{AllocError, Global};
-use timefd_drawing::github::{Command, annotation};
-use timefd_drawing::json::Entry;
-use timefd_drawing::shown::safe;
-use timefd_drawing::{Counter, Format, Position, Style, position_from};
-use timefd_sources::Description;
+use timefd_lint_drawing::github::{Command, annotation};
+use timefd_lint_drawing::json::Entry;
+use timefd_lint_drawing::shown::safe;
+use timefd_lint_drawing::{Counter, Format, Position, Style, position_from};
+use timefd_lint_scan::Description;
 
 /// The code of such a note.
 const CODE: &str = "call";

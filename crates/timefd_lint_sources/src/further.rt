@@ -1,18 +1,18 @@
 //! The faults of a description after its first one.
 
 ghost use Rattle.std.specs.Prelude.{◌≡◌, ◌++◌, List, IfOk, OnOk};
-ghost use Rattle.timefd_fault.specs.Placed.{IsPlaced};
-ghost use Rattle.timefd_diagnosis.specs.declared.diagnostic.Diagnostic as diagnostics;
-ghost use Rattle.timefd_diagnosis.specs.Further.{AreFurther, most_further, without};
+ghost use Rattle.timefd_lang_fault.specs.Placed.{IsPlaced};
+ghost use Rattle.timefd_lint_diagnosis.specs.declared.diagnostic.Diagnostic as diagnostics;
+ghost use Rattle.timefd_lint_diagnosis.specs.Further.{AreFurther, most_further, without};
 ghost use Rattle.std.specs.List.{flat_map};
-ghost use Rattle.timefd_fault.specs.Faults.{fault_of};
+ghost use Rattle.timefd_lang_fault.specs.Faults.{fault_of};
 ghost use Rattle.timefd_lint_sources.specs.Judged.{language_in, reported_further, unless_item};
 
 use crate::language::language_of;
 use crate::opening::is_of_item;
 use std::alloc::{AllocError, Global};
-use timefd_diagnosis::{Diagnostic, MOST_FURTHER, further_faults};
-use timefd_sources::{Description, Items};
+use timefd_lint_diagnosis::{Diagnostic, MOST_FURTHER, further_faults};
+use timefd_lint_scan::{Description, Items};
 
 /// The faults of a description after this first one of its text. If its place takes `[optional ..]` and
 /// `[first ..]`, faults that only `parse` finds are left out. An `Err` says that memory ran out.

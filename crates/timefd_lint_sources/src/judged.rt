@@ -1,15 +1,15 @@
 //! Descriptions as they are checked: with their items opened if their places take items.
 
 ghost use Rattle.std.specs.Prelude.{◌≡◌, IfOk, IfSome, IsUtf8, None, false, length, true};
-ghost use Rattle.timefd_component.specs.Tree.{Text};
+ghost use Rattle.timefd_lang_component.specs.Tree.{Text};
 ghost use Rattle.timefd_lint_sources.specs.Items.{AreJudgedAs, HoldsItem, IsAllOpened, IsJudgedAs, IsOpened};
 ghost use Rattle.timefd_lint_sources.specs.Items as spec;
 
 use crate::opening::{opened_all, opened_once};
 use std::alloc::{AllocError, Global};
 use std::str;
+use timefd_lint_scan::{Description, Dialect, Items, Unescaped};
 use timefd_parse::DescriptionVersion;
-use timefd_sources::{Description, Dialect, Items, Unescaped};
 
 /// These descriptions in order, each with the text that is checked for it. An `Err` says that memory ran
 /// out.

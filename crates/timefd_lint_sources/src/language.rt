@@ -3,9 +3,9 @@
 ghost use Rattle.std.specs.Prelude.{◌≡◌};
 ghost use Rattle.timefd_lint_sources.specs.Judged as spec;
 
-use timefd_dialect::Dialect as Other;
+use timefd_lang_dialect::Dialect as Other;
+use timefd_lint_scan::{Dialect, is_of_chrono, is_of_jiff};
 use timefd_parse::{DescriptionVersion, Language};
-use timefd_sources::{Dialect, is_of_chrono, is_of_jiff};
 
 /// The other language or library whose formats these are; `None` if they are of `time`.
 pub fn other_of(dialect: Dialect) -> Option<Other>

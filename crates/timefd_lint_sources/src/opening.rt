@@ -3,9 +3,9 @@
 
 ghost use Rattle.std.specs.Prelude.{◌≡◌, ◌++◌, Bool, IfOk, IfSome, None, Some, length, string_bytes, true};
 ghost use Rattle.std.specs.Str.{IsCharBoundary};
-ghost use Rattle.timefd_component.specs.Tree.{Text};
-ghost use Rattle.timefd_fault.specs.Codes as codes;
-ghost use Rattle.timefd_fault.specs.Faults.{Fault};
+ghost use Rattle.timefd_lang_component.specs.Tree.{Text};
+ghost use Rattle.timefd_lang_fault.specs.Codes as codes;
+ghost use Rattle.timefd_lang_fault.specs.Faults.{Fault};
 ghost use Rattle.timefd_language.specs.Grammar.{nesting_limit};
 ghost use Rattle.timefd_parse.specs.Language.{FaultIn};
 ghost use Rattle.timefd_language.specs.declared.language.Language as language;
@@ -14,7 +14,7 @@ ghost use Rattle.timefd_lint_sources.specs.Items as spec;
 
 use crate::item::{Item, item_of};
 use std::alloc::{AllocError, Global};
-use timefd_diagnosis::Code;
+use timefd_lint_diagnosis::Code;
 use timefd_parse::{
     BorrowedParseError, DescriptionVersion, Language, NESTING_LIMIT, amount_all_borrowed,
 };

@@ -1,7 +1,7 @@
 //! What the linter reports about a format of another language or library.
 
 ghost use Rattle.std.specs.Prelude.{◌≡◌, ◌++◌, IfOk, OnOk, flat_map, is_some};
-ghost use Rattle.timefd_drawing.specs.Counted.{IsCounted};
+ghost use Rattle.timefd_lint_drawing.specs.Counted.{IsCounted};
 ghost use Rattle.timefd_lint_sources.specs.declared.reported.End.TheVariants as ends;
 ghost use Rattle.timefd_lint_sources.specs.Judged.{text_of};
 ghost use Rattle.timefd_lint_sources.specs.Others as spec;
@@ -11,10 +11,10 @@ use crate::position::FIRST_LINE;
 use crate::reported::{End, Reported, Reporting, Source};
 use crate::search::first_refusal;
 use std::alloc::{AllocError, Global};
-use timefd_dialect::{Dialect, Found, Refusal, traps};
-use timefd_drawing::{Counter, Origin, Style};
+use timefd_lang_dialect::{Dialect, Found, Refusal, traps};
+use timefd_lint_drawing::{Counter, Origin, Style};
+use timefd_lint_scan::{Description, index_in_source};
 use timefd_lint_warnings::dialects::{refusal_drawn, trap_drawn};
-use timefd_sources::{Description, index_in_source};
 
 /// Checks a format of another language or library, which is a description of this source, and reports the part that is
 /// refused, or else its traps, at their positions in the source. `from` says how far lines are counted. An `Err` says

@@ -1,11 +1,11 @@
 //! The line and the column of a position in a source.
 
 ghost use Rattle.std.specs.Prelude.{◌≡◌, IfOk};
-ghost use Rattle.timefd_drawing.specs.Counted.{IsCounted};
-ghost use Rattle.timefd_drawing.specs.Positions as spec;
+ghost use Rattle.timefd_lint_drawing.specs.Counted.{IsCounted};
+ghost use Rattle.timefd_lint_drawing.specs.Positions as spec;
 
 use std::alloc::{AllocError, Global};
-use timefd_drawing::{Counter, Format, Position, char_position_from, position_from};
+use timefd_lint_drawing::{Counter, Format, Position, char_position_from, position_from};
 
 /// The number of a source's first line.
 pub const FIRST_LINE: u64 = 1;

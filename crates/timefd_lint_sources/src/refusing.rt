@@ -4,7 +4,7 @@ ghost use Rattle.std.specs.Prelude.{◌≡◌};
 ghost use Rattle.timefd_lint_sources.specs.Refusing as spec;
 
 use crate::reported::Finder;
-use timefd_dialect::{Dialect, Reason};
+use timefd_lang_dialect::{Dialect, Reason};
 
 /// Whether a format is refused that version 3 can't write for this reason. In a source of Rust the formats of
 /// chrono and jiff are right if the library takes them, whatever version 3 has.

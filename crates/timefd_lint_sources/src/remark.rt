@@ -6,7 +6,7 @@ ghost use Rattle.timefd_lint_sources.specs.Remarks as spec;
 use crate::position::FIRST_LINE;
 use crate::reported::{End, Source};
 use std::alloc::{AllocError, Global};
-use timefd_drawing::{Origin, Position, Style, note, position_of};
+use timefd_lint_drawing::{Origin, Position, Style, note, position_of};
 
 /// What is seen in a source besides its descriptions.
 #[derive(Clone, Copy)]

@@ -1,7 +1,7 @@
 //! What the linter reports about one description.
 
 ghost use Rattle.std.specs.Prelude.{◌≡◌, IfOk, None, map};
-ghost use Rattle.timefd_drawing.specs.Counted.{IsCounted};
+ghost use Rattle.timefd_lint_drawing.specs.Counted.{IsCounted};
 ghost use Rattle.timefd_lint_sources.specs.declared.reported.End.TheVariants as ends;
 ghost use Rattle.timefd_lint_sources.specs.Judged.{text_of};
 ghost use Rattle.timefd_lint_sources.specs.Judged as judging;
@@ -16,11 +16,11 @@ use crate::other::report_other;
 use crate::position::FIRST_LINE;
 use std::alloc::{AllocError, Global};
 use std::str;
-use timefd_diagnosis::{Diagnostic, Span, diagnose};
-use timefd_drawing::{Counter, Origin, Style, counted, drawn_all_from, note};
-use timefd_sources::keys::{Format, Key};
-use timefd_sources::{Description, index_in_source};
-use timefd_warnings::Levels;
+use timefd_lang_warnings::Levels;
+use timefd_lint_diagnosis::{Diagnostic, Span, diagnose};
+use timefd_lint_drawing::{Counter, Origin, Style, counted, drawn_all_from, note};
+use timefd_lint_scan::keys::{Format, Key};
+use timefd_lint_scan::{Description, index_in_source};
 
 /// How to report on descriptions.
 #[derive(Clone, Copy)]

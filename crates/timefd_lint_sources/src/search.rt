@@ -1,14 +1,14 @@
 //! The first part of a format of another language or library that is refused where the format stands.
 
 ghost use Rattle.std.specs.Prelude.{◌≡◌, ◌<◌, IfOk, IfSome, None, length};
-ghost use Rattle.timefd_dialect.specs.Reading.{RefusedAt};
-ghost use Rattle.timefd_drawing.specs.Positions.{after};
+ghost use Rattle.timefd_lang_dialect.specs.Reading.{RefusedAt};
+ghost use Rattle.timefd_lint_drawing.specs.Positions.{after};
 ghost use Rattle.timefd_lint_sources.specs.Search as spec;
 
 use crate::refusing::is_refused;
 use crate::reported::Finder;
 use std::alloc::{AllocError, Global};
-use timefd_dialect::{Dialect, DialectError, Refusal, to_version_three};
+use timefd_lang_dialect::{Dialect, DialectError, Refusal, to_version_three};
 
 /// The first part of a format that is refused. Parts that version 3 doesn't have, but that are right where the format stands,
 /// are passed over: what follows the percent sign of such a part is read on. An `Err` says that memory ran out.

@@ -1,20 +1,20 @@
 //! What the linter reports about all descriptions of a source.
 
 ghost use Rattle.std.specs.Prelude.{IfOk, OnOk};
-ghost use Rattle.timefd_drawing.specs.Counted.{IsCounted};
-ghost use Rattle.timefd_sources.specs.Keys.Found.{AllValues};
+ghost use Rattle.timefd_lint_drawing.specs.Counted.{IsCounted};
+ghost use Rattle.timefd_lint_scan.specs.Keys.Found.{AllValues};
 ghost use Rattle.timefd_lint_sources.specs.Remarks.{AreSeenIn, AreValuesSeen};
 ghost use Rattle.timefd_lint_sources.specs.Reported.{AddsReported, AreSeen, AllFound, AreAllOf, AreJudgedIn, AreReported, IsSourceReported};
-ghost use Rattle.timefd_sources.specs.Found.{AreInOrder};
+ghost use Rattle.timefd_lint_scan.specs.Found.{AreInOrder};
 
 use crate::judged::judged_all;
 use crate::position::FIRST_LINE;
 use crate::remark::{Remark, push_remarks, remarks_on, remarks_on_values};
 use crate::reported::{End, Finder, Reported, Reporting, Source, report};
 use std::alloc::{AllocError, Global};
-use timefd_drawing::{Counter, counted, none_counted};
-use timefd_sources::keys::{Format, Key, Values, descriptions_by, values_by};
-use timefd_sources::{Description, Look, descriptions_of, looked_at};
+use timefd_lint_drawing::{Counter, counted, none_counted};
+use timefd_lint_scan::keys::{Format, Key, Values, descriptions_by, values_by};
+use timefd_lint_scan::{Description, Look, descriptions_of, looked_at};
 
 /// What the linter reports about the descriptions of a source.
 #[derive(Drop)]

@@ -1,20 +1,20 @@
 -- The parts of what a text spells.
 use Rattle.std.proofs.Common.{◌≡◌, List, [], ◌∷◌, Result, Ok, Err, refl, sym, ap, ◌∙◌, append-nil}
 use Rattle.std.specs.Prelude.{IfOk, MatchResult}
-use Rattle.timefd_fault.specs.declared.borrowed_parse_error.BorrowedParseError.{BorrowedParseError}
-use Rattle.timefd_component.specs.Tree.{Tree, pack, trees}
+use Rattle.timefd_lang_fault.specs.declared.borrowed_parse_error.BorrowedParseError.{BorrowedParseError}
+use Rattle.timefd_lang_component.specs.Tree.{Tree, pack, trees}
 use Rattle.timefd_language.specs.declared.description_version.DescriptionVersion.{DescriptionVersion}
 use Rattle.timefd_language.specs.declared.description_version.DescriptionVersion.TheVariants.{One, Two, Three}
-use Rattle.timefd_node_list.specs.Leaves.{leaves, leaves_all, leaves_in}
+use Rattle.timefd_lang_node_list.specs.Leaves.{leaves, leaves_all, leaves_in}
 use Rattle.timefd_parse.specs.Answers.{IsOutput}
 use Rattle.timefd_parse.specs.declared.parsing.BorrowedOutput.{BorrowedOutput}
 use Rattle.timefd_parse.specs.declared.parsing.BorrowedOutput.TheVariants.{Items, Description}
-use Rattle.timefd_node_list.specs.declared.item.borrowed_format_item.BorrowedFormatItem.{BorrowedFormatItem}
-use Rattle.timefd_node_list.specs.Item.Meaning.{item_trees}
-use Rattle.timefd_node_list.proofs.LeafLemmas.{leaves_packed}
-use Rattle.timefd_warnings.specs.declared.levels.Levels.{Levels}
-use Rattle.timefd_warnings.specs.declared.warned.Style.{Style}
-use Rattle.timefd_warnings.specs.Levels.{found}
+use Rattle.timefd_lang_node_list.specs.declared.item.borrowed_format_item.BorrowedFormatItem.{BorrowedFormatItem}
+use Rattle.timefd_lang_node_list.specs.Item.Meaning.{item_trees}
+use Rattle.timefd_lang_node_list.proofs.LeafLemmas.{leaves_packed}
+use Rattle.timefd_lang_warnings.specs.declared.levels.Levels.{Levels}
+use Rattle.timefd_lang_warnings.specs.declared.warned.Style.{Style}
+use Rattle.timefd_lang_warnings.specs.Levels.{found}
 use Rattle.timefd_lint_warnings.specs.Found.{output_parts}
 
 pub parts_of_output : (version : DescriptionVersion) (list : List Tree) (output : BorrowedOutput)

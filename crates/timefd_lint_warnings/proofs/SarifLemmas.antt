@@ -1,11 +1,11 @@
 -- A warning as a SARIF result: its parts are the warning's.
 use Rattle.std.proofs.Common.{ℕ, ◌≡◌, refl}
-use Rattle.timefd_component.specs.Tree.{Text}
-use Rattle.timefd_drawing.specs.declared.position.Origin.{Origin}
-use Rattle.timefd_drawing.specs.Sarif.{note_result, with_help}
-use Rattle.timefd_warnings.specs.declared.levels.Level.{Level}
-use Rattle.timefd_warnings.specs.declared.warning.Warning.{Warning}
-use Rattle.timefd_warnings.specs.Codes.{name_of, sentence_of}
+use Rattle.timefd_lang_component.specs.Tree.{Text}
+use Rattle.timefd_lint_drawing.specs.declared.position.Origin.{Origin}
+use Rattle.timefd_lint_drawing.specs.Sarif.{note_result, with_help}
+use Rattle.timefd_lang_warnings.specs.declared.levels.Level.{Level}
+use Rattle.timefd_lang_warnings.specs.declared.warning.Warning.{Warning}
+use Rattle.timefd_lang_warnings.specs.Codes.{name_of, sentence_of}
 use Rattle.timefd_lint_warnings.specs.Hints.{help_on}
 use Rattle.timefd_lint_warnings.specs.Messages.{sarif, severity}
 

@@ -1,17 +1,17 @@
 -- The warnings of a text, by what it spells.
 use Rattle.std.specs.Prelude.{List, Option, None, Some}
-use Rattle.timefd_component.specs.Tree.{Tree, trees}
-use Rattle.timefd_node_list.specs.Item.Meaning.{item_trees}
+use Rattle.timefd_lang_component.specs.Tree.{Tree, trees}
+use Rattle.timefd_lang_node_list.specs.Item.Meaning.{item_trees}
 use Rattle.timefd_items.specs.Description.{description_tree}
-use Rattle.timefd_node_list.specs.Leaves.{leaves, leaves_all, leaves_in}
+use Rattle.timefd_lang_node_list.specs.Leaves.{leaves, leaves_all, leaves_in}
 use Rattle.timefd_language.specs.declared.language.Language.{Language}
 use Rattle.timefd_language.specs.declared.language.Language.TheVariants.{Version, Strftime}
 use Rattle.timefd_parse.specs.declared.parsing.BorrowedOutput.{BorrowedOutput}
 use Rattle.timefd_parse.specs.declared.parsing.BorrowedOutput.TheVariants.{Items, Description}
-use Rattle.timefd_warnings.specs.declared.levels.Level.TheVariants.{Allowed}
-use Rattle.timefd_warnings.specs.declared.levels.Levels.{Levels}
-use Rattle.timefd_warnings.specs.declared.warned.Style.{Style}
-use Rattle.timefd_warnings.specs.Levels.{all_at, found}
+use Rattle.timefd_lang_warnings.specs.declared.levels.Level.TheVariants.{Allowed}
+use Rattle.timefd_lang_warnings.specs.declared.levels.Levels.{Levels}
+use Rattle.timefd_lang_warnings.specs.declared.warned.Style.{Style}
+use Rattle.timefd_lang_warnings.specs.Levels.{all_at, found}
 
 -- how components are written in the language
 abbrev pub style_of : Language → Style

@@ -1,27 +1,27 @@
 -- What the linter reports about the warnings of a text.
 use Rattle.std.specs.Prelude.{ℕ, Bool, true, false, List, [], ◌∷◌, ◌++◌, codes, decimal, flat_map, length}
-use Rattle.timefd_component.specs.Tree.{Text}
-use Rattle.timefd_diagnosis.specs.declared.span.Span.{Span}
-use Rattle.timefd_drawing.specs.declared.draw.Format.{Format}
-use Rattle.timefd_drawing.specs.declared.draw.Format.TheVariants.{Human, Json, Short, Github, Sarif}
-use Rattle.timefd_drawing.specs.declared.draw.Style.{Style}
-use Rattle.timefd_drawing.specs.declared.github.Command.{Command}
-use Rattle.timefd_drawing.specs.declared.github.Command.TheVariants as commands
-use Rattle.timefd_drawing.specs.declared.position.Origin.{Origin}
-use Rattle.timefd_drawing.specs.Drawing.{margin, source}
-use Rattle.timefd_drawing.specs.Github.{annotation}
-use Rattle.timefd_drawing.specs.Json.{text_field, number_field}
-use Rattle.timefd_drawing.specs.Lines.{position_line, help_line}
-use Rattle.timefd_drawing.specs.Positions.{before, spanned, after_span}
-use Rattle.timefd_drawing.specs.Sarif.{note_result, with_help}
-use Rattle.timefd_drawing.specs.Shown.{safe}
+use Rattle.timefd_lang_component.specs.Tree.{Text}
+use Rattle.timefd_lint_diagnosis.specs.declared.span.Span.{Span}
+use Rattle.timefd_lint_drawing.specs.declared.draw.Format.{Format}
+use Rattle.timefd_lint_drawing.specs.declared.draw.Format.TheVariants.{Human, Json, Short, Github, Sarif}
+use Rattle.timefd_lint_drawing.specs.declared.draw.Style.{Style}
+use Rattle.timefd_lint_drawing.specs.declared.github.Command.{Command}
+use Rattle.timefd_lint_drawing.specs.declared.github.Command.TheVariants as commands
+use Rattle.timefd_lint_drawing.specs.declared.position.Origin.{Origin}
+use Rattle.timefd_lint_drawing.specs.Drawing.{margin, source}
+use Rattle.timefd_lint_drawing.specs.Github.{annotation}
+use Rattle.timefd_lint_drawing.specs.Json.{text_field, number_field}
+use Rattle.timefd_lint_drawing.specs.Lines.{position_line, help_line}
+use Rattle.timefd_lint_drawing.specs.Positions.{before, spanned, after_span}
+use Rattle.timefd_lint_drawing.specs.Sarif.{note_result, with_help}
+use Rattle.timefd_lint_drawing.specs.Shown.{safe}
 use Rattle.timefd_lint_warnings.specs.Hints.{help_on}
-use Rattle.timefd_warnings.specs.declared.levels.Level.{Level}
-use Rattle.timefd_warnings.specs.declared.levels.Level.TheVariants.{Allowed, Warned, Denied}
-use Rattle.timefd_warnings.specs.declared.levels.Levels.{Levels}
-use Rattle.timefd_warnings.specs.declared.warning.Warning.{Warning}
-use Rattle.timefd_warnings.specs.Codes.{all, name_of, sentence_of}
-use Rattle.timefd_warnings.specs.Levels.{level_of}
+use Rattle.timefd_lang_warnings.specs.declared.levels.Level.{Level}
+use Rattle.timefd_lang_warnings.specs.declared.levels.Level.TheVariants.{Allowed, Warned, Denied}
+use Rattle.timefd_lang_warnings.specs.declared.levels.Levels.{Levels}
+use Rattle.timefd_lang_warnings.specs.declared.warning.Warning.{Warning}
+use Rattle.timefd_lang_warnings.specs.Codes.{all, name_of, sentence_of}
+use Rattle.timefd_lang_warnings.specs.Levels.{level_of}
 
 -- the severity of a warning with this level
 abbrev pub severity : Level → Text

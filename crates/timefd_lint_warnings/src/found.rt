@@ -1,13 +1,13 @@
 //! The warnings of a text that a language accepts.
 
 ghost use Rattle.std.specs.Prelude.{◌≡◌, List, IfOk};
-ghost use Rattle.timefd_component.specs.Tree.{Tree};
+ghost use Rattle.timefd_lang_component.specs.Tree.{Tree};
 ghost use Rattle.timefd_language.specs.Grammar.{Spells, nesting_limit};
 ghost use Rattle.timefd_language.specs.Strftime.{SpellsStrftime};
 ghost use Rattle.timefd_parse.specs.Language.{SpellsIn};
-ghost use Rattle.timefd_warnings.specs.declared.warned.Style.TheVariants as styles;
-ghost use Rattle.timefd_warnings.specs.Levels.{found};
-ghost use Rattle.timefd_node_list.specs.Leaves.{leaves_in};
+ghost use Rattle.timefd_lang_warnings.specs.declared.warned.Style.TheVariants as styles;
+ghost use Rattle.timefd_lang_warnings.specs.Levels.{found};
+ghost use Rattle.timefd_lang_node_list.specs.Leaves.{leaves_in};
 ghost use Rattle.timefd_lint_warnings.specs.Found as spec;
 
 use std::alloc::{AllocError, Global};
@@ -15,7 +15,7 @@ use timefd_parse::{
     BorrowedOutput, DescriptionVersion, Language, NESTING_LIMIT, StrftimeTables,
     parse_all_borrowed, parse_strftime_all_borrowed,
 };
-use timefd_warnings::{Description, Level, Levels, Style};
+use timefd_lang_warnings::{Description, Level, Levels, Style};
 
 /// The levels of the warnings that a text has, if its language accepts it; every other warning is
 /// allowed. An `Err` says that memory ran out.

@@ -2,12 +2,12 @@
 
 ghost use Rattle.std.specs.Prelude.{◌≡◌, ◌++◌, IfOk, OnOk, codes, flat_map, string_bytes};
 ghost use Rattle.std.specs.List.{filter};
-ghost use Rattle.timefd_dialect.specs.Dialects.{name_of};
+ghost use Rattle.timefd_lang_dialect.specs.Dialects.{name_of};
 ghost use Rattle.timefd_lint_warnings.specs.Hints as spec;
 
 use std::alloc::{AllocError, Global};
-use timefd_dialect::{Dialect, readers};
-use timefd_warnings::Warning;
+use timefd_lang_dialect::{Dialect, readers};
+use timefd_lang_warnings::Warning;
 
 /// The help on a warning about a text: what the warning means, and what to write instead. If the text has no
 /// component, it also names the languages that read one in it. An `Err` says that memory ran out.

@@ -5,15 +5,15 @@ ghost use Rattle.timefd_lint_warnings.specs.Messages as spec;
 
 use crate::hint::help_on;
 use std::alloc::{AllocError, Global};
-use timefd_diagnosis::Span;
-use timefd_drawing::github::{Command, annotation};
-use timefd_drawing::json::{Entry, push_number, push_text};
-use timefd_drawing::lines::{push_help_line, push_position_line};
-use timefd_drawing::sarif::{note_result, with_help};
-use timefd_drawing::shown::safe;
-use timefd_drawing::source_line::{margin, push_source};
-use timefd_drawing::{Format, Origin, Position, Style, line_of};
-use timefd_warnings::{Level, Warning};
+use timefd_lang_warnings::{Level, Warning};
+use timefd_lint_diagnosis::Span;
+use timefd_lint_drawing::github::{Command, annotation};
+use timefd_lint_drawing::json::{Entry, push_number, push_text};
+use timefd_lint_drawing::lines::{push_help_line, push_position_line};
+use timefd_lint_drawing::sarif::{note_result, with_help};
+use timefd_lint_drawing::shown::safe;
+use timefd_lint_drawing::source_line::{margin, push_source};
+use timefd_lint_drawing::{Format, Origin, Position, Style, line_of};
 
 /// The message about a warning on a text that begins at this column of its line, in the requested
 /// format. The text is the part `span` of `whole`. An `Err` says that memory ran out.

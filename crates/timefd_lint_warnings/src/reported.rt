@@ -5,9 +5,9 @@ ghost use Rattle.timefd_lint_warnings.specs.Messages as spec;
 
 use crate::message::message;
 use std::alloc::{AllocError, Global};
-use timefd_diagnosis::Span;
-use timefd_drawing::{Origin, Style};
-use timefd_warnings::{Level, Levels, Warning};
+use timefd_lang_warnings::{Level, Levels, Warning};
+use timefd_lint_diagnosis::Span;
+use timefd_lint_drawing::{Origin, Style};
 
 /// A message about each warning that isn't allowed, in the order of the codes. An `Err` says that
 /// memory ran out.

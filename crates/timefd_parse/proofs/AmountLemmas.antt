@@ -2,22 +2,22 @@
 use Rattle.std.proofs.Common.{◌≡◌, ℕ, Result, Ok, Err, IfErr, IsFalse, IsUtf8, List, length, refl}
 use Rattle.std.proofs.lemmas.Bool.{true≢false}
 use Rattle.timefd_language.specs.Bytes.{is_version_three}
-use Rattle.timefd_component.specs.Tree.{Text, Tree}
+use Rattle.timefd_lang_component.specs.Tree.{Text, Tree}
 use Rattle.timefd_language.specs.declared.description_version.DescriptionVersion.{DescriptionVersion}
 use Rattle.timefd_language.specs.declared.description_version.DescriptionVersion.TheVariants.{One, Two, Three}
 use Rattle.timefd_language.specs.declared.language.Language.TheVariants.{Version, Strftime}
-use Rattle.timefd_fault.specs.declared.parse_error.ParseError.{ParseError}
-use Rattle.timefd_fault.specs.declared.parse_error.ParseError.TheVariants as reported
+use Rattle.timefd_lang_fault.specs.declared.parse_error.ParseError.{ParseError}
+use Rattle.timefd_lang_fault.specs.declared.parse_error.ParseError.TheVariants as reported
 use Rattle.timefd_language.specs.Broken.{FaultOf}
 use Rattle.timefd_language.specs.Strftime.{StrftimeFaultOf}
-use Rattle.timefd_fault.specs.declared.borrowed_parse_error.BorrowedParseError.{BorrowedParseError}
-use Rattle.timefd_fault.specs.declared.borrowed_parse_error.BorrowedParseError.TheVariants.{Invalid, Memory}
-use Rattle.timefd_fault.specs.BorrowedFaults.{HasShortWords, IsBorrowedOf, IsOwned}
-use Rattle.timefd_fault.specs.Placed.{IsPlaced}
+use Rattle.timefd_lang_fault.specs.declared.borrowed_parse_error.BorrowedParseError.{BorrowedParseError}
+use Rattle.timefd_lang_fault.specs.declared.borrowed_parse_error.BorrowedParseError.TheVariants.{Invalid, Memory}
+use Rattle.timefd_lang_fault.specs.BorrowedFaults.{HasShortWords, IsBorrowedOf, IsOwned}
+use Rattle.timefd_lang_fault.specs.Placed.{IsPlaced}
 use Rattle.timefd_language.proofs.PlacedLemmas.{is_placed, is_strftime_placed}
 use Rattle.timefd_language.proofs.ShortWords.{short_fault, short_strftime_fault}
-use Rattle.timefd_fault.specs.Faults.{Fault}
-use Rattle.timefd_fault.proofs.OwnedLemmas.{owned_of}
+use Rattle.timefd_lang_fault.specs.Faults.{Fault}
+use Rattle.timefd_lang_fault.proofs.OwnedLemmas.{owned_of}
 use Rattle.timefd_language.specs.declared.language.Language.{Language}
 use Rattle.timefd_parse.specs.Language.{amount, takes_memory, FaultIn, IsAssignedIn}
 

@@ -4,16 +4,16 @@ use Rattle.std.proofs.lemmas.Bool.{and_parts, both_ways, true≢false}
 use Rattle.std.proofs.lemmas.List.{append_cancel_right, append_cancel_left}
 use Rattle.std.specs.Borrow.{Bor}
 use Rattle.std.specs.Prelude.{⊤}
-use Rattle.timefd_component.specs.Tree.{Text, Tree}
+use Rattle.timefd_lang_component.specs.Tree.{Text, Tree}
 use Rattle.timefd_language.specs.declared.description_version.DescriptionVersion.{DescriptionVersion}
-use Rattle.timefd_fault.specs.declared.read_error.Fault as code_fault
+use Rattle.timefd_lang_fault.specs.declared.read_error.Fault as code_fault
 use Rattle.timefd_language.specs.Bytes.{left, backslash, right, colon, is_white, is_word_byte, is_key_byte, is_run_byte, ZeroOrMore, OneOrMore, StopsBefore}
 use Rattle.timefd_language.specs.Cut.{BeginsWith, IsCut}
-use Rattle.timefd_fault.specs.ReadErrors.{MemoryOr}
-use Rattle.timefd_fault.specs.ReadErrors.{IsInvalid}
+use Rattle.timefd_lang_fault.specs.ReadErrors.{MemoryOr}
+use Rattle.timefd_lang_fault.specs.ReadErrors.{IsInvalid}
 use Rattle.timefd_language.specs.declared.description_version.DescriptionVersion.TheVariants.{Three}
-use Rattle.timefd_fault.specs.declared.read_error.ReadError.{ReadError}
-use Rattle.timefd_fault.specs.declared.read_error.ReadError.TheVariants as errors
+use Rattle.timefd_lang_fault.specs.declared.read_error.ReadError.{ReadError}
+use Rattle.timefd_lang_fault.specs.declared.read_error.ReadError.TheVariants as errors
 use Rattle.timefd_language.specs.declared.text.Start.{Start}
 use Rattle.timefd_language.specs.declared.text.Start.TheVariants as starts
 use Rattle.timefd_language.specs.Front.{Stop, ended, closed, broke, Reads}

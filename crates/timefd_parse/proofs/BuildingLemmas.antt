@@ -3,10 +3,10 @@ use Rattle.std.proofs.Common.{◌≡◌, ◌∙◌, ℕ, ◌≤◌, ◌==◌, Bo
 use Rattle.std.proofs.lemmas.Bool.{true≢false}
 use Rattle.std.proofs.lemmas.Bool.Decides.{nat_tests}
 use Rattle.std.proofs.lemmas.Result.{on_ok_weaker}
-use Rattle.timefd_node_list.specs.Nodes.{before, ending}
-use Rattle.timefd_component.specs.Reserved.{reserve_all}
-use Rattle.timefd_component.specs.Tree.{Text, Tree, pack, trees}
-use Rattle.timefd_node_list.proofs.NodeLemmas.{before-append, ending-append}
+use Rattle.timefd_lang_node_list.specs.Nodes.{before, ending}
+use Rattle.timefd_lang_component.specs.Reserved.{reserve_all}
+use Rattle.timefd_lang_component.specs.Tree.{Text, Tree, pack, trees}
+use Rattle.timefd_lang_node_list.proofs.NodeLemmas.{before-append, ending-append}
 use Rattle.timefd_language.specs.declared.description_version.DescriptionVersion.{DescriptionVersion}
 use Rattle.timefd_parse.specs.declared.piece.Piece.{Piece}
 use Rattle.timefd_parse.specs.declared.piece.Piece.TheVariants.{Literal, Component, Compound}

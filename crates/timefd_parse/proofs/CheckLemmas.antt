@@ -3,10 +3,10 @@ use Rattle.std.proofs.Common.{◌≡◌, ℕ, ◌+◌, Bool, true, false, not, �
 use Rattle.std.specs.Borrow.{Bor}
 use Rattle.std.specs.Bool.{⊤}
 use Rattle.std.proofs.lemmas.Bool.{true≢false}
-use Rattle.timefd_component.specs.Tree.{Text}
-use Rattle.timefd_fault.specs.Faults.{Fault, fault, invalid_modifier, duplicate_modifier}
-use Rattle.timefd_fault.specs.declared.read_error.Fault as code_fault
-use Rattle.timefd_fault.specs.declared.rule.Rule.TheVariants as broken
+use Rattle.timefd_lang_component.specs.Tree.{Text}
+use Rattle.timefd_lang_fault.specs.Faults.{Fault, fault, invalid_modifier, duplicate_modifier}
+use Rattle.timefd_lang_fault.specs.declared.read_error.Fault as code_fault
+use Rattle.timefd_lang_fault.specs.declared.rule.Rule.TheVariants as broken
 use Rattle.timefd_language.specs.declared.key.Key as code_key
 use Rattle.timefd_language.specs.declared.key.Key.TheVariants.{Padding, TrailingInput, HourRepr, Count, MonthRepr, CaseSensitive, Sign, Case, Digits, Precision, WeekdayRepr, OneIndexed, WeekNumberRepr, YearRepr, Range, Base, Format}
 use Rattle.timefd_parse.specs.declared.modifier.Modifier as code
@@ -22,7 +22,7 @@ use Rattle.timefd_language.specs.Values.{Key, key_in, setting_in}
 use Rattle.timefd_language.specs.Lookup.{key_for}
 use Rattle.timefd_parse.specs.Positions.{position, with_position}
 use Rattle.timefd_language.specs.Verdict.{bad_modifier, bad_modifiers, ◌or◌, bad_value, refuse, is_set, settings, settings_from, setting_of, with_option}
-use Rattle.timefd_fault.specs.ReadErrors.{IsFault}
+use Rattle.timefd_lang_fault.specs.ReadErrors.{IsFault}
 use Rattle.timefd_parse.specs.ReadModifiers.{IsPlaced}
 use Rattle.timefd_parse.specs.Checked.{keys_of, first_position, ShowsFault, ShowsPosition, Checks, ChecksOne}
 use Rattle.timefd_language.proofs.Lookup.{equal-true, Each, named-found}

@@ -1,7 +1,7 @@
 -- What is counted for the pieces of a text, one after another.
 use Rattle.std.proofs.Common.{◌≡◌, ◌∙◌, ℕ, ◌+◌, ◌≤◌, List, [], ◌∷◌, ◌++◌, length, true, refl, ap, arith, append-nil, length-append}
-use Rattle.timefd_component.specs.Reserved.{reserved, reserve, reserve_all}
-use Rattle.timefd_component.specs.Tree.{Text, Tree, pack, trees}
+use Rattle.timefd_lang_component.specs.Reserved.{reserved, reserve, reserve_all}
+use Rattle.timefd_lang_component.specs.Tree.{Text, Tree, pack, trees}
 use Rattle.timefd_language.specs.declared.description_version.DescriptionVersion.TheVariants.{Three}
 use Rattle.timefd_language.specs.Grammar.{no_pieces, spelling}
 use Rattle.timefd_language.proofs.Reserved.{reserved_within}

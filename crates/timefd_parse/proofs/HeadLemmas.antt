@@ -2,21 +2,21 @@
 use Rattle.std.proofs.Common.{◌≡◌, ℕ, ◌+◌, ◌<◌, Bool, List, [], ◌∷◌, ◌++◌, length, Option, refl, sym, ap, ◌∙◌, subst, arith, append_assoc, append-nil, length-append}
 use Rattle.std.specs.List.{list_all}
 use Rattle.std.proofs.lemmas.Bool.{and_parts, true≢false}
-use Rattle.timefd_component.specs.Tree.{Text}
+use Rattle.timefd_lang_component.specs.Tree.{Text}
 use Rattle.timefd_language.specs.declared.description_version.DescriptionVersion.{DescriptionVersion}
 use Rattle.timefd_parse.specs.declared.modifier.Modifier as code
 use Rattle.timefd_parse.specs.declared.modifiers.Modifiers as code_modifiers
 use Rattle.timefd_parse.specs.declared.head.Head as code_head
 use Rattle.timefd_language.specs.declared.name.Name.{Name}
-use Rattle.timefd_fault.specs.declared.read_error.Fault as code_fault
-use Rattle.timefd_fault.specs.declared.rule.Rule.TheVariants as broken
+use Rattle.timefd_lang_fault.specs.declared.read_error.Fault as code_fault
+use Rattle.timefd_lang_fault.specs.declared.rule.Rule.TheVariants as broken
 use Rattle.timefd_language.specs.Bytes.{left, is_white, is_word_byte, OneOrMore, StopsBefore}
 use Rattle.timefd_language.specs.Head.{Modifier, IsModifier, AreModifiers, modifier_text, modifiers_text, Head, IsHead, Placed, placed_at, placed_from}
 use Rattle.timefd_language.specs.Broken.{Misfit, no_colon, no_key, no_value, misfit_fault, nameless, ill_modified, name_wanted_index, BeginsNoEscape}
 use Rattle.timefd_language.specs.Cut.{IsCut}
 use Rattle.timefd_language.specs.Lookup.{IsNameOf}
 use Rattle.timefd_parse.specs.Checked.{Checks}
-use Rattle.timefd_fault.specs.ReadErrors.{IsFault}
+use Rattle.timefd_lang_fault.specs.ReadErrors.{IsFault}
 use Rattle.timefd_language.specs.FaultMeaning.{IsFaultAt}
 use Rattle.timefd_parse.specs.ReadModifiers.{IsPlaced, IsWord, IsNoWord, BeginsWithWord}
 use Rattle.timefd_parse.specs.Heads.{BeginsWithHead}

@@ -1,11 +1,11 @@
 -- What a head is by itself, rule by rule.
 use Rattle.std.proofs.Common.{◌≡◌, ℕ, Bool, true, false, not, if◌then◌else◌, codes, List, [], ◌∷◌, ◌++◌, length, map, Option, Some, None, option_map, Result, Ok, Err, IsUtf8, refl, sym, ap, ◌∙◌, subst, append_assoc}
 use Rattle.std.specs.Borrow.{Bor}
-use Rattle.timefd_component.specs.declared.component.Component.{Component}
-use Rattle.timefd_fault.specs.Faults.{Kind, Fault, fault, missing_modifier, invalid_combination, invalid_name}
-use Rattle.timefd_component.specs.Tree.{Text, Tree, component, optional, first, trees, pack}
-use Rattle.timefd_fault.specs.declared.read_error.Fault as code_fault
-use Rattle.timefd_fault.specs.declared.rule.Rule.TheVariants as broken
+use Rattle.timefd_lang_component.specs.declared.component.Component.{Component}
+use Rattle.timefd_lang_fault.specs.Faults.{Kind, Fault, fault, missing_modifier, invalid_combination, invalid_name}
+use Rattle.timefd_lang_component.specs.Tree.{Text, Tree, component, optional, first, trees, pack}
+use Rattle.timefd_lang_fault.specs.declared.read_error.Fault as code_fault
+use Rattle.timefd_lang_fault.specs.declared.rule.Rule.TheVariants as broken
 use Rattle.timefd_parse.specs.declared.head.Head as code_head
 use Rattle.timefd_parse.specs.declared.head_verdict.HeadVerdict.{HeadVerdict}
 use Rattle.timefd_parse.specs.declared.head_verdict.HeadVerdict.TheVariants as verdicts
@@ -17,14 +17,14 @@ use Rattle.timefd_parse.specs.declared.positions.Positions.{Positions}
 use Rattle.timefd_language.specs.declared.combination.Refusal as code_refusal
 use Rattle.timefd_language.specs.declared.key.Key as code_key
 use Rattle.timefd_language.specs.Bytes.{equal, same, left, is_white, is_word_byte, OneOrMore, StopsBefore}
-use Rattle.timefd_fault.specs.Words.{expected_white, expected_nested, expected_alternative, optional_item, first_item, nested_here}
+use Rattle.timefd_lang_fault.specs.Words.{expected_white, expected_nested, expected_alternative, optional_item, first_item, nested_here}
 use Rattle.timefd_language.specs.Head.{Head, Placed, placed, name_index}
 use Rattle.timefd_language.specs.Names.{Row, row_for, row_of}
 use Rattle.timefd_language.specs.Combinations.{Refusal, refusals}
 use Rattle.timefd_language.specs.Lookup.{key_for, IsNameOf, refusal_for}
 use Rattle.timefd_parse.specs.Positions.{position}
 use Rattle.timefd_language.specs.Verdict.{PlacedDescription, ◌or◌, unless, after, refuse, settings, component_verdict, combination, combined, misplaced, made, nested_wanted, too_many, is_formatted, only, optional_verdict, first_verdict, touching, nested_refused, verdict}
-use Rattle.timefd_fault.specs.ReadErrors.{IsFault}
+use Rattle.timefd_lang_fault.specs.ReadErrors.{IsFault}
 use Rattle.timefd_parse.specs.Checked.{Checks, ShowsFault, ShowsPosition, first_position}
 use Rattle.timefd_parse.specs.Heads.{ShowsHead}
 use Rattle.timefd_parse.specs.HeadVerdicts.{BeginsJudged, IsPlain, IsVerdict, Decides, nests, refused_unless, placing}

@@ -2,12 +2,12 @@
 use Rattle.std.proofs.Common.{◌≡◌, ℕ, ◌+◌, ◌<◌, ◌==◌, Bool, false, [], ◌∷◌, ◌++◌, length, refl, sym, ap, ◌∙◌, subst, arith, append_assoc, length-append}
 use Rattle.std.specs.List.{list_all}
 use Rattle.std.proofs.lemmas.Bool.{and_from}
-use Rattle.timefd_component.specs.Tree.{Text}
-use Rattle.timefd_fault.specs.declared.read_error.Fault as code_fault
+use Rattle.timefd_lang_component.specs.Tree.{Text}
+use Rattle.timefd_lang_fault.specs.declared.read_error.Fault as code_fault
 use Rattle.timefd_language.specs.Bytes.{colon, is_word_byte, is_key_byte, ZeroOrMore, OneOrMore, StopsBefore}
 use Rattle.timefd_language.specs.Broken.{no_colon, no_key, no_value, misfit_fault}
 use Rattle.timefd_language.specs.Cut.{IsCut}
-use Rattle.timefd_fault.specs.ReadErrors.{IsFault}
+use Rattle.timefd_lang_fault.specs.ReadErrors.{IsFault}
 use Rattle.timefd_language.proofs.Spans.{all-append, all-implied, key-word}
 use Rattle.timefd_parse.specs.ReadModifiers.{BeginsWithWord, IsNoWord}
 

@@ -8,23 +8,23 @@ use Rattle.timefd_language.specs.declared.text.Start.{Start}
 use Rattle.timefd_language.specs.declared.text.Start.TheVariants as starts
 use Rattle.timefd_language.specs.declared.description_version.DescriptionVersion.{DescriptionVersion}
 use Rattle.timefd_language.specs.declared.description_version.DescriptionVersion.TheVariants.{Three}
-use Rattle.timefd_fault.specs.declared.read_error.Fault as code_fault
-use Rattle.timefd_fault.specs.declared.read_error.ReadError.{ReadError}
-use Rattle.timefd_fault.specs.declared.read_error.ReadError.TheVariants as errors
+use Rattle.timefd_lang_fault.specs.declared.read_error.Fault as code_fault
+use Rattle.timefd_lang_fault.specs.declared.read_error.ReadError.{ReadError}
+use Rattle.timefd_lang_fault.specs.declared.read_error.ReadError.TheVariants as errors
 use Rattle.timefd_parse.specs.declared.head_verdict.JudgedHead.{JudgedHead}
 use Rattle.timefd_parse.specs.declared.piece.Piece.{Piece}
 use Rattle.timefd_parse.specs.declared.verdict.Nested as code_nested
-use Rattle.timefd_component.specs.Tree.{Text, Tree, pack}
-use Rattle.timefd_fault.specs.Faults.{Fault, fault, unclosed_bracket}
+use Rattle.timefd_lang_component.specs.Tree.{Text, Tree, pack}
+use Rattle.timefd_lang_fault.specs.Faults.{Fault, fault, unclosed_bracket}
 use Rattle.timefd_language.specs.Bytes.{left, right, backslash, is_run_byte, is_version_three, is_white, ZeroOrMore, StopsBefore}
 use Rattle.timefd_language.specs.Fault.{enclosed}
-use Rattle.timefd_fault.specs.Words.{too_highly_nested}
+use Rattle.timefd_lang_fault.specs.Words.{too_highly_nested}
 use Rattle.timefd_language.specs.Head.{Head, head_text, modifiers_text}
 use Rattle.timefd_language.specs.Verdict.{PlacedDescription, verdict}
 use Rattle.timefd_language.specs.Grammar.{Pieces, bracket, Nested, no_nested, nested, ArePieces, AreNested, spelling, nested_text, items, parts_from, is_empty}
 use Rattle.timefd_language.specs.Broken.{Broken, too_deep, broken_inside, cut_off, unclosed, refused, IsBroken, broken_text, broken_fault, before_inner, IsWholeBefore, is_bracket_byte}
 use Rattle.timefd_language.specs.Cut.{IsCut, BeginsWith}
-use Rattle.timefd_fault.specs.ReadErrors.{IsFault, MemoryOr}
+use Rattle.timefd_lang_fault.specs.ReadErrors.{IsFault, MemoryOr}
 use Rattle.timefd_language.specs.FaultMeaning.{IsFaultAt}
 use Rattle.timefd_parse.specs.HeadVerdicts.{IsVerdict, BeginsWithJudged}
 use Rattle.timefd_parse.specs.Pieces.{IsBuilt, IsPiece}

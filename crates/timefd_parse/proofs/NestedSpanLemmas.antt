@@ -1,8 +1,8 @@
 -- Which bytes of a bracket are at fault, while its nested descriptions are read.
 use Rattle.std.proofs.Common.{◌≡◌, ℕ, ◌+◌, ◌<◌, List, [], ◌∷◌, ◌++◌, length, lit<, refl, sym, ap, ◌∙◌, subst, arith, append_assoc}
-use Rattle.timefd_component.specs.Tree.{Text, Tree}
-use Rattle.timefd_fault.specs.ReadErrors.{MemoryOr}
-use Rattle.timefd_fault.specs.declared.read_error.ReadError.{ReadError}
+use Rattle.timefd_lang_component.specs.Tree.{Text, Tree}
+use Rattle.timefd_lang_fault.specs.ReadErrors.{MemoryOr}
+use Rattle.timefd_lang_fault.specs.declared.read_error.ReadError.{ReadError}
 use Rattle.timefd_language.specs.Bytes.{left, right}
 use Rattle.timefd_language.specs.Grammar.{Nested, no_nested, nested, no_pieces, nested_text, parts_from, spelling}
 use Rattle.timefd_language.specs.Head.{head_text}

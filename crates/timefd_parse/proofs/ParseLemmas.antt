@@ -3,31 +3,31 @@ use Rattle.std.proofs.Common.{◌≡◌, ℕ, ◌≤◌, List, [], ◌++◌, len
 use Rattle.std.specs.declared.vec.Vec.{Vec}
 use Rattle.std.specs.declared.alloc.Global.{Global}
 use Rattle.std.proofs.lemmas.Bool.{true≢false}
-use Rattle.timefd_fault.specs.Faults.{Fault}
-use Rattle.timefd_component.specs.Reserved.{reserve}
-use Rattle.timefd_component.specs.Tree.{Text, Tree, pack}
-use Rattle.timefd_node_list.specs.declared.item.borrowed_format_item.BorrowedFormatItem.{BorrowedFormatItem}
+use Rattle.timefd_lang_fault.specs.Faults.{Fault}
+use Rattle.timefd_lang_component.specs.Reserved.{reserve}
+use Rattle.timefd_lang_component.specs.Tree.{Text, Tree, pack}
+use Rattle.timefd_lang_node_list.specs.declared.item.borrowed_format_item.BorrowedFormatItem.{BorrowedFormatItem}
 use Rattle.timefd_language.specs.declared.description_version.DescriptionVersion.{DescriptionVersion}
 use Rattle.timefd_language.specs.declared.description_version.DescriptionVersion.TheVariants.{One, Two, Three}
-use Rattle.timefd_fault.specs.declared.read_error.Fault as code_fault
-use Rattle.timefd_fault.specs.declared.read_error.ReadError.{ReadError}
-use Rattle.timefd_fault.specs.declared.read_error.ReadError.TheVariants as errors
+use Rattle.timefd_lang_fault.specs.declared.read_error.Fault as code_fault
+use Rattle.timefd_lang_fault.specs.declared.read_error.ReadError.{ReadError}
+use Rattle.timefd_lang_fault.specs.declared.read_error.ReadError.TheVariants as errors
 use Rattle.timefd_language.specs.declared.language.Language.TheVariants.{Version}
 use Rattle.timefd_parse.specs.declared.parsing.BorrowedOutput.TheVariants.{Items}
-use Rattle.timefd_fault.specs.declared.parse_error.ParseError.{ParseError}
-use Rattle.timefd_fault.specs.declared.parse_error.ParseError.TheVariants as reported
-use Rattle.timefd_fault.specs.declared.borrowed_parse_error.BorrowedParseError.{BorrowedParseError}
-use Rattle.timefd_fault.specs.declared.borrowed_parse_error.BorrowedParseError.TheVariants as lent
-use Rattle.timefd_fault.specs.BorrowedFaults.{IsBorrowed, IsBorrowedOf, IsMemory, IsOwned, IsRefusal, Lends, LendsSpan}
-use Rattle.timefd_fault.proofs.BorrowedLemmas as borrowed
-use Rattle.timefd_fault.proofs.BorrowedLemmas.{Assigned}
-use Rattle.timefd_fault.proofs.OwnedLemmas.{owned_of}
+use Rattle.timefd_lang_fault.specs.declared.parse_error.ParseError.{ParseError}
+use Rattle.timefd_lang_fault.specs.declared.parse_error.ParseError.TheVariants as reported
+use Rattle.timefd_lang_fault.specs.declared.borrowed_parse_error.BorrowedParseError.{BorrowedParseError}
+use Rattle.timefd_lang_fault.specs.declared.borrowed_parse_error.BorrowedParseError.TheVariants as lent
+use Rattle.timefd_lang_fault.specs.BorrowedFaults.{IsBorrowed, IsBorrowedOf, IsMemory, IsOwned, IsRefusal, Lends, LendsSpan}
+use Rattle.timefd_lang_fault.proofs.BorrowedLemmas as borrowed
+use Rattle.timefd_lang_fault.proofs.BorrowedLemmas.{Assigned}
+use Rattle.timefd_lang_fault.proofs.OwnedLemmas.{owned_of}
 use Rattle.timefd_language.specs.Bytes.{is_version_three}
 use Rattle.timefd_language.specs.Fault.{raised}
 use Rattle.timefd_language.specs.Grammar.{Spells, no_pieces, spelling}
 use Rattle.timefd_language.specs.Broken.{FaultOf, broken_text, broken_fault}
-use Rattle.timefd_fault.specs.ReadErrors.{MemoryOr}
-use Rattle.timefd_fault.specs.ReadErrors.{IsInvalid}
+use Rattle.timefd_lang_fault.specs.ReadErrors.{MemoryOr}
+use Rattle.timefd_lang_fault.specs.ReadErrors.{IsInvalid}
 use Rattle.timefd_parse.specs.Read.{IsFaultIn, PiecesToEnd}
 use Rattle.timefd_language.specs.Strings.{AreItems}
 use Rattle.timefd_parse.specs.Answers.{IsOutput, IsAssigned}

@@ -6,19 +6,19 @@ use Rattle.std.proofs.lemmas.Str.{IsUtf8-drop, IsCharBoundary-after_ascii}
 use Rattle.std.specs.Str.{IsCharBoundary}
 use Rattle.timefd_language.specs.declared.description_version.DescriptionVersion.{DescriptionVersion}
 use Rattle.timefd_language.specs.declared.description_version.DescriptionVersion.TheVariants.{One, Two, Three}
-use Rattle.timefd_fault.specs.declared.read_error.Fault as code_fault
-use Rattle.timefd_fault.specs.declared.read_error.ReadError.{ReadError}
-use Rattle.timefd_fault.specs.declared.read_error.ReadError.TheVariants as errors
-use Rattle.timefd_component.specs.Tree.{Text, Tree, literal}
-use Rattle.timefd_fault.specs.Faults.{fault}
+use Rattle.timefd_lang_fault.specs.declared.read_error.Fault as code_fault
+use Rattle.timefd_lang_fault.specs.declared.read_error.ReadError.{ReadError}
+use Rattle.timefd_lang_fault.specs.declared.read_error.ReadError.TheVariants as errors
+use Rattle.timefd_lang_component.specs.Tree.{Text, Tree, literal}
+use Rattle.timefd_lang_fault.specs.Faults.{fault}
 use Rattle.timefd_language.specs.Bytes.{left, right, backslash, is_special, is_run_byte, is_version_one, is_version_three, OneOrMore, StopsBefore}
-use Rattle.timefd_fault.specs.Words.{expected_escape, expected_closing_escape}
+use Rattle.timefd_lang_fault.specs.Words.{expected_escape, expected_closing_escape}
 use Rattle.timefd_language.specs.Grammar.{Pieces, no_pieces, run, escape, closing, bracket, ArePieces, BeginsNoRun, IsEscape, spelling, items}
 use Rattle.timefd_language.specs.Broken.{bare_closing, half_escape, broken_fault, escape_index}
 use Rattle.timefd_language.specs.Cut.{IsCut}
 use Rattle.timefd_parse.specs.Pieces.{IsBuilt}
-use Rattle.timefd_fault.specs.RuleKinds.{rule_kind}
-use Rattle.timefd_fault.specs.ReadErrors.{IsFault, MemoryOr}
+use Rattle.timefd_lang_fault.specs.RuleKinds.{rule_kind}
+use Rattle.timefd_lang_fault.specs.ReadErrors.{IsFault, MemoryOr}
 use Rattle.timefd_language.specs.FaultMeaning.{IsFaultAt}
 use Rattle.timefd_parse.specs.Read.{Leads, LeadsOn, IsFaultIn, PiecesToEnd, AreMembers, IsEnd, BeginsRun}
 

@@ -3,10 +3,10 @@ use Rattle.std.proofs.Common.{◌≡◌, ℕ, ◌+◌, ◌<◌, ◌≤◌, Bool,
 use Rattle.std.specs.List.{list_all}
 use Rattle.std.proofs.lemmas.Bool.{and_parts}
 use Rattle.std.proofs.lemmas.Bool.Decides.{nat_tests}
-use Rattle.timefd_component.specs.Tree.{Text}
-use Rattle.timefd_fault.specs.Faults.{Fault}
-use Rattle.timefd_fault.specs.RuleKinds.{rule_kind}
-use Rattle.timefd_fault.specs.declared.read_error.Fault as code_fault
+use Rattle.timefd_lang_component.specs.Tree.{Text}
+use Rattle.timefd_lang_fault.specs.Faults.{Fault}
+use Rattle.timefd_lang_fault.specs.RuleKinds.{rule_kind}
+use Rattle.timefd_lang_fault.specs.declared.read_error.Fault as code_fault
 use Rattle.timefd_language.specs.declared.key.Key as code_key
 use Rattle.timefd_language.specs.Bytes.{left, colon, equal, is_white, is_word_byte, is_key_byte, ZeroOrMore, OneOrMore, StopsBefore}
 use Rattle.timefd_language.specs.Cut.{IsCut}

@@ -1,14 +1,14 @@
 -- The verdict, rule by rule.
 use Rattle.std.proofs.Common.{IsTrue, ◌++◌, ◌<◌, ◌≡◌, ℕ, ◌+◌, Bool, true, false, not, if◌then◌else◌, List, [], ◌∷◌, length, map, Some, None, Ok, Err, refl, sym, ap, ◌∙◌, subst, arith}
 use Rattle.std.proofs.lemmas.List.{length-map}
-use Rattle.timefd_fault.specs.Faults.{Fault, fault}
-use Rattle.timefd_component.specs.Tree.{Tree, optional, first, trees, pack}
-use Rattle.timefd_node_list.specs.Nodes.{before, ending}
-use Rattle.timefd_node_list.proofs.NodeLemmas.{before-append, ending-append}
+use Rattle.timefd_lang_fault.specs.Faults.{Fault, fault}
+use Rattle.timefd_lang_component.specs.Tree.{Tree, optional, first, trees, pack}
+use Rattle.timefd_lang_node_list.specs.Nodes.{before, ending}
+use Rattle.timefd_lang_node_list.proofs.NodeLemmas.{before-append, ending-append}
 use Rattle.timefd_parse.specs.declared.piece.Piece.TheVariants.{Compound}
 use Rattle.timefd_parse.specs.declared.verdict.Nested as code_nested
 use Rattle.timefd_language.specs.Bytes.{same}
-use Rattle.timefd_fault.specs.Words.{expected_nested, expected_alternative, many_nested, optional_item, first_item}
+use Rattle.timefd_lang_fault.specs.Words.{expected_nested, expected_alternative, many_nested, optional_item, first_item}
 use Rattle.timefd_language.specs.Head.{Head, Placed, placed}
 use Rattle.timefd_language.specs.Values.{format}
 use Rattle.timefd_parse.specs.Positions.{position}

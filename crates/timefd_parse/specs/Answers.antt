@@ -1,16 +1,16 @@
 -- How the answer of a public call relates to the text.
 use Rattle.std.specs.Prelude.{ℕ, ◌≡◌, ◌≤◌, List, map, IsTrue, ⊤}
-use Rattle.timefd_component.specs.Tree.{Text, Tree, pack}
-use Rattle.timefd_node_list.specs.Item.Meaning.{item_tree}
+use Rattle.timefd_lang_component.specs.Tree.{Text, Tree, pack}
+use Rattle.timefd_lang_node_list.specs.Item.Meaning.{item_tree}
 use Rattle.timefd_items.specs.Description.{description_tree}
-use Rattle.timefd_fault.specs.Faults.{fault_of}
-use Rattle.timefd_component.specs.Reserved.{reserve}
+use Rattle.timefd_lang_fault.specs.Faults.{fault_of}
+use Rattle.timefd_lang_component.specs.Reserved.{reserve}
 use Rattle.timefd_language.specs.declared.description_version.DescriptionVersion.{DescriptionVersion}
 use Rattle.timefd_language.specs.declared.description_version.DescriptionVersion.TheVariants.{One, Two, Three}
 use Rattle.timefd_parse.specs.declared.parsing.BorrowedOutput.{BorrowedOutput}
 use Rattle.timefd_parse.specs.declared.parsing.BorrowedOutput.TheVariants.{Items, Description}
-use Rattle.timefd_fault.specs.declared.parse_error.ParseError.{ParseError}
-use Rattle.timefd_fault.specs.declared.parse_error.ParseError.TheVariants.{Invalid, Memory}
+use Rattle.timefd_lang_fault.specs.declared.parse_error.ParseError.{ParseError}
+use Rattle.timefd_lang_fault.specs.declared.parse_error.ParseError.TheVariants.{Invalid, Memory}
 use Rattle.timefd_language.specs.Broken.{FaultOf}
 use Rattle.timefd_language.specs.Strings.{are_of_strings}
 

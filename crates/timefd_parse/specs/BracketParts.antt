@@ -1,7 +1,7 @@
 -- What a bracket holds, one part after another: name, modifiers, nested descriptions.
 use Rattle.std.specs.Prelude.{ℕ, ◌≡◌, ◌+◌, List, ◌∷◌, ◌++◌, length, MatchOption, Option}
 use Rattle.std.specs.Borrow.{Bor}
-use Rattle.timefd_component.specs.Tree.{Text, Tree}
+use Rattle.timefd_lang_component.specs.Tree.{Text, Tree}
 use Rattle.timefd_language.specs.declared.description_version.DescriptionVersion.{DescriptionVersion}
 use Rattle.timefd_language.specs.Bytes.{left, right, is_white, is_word_byte, ZeroOrMore, OneOrMore, StopsBefore}
 use Rattle.timefd_language.specs.Grammar.{Spells, nesting_limit}

@@ -1,8 +1,8 @@
 -- How the code's result for the modifiers of a head relates to the rules.
 use Rattle.std.specs.Prelude.{ℕ, ◌≡◌, ◌+◌, Bool, true, false, List, [], ◌∷◌, Option, Some, None, Result, Ok, Err, IsTrue, ⊤}
-use Rattle.timefd_component.specs.Tree.{Text}
-use Rattle.timefd_fault.specs.Faults.{Fault}
-use Rattle.timefd_fault.specs.declared.read_error.Fault as code_fault
+use Rattle.timefd_lang_component.specs.Tree.{Text}
+use Rattle.timefd_lang_fault.specs.Faults.{Fault}
+use Rattle.timefd_lang_fault.specs.declared.read_error.Fault as code_fault
 use Rattle.timefd_language.specs.declared.key.Key as code_key
 use Rattle.timefd_language.specs.declared.name.Name.{Name}
 use Rattle.timefd_language.specs.declared.setting.Setting.{Setting}
@@ -13,7 +13,7 @@ use Rattle.timefd_language.specs.Values.{Key, key_in, setting_in}
 use Rattle.timefd_language.specs.Lookup.{key_for, keys_for}
 use Rattle.timefd_parse.specs.Positions.{position}
 use Rattle.timefd_language.specs.Verdict.{bad_modifier, bad_modifiers, settings}
-use Rattle.timefd_fault.specs.ReadErrors.{IsFault}
+use Rattle.timefd_lang_fault.specs.ReadErrors.{IsFault}
 
 -- the keys of a name; an unknown name has none
 abbrev pub keys_of : Option Name → List Key

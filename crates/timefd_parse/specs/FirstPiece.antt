@@ -1,7 +1,7 @@
 -- The first piece of a text, and what follows it.
 use Rattle.std.specs.Prelude.{◌≡◌, ◌<◌, List, [], ◌∷◌, ◌++◌, length}
 use Rattle.std.specs.Str.{IsUtf8}
-use Rattle.timefd_component.specs.Tree.{Text, Tree}
+use Rattle.timefd_lang_component.specs.Tree.{Text, Tree}
 use Rattle.timefd_language.specs.Grammar.{nesting_limit}
 use Rattle.timefd_language.specs.Directives.StrftimeReading as strftime
 use Rattle.timefd_language.specs.declared.language.Language.{Language}

@@ -2,11 +2,11 @@
 use Rattle.std.specs.Prelude.{ℕ, ◌≡◌, ◌==◌, Bool, true, false, not, codes, List, [], ◌∷◌, ◌++◌, length, Option, Some, None, Result, Ok, Err, MatchResult}
 use Rattle.std.specs.Borrow.{Bor}
 use Rattle.std.specs.Str.{IsUtf8}
-use Rattle.timefd_component.specs.Modern.{modern}
-use Rattle.timefd_component.specs.Tree.{Text, Tree, component}
-use Rattle.timefd_fault.specs.Faults.{Fault}
+use Rattle.timefd_lang_component.specs.Modern.{modern}
+use Rattle.timefd_lang_component.specs.Tree.{Text, Tree, component}
+use Rattle.timefd_lang_fault.specs.Faults.{Fault}
 use Rattle.timefd_language.specs.declared.description_version.DescriptionVersion.{DescriptionVersion}
-use Rattle.timefd_fault.specs.declared.read_error.Fault as code_fault
+use Rattle.timefd_lang_fault.specs.declared.read_error.Fault as code_fault
 use Rattle.timefd_language.specs.declared.name.Name.{Name}
 use Rattle.timefd_language.specs.declared.name.Name.TheVariants as names
 use Rattle.timefd_parse.specs.declared.head_verdict.HeadVerdict.{HeadVerdict}
@@ -14,7 +14,7 @@ use Rattle.timefd_parse.specs.declared.head_verdict.HeadVerdict.TheVariants as v
 use Rattle.timefd_parse.specs.declared.head_verdict.JudgedHead.{JudgedHead}
 use Rattle.timefd_language.specs.Broken.{BeginsNoEscape}
 use Rattle.timefd_language.specs.Bytes.{left, is_white, is_word_byte, ZeroOrMore, StopsBefore}
-use Rattle.timefd_fault.specs.ReadErrors.{IsFault}
+use Rattle.timefd_lang_fault.specs.ReadErrors.{IsFault}
 use Rattle.timefd_language.specs.FaultMeaning.{IsFaultAt}
 use Rattle.timefd_language.specs.Head.{Head, IsHead, head_text, placed}
 use Rattle.timefd_language.specs.Values.{format}

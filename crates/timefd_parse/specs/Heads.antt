@@ -2,9 +2,9 @@
 use Rattle.std.specs.Prelude.{ℕ, ◌≡◌, ◌+◌, Bool, List, ◌∷◌, ◌++◌, length, Result, MatchResult}
 use Rattle.std.specs.Borrow.{Bor}
 use Rattle.std.specs.Str.{IsUtf8}
-use Rattle.timefd_component.specs.Tree.{Text}
+use Rattle.timefd_lang_component.specs.Tree.{Text}
 use Rattle.timefd_language.specs.declared.description_version.DescriptionVersion.{DescriptionVersion}
-use Rattle.timefd_fault.specs.declared.read_error.Fault as code_fault
+use Rattle.timefd_lang_fault.specs.declared.read_error.Fault as code_fault
 use Rattle.timefd_parse.specs.declared.head.Head as code_head
 use Rattle.timefd_parse.specs.declared.modifiers.Modifiers as code_modifiers
 use Rattle.timefd_language.specs.Bytes.{left, is_white, is_word_byte, ZeroOrMore, StopsBefore}

@@ -1,10 +1,10 @@
 -- How the code's result for a closed bracket relates to the verdict of the rules.
 use Rattle.std.specs.Prelude.{ℕ, ◌≡◌, ◌+◌, Bool, List, [], ◌∷◌, length, map, Result, Ok, Err, MatchResult}
-use Rattle.timefd_component.specs.declared.component.Component.{Component}
-use Rattle.timefd_fault.specs.Faults.{Fault}
-use Rattle.timefd_component.specs.Tree.{Tree, component, pack}
-use Rattle.timefd_fault.specs.declared.read_error.Fault as code_fault
-use Rattle.timefd_fault.specs.declared.read_error.ReadError as code_error
+use Rattle.timefd_lang_component.specs.declared.component.Component.{Component}
+use Rattle.timefd_lang_fault.specs.Faults.{Fault}
+use Rattle.timefd_lang_component.specs.Tree.{Tree, component, pack}
+use Rattle.timefd_lang_fault.specs.declared.read_error.Fault as code_fault
+use Rattle.timefd_lang_fault.specs.declared.read_error.ReadError as code_error
 use Rattle.timefd_language.specs.declared.key.Key as code_key
 use Rattle.timefd_parse.specs.declared.piece.Piece.{Piece}
 use Rattle.timefd_parse.specs.declared.positions.Positions.{Positions}
@@ -14,7 +14,7 @@ use Rattle.timefd_language.specs.Verdict.{PlacedDescription}
 use Rattle.timefd_language.specs.Lookup.{key_for}
 use Rattle.timefd_parse.specs.Positions.{position}
 use Rattle.timefd_parse.specs.Pieces.{IsPiece}
-use Rattle.timefd_fault.specs.ReadErrors.{IsFault, MemoryOr}
+use Rattle.timefd_lang_fault.specs.ReadErrors.{IsFault, MemoryOr}
 use Rattle.timefd_parse.specs.Checked.{first_position, ShowsPosition}
 
 -- each nested description is packed

@@ -1,18 +1,18 @@
 -- The languages, and what a text means in each.
 use Rattle.std.specs.Prelude.{ℕ, ◌≡◌, Bool, true, false, [], List, length, IfOk, IsFalse, IsOk, MatchResult, Result, ⊤}
 use Rattle.std.specs.Result.{IfErr}
-use Rattle.timefd_fault.specs.declared.borrowed_parse_error.BorrowedParseError.{BorrowedParseError}
-use Rattle.timefd_fault.specs.BorrowedFaults.{IsBorrowed, IsBorrowedOf, IsMemory, IsRefusal}
+use Rattle.timefd_lang_fault.specs.declared.borrowed_parse_error.BorrowedParseError.{BorrowedParseError}
+use Rattle.timefd_lang_fault.specs.BorrowedFaults.{IsBorrowed, IsBorrowedOf, IsMemory, IsRefusal}
 use Rattle.timefd_language.specs.Bytes.{is_version_three}
 use Rattle.timefd_language.specs.declared.description_version.DescriptionVersion.{DescriptionVersion}
-use Rattle.timefd_component.specs.Tree.{Text, Tree, pack}
-use Rattle.timefd_fault.specs.Faults.{Fault, fault_of}
-use Rattle.timefd_component.specs.Reserved.{reserve}
+use Rattle.timefd_lang_component.specs.Tree.{Text, Tree, pack}
+use Rattle.timefd_lang_fault.specs.Faults.{Fault, fault_of}
+use Rattle.timefd_lang_component.specs.Reserved.{reserve}
 use Rattle.timefd_language.specs.declared.description_version.DescriptionVersion.TheVariants.{One, Two, Three}
 use Rattle.timefd_language.specs.declared.language.Language.{Language}
 use Rattle.timefd_language.specs.declared.language.Language.TheVariants.{Version, Strftime}
-use Rattle.timefd_fault.specs.declared.parse_error.ParseError.{ParseError}
-use Rattle.timefd_fault.specs.declared.parse_error.ParseError.TheVariants.{Invalid, Memory}
+use Rattle.timefd_lang_fault.specs.declared.parse_error.ParseError.{ParseError}
+use Rattle.timefd_lang_fault.specs.declared.parse_error.ParseError.TheVariants.{Invalid, Memory}
 use Rattle.timefd_language.specs.Grammar.{Spells}
 use Rattle.timefd_language.specs.Spans.{HasSpan}
 use Rattle.timefd_language.specs.Broken.{FaultOf}

@@ -1,8 +1,8 @@
 -- How the pieces of the code relate to trees, and to the trees that are built from them.
 use Rattle.std.specs.Prelude.{ℕ, ◌≡◌, Bool, List, [], ◌∷◌, ◌++◌, length, IsTrue, ⊤}
-use Rattle.timefd_component.specs.Modern.{modern}
-use Rattle.timefd_component.specs.Reserved.{reserved}
-use Rattle.timefd_component.specs.Tree.{Tree, component, literal}
+use Rattle.timefd_lang_component.specs.Modern.{modern}
+use Rattle.timefd_lang_component.specs.Reserved.{reserved}
+use Rattle.timefd_lang_component.specs.Tree.{Tree, component, literal}
 use Rattle.timefd_parse.specs.declared.piece.Piece as code
 use Rattle.timefd_parse.specs.declared.piece.Piece.TheVariants.{Literal, Component, Compound}
 

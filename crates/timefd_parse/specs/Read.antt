@@ -4,27 +4,27 @@ use Rattle.std.specs.Borrow.{Bor}
 use Rattle.std.specs.Str.{IsUtf8}
 use Rattle.std.specs.declared.vec.Vec.{Vec}
 use Rattle.std.specs.declared.alloc.Global.{Global}
-use Rattle.timefd_node_list.specs.declared.item.borrowed_format_item.BorrowedFormatItem.{BorrowedFormatItem}
-use Rattle.timefd_fault.specs.Faults.{Fault, fault, unclosed_bracket}
-use Rattle.timefd_node_list.specs.Item.Meaning.{item_tree}
-use Rattle.timefd_component.specs.Modern.{modern}
-use Rattle.timefd_component.specs.declared.component.Component.{Component}
-use Rattle.timefd_component.specs.Reserved.{reserve_all}
-use Rattle.timefd_component.specs.Tree.{Text, Tree, component, literal, pack, trees}
+use Rattle.timefd_lang_node_list.specs.declared.item.borrowed_format_item.BorrowedFormatItem.{BorrowedFormatItem}
+use Rattle.timefd_lang_fault.specs.Faults.{Fault, fault, unclosed_bracket}
+use Rattle.timefd_lang_node_list.specs.Item.Meaning.{item_tree}
+use Rattle.timefd_lang_component.specs.Modern.{modern}
+use Rattle.timefd_lang_component.specs.declared.component.Component.{Component}
+use Rattle.timefd_lang_component.specs.Reserved.{reserve_all}
+use Rattle.timefd_lang_component.specs.Tree.{Text, Tree, component, literal, pack, trees}
 use Rattle.timefd_language.specs.declared.description_version.DescriptionVersion.{DescriptionVersion}
 use Rattle.timefd_language.specs.declared.description_version.DescriptionVersion.TheVariants.{Three}
-use Rattle.timefd_fault.specs.declared.read_error.Fault as code_fault
-use Rattle.timefd_fault.specs.declared.read_error.ReadError as code_error
-use Rattle.timefd_fault.specs.declared.read_error.ReadError.TheVariants as errors
+use Rattle.timefd_lang_fault.specs.declared.read_error.Fault as code_fault
+use Rattle.timefd_lang_fault.specs.declared.read_error.ReadError as code_error
+use Rattle.timefd_lang_fault.specs.declared.read_error.ReadError.TheVariants as errors
 use Rattle.timefd_parse.specs.declared.piece.Piece.{Piece}
 use Rattle.timefd_language.specs.Bytes.{left, right, is_run_byte, is_version_three}
 use Rattle.timefd_language.specs.Fault.{enclosed}
-use Rattle.timefd_fault.specs.Words.{too_highly_nested}
+use Rattle.timefd_lang_fault.specs.Words.{too_highly_nested}
 use Rattle.timefd_language.specs.Grammar.{Pieces, ArePieces, spelling, items}
 use Rattle.timefd_language.specs.Broken.{Broken, IsBroken, broken_text, broken_fault}
 use Rattle.timefd_parse.specs.Pieces.{IsBuilt, IsPiece}
 use Rattle.timefd_language.specs.Strings.{are_of_strings}
-use Rattle.timefd_fault.specs.ReadErrors.{IsFault, MemoryOr}
+use Rattle.timefd_lang_fault.specs.ReadErrors.{IsFault, MemoryOr}
 use Rattle.timefd_language.specs.FaultMeaning.{IsFaultAt}
 
 -- the text begins with a byte of a run

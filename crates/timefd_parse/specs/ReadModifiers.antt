@@ -1,12 +1,12 @@
 -- How a modifier that was read relates to the rules.
-use Rattle.timefd_fault.specs.ReadErrors.{IsFault}
+use Rattle.timefd_lang_fault.specs.ReadErrors.{IsFault}
 use Rattle.timefd_language.specs.Broken.{Misfit, IsMisfit, misfit_text, misfit_fault}
 use Rattle.timefd_language.specs.Bytes.{colon, is_word_byte, is_key_byte, OneOrMore, StopsBefore}
 use Rattle.std.specs.Prelude.{ℕ, ◌≡◌, ◌+◌, ◌<◌, List, ◌∷◌, ◌++◌, length, Option, Some, None, Result, MatchResult}
 use Rattle.std.specs.Borrow.{Bor}
 use Rattle.std.specs.Str.{IsUtf8}
-use Rattle.timefd_component.specs.Tree.{Text}
-use Rattle.timefd_fault.specs.declared.read_error.Fault as code_fault
+use Rattle.timefd_lang_component.specs.Tree.{Text}
+use Rattle.timefd_lang_fault.specs.declared.read_error.Fault as code_fault
 use Rattle.timefd_parse.specs.declared.modifier.Modifier as code_modifier
 use Rattle.timefd_language.specs.Head.{Placed}
 use Rattle.timefd_language.specs.Cut.{IsCut}

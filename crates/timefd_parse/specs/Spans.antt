@@ -1,6 +1,6 @@
 -- How it is known of the readers' faults which bytes are at fault.
 use Rattle.std.specs.Prelude.{ℕ, ◌≡◌, ◌<◌, List, ◌∷◌, ◌++◌, length, Some, ⊤}
-use Rattle.timefd_component.specs.Tree.{Text}
+use Rattle.timefd_lang_component.specs.Tree.{Text}
 use Rattle.timefd_language.specs.Bytes.{colon, is_key_byte, OneOrMore}
 use Rattle.timefd_language.specs.Head.{Placed}
 use Rattle.timefd_language.specs.Spans.{SpansVersion}

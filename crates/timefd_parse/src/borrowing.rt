@@ -2,10 +2,10 @@
 
 ghost use Rattle.std.specs.Prelude.{◌≡◌, ◌≤◌, [], List, length, IfOk, IsOk, IsFalse, MatchResult};
 ghost use Rattle.std.specs.Result.{IfErr};
-ghost use Rattle.timefd_component.specs.Tree.{Tree, pack};
-ghost use Rattle.timefd_fault.specs.Faults as spec;
+ghost use Rattle.timefd_lang_component.specs.Tree.{Tree, pack};
+ghost use Rattle.timefd_lang_fault.specs.Faults as spec;
 ghost use Rattle.timefd_items.specs.Description.{description_tree};
-ghost use Rattle.timefd_component.specs.Reserved.{reserve};
+ghost use Rattle.timefd_lang_component.specs.Reserved.{reserve};
 ghost use Rattle.timefd_language.specs.declared.description_version.DescriptionVersion.TheVariants.{Three};
 ghost use Rattle.timefd_language.specs.declared.language.Language as spec_language;
 ghost use Rattle.timefd_language.specs.Bytes.{is_version_three};
@@ -13,17 +13,17 @@ ghost use Rattle.timefd_language.specs.Spans.{HasSpan};
 ghost use Rattle.timefd_language.specs.Grammar.{Spells, nesting_limit};
 ghost use Rattle.timefd_language.specs.Broken.{FaultOf};
 ghost use Rattle.timefd_language.specs.Strings.{AreItems};
-ghost use Rattle.timefd_fault.specs.BorrowedFaults.{HasShortFault, IsBorrowed, IsBorrowedOf, IsMemory};
-ghost use Rattle.timefd_fault.specs.Placed.{IsPlaced};
+ghost use Rattle.timefd_lang_fault.specs.BorrowedFaults.{HasShortFault, IsBorrowed, IsBorrowedOf, IsMemory};
+ghost use Rattle.timefd_lang_fault.specs.Placed.{IsPlaced};
 ghost use Rattle.timefd_parse.specs.Answers.{IsOutput, ReservesAtMost, HasStrings};
 
 use crate::counting::error_of;
 use crate::parsing::BorrowedOutput;
 use crate::read::{items, members, node_room};
 use std::alloc::{AllocError, Global};
-use timefd_fault::BorrowedParseError;
-use timefd_fault::read_error::ReadError;
 use timefd_items::{BorrowedFormatItem, DescriptionBuilder, FormatDescriptionV3};
+use timefd_lang_fault::BorrowedParseError;
+use timefd_lang_fault::read_error::ReadError;
 use timefd_language::description_version::DescriptionVersion;
 
 /// Reads a text of a version as `parse_borrowed_within` does, with a fault that borrows what it

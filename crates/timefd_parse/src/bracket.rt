@@ -1,7 +1,7 @@
 //! What a bracket holds, one part after another: its name, its modifiers, its nested descriptions.
 
 ghost use Rattle.std.specs.Prelude.{ℕ, ◌≡◌, ◌∷◌, ◌++◌, List, IfSome, MatchOption, ◌<◌, length};
-ghost use Rattle.timefd_component.specs.Tree.{Tree};
+ghost use Rattle.timefd_lang_component.specs.Tree.{Tree};
 ghost use Rattle.timefd_language.specs.Bytes.{right};
 ghost use Rattle.timefd_language.specs.Grammar.{Spells, nesting_limit};
 ghost use Rattle.timefd_parse.specs.BracketParts.{BeginsModified, BeginsNamed, BeginsNested, FindsModifiers, FindsNested, NamesHeads};

@@ -4,10 +4,10 @@
 
 ghost use Rattle.std.specs.Prelude.{◌≡◌, ◌≤◌, ◌∷◌, [], Bool, List, length, IsFalse, IsOk, IsTrue, OnOk};
 ghost use Rattle.timefd_items.specs.Builder.{built};
-ghost use Rattle.timefd_node_list.specs.Nodes.{ending};
-ghost use Rattle.timefd_component.specs.Reserved.{reserve_all};
-ghost use Rattle.timefd_component.specs.Tree as spec;
-ghost use Rattle.timefd_component.specs.Tree.{Tree, trees};
+ghost use Rattle.timefd_lang_node_list.specs.Nodes.{ending};
+ghost use Rattle.timefd_lang_component.specs.Reserved.{reserve_all};
+ghost use Rattle.timefd_lang_component.specs.Tree as spec;
+ghost use Rattle.timefd_lang_component.specs.Tree.{Tree, trees};
 ghost use Rattle.timefd_parse.specs.Pieces.{IsBuilt, IsPiece};
 
 use crate::piece::Piece;

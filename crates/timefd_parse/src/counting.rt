@@ -3,15 +3,15 @@
 
 ghost use Rattle.std.specs.Prelude.{ℕ, ◌≡◌, ◌≤◌, ◌<◌, [], List, length, IsFalse, MatchResult};
 ghost use Rattle.std.specs.Result.{IfErr};
-ghost use Rattle.timefd_component.specs.Tree.{Tree};
-ghost use Rattle.timefd_fault.specs.BorrowedFaults.{IsBorrowed, IsBorrowedOf, IsMemory};
-ghost use Rattle.timefd_fault.specs.Faults.{Fault};
+ghost use Rattle.timefd_lang_component.specs.Tree.{Tree};
+ghost use Rattle.timefd_lang_fault.specs.BorrowedFaults.{IsBorrowed, IsBorrowedOf, IsMemory};
+ghost use Rattle.timefd_lang_fault.specs.Faults.{Fault};
 ghost use Rattle.timefd_items.specs.Builder.{built};
 ghost use Rattle.timefd_language.specs.Broken.{FaultOf};
 ghost use Rattle.timefd_language.specs.Bytes.{is_version_three};
-ghost use Rattle.timefd_fault.specs.ReadErrors.{MemoryOr};
+ghost use Rattle.timefd_lang_fault.specs.ReadErrors.{MemoryOr};
 ghost use Rattle.timefd_language.specs.Grammar.{Spells};
-ghost use Rattle.timefd_fault.specs.ReadErrors.{IsInvalid};
+ghost use Rattle.timefd_lang_fault.specs.ReadErrors.{IsInvalid};
 ghost use Rattle.timefd_language.specs.declared.description_version.DescriptionVersion.TheVariants.{Three};
 ghost use Rattle.timefd_language.specs.declared.language.Language as spec_language;
 ghost use Rattle.timefd_language.specs.Spans.{HasSpan, SpansVersion};
@@ -22,9 +22,9 @@ ghost use Rattle.timefd_parse.specs.Read.{AreCounted, IsFaultIn, PiecesToEnd};
 use crate::piece::Piece;
 use crate::read::next_piece;
 use std::alloc::{AllocError, Global};
-use timefd_fault::borrowed_parse_error::{BorrowedParseError, borrowed};
-use timefd_fault::read_error::ReadError;
 use timefd_items::DescriptionBuilder;
+use timefd_lang_fault::borrowed_parse_error::{BorrowedParseError, borrowed};
+use timefd_lang_fault::read_error::ReadError;
 use timefd_language::description_version::DescriptionVersion;
 
 /// How many items a text of version 1 or 2 has. It takes no memory.

@@ -2,7 +2,7 @@
 
 ghost use Rattle.std.specs.Prelude.{ℕ, ◌≡◌, ◌∷◌, [], IfSome, MatchResult, Option};
 ghost use Rattle.std.specs.Result.{IfErr};
-ghost use Rattle.timefd_component.specs.Tree.{Text};
+ghost use Rattle.timefd_lang_component.specs.Tree.{Text};
 ghost use Rattle.timefd_language.specs.Bytes.{is_version_three};
 ghost use Rattle.timefd_language.specs.Spans.{SpansVersion};
 ghost use Rattle.timefd_parse.specs.Checked.{Checks};
@@ -10,7 +10,7 @@ ghost use Rattle.timefd_parse.specs.Heads.{ReadsHead};
 
 use crate::modifier::read_modifier;
 use crate::modifiers::Modifiers;
-use timefd_fault::{Fault, Rule};
+use timefd_lang_fault::{Fault, Rule};
 use timefd_language::description_version::DescriptionVersion;
 use timefd_language::name::{Name, name_of};
 use timefd_language::text::{Class, cut};

@@ -2,11 +2,11 @@
 
 ghost use Rattle.std.specs.Prelude.{◌≡◌, ◌≤◌, [], List, IfOk, IsFalse, IsOk, MatchResult};
 ghost use Rattle.std.specs.Result.{IfErr};
-ghost use Rattle.timefd_component.specs.Tree.{Tree};
-ghost use Rattle.timefd_fault.specs.Faults as spec;
-ghost use Rattle.timefd_fault.specs.BorrowedFaults.{HasShortFault, IsBorrowed, IsBorrowedOf, IsMemory, IsRefusal};
-ghost use Rattle.timefd_fault.specs.Placed.{HasPlacedFault, IsPlaced};
-ghost use Rattle.timefd_fault.specs.Reported.{IsFaultOrMemory, MemoryAlone};
+ghost use Rattle.timefd_lang_component.specs.Tree.{Tree};
+ghost use Rattle.timefd_lang_fault.specs.Faults as spec;
+ghost use Rattle.timefd_lang_fault.specs.BorrowedFaults.{HasShortFault, IsBorrowed, IsBorrowedOf, IsMemory, IsRefusal};
+ghost use Rattle.timefd_lang_fault.specs.Placed.{HasPlacedFault, IsPlaced};
+ghost use Rattle.timefd_lang_fault.specs.Reported.{IsFaultOrMemory, MemoryAlone};
 ghost use Rattle.timefd_language.specs.Bytes.{is_version_three};
 ghost use Rattle.timefd_language.specs.Grammar.{nesting_limit};
 ghost use Rattle.timefd_language.specs.Spans.{HasSpan};
@@ -14,8 +14,8 @@ ghost use Rattle.timefd_parse.specs.Language.{SpellsIn, FaultIn, amount, takes_m
 
 use crate::counting::{count_bytes, count_items};
 use std::alloc::Global;
-use timefd_fault::BorrowedParseError;
-use timefd_fault::parse_error::ParseError;
+use timefd_lang_fault::BorrowedParseError;
+use timefd_lang_fault::parse_error::ParseError;
 use timefd_language::Language;
 use timefd_language::description_version::DescriptionVersion;
 use timefd_language::strftime::count_strftime;

@@ -2,8 +2,8 @@
 
 ghost use Rattle.std.specs.Prelude.{◌≡◌, ◌<◌, ◌++◌, [], List, length, IfOk, IfSome, MatchOption, MatchResult};
 ghost use Rattle.std.specs.Result.{IfErr};
-ghost use Rattle.timefd_component.specs.Tree.{Tree};
-ghost use Rattle.timefd_fault.specs.BorrowedFaults.{IsBorrowedOf, IsRefusal};
+ghost use Rattle.timefd_lang_component.specs.Tree.{Tree};
+ghost use Rattle.timefd_lang_fault.specs.BorrowedFaults.{IsBorrowedOf, IsRefusal};
 ghost use Rattle.timefd_language.specs.Grammar.{nesting_limit};
 ghost use Rattle.timefd_language.specs.Spans.{HasSpan};
 ghost use Rattle.timefd_parse.specs.FirstPiece.{BeginsList, EndsWith, IsAfterFirst, IsFirst};
@@ -13,9 +13,9 @@ ghost use Rattle.timefd_language.specs.declared.language.Language as spec_langua
 use crate::parsing::NESTING_LIMIT;
 use crate::read::next_piece;
 use std::alloc::Global;
-use timefd_fault::BorrowedParseError;
-use timefd_fault::borrowed_parse_error::borrowed;
 use timefd_items::DescriptionBuilder;
+use timefd_lang_fault::BorrowedParseError;
+use timefd_lang_fault::borrowed_parse_error::borrowed;
 use timefd_language::Language;
 use timefd_language::description_version::DescriptionVersion;
 use timefd_language::strftime::after_first_directive;

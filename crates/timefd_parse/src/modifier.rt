@@ -4,7 +4,7 @@ ghost use Rattle.std.specs.Result.{IfErr};
 ghost use Rattle.timefd_language.specs.Spans.{SpansVersion};
 ghost use Rattle.timefd_parse.specs.ReadModifiers.{ReadsModifier};
 
-use timefd_fault::{Fault, Rule};
+use timefd_lang_fault::{Fault, Rule};
 use timefd_language::text::{Class, after_colon, cut};
 
 /// A key and its value. A position is given as the number of bytes from there to the end of the

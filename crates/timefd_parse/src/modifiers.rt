@@ -2,7 +2,7 @@
 
 ghost use Rattle.std.specs.Prelude.{ℕ, ◌≡◌, ◌++◌, ◌∷◌, [], IfSome, List, Option, option_map};
 ghost use Rattle.std.specs.Result.{IfErr};
-ghost use Rattle.timefd_component.specs.Tree.{Text};
+ghost use Rattle.timefd_lang_component.specs.Tree.{Text};
 ghost use Rattle.timefd_language.specs.Bytes.{is_version_three};
 ghost use Rattle.timefd_parse.specs.Checked.{keys_of};
 ghost use Rattle.timefd_language.specs.Head.{Placed};
@@ -13,7 +13,7 @@ ghost use Rattle.timefd_language.specs.Values.{key_in};
 
 use crate::modifier::Modifier;
 use crate::positions::Positions;
-use timefd_fault::{Fault, Rule};
+use timefd_lang_fault::{Fault, Rule};
 use timefd_language::description_version::DescriptionVersion;
 use timefd_language::key::{Key, key_of};
 use timefd_language::name::Name;

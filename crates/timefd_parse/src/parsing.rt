@@ -2,24 +2,24 @@
 
 ghost use Rattle.std.specs.Prelude.{◌≡◌, ◌≤◌, [], List, length, IfOk, IsOk, IsFalse, MatchResult, map};
 ghost use Rattle.std.specs.Result.{IfErr};
-ghost use Rattle.timefd_component.specs.Tree.{Tree, pack};
-ghost use Rattle.timefd_fault.specs.Faults as spec;
+ghost use Rattle.timefd_lang_component.specs.Tree.{Tree, pack};
+ghost use Rattle.timefd_lang_fault.specs.Faults as spec;
 ghost use Rattle.timefd_items.specs.Description.{description_tree};
-ghost use Rattle.timefd_component.specs.Reserved.{reserve};
+ghost use Rattle.timefd_lang_component.specs.Reserved.{reserve};
 ghost use Rattle.timefd_language.specs.declared.description_version.DescriptionVersion.TheVariants.{One, Three};
 ghost use Rattle.timefd_language.specs.Bytes.{is_version_three};
 ghost use Rattle.timefd_language.specs.Grammar.{Spells, nesting_limit};
 ghost use Rattle.timefd_language.specs.Broken.{FaultOf};
-ghost use Rattle.timefd_fault.specs.Placed.{HasPlacedFault};
+ghost use Rattle.timefd_lang_fault.specs.Placed.{HasPlacedFault};
 ghost use Rattle.timefd_parse.specs.Answers.{IsOutput, IsAssigned, ReservesAtMost, HasStrings};
-ghost use Rattle.timefd_fault.specs.Reported.{IsFaultOrMemory, MemoryAlone, Tells};
-ghost use Rattle.timefd_fault.specs.ReadErrors.{IsFault, MemoryOr};
+ghost use Rattle.timefd_lang_fault.specs.Reported.{IsFaultOrMemory, MemoryAlone, Tells};
+ghost use Rattle.timefd_lang_fault.specs.ReadErrors.{IsFault, MemoryOr};
 ghost use Rattle.timefd_language.specs.Strings.{AreItems};
 
 use crate::borrowing::{parse_all_borrowed, parse_items};
 use std::alloc::Global;
-use timefd_fault::parse_error::ParseError;
 use timefd_items::{BorrowedFormatItem, FormatDescriptionV3};
+use timefd_lang_fault::parse_error::ParseError;
 use timefd_language::description_version::DescriptionVersion;
 
 /// How deep descriptions may be nested.

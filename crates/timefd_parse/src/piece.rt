@@ -1,14 +1,14 @@
 //! What a piece of a text is.
 
 ghost use Rattle.std.specs.Prelude.{◌≡◌, Bool, List, IsTrue};
-ghost use Rattle.timefd_component.specs.Modern.{modern};
-ghost use Rattle.timefd_component.specs.Tree as spec;
-ghost use Rattle.timefd_component.specs.Tree.{Tree};
-ghost use Rattle.timefd_node_list.specs.Item.Meaning.{item_tree};
+ghost use Rattle.timefd_lang_component.specs.Modern.{modern};
+ghost use Rattle.timefd_lang_component.specs.Tree as spec;
+ghost use Rattle.timefd_lang_component.specs.Tree.{Tree};
+ghost use Rattle.timefd_lang_node_list.specs.Item.Meaning.{item_tree};
 ghost use Rattle.timefd_parse.specs.Pieces.{IsPiece};
 
-use timefd_component::reserved::reserved_bytes;
 use timefd_items::{BorrowedFormatItem, Component};
+use timefd_lang_component::reserved::reserved_bytes;
 
 /// A literal, or what a bracket means.
 #[derive(Clone, Copy)]

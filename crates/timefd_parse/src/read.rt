@@ -7,12 +7,12 @@ ghost use Rattle.timefd_language.specs.declared.description_version.DescriptionV
 ghost use Rattle.timefd_language.specs.Broken.{BeginsNoEscape};
 ghost use Rattle.timefd_language.specs.Bytes.{is_version_three};
 ghost use Rattle.timefd_parse.specs.Read.{BeginsRun, BeginsClosing, LeadsOn, ReadsEscape, ReadsPiece, ReadsNext, ReadsMembers, ReadsNested, ReadsItems, IsEnclosed};
-ghost use Rattle.timefd_fault.specs.Words.{too_highly_nested};
-ghost use Rattle.timefd_fault.specs.ReadErrors.{IsInvalid};
-ghost use Rattle.timefd_fault.specs.ReadErrors.{IsFault, MemoryOr};
+ghost use Rattle.timefd_lang_fault.specs.Words.{too_highly_nested};
+ghost use Rattle.timefd_lang_fault.specs.ReadErrors.{IsInvalid};
+ghost use Rattle.timefd_lang_fault.specs.ReadErrors.{IsFault, MemoryOr};
 ghost use Rattle.timefd_items.specs.Builder.{built};
-ghost use Rattle.timefd_fault.specs.Faults.{fault, unclosed_bracket};
-ghost use Rattle.timefd_component.specs.Tree.{Text, literal};
+ghost use Rattle.timefd_lang_fault.specs.Faults.{fault, unclosed_bracket};
+ghost use Rattle.timefd_lang_component.specs.Tree.{Text, literal};
 ghost use Rattle.timefd_language.specs.Spans.{SpansVersion};
 ghost use Rattle.timefd_parse.specs.FirstPiece.{EndsWith};
 ghost use Rattle.timefd_parse.specs.Spans.{HasByteAt};
@@ -24,8 +24,8 @@ use crate::head_verdict::judged_head;
 use crate::piece::{Piece, component_piece};
 use crate::verdict::{Nested, Span, verdict};
 use std::alloc::Global;
-use timefd_fault::{Fault, ReadError, Rule};
 use timefd_items::{BorrowedFormatItem, DescriptionBuilder};
+use timefd_lang_fault::{Fault, ReadError, Rule};
 use timefd_language::description_version::DescriptionVersion;
 use timefd_language::text::{Class, Start, cut, cut_run, escaped, first_len, start_of};
 

@@ -3,7 +3,7 @@
 ghost use Rattle.std.specs.Prelude.{ℕ, ◌≡◌, ◌+◌, ◌≤◌, ◌∷◌, [], List, None, length, IfErr, IfSome, IsFalse, IsTrue};
 ghost use Rattle.timefd_language.specs.Bytes.{is_version_three};
 ghost use Rattle.timefd_items.specs.Builder.{built};
-ghost use Rattle.timefd_component.specs.Tree.{Text, Tree};
+ghost use Rattle.timefd_lang_component.specs.Tree.{Text, Tree};
 ghost use Rattle.timefd_language.specs.Head as spec;
 ghost use Rattle.timefd_language.specs.Head.{placed};
 ghost use Rattle.timefd_language.specs.Values.{format};
@@ -11,7 +11,7 @@ ghost use Rattle.timefd_language.specs.Verdict as rules;
 ghost use Rattle.timefd_language.specs.Verdict.{PlacedDescription};
 ghost use Rattle.timefd_parse.specs.Checked.{ShowsFault};
 ghost use Rattle.timefd_parse.specs.HeadVerdicts.{IsVerdict, placing};
-ghost use Rattle.timefd_fault.specs.ReadErrors.{IsInvalid, MemoryOr};
+ghost use Rattle.timefd_lang_fault.specs.ReadErrors.{IsInvalid, MemoryOr};
 ghost use Rattle.timefd_language.specs.Spans.{SpansVersion};
 ghost use Rattle.timefd_parse.specs.Spans.{BracketStands, SpansRefusal};
 ghost use Rattle.timefd_parse.specs.Pieces.{IsBuilt};
@@ -19,8 +19,8 @@ ghost use Rattle.timefd_parse.specs.Judged.{ShowsNested, Judged, packed};
 
 use crate::head_verdict::{HeadVerdict, JudgedHead};
 use crate::piece::{Piece, component_piece};
-use timefd_fault::{Fault, ReadError, Rule};
 use timefd_items::DescriptionBuilder;
+use timefd_lang_fault::{Fault, ReadError, Rule};
 use timefd_language::description_version::DescriptionVersion;
 
 /// The nested descriptions of a bracket.

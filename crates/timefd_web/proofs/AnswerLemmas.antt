@@ -1,7 +1,7 @@
 -- From the report on a text to the answer about its bytes.
 use Rattle.std.proofs.Common.{ℕ, ◌≡◌, Some, subst}
-use Rattle.timefd_component.specs.Tree.{Text}
-use Rattle.timefd_moment.specs.declared.moment.Moment.{Moment}
+use Rattle.timefd_lang_component.specs.Tree.{Text}
+use Rattle.timefd_date_moment.specs.declared.moment.Moment.{Moment}
 use Rattle.timefd_language.specs.declared.language.Language.{Language}
 use Rattle.timefd_web.specs.declared.fields.MomentFields.{MomentFields}
 use Rattle.timefd_web.specs.Answers.{ReadsOf, ReportsOf, language_of}

@@ -4,18 +4,18 @@ use Rattle.std.proofs.lemmas.Result.{IfOk-weaker}
 use Rattle.std.specs.declared.alloc.AllocError.{AllocError}
 use Rattle.std.specs.declared.alloc.Global.{Global}
 use Rattle.std.specs.declared.vec.Vec.{Vec}
-use Rattle.timefd_component.specs.Tree.{Text}
-use Rattle.timefd_dialect.specs.Answers.{IsConverted}
-use Rattle.timefd_dialect.specs.Back.{IsFormatOf, IsMerged, LacksAt}
-use Rattle.timefd_dialect.specs.Items.{IsSpelledBy}
-use Rattle.timefd_dialect.specs.Reading.{RefusedAt}
-use Rattle.timefd_dialect.specs.Traps.{AreTraps}
-use Rattle.timefd_dialect.specs.declared.back.FormatError.TheVariants as lacks
-use Rattle.timefd_dialect.specs.declared.dialect.Dialect.{Dialect}
-use Rattle.timefd_dialect.specs.declared.error.DialectError.TheVariants as fails
-use Rattle.timefd_dialect.specs.declared.error.Refusal.{Refusal}
-use Rattle.timefd_dialect.specs.declared.reading.Converted.{Converted}
-use Rattle.timefd_dialect.specs.declared.trapping.Found.{Found}
+use Rattle.timefd_lang_component.specs.Tree.{Text}
+use Rattle.timefd_lang_dialect.specs.Answers.{IsConverted}
+use Rattle.timefd_lang_dialect.specs.Back.{IsFormatOf, IsMerged, LacksAt}
+use Rattle.timefd_lang_dialect.specs.Items.{IsSpelledBy}
+use Rattle.timefd_lang_dialect.specs.Reading.{RefusedAt}
+use Rattle.timefd_lang_dialect.specs.Traps.{AreTraps}
+use Rattle.timefd_lang_dialect.specs.declared.back.FormatError.TheVariants as lacks
+use Rattle.timefd_lang_dialect.specs.declared.dialect.Dialect.{Dialect}
+use Rattle.timefd_lang_dialect.specs.declared.error.DialectError.TheVariants as fails
+use Rattle.timefd_lang_dialect.specs.declared.error.Refusal.{Refusal}
+use Rattle.timefd_lang_dialect.specs.declared.reading.Converted.{Converted}
+use Rattle.timefd_lang_dialect.specs.declared.trapping.Found.{Found}
 use Rattle.timefd_web.specs.Conversions.{Converts, Formats, converted_object, format_object, lacking_object, merged_object, refused_object}
 
 module _ (dialect : Dialect) (text : Text) (r : Result (Vec ℕ Global) AllocError) where

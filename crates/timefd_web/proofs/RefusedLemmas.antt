@@ -4,11 +4,11 @@ use Rattle.std.proofs.lemmas.Result.{IfOk-weaker}
 use Rattle.std.specs.declared.alloc.AllocError.{AllocError}
 use Rattle.std.specs.declared.alloc.Global.{Global}
 use Rattle.std.specs.declared.vec.Vec.{Vec}
-use Rattle.timefd_component.specs.Tree.{Text}
-use Rattle.timefd_diagnosis.specs.declared.diagnostic.Diagnostic.{Diagnostic}
-use Rattle.timefd_drawing.specs.Drawing.{code}
-use Rattle.timefd_drawing.specs.HelpText.{help_text}
-use Rattle.timefd_fault.specs.Sentences.{error_sentence}
+use Rattle.timefd_lang_component.specs.Tree.{Text}
+use Rattle.timefd_lang_fault.specs.Sentences.{error_sentence}
+use Rattle.timefd_lint_diagnosis.specs.declared.diagnostic.Diagnostic.{Diagnostic}
+use Rattle.timefd_lint_drawing.specs.Drawing.{code}
+use Rattle.timefd_lint_drawing.specs.HelpText.{help_text}
 use Rattle.timefd_web.specs.Objects.{nearest, refusal, refused_object}
 
 same_parts : (c c2 m m2 h h2 n n2 : Text) (s e : ℕ) → c ≡ c2 → m ≡ m2 → h ≡ h2 → n ≡ n2

@@ -8,9 +8,9 @@ use Rattle.json.specs.Lex.{Lexeme, token, punctuate, fresh, after_value}
 use Rattle.json.specs.Strict.{HasUniqueKeys}
 use Rattle.json.specs.Tree.{depth, json_tokens, items_tokens, members_tokens}
 use Rattle.json.specs.Value.{items_of}
-use Rattle.timefd_component.specs.Tree.{Text}
-use Rattle.timefd_explain.specs.declared.explain.Explanation.{Explanation}
-use Rattle.timefd_explain.specs.declared.node.Node.{Node}
+use Rattle.timefd_lang_component.specs.Tree.{Text}
+use Rattle.timefd_lint_explain.specs.declared.explain.Explanation.{Explanation}
+use Rattle.timefd_lint_explain.specs.declared.node.Node.{Node}
 use Rattle.timefd_web.specs.JsonLaws.Logs.{All}
 use Rattle.timefd_web.specs.JsonLaws.Meaning.{IsJson}
 use Rattle.timefd_web.specs.JsonLaws.Objects.{IsNumber64, text_member}
@@ -21,11 +21,11 @@ use Rattle.timefd_web.proofs.JsonLawLemmas.Fronts.{first_key, next_key}
 use Rattle.timefd_web.proofs.JsonLawLemmas.Means.{means_of, tokens_of}
 use Rattle.timefd_web.proofs.JsonLawLemmas.Pieces.{Lexes, closed, no_piece}
 use Rattle.timefd_web.proofs.JsonLawLemmas.Results.{IsNext}
-use Rattle.timefd_moment.specs.Display.{moment_text}
-use Rattle.timefd_moment.specs.declared.moment.Moment.{Moment}
-use Rattle.timefd_moment.specs.declared.fields.fault.ReadError.{ReadError}
-use Rattle.timefd_moment.specs.Reading.Sentences.{sentence}
-use Rattle.timefd_moment.specs.declared.reading.error.ValueError.{ValueError}
+use Rattle.timefd_date_moment.specs.Display.{moment_text}
+use Rattle.timefd_date_moment.specs.declared.moment.Moment.{Moment}
+use Rattle.timefd_date_moment.specs.declared.fields.fault.ReadError.{ReadError}
+use Rattle.timefd_date_moment.specs.Reading.Sentences.{sentence}
+use Rattle.timefd_date_moment.specs.declared.reading.error.ValueError.{ValueError}
 use Rattle.timefd_web.specs.declared.later.Later.{Later}
 use Rattle.timefd_web.specs.Objects.{accepted_object, kind_name, node, optional, refusal}
 use Rattle.timefd_web.specs.Readings.{component_in, moment_object, no_description, sentence_here, unread_object, value_object}

@@ -5,14 +5,14 @@ use Rattle.json.specs.Json.{Json}
 use Rattle.json.specs.Lex.{Lexeme, token, punctuate, fresh}
 use Rattle.json.specs.Tree.{json_tokens, items_tokens}
 use Rattle.json.specs.Value.{items_of}
-use Rattle.timefd_component.specs.Tree.{Text}
-use Rattle.timefd_dialect.specs.Reasons as reasons
-use Rattle.timefd_dialect.specs.TrapWords as words
-use Rattle.timefd_dialect.specs.declared.error.Refusal.{Refusal}
-use Rattle.timefd_dialect.specs.declared.limits.Limits.{Limits}
-use Rattle.timefd_dialect.specs.declared.reading.Converted.{Converted}
-use Rattle.timefd_dialect.specs.declared.reason.Reason.{Reason}
-use Rattle.timefd_dialect.specs.declared.trapping.Found.{Found}
+use Rattle.timefd_lang_component.specs.Tree.{Text}
+use Rattle.timefd_lang_dialect.specs.Reasons as reasons
+use Rattle.timefd_lang_dialect.specs.TrapWords as words
+use Rattle.timefd_lang_dialect.specs.declared.error.Refusal.{Refusal}
+use Rattle.timefd_lang_dialect.specs.declared.limits.Limits.{Limits}
+use Rattle.timefd_lang_dialect.specs.declared.reading.Converted.{Converted}
+use Rattle.timefd_lang_dialect.specs.declared.reason.Reason.{Reason}
+use Rattle.timefd_lang_dialect.specs.declared.trapping.Found.{Found}
 use Rattle.timefd_description.specs.declared.guessing.guessing.Guess.{Guess}
 use Rattle.timefd_web.specs.JsonLaws.Logs.{All}
 use Rattle.timefd_web.specs.JsonLaws.Meaning.{IsJson}

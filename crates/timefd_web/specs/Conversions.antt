@@ -1,23 +1,23 @@
 -- What is reported about formats of other languages.
 use Rattle.std.specs.Prelude.{ℕ, ◌≡◌, ◌++◌, List, [], codes, Result, Ok, Err, string_bytes}
-use Rattle.timefd_component.specs.Tree.{Text}
-use Rattle.timefd_dialect.specs.Answers.{IsConverted, IsRefusedFor}
-use Rattle.timefd_dialect.specs.Back.{IsFormatOf, IsLackIn}
-use Rattle.timefd_dialect.specs.Items.{IsSpelledBy}
-use Rattle.timefd_dialect.specs.Reasons as reasons
-use Rattle.timefd_dialect.specs.Traps.{AreTraps}
-use Rattle.timefd_dialect.specs.TrapWords as words
-use Rattle.timefd_dialect.specs.declared.back.FormatError.{FormatError}
-use Rattle.timefd_dialect.specs.declared.back.FormatError.TheVariants as lacks
-use Rattle.timefd_dialect.specs.declared.dialect.Dialect.{Dialect}
-use Rattle.timefd_dialect.specs.declared.error.DialectError.{DialectError}
-use Rattle.timefd_dialect.specs.declared.error.DialectError.TheVariants as fails
-use Rattle.timefd_dialect.specs.declared.error.Refusal.{Refusal}
-use Rattle.timefd_dialect.specs.declared.limits.Limits.{Limits}
-use Rattle.timefd_dialect.specs.declared.reading.Converted.{Converted}
-use Rattle.timefd_dialect.specs.declared.reason.Reason.{Reason}
-use Rattle.timefd_dialect.specs.declared.trapping.Found.{Found}
-use Rattle.timefd_drawing.specs.Json.{text_field, number_field}
+use Rattle.timefd_lang_component.specs.Tree.{Text}
+use Rattle.timefd_lang_dialect.specs.Answers.{IsConverted, IsRefusedFor}
+use Rattle.timefd_lang_dialect.specs.Back.{IsFormatOf, IsLackIn}
+use Rattle.timefd_lang_dialect.specs.Items.{IsSpelledBy}
+use Rattle.timefd_lang_dialect.specs.Reasons as reasons
+use Rattle.timefd_lang_dialect.specs.Traps.{AreTraps}
+use Rattle.timefd_lang_dialect.specs.TrapWords as words
+use Rattle.timefd_lang_dialect.specs.declared.back.FormatError.{FormatError}
+use Rattle.timefd_lang_dialect.specs.declared.back.FormatError.TheVariants as lacks
+use Rattle.timefd_lang_dialect.specs.declared.dialect.Dialect.{Dialect}
+use Rattle.timefd_lang_dialect.specs.declared.error.DialectError.{DialectError}
+use Rattle.timefd_lang_dialect.specs.declared.error.DialectError.TheVariants as fails
+use Rattle.timefd_lang_dialect.specs.declared.error.Refusal.{Refusal}
+use Rattle.timefd_lang_dialect.specs.declared.limits.Limits.{Limits}
+use Rattle.timefd_lang_dialect.specs.declared.reading.Converted.{Converted}
+use Rattle.timefd_lang_dialect.specs.declared.reason.Reason.{Reason}
+use Rattle.timefd_lang_dialect.specs.declared.trapping.Found.{Found}
+use Rattle.timefd_lint_drawing.specs.Json.{text_field, number_field}
 use Rattle.timefd_web.specs.Records.{listed, truth_field}
 
 -- From which year on both write the same, and whether they do so of offsets of whole minutes alone.

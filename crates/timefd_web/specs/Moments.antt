@@ -1,14 +1,14 @@
 -- The moment with the numbers that the page passes.
 use Rattle.std.specs.Prelude.{◌≡◌, nat_lt, if◌then◌else◌, Option, Some, None, Result, Ok, Err, unsigned_abs}
-use Rattle.timefd_moment.specs.Calendar.{counted}
-use Rattle.timefd_moment.specs.Faults.{date_fault, time_fault}
-use Rattle.timefd_moment.specs.Signed.{signed}
-use Rattle.timefd_moment.specs.declared.component_range.ComponentRange.{ComponentRange}
-use Rattle.timefd_moment.specs.declared.component_range.ComponentRange.TheVariants.{Offset}
-use Rattle.timefd_moment.specs.declared.date.Date.{Date}
-use Rattle.timefd_moment.specs.declared.moment.Moment.{Moment}
-use Rattle.timefd_moment.specs.declared.offset.UtcOffset.{UtcOffset}
-use Rattle.timefd_moment.specs.declared.time.Time.{Time}
+use Rattle.timefd_date_moment.specs.Calendar.{counted}
+use Rattle.timefd_date_moment.specs.Faults.{date_fault, time_fault}
+use Rattle.timefd_date_moment.specs.Signed.{signed}
+use Rattle.timefd_date_moment.specs.declared.component_range.ComponentRange.{ComponentRange}
+use Rattle.timefd_date_moment.specs.declared.component_range.ComponentRange.TheVariants.{Offset}
+use Rattle.timefd_date_moment.specs.declared.date.Date.{Date}
+use Rattle.timefd_date_moment.specs.declared.moment.Moment.{Moment}
+use Rattle.timefd_date_moment.specs.declared.offset.UtcOffset.{UtcOffset}
+use Rattle.timefd_date_moment.specs.declared.time.Time.{Time}
 use Rattle.timefd_web.specs.declared.fields.MomentFields.{MomentFields}
 
 -- the number that is out of its range in each part

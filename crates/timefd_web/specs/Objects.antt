@@ -2,18 +2,18 @@
 use Rattle.std.specs.Prelude.{ℕ, ◌++◌, [], Option, Some, None, codes, string_bytes}
 use Rattle.std.specs.declared.alloc.Global.{Global}
 use Rattle.std.specs.declared.string.String.{String}
-use Rattle.timefd_component.specs.Tree.{Text}
-use Rattle.timefd_diagnosis.specs.declared.diagnostic.Diagnostic.{Diagnostic}
-use Rattle.timefd_diagnosis.specs.declared.help.Help.{Help}
-use Rattle.timefd_diagnosis.specs.declared.help.Help.TheVariants.{Words, LeaveOut, Advice}
-use Rattle.timefd_drawing.specs.Drawing.{code}
-use Rattle.timefd_drawing.specs.HelpText.{help_text}
-use Rattle.timefd_drawing.specs.Json.{quoted, text_field, number_field}
-use Rattle.timefd_explain.specs.declared.explain.Explanation.{Explanation}
-use Rattle.timefd_explain.specs.declared.node.Node.{Node}
-use Rattle.timefd_explain.specs.declared.node.NodeKind.{NodeKind}
-use Rattle.timefd_explain.specs.declared.node.NodeKind.TheVariants as kinds
-use Rattle.timefd_fault.specs.Sentences.{error_sentence}
+use Rattle.timefd_lang_component.specs.Tree.{Text}
+use Rattle.timefd_lint_diagnosis.specs.declared.diagnostic.Diagnostic.{Diagnostic}
+use Rattle.timefd_lint_diagnosis.specs.declared.help.Help.{Help}
+use Rattle.timefd_lint_diagnosis.specs.declared.help.Help.TheVariants.{Words, LeaveOut, Advice}
+use Rattle.timefd_lint_drawing.specs.Drawing.{code}
+use Rattle.timefd_lint_drawing.specs.HelpText.{help_text}
+use Rattle.timefd_lint_drawing.specs.Json.{quoted, text_field, number_field}
+use Rattle.timefd_lint_explain.specs.declared.explain.Explanation.{Explanation}
+use Rattle.timefd_lint_explain.specs.declared.node.Node.{Node}
+use Rattle.timefd_lint_explain.specs.declared.node.NodeKind.{NodeKind}
+use Rattle.timefd_lint_explain.specs.declared.node.NodeKind.TheVariants as kinds
+use Rattle.timefd_lang_fault.specs.Sentences.{error_sentence}
 use Rattle.timefd_web.specs.declared.later.Later.{Later}
 use Rattle.timefd_web.specs.declared.refused.Refusal.{Refusal}
 use Rattle.timefd_web.specs.Records.{listed}

@@ -2,9 +2,9 @@
 use Rattle.std.specs.Prelude.{ℕ, ◌≡◌, ◌⊎◌, IsUtf8, Some, None, Result, Ok, Err, ⊤}
 use Rattle.std.specs.declared.alloc.Global.{Global}
 use Rattle.std.specs.declared.vec.Vec.{Vec}
-use Rattle.timefd_component.specs.Tree.{Text}
-use Rattle.timefd_dialect.specs.Dialects.{named}
-use Rattle.timefd_dialect.specs.declared.dialect.Dialect.{Dialect}
+use Rattle.timefd_lang_component.specs.Tree.{Text}
+use Rattle.timefd_lang_dialect.specs.Dialects.{named}
+use Rattle.timefd_lang_dialect.specs.declared.dialect.Dialect.{Dialect}
 use Rattle.timefd_web.specs.declared.answer.ReportAnswer.{ReportAnswer}
 use Rattle.timefd_web.specs.declared.silence.Silence.{Silence}
 use Rattle.timefd_web.specs.declared.silence.Silence.TheVariants.{NotUtf8, NoMemory, NoLanguage, OutOfRange}

@@ -1,19 +1,19 @@
 -- The report on a text that is read by a description.
 use Rattle.std.specs.Prelude.{◌≡◌, ◌++◌, List, [], codes, Result, Ok, Err}
-use Rattle.timefd_component.specs.Tree.{Text, Tree}
-use Rattle.timefd_drawing.specs.Json.{text_field, number_field}
-use Rattle.timefd_fault.specs.Faults.{Fault}
-use Rattle.timefd_format.specs.Sentences.{name}
+use Rattle.timefd_lang_component.specs.Tree.{Text, Tree}
+use Rattle.timefd_lint_drawing.specs.Json.{text_field, number_field}
+use Rattle.timefd_lang_fault.specs.Faults.{Fault}
+use Rattle.timefd_date_format.specs.Sentences.{name}
 use Rattle.timefd_language.specs.Grammar.{nesting_limit}
-use Rattle.timefd_moment.specs.Display.{moment_text}
-use Rattle.timefd_moment.specs.declared.moment.Moment.{Moment}
+use Rattle.timefd_date_moment.specs.Display.{moment_text}
+use Rattle.timefd_date_moment.specs.declared.moment.Moment.{Moment}
 use Rattle.timefd_language.specs.declared.language.Language.{Language}
 use Rattle.timefd_parse.specs.Language.{SpellsIn, FaultIn}
-use Rattle.timefd_moment.specs.declared.fields.fault.ReadError.{ReadError}
-use Rattle.timefd_moment.specs.declared.fields.fault.Reason.{Reason}
-use Rattle.timefd_moment.specs.declared.fields.fault.Reason.TheVariants as for
-use Rattle.timefd_moment.specs.Reading.Sentences.{sentence}
-use Rattle.timefd_moment.specs.declared.reading.error.ValueError.{ValueError}
+use Rattle.timefd_date_moment.specs.declared.fields.fault.ReadError.{ReadError}
+use Rattle.timefd_date_moment.specs.declared.fields.fault.Reason.{Reason}
+use Rattle.timefd_date_moment.specs.declared.fields.fault.Reason.TheVariants as for
+use Rattle.timefd_date_moment.specs.Reading.Sentences.{sentence}
+use Rattle.timefd_date_moment.specs.declared.reading.error.ValueError.{ValueError}
 use Rattle.timefd_description.specs.ReadAnswers.{IsReadAs, IsRefusedFor, fields_in}
 use Rattle.timefd_description.specs.Sentences.{reason_sentence}
 use Rattle.timefd_description.specs.declared.read_error.ReadTextError.{ReadTextError}

@@ -3,17 +3,17 @@ use Rattle.std.specs.Prelude.{ℕ, true, false, List, Option, Some, None, codes,
 use Rattle.std.specs.declared.alloc.Global.{Global}
 use Rattle.std.specs.declared.string.String.{String}
 use Rattle.json.specs.Json.{Json, null, object, no_members, member}
-use Rattle.timefd_component.specs.Tree.{Text}
-use Rattle.timefd_explain.specs.declared.explain.Explanation.{Explanation}
-use Rattle.timefd_explain.specs.declared.node.Node.{Node}
+use Rattle.timefd_lang_component.specs.Tree.{Text}
+use Rattle.timefd_lint_explain.specs.declared.explain.Explanation.{Explanation}
+use Rattle.timefd_lint_explain.specs.declared.node.Node.{Node}
 use Rattle.timefd_web.specs.JsonLaws.Logs.{All}
 use Rattle.timefd_web.specs.JsonLaws.Meaning.{IsJson}
 use Rattle.timefd_web.specs.JsonLaws.Objects.{text_member, number_member, IsNumber64}
-use Rattle.timefd_moment.specs.Display.{moment_text}
-use Rattle.timefd_moment.specs.declared.moment.Moment.{Moment}
-use Rattle.timefd_moment.specs.declared.fields.fault.ReadError.{ReadError}
-use Rattle.timefd_moment.specs.Reading.Sentences.{sentence}
-use Rattle.timefd_moment.specs.declared.reading.error.ValueError.{ValueError}
+use Rattle.timefd_date_moment.specs.Display.{moment_text}
+use Rattle.timefd_date_moment.specs.declared.moment.Moment.{Moment}
+use Rattle.timefd_date_moment.specs.declared.fields.fault.ReadError.{ReadError}
+use Rattle.timefd_date_moment.specs.Reading.Sentences.{sentence}
+use Rattle.timefd_date_moment.specs.declared.reading.error.ValueError.{ValueError}
 use Rattle.timefd_web.specs.declared.later.Later.{Later}
 use Rattle.timefd_web.specs.Objects.{accepted_object, kind_name, refusal}
 use Rattle.timefd_web.specs.Readings.{component_in, moment_object, no_description, sentence_here, unread_object, value_object}

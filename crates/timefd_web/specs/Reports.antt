@@ -2,25 +2,25 @@
 use Rattle.std.specs.Prelude.{◌≡◌, ◌⊎◌, List, Option, Some, None, Result, Ok, Err, IsUtf8, string_bytes, ⊤}
 use Rattle.std.specs.declared.alloc.Global.{Global}
 use Rattle.std.specs.declared.string.String.{String}
-use Rattle.timefd_fault.specs.Placed.{IsPlaced}
-use Rattle.timefd_component.specs.Reserved.{reserve_all}
-use Rattle.timefd_component.specs.Tree.{Text, Tree, trees}
-use Rattle.timefd_convert.specs.Answers.{IsNormalOf, IsPrintedOf}
-use Rattle.timefd_diagnosis.specs.declared.diagnostic.Diagnostic.{Diagnostic}
-use Rattle.timefd_diagnosis.specs.Diagnoses.{IsDiagnosis}
-use Rattle.timefd_explain.specs.Examples.{Examples}
-use Rattle.timefd_explain.specs.Parts.{AreParts, all_parts}
-use Rattle.timefd_explain.specs.Stands.{NodesStand}
-use Rattle.timefd_explain.specs.declared.explain.Explanation.{Explanation}
-use Rattle.timefd_fault.specs.Faults.{fault_of}
-use Rattle.timefd_format.specs.declared.unshown.Unshown.{Unshown}
-use Rattle.timefd_format.specs.Written.{written_all}
+use Rattle.timefd_lang_fault.specs.Placed.{IsPlaced}
+use Rattle.timefd_lang_component.specs.Reserved.{reserve_all}
+use Rattle.timefd_lang_component.specs.Tree.{Text, Tree, trees}
+use Rattle.timefd_lang_convert.specs.Answers.{IsNormalOf, IsPrintedOf}
+use Rattle.timefd_lint_diagnosis.specs.declared.diagnostic.Diagnostic.{Diagnostic}
+use Rattle.timefd_lint_diagnosis.specs.Diagnoses.{IsDiagnosis}
+use Rattle.timefd_lint_explain.specs.Examples.{Examples}
+use Rattle.timefd_lint_explain.specs.Parts.{AreParts, all_parts}
+use Rattle.timefd_lint_explain.specs.Stands.{NodesStand}
+use Rattle.timefd_lint_explain.specs.declared.explain.Explanation.{Explanation}
+use Rattle.timefd_lang_fault.specs.Faults.{fault_of}
+use Rattle.timefd_date_format.specs.declared.unshown.Unshown.{Unshown}
+use Rattle.timefd_date_format.specs.Written.{written_all}
 use Rattle.timefd_language.specs.declared.description_version.DescriptionVersion.TheVariants.{One, Two, Three}
 use Rattle.timefd_language.specs.Grammar.{nesting_limit}
 use Rattle.timefd_lift.specs.Answers.{IsRewritten}
 use Rattle.timefd_lift.specs.Modernized.{IsWrittenOf}
-use Rattle.timefd_moment.specs.declared.moment.Moment.{Moment}
-use Rattle.timefd_node_list.specs.Nodes.{kept_bytes}
+use Rattle.timefd_date_moment.specs.declared.moment.Moment.{Moment}
+use Rattle.timefd_lang_node_list.specs.Nodes.{kept_bytes}
 use Rattle.timefd_language.specs.declared.language.Language.{Language}
 use Rattle.timefd_language.specs.declared.language.Language.TheVariants.{Version, Strftime}
 use Rattle.timefd_parse.specs.Language.{SpellsIn, FaultIn}

@@ -2,13 +2,13 @@
 use Rattle.std.specs.Prelude.{ℕ, Bool, true, false, List, codes, map, string_bytes, IsUtf8}
 use Rattle.json.specs.Json.{Json, boolean, array, object, Members, no_members, member}
 use Rattle.json.specs.Value.{items_of}
-use Rattle.timefd_component.specs.Tree.{Text}
-use Rattle.timefd_dialect.specs.Reasons as reasons
-use Rattle.timefd_dialect.specs.TrapWords as words
-use Rattle.timefd_dialect.specs.declared.error.Refusal.{Refusal}
-use Rattle.timefd_dialect.specs.declared.limits.Limits.{Limits}
-use Rattle.timefd_dialect.specs.declared.reading.Converted.{Converted}
-use Rattle.timefd_dialect.specs.declared.trapping.Found.{Found}
+use Rattle.timefd_lang_component.specs.Tree.{Text}
+use Rattle.timefd_lang_dialect.specs.Reasons as reasons
+use Rattle.timefd_lang_dialect.specs.TrapWords as words
+use Rattle.timefd_lang_dialect.specs.declared.error.Refusal.{Refusal}
+use Rattle.timefd_lang_dialect.specs.declared.limits.Limits.{Limits}
+use Rattle.timefd_lang_dialect.specs.declared.reading.Converted.{Converted}
+use Rattle.timefd_lang_dialect.specs.declared.trapping.Found.{Found}
 use Rattle.timefd_description.specs.declared.guessing.guessing.Guess.{Guess}
 use Rattle.timefd_web.specs.JsonLaws.Logs.{All}
 use Rattle.timefd_web.specs.JsonLaws.Meaning.{IsJson}

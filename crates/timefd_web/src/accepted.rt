@@ -1,7 +1,7 @@
 //! The report on a text that is accepted.
 
 ghost use Rattle.std.specs.Prelude.{◌≡◌, ◌++◌, List, IfOk, OnOk};
-ghost use Rattle.timefd_component.specs.Tree.{Tree};
+ghost use Rattle.timefd_lang_component.specs.Tree.{Tree};
 ghost use Rattle.timefd_language.specs.Grammar.{nesting_limit};
 ghost use Rattle.timefd_parse.specs.Language.{SpellsIn};
 ghost use Rattle.timefd_web.specs.Objects as spec;
@@ -11,9 +11,9 @@ use crate::later::{Later, later_of};
 use crate::records::push_list;
 use crate::written::written_of;
 use std::alloc::{AllocError, Global};
-use timefd_drawing::json::{push_number, push_text};
-use timefd_explain::{Explanation, explanation_of};
-use timefd_moment::Moment;
+use timefd_date_moment::Moment;
+use timefd_lint_drawing::json::{push_number, push_text};
+use timefd_lint_explain::{Explanation, explanation_of};
 use timefd_parse::Language;
 
 /// The object of a text that a language accepts.

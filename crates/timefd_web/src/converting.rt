@@ -5,10 +5,10 @@ ghost use Rattle.timefd_web.specs.Conversions as spec;
 
 use crate::records::{Record, push_list, push_truth};
 use std::alloc::{AllocError, Global};
-use timefd_dialect::{
+use timefd_lang_dialect::{
     Converted, Dialect, DialectError, Found, Limits, Reason, Refusal, to_version_three, traps,
 };
-use timefd_drawing::json::{push_number, push_text};
+use timefd_lint_drawing::json::{push_number, push_text};
 
 /// The text of version 3 that writes what a dialect writes by a format, as a JSON object, or why
 /// there is none; and the traps of the format. An `Err` says that memory ran out, and nothing about

@@ -2,7 +2,7 @@
 
 ghost use Rattle.timefd_web.specs.Moments.{IsMomentOf};
 
-use timefd_moment::{ComponentRange, Date, Moment, Time, UtcOffset};
+use timefd_date_moment::{ComponentRange, Date, Moment, Time, UtcOffset};
 
 /// A date, a time of day and an offset from UTC, in plain numbers.
 #[repr(C)]

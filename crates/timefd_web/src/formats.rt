@@ -5,8 +5,8 @@ ghost use Rattle.timefd_web.specs.Conversions as spec;
 
 use crate::converting::push_limits;
 use std::alloc::{AllocError, Global};
-use timefd_dialect::{Converted, Dialect, FormatError, from_version_three};
-use timefd_drawing::json::{push_number, push_text};
+use timefd_lang_dialect::{Converted, Dialect, FormatError, from_version_three};
+use timefd_lint_drawing::json::{push_number, push_text};
 
 /// The format by which a dialect writes what a description of version 3 writes, as a JSON object, or
 /// why there is none. An `Err` says that memory ran out, and nothing about the description.

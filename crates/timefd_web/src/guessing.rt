@@ -8,7 +8,7 @@ ghost use Rattle.timefd_web.specs.Guesses as spec;
 use crate::records::{Record, push_list};
 use std::alloc::{AllocError, Global};
 use timefd_description::guessing::{Guess, guesses};
-use timefd_drawing::json::{push_number, push_text};
+use timefd_lint_drawing::json::{push_number, push_text};
 
 /// The descriptions that the lines of a text may be written by, likeliest first, as a JSON object. An
 /// `Err` says that memory ran out, and nothing about the text.

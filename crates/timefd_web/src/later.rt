@@ -1,18 +1,18 @@
 //! The texts of a description in later versions.
 
 ghost use Rattle.std.specs.Prelude.{List, IfOk, string_bytes};
-ghost use Rattle.timefd_component.specs.Tree.{Tree};
-ghost use Rattle.timefd_convert.specs.Answers.{IsNormalOf, IsPrintedOf};
+ghost use Rattle.timefd_lang_component.specs.Tree.{Tree};
+ghost use Rattle.timefd_lang_convert.specs.Answers.{IsNormalOf, IsPrintedOf};
 ghost use Rattle.timefd_language.specs.Grammar.{Spells, nesting_limit};
 ghost use Rattle.timefd_language.specs.Strftime.{SpellsStrftime};
-ghost use Rattle.timefd_fault.specs.Reported.{MemoryAlone};
+ghost use Rattle.timefd_lang_fault.specs.Reported.{MemoryAlone};
 ghost use Rattle.timefd_language.specs.declared.description_version.DescriptionVersion.TheVariants.{One, Two, Three};
 ghost use Rattle.timefd_lift.specs.Modernized.{IsWrittenOf};
 ghost use Rattle.timefd_parse.specs.Language.{SpellsIn};
 ghost use Rattle.timefd_web.specs.Reports.{IsLater};
 
 use std::alloc::{AllocError, Global};
-use timefd_convert::{normalize_v3, strftime_to_v3};
+use timefd_lang_convert::{normalize_v3, strftime_to_v3};
 use timefd_lift::{v1_to_v2, v2_to_v3};
 use timefd_parse::{DescriptionVersion, Language, ParseError};
 

@@ -5,8 +5,8 @@ ghost use Rattle.timefd_web.specs.Objects as spec;
 
 use crate::records::Record;
 use std::alloc::{AllocError, Global};
-use timefd_drawing::json::{push_number, push_text};
-use timefd_explain::{Node, NodeKind};
+use timefd_lint_drawing::json::{push_number, push_text};
+use timefd_lint_explain::{Node, NodeKind};
 
 impl Record for Node {
     ghost object_text = { spec.node };

@@ -10,7 +10,7 @@ use crate::formats::format_for;
 use crate::guessing::guesses_of;
 use crate::silence::Silence;
 use std::alloc::Global;
-use timefd_dialect::Dialect;
+use timefd_lang_dialect::Dialect;
 
 /// Writes what a format of the dialect with this name is in version 3 to the front of the buffer if all
 /// of it fits.

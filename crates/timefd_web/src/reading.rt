@@ -5,12 +5,12 @@ ghost use Rattle.timefd_web.specs.Readings as spec;
 ghost use Rattle.timefd_web.specs.Readings.{Reads, Tells};
 
 use std::alloc::{AllocError, Global};
+use timefd_date_format::component_name;
+use timefd_date_moment::Moment;
+use timefd_date_moment::fields::{ReadError, Reason};
+use timefd_date_moment::reading::ValueError;
 use timefd_description::{ReadTextError, read_text, reason_sentence};
-use timefd_drawing::json::{push_number, push_text};
-use timefd_format::component_name;
-use timefd_moment::Moment;
-use timefd_moment::fields::{ReadError, Reason};
-use timefd_moment::reading::ValueError;
+use timefd_lint_drawing::json::{push_number, push_text};
 use timefd_parse::Language;
 
 /// The moment that a whole text shows by a description, as a JSON object, or why it shows none. An

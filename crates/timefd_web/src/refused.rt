@@ -4,9 +4,9 @@ ghost use Rattle.std.specs.Prelude.{◌≡◌, IfOk};
 ghost use Rattle.timefd_web.specs.Objects as spec;
 
 use std::alloc::{AllocError, Global};
-use timefd_diagnosis::{Diagnostic, Help, code_of};
-use timefd_drawing::help_text::help_text;
-use timefd_drawing::json::{push_number, push_text};
+use timefd_lint_diagnosis::{Diagnostic, Help, code_of};
+use timefd_lint_drawing::help_text::help_text;
+use timefd_lint_drawing::json::{push_number, push_text};
 
 /// What the object of a refused text contains.
 #[derive(Clone, Copy)]

@@ -6,8 +6,8 @@ ghost use Rattle.timefd_web.specs.Reports.{Reports};
 use crate::accepted::accepted;
 use crate::refused::refused;
 use std::alloc::{AllocError, Global};
-use timefd_diagnosis::diagnose;
-use timefd_moment::Moment;
+use timefd_date_moment::Moment;
+use timefd_lint_diagnosis::diagnose;
 use timefd_parse::Language;
 
 /// What a text of a language is, as a JSON object: its fault; or its nodes, what it writes of the

@@ -1,15 +1,15 @@
 //! What a text writes of a moment.
 
 ghost use Rattle.std.specs.Prelude.{List, IfOk};
-ghost use Rattle.timefd_component.specs.Tree.{Tree, trees};
-ghost use Rattle.timefd_format.specs.Written.{written_all};
+ghost use Rattle.timefd_lang_component.specs.Tree.{Tree, trees};
+ghost use Rattle.timefd_date_format.specs.Written.{written_all};
 ghost use Rattle.timefd_language.specs.Grammar.{nesting_limit};
 ghost use Rattle.timefd_parse.specs.Language.{SpellsIn};
 ghost use Rattle.timefd_web.specs.Reports.{IsTextOf, IsWritten};
 
 use std::alloc::{AllocError, Global};
+use timefd_date_moment::Moment;
 use timefd_description::{FormatTextError, format_text};
-use timefd_moment::Moment;
 use timefd_parse::Language;
 
 /// What a text that a language accepts writes of the moment. `None` says that a component shows

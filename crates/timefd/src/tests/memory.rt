@@ -6,7 +6,7 @@ use crate::run::run;
 use std::alloc::Global;
 use std::io;
 use std::io::{ErrorKind, Read, Write};
-use timefd_streams::{FromReader, ToWriter};
+use timefd_bin_streams::{FromReader, ToWriter};
 
 /// What a test says if an allocation fails.
 pub const AMPLE: &str = "memory suffices";

@@ -5,7 +5,7 @@ use super::memory::{Countdown, Feed, Log};
 use crate::program::execute;
 use std::alloc::Global;
 use std::process::Abort;
-use timefd_streams::{FromReader, ToWriter};
+use timefd_bin_streams::{FromReader, ToWriter};
 
 /// Runs the program with these arguments, and returns its exit status.
 fn ends(

@@ -6,7 +6,7 @@ use crate::kind::Kind;
 use crate::run::run_within;
 use std::alloc::Global;
 use std::process::Abort;
-use timefd_streams::{FromReader, ToWriter};
+use timefd_bin_streams::{FromReader, ToWriter};
 
 /// A text with its line.
 pub struct Row {

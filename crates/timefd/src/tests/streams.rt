@@ -3,8 +3,8 @@
 use super::memory::{AMPLE, Countdown, Feed, Log};
 use std::alloc::Global;
 use std::process::Abort;
-use timefd_streams::transfer::{read_all, write_all};
-use timefd_streams::{Failed, FromReader, Sink, Source, ToWriter};
+use timefd_bin_streams::transfer::{read_all, write_all};
+use timefd_bin_streams::{Failed, FromReader, Sink, Source, ToWriter};
 
 // A flush reaches the writer, and an empty write is no failure.
 #[test]

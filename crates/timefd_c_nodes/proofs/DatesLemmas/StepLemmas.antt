@@ -8,17 +8,17 @@ use Rattle.std.specs.Cmp.{unsigned_Decides}
 use Rattle.std.specs.List.{starts_with}
 use Rattle.std.specs.Prelude.{IfSome, IsUtf8, eqb, if◌then◌else◌}
 use Rattle.std.specs.Str.{IsAscii}
-use Rattle.timefd_component.specs.declared.component.Component.{Component}
-use Rattle.timefd_component.specs.Modern.{modern}
-use Rattle.timefd_component.specs.Tree.{Text, component}
-use Rattle.timefd_node_list.specs.Nodes.{shown, text, together}
+use Rattle.timefd_lang_component.specs.declared.component.Component.{Component}
+use Rattle.timefd_lang_component.specs.Modern.{modern}
+use Rattle.timefd_lang_component.specs.Tree.{Text, component}
+use Rattle.timefd_lang_node_list.specs.Nodes.{shown, text, together}
 use Rattle.timefd_c_nodes.specs.declared.node.Node.{Node}
 use Rattle.timefd_c_nodes.specs.Decoding.{component_of, format_of}
 use Rattle.timefd_c_nodes.specs.Formatting.Parts.{by_kind, component_role, kind_of, literal_role, perhaps_role, role_in, shown_role}
-use Rattle.timefd_moment.specs.declared.fields.fault.Reason.TheVariants as for
-use Rattle.timefd_moment.specs.declared.fields.short.Numbers.{Numbers}
-use Rattle.timefd_moment.specs.Fields.Reads.{at, fault_at, read}
-use Rattle.timefd_moment.specs.Fields.Short.{fields_with}
+use Rattle.timefd_date_moment.specs.declared.fields.fault.Reason.TheVariants as for
+use Rattle.timefd_date_moment.specs.declared.fields.short.Numbers.{Numbers}
+use Rattle.timefd_date_moment.specs.Fields.Reads.{at, fault_at, read}
+use Rattle.timefd_date_moment.specs.Fields.Short.{fields_with}
 use Rattle.timefd_c_nodes.specs.Dates.Taken.{IsTaken, one_more}
 
 shown_in : (l : Text) (n : Node) (c : Component) → n.what ≡ 2 → component_of n ≡ Some c → role_in l n ≡ Some (shown c)

@@ -5,22 +5,22 @@ use Rattle.std.proofs.lemmas.Str.{IsAscii-drop, IsUtf8-from_ascii}
 use Rattle.std.specs.List.{list_all}
 use Rattle.std.specs.Prelude.{IfSome}
 use Rattle.std.specs.Str.{IsAscii}
-use Rattle.timefd_component.specs.Modern.{modern}
-use Rattle.timefd_component.specs.Tree.{Text, Tree, component, compound, literal, trees}
-use Rattle.timefd_node_list.specs.Nodes.{Role, text, shown, together, perhaps, either, arity, before, ending, grown}
-use Rattle.timefd_node_list.proofs.NodeLemmas.{before_zero}
+use Rattle.timefd_lang_component.specs.Modern.{modern}
+use Rattle.timefd_lang_component.specs.Tree.{Text, Tree, component, compound, literal, trees}
+use Rattle.timefd_lang_node_list.specs.Nodes.{Role, text, shown, together, perhaps, either, arity, before, ending, grown}
+use Rattle.timefd_lang_node_list.proofs.NodeLemmas.{before_zero}
 use Rattle.timefd_c_nodes.specs.declared.node.Node.{Node}
 use Rattle.timefd_c_nodes.specs.Decoding.{read_nodes, read_on}
 use Rattle.timefd_c_nodes.specs.Formatting.Literals.{is_text}
 use Rattle.timefd_c_nodes.specs.Formatting.Nodes.{count_after, fault_after, fault_from, node_fault, node_trees, trees_of}
 use Rattle.timefd_c_nodes.specs.Formatting.Parts.{role_in}
 use Rattle.timefd_c_nodes.proofs.FormattingLemmas.CutLemmas.{after_step, as_part, grown_length, whole_role}
-use Rattle.timefd_moment.specs.declared.moment.Moment.{Moment}
-use Rattle.timefd_moment.specs.declared.fields.short.Numbers.{Numbers}
-use Rattle.timefd_moment.specs.Fields.Reads.{Point, at, fields_of, followed, read, read_all, start}
-use Rattle.timefd_moment.specs.Fields.Short.{fields_with}
-use Rattle.timefd_moment.proofs.FieldsLemmas.ShortLemmas as short
-use Rattle.timefd_moment.specs.Reading.Values.{IsMomentOf}
+use Rattle.timefd_date_moment.specs.declared.moment.Moment.{Moment}
+use Rattle.timefd_date_moment.specs.declared.fields.short.Numbers.{Numbers}
+use Rattle.timefd_date_moment.specs.Fields.Reads.{Point, at, fields_of, followed, read, read_all, start}
+use Rattle.timefd_date_moment.specs.Fields.Short.{fields_with}
+use Rattle.timefd_date_moment.proofs.FieldsLemmas.ShortLemmas as short
+use Rattle.timefd_date_moment.specs.Reading.Values.{IsMomentOf}
 use Rattle.timefd_c_nodes.specs.declared.dates.fast.walk.Taken.{Taken}
 use Rattle.timefd_c_nodes.specs.Dates.Shown.{AreShown, IsShown}
 use Rattle.timefd_c_nodes.specs.Dates.Taken.{IsTaken, ReadsRole}

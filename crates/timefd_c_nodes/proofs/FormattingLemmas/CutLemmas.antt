@@ -2,11 +2,11 @@
 use Rattle.std.proofs.Common.{◌≡◌, ◌∙◌, ℕ, zero, suc, ◌+◌, ◌-◌, ◌≤◌, ◌==◌, nat_lt, if◌then◌else◌, Bool, true, false, List, [], ◌∷◌, ◌++◌, Option, Some, None, length, take, get_or, drop, ◌<◌, refl, sym, ap, subst, arith, length-append, ltb-false, add-one, drop-cons}
 use Rattle.std.proofs.lemmas.Bool.{le-leb, le-ltb}
 use Rattle.std.proofs.lemmas.List.{take_all, take_more}
-use Rattle.timefd_component.specs.declared.component.Component.{Component}
-use Rattle.timefd_component.specs.Modern.{modern}
-use Rattle.timefd_component.specs.Tree.{Text, Tree, component, literal, compound, optional, first, pack, trees}
-use Rattle.timefd_node_list.specs.Nodes.{Role, text, shown, together, perhaps, either, arity, Part, made, before, ending, grown}
-use Rattle.timefd_node_list.proofs.NodeLemmas.{before-one_more, before_zero, length-before}
+use Rattle.timefd_lang_component.specs.declared.component.Component.{Component}
+use Rattle.timefd_lang_component.specs.Modern.{modern}
+use Rattle.timefd_lang_component.specs.Tree.{Text, Tree, component, literal, compound, optional, first, pack, trees}
+use Rattle.timefd_lang_node_list.specs.Nodes.{Role, text, shown, together, perhaps, either, arity, Part, made, before, ending, grown}
+use Rattle.timefd_lang_node_list.proofs.NodeLemmas.{before-one_more, before_zero, length-before}
 use Rattle.timefd_c_nodes.specs.declared.node.Node.{Node}
 use Rattle.timefd_c_nodes.specs.Decoding.{component_of, format_of, grown_with, read_on, read_nodes, with_component, with_members, with_optional}
 use Rattle.timefd_c_nodes.specs.Formatting.Nodes.{count_after, fault_after, fault_from, node_fault, node_trees, trees_of}

@@ -4,13 +4,13 @@ use Rattle.std.proofs.lemmas.List.{drop_all, map-append}
 use Rattle.std.proofs.lemmas.Str.{is_utf8-from_IsUtf8}
 use Rattle.std.specs.List.{list_all}
 use Rattle.std.specs.Str.{IsUtf8, is_utf8}
-use Rattle.timefd_component.specs.declared.component.Component.{Component}
-use Rattle.timefd_component.specs.Modern.{modern}
-use Rattle.timefd_component.specs.Tree.{Text, Tree, component, literal}
-use Rattle.timefd_node_list.specs.declared.leaves.Leaf.{Leaf}
-use Rattle.timefd_node_list.specs.LeafMeaning.{leaf_tree}
-use Rattle.timefd_node_list.specs.Nodes.{Role, arity, before, ending, grown, made, text, shown}
-use Rattle.timefd_node_list.proofs.NodeLemmas.{before_zero}
+use Rattle.timefd_lang_component.specs.declared.component.Component.{Component}
+use Rattle.timefd_lang_component.specs.Modern.{modern}
+use Rattle.timefd_lang_component.specs.Tree.{Text, Tree, component, literal}
+use Rattle.timefd_lang_node_list.specs.declared.leaves.Leaf.{Leaf}
+use Rattle.timefd_lang_node_list.specs.LeafMeaning.{leaf_tree}
+use Rattle.timefd_lang_node_list.specs.Nodes.{Role, arity, before, ending, grown, made, text, shown}
+use Rattle.timefd_lang_node_list.proofs.NodeLemmas.{before_zero}
 use Rattle.timefd_c_nodes.specs.declared.node.Node.{Node}
 use Rattle.timefd_c_nodes.specs.Decoding.{grown_with, read_nodes, read_on}
 use Rattle.timefd_c_nodes.specs.Formatting.Flat.{IsLeaf}

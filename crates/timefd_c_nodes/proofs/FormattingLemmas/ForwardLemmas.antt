@@ -1,18 +1,18 @@
 -- Nodes from the first to the last.
 use Rattle.std.proofs.Common.{ℕ, ◌≡◌, ◌∙◌, ◌+◌, ◌-◌, ◌<◌, ◌≤◌, if◌then◌else◌, Bool, true, false, List, [], ◌∷◌, ◌++◌, Option, Some, None, length, take, drop, get_or, Result, Ok, Err, refl, sym, ap, subst, arith, append-nil, add-one, drop-cons, length-append, length-take}
 use Rattle.std.proofs.lemmas.List.{drop_all, take-append-drop}
-use Rattle.timefd_component.specs.declared.component.Component.{Component}
-use Rattle.timefd_component.specs.Modern.{modern}
-use Rattle.timefd_component.specs.Tree.{Text, Tree, component, literal, compound, trees}
-use Rattle.timefd_moment.specs.declared.moment.Moment.{Moment}
-use Rattle.timefd_format.specs.declared.unshown.Unshown.{Unshown}
-use Rattle.timefd_format.specs.Written.{followed, written_all}
-use Rattle.timefd_format.specs.Written as written
-use Rattle.timefd_format.proofs.LeafLemmas.{written_append}
-use Rattle.timefd_format.specs.Appends.{IsKept, IsAppended, TriesToAppend}
-use Rattle.timefd_format.proofs.AppendLemmas.{both_appended, nothing_appended}
-use Rattle.timefd_node_list.specs.Nodes.{Role, text, shown, together, perhaps, either, arity, before, ending, grown}
-use Rattle.timefd_node_list.proofs.NodeLemmas.{before_zero}
+use Rattle.timefd_lang_component.specs.declared.component.Component.{Component}
+use Rattle.timefd_lang_component.specs.Modern.{modern}
+use Rattle.timefd_lang_component.specs.Tree.{Text, Tree, component, literal, compound, trees}
+use Rattle.timefd_date_moment.specs.declared.moment.Moment.{Moment}
+use Rattle.timefd_date_format.specs.declared.unshown.Unshown.{Unshown}
+use Rattle.timefd_date_format.specs.Written.{followed, written_all}
+use Rattle.timefd_date_format.specs.Written as written
+use Rattle.timefd_date_format.proofs.LeafLemmas.{written_append}
+use Rattle.timefd_date_format.specs.Appends.{IsKept, IsAppended, TriesToAppend}
+use Rattle.timefd_date_format.proofs.AppendLemmas.{both_appended, nothing_appended}
+use Rattle.timefd_lang_node_list.specs.Nodes.{Role, text, shown, together, perhaps, either, arity, before, ending, grown}
+use Rattle.timefd_lang_node_list.proofs.NodeLemmas.{before_zero}
 use Rattle.timefd_c_nodes.specs.declared.node.Node.{Node}
 use Rattle.timefd_c_nodes.specs.Decoding.{read_nodes, read_on}
 use Rattle.timefd_c_nodes.specs.Formatting.Forward.{IsAfter, IsForward, role_text}

@@ -3,11 +3,11 @@ use Rattle.std.proofs.Common.{◌≡◌, ◌∙◌, ℕ, ◌+◌, ◌-◌, ◌�
 use Rattle.std.proofs.lemmas.List.{take_all}
 use Rattle.std.proofs.lemmas.Str.{IsUtf8-from_is_utf8, is_utf8-from_IsUtf8}
 use Rattle.std.specs.Str.{IsUtf8, is_utf8}
-use Rattle.timefd_component.specs.declared.component.Component.{Component}
-use Rattle.timefd_component.specs.Modern.{modern}
-use Rattle.timefd_component.specs.Tree.{Text, Tree, component, compound, literal, trees}
-use Rattle.timefd_node_list.specs.Nodes.{Role, arity, before, ending, grown, shown, text}
-use Rattle.timefd_node_list.proofs.NodeLemmas.{before_zero}
+use Rattle.timefd_lang_component.specs.declared.component.Component.{Component}
+use Rattle.timefd_lang_component.specs.Modern.{modern}
+use Rattle.timefd_lang_component.specs.Tree.{Text, Tree, component, compound, literal, trees}
+use Rattle.timefd_lang_node_list.specs.Nodes.{Role, arity, before, ending, grown, shown, text}
+use Rattle.timefd_lang_node_list.proofs.NodeLemmas.{before_zero}
 use Rattle.timefd_c_nodes.specs.declared.node.Node.{Node}
 use Rattle.timefd_c_nodes.specs.Formatting.Nodes.{node_trees}
 use Rattle.timefd_c_nodes.proofs.FormattingLemmas.CutLemmas.{as_part, grown_length}

@@ -1,10 +1,10 @@
 -- A text that was written to a buffer of its own, and copied from there.
 use Rattle.std.proofs.Common.{ℕ, ◌≡◌, ◌^◌, ◌<◌, ◌≤◌, ◌++◌, ◌∙◌, length, drop, Result, Ok, Err, sym, subst, arith}
-use Rattle.timefd_component.specs.Tree.{Text}
-use Rattle.timefd_format.specs.declared.cursor.WriteCursor.TheVariants as cursor
-use Rattle.timefd_format.specs.declared.unshown.Unshown.{Unshown}
-use Rattle.timefd_format.specs.Writes.{Writes}
-use Rattle.timefd_format.proofs.OutcomeLemmas.{ends_with, placed}
+use Rattle.timefd_lang_component.specs.Tree.{Text}
+use Rattle.timefd_date_format.specs.declared.cursor.WriteCursor.TheVariants as cursor
+use Rattle.timefd_date_format.specs.declared.unshown.Unshown.{Unshown}
+use Rattle.timefd_date_format.specs.Writes.{Writes}
+use Rattle.timefd_date_format.proofs.OutcomeLemmas.{ends_with, placed}
 use Rattle.timefd_c_nodes.specs.Formatting.Texts.{IsShown, ShowsNodes}
 use Rattle.timefd_c_nodes.specs.declared.formatting.format.NodesText.{NodesText}
 

@@ -2,18 +2,18 @@
 -- description of as many trees as are wanted.
 use Rattle.std.proofs.Common.{ℕ, zero, suc, ◌≡◌, ◌∙◌, ◌+◌, ◌-◌, ◌<◌, ◌≤◌, if◌then◌else◌, nat_lt, Bool, true, false, List, [], ◌∷◌, ◌++◌, Option, Some, None, IfOk, length, take, get_or, ltb-true, ltb-false, refl, sym, ap, subst, arith, append_assoc, append-nil, length-take}
 use Rattle.std.proofs.lemmas.List.{take_all, take_more}
-use Rattle.timefd_component.specs.Tree.{Text, Tree, trees}
-use Rattle.timefd_moment.specs.declared.moment.Moment.{Moment}
-use Rattle.timefd_node_list.specs.Leaves.{leaves_in, role_leaves, unwritten}
-use Rattle.timefd_node_list.specs.Nodes.{Role, text, shown, together, perhaps, either, arity, before, grown}
-use Rattle.timefd_node_list.proofs.NodeLemmas.{before_zero}
-use Rattle.timefd_node_list.proofs.LeafLemmas.{leaf_after, opened}
-use Rattle.timefd_format.specs.declared.cursor.WriteCursor.{WriteCursor}
-use Rattle.timefd_format.specs.declared.cursor.WriteCursor.TheVariants as cursor
-use Rattle.timefd_format.specs.Writes.{IsIn, Writes}
-use Rattle.timefd_format.specs.Written.{followed, written_all}
-use Rattle.timefd_format.proofs.LeafLemmas.{written_append}
-use Rattle.timefd_format.proofs.WalkLemmas.{writes_after, writes_in}
+use Rattle.timefd_lang_component.specs.Tree.{Text, Tree, trees}
+use Rattle.timefd_date_moment.specs.declared.moment.Moment.{Moment}
+use Rattle.timefd_lang_node_list.specs.Leaves.{leaves_in, role_leaves, unwritten}
+use Rattle.timefd_lang_node_list.specs.Nodes.{Role, text, shown, together, perhaps, either, arity, before, grown}
+use Rattle.timefd_lang_node_list.proofs.NodeLemmas.{before_zero}
+use Rattle.timefd_lang_node_list.proofs.LeafLemmas.{leaf_after, opened}
+use Rattle.timefd_date_format.specs.declared.cursor.WriteCursor.{WriteCursor}
+use Rattle.timefd_date_format.specs.declared.cursor.WriteCursor.TheVariants as cursor
+use Rattle.timefd_date_format.specs.Writes.{IsIn, Writes}
+use Rattle.timefd_date_format.specs.Written.{followed, written_all}
+use Rattle.timefd_date_format.proofs.LeafLemmas.{written_append}
+use Rattle.timefd_date_format.proofs.WalkLemmas.{writes_after, writes_in}
 use Rattle.timefd_c_nodes.specs.declared.node.Node.{Node}
 use Rattle.timefd_c_nodes.specs.Decoding.{read_on}
 use Rattle.timefd_c_nodes.specs.Formatting.Nodes.{fault_after, fault_from, count_after, node_fault, node_leaves, node_trees, trees_of}

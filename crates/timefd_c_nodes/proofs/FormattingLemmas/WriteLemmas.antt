@@ -1,23 +1,23 @@
 -- The text of nodes is the text of their leaves, written from the last to the first.
 use Rattle.std.proofs.Common.{ℕ, zero, suc, ◌≡◌, ◌∙◌, ◌-◌, ◌^◌, ◌<◌, ◌≤◌, List, [], ◌∷◌, ◌++◌, Option, Some, None, length, take, drop, Result, Ok, Err, IfOk, refl, sym, ap, subst, arith, append_assoc, append-nil, length-append, length-take}
 use Rattle.std.proofs.lemmas.List.{take_all, drop_all, take-append-drop}
-use Rattle.timefd_component.specs.declared.component.Component.{Component}
-use Rattle.timefd_component.specs.Modern.{modern}
-use Rattle.timefd_component.specs.Tree.{Text, Tree, component, compound, trees}
-use Rattle.timefd_component.proofs.ModernLemmas.{modern_again}
-use Rattle.timefd_moment.specs.declared.moment.Moment.{Moment}
-use Rattle.timefd_node_list.specs.Leaves.{leaves_in}
-use Rattle.timefd_format.specs.declared.cursor.WriteCursor.{WriteCursor}
-use Rattle.timefd_format.specs.declared.cursor.WriteCursor.TheVariants as cursor
-use Rattle.timefd_format.specs.declared.unshown.Unshown.{Unshown}
-use Rattle.timefd_format.specs.declared.write.FormatError.{FormatError}
-use Rattle.timefd_format.specs.declared.write.FormatError.TheVariants as fails
-use Rattle.timefd_format.specs.Fields.{field}
-use Rattle.timefd_format.specs.Fronts.{IsLen}
-use Rattle.timefd_format.specs.Outcomes.{IsOutcome}
-use Rattle.timefd_format.specs.Writes.{IsIn, Writes}
-use Rattle.timefd_format.specs.Written.{followed, shown, text_of, written, written_all}
-use Rattle.timefd_format.proofs.LeafLemmas.{by_leaves}
+use Rattle.timefd_lang_component.specs.declared.component.Component.{Component}
+use Rattle.timefd_lang_component.specs.Modern.{modern}
+use Rattle.timefd_lang_component.specs.Tree.{Text, Tree, component, compound, trees}
+use Rattle.timefd_lang_component.proofs.ModernLemmas.{modern_again}
+use Rattle.timefd_date_moment.specs.declared.moment.Moment.{Moment}
+use Rattle.timefd_lang_node_list.specs.Leaves.{leaves_in}
+use Rattle.timefd_date_format.specs.declared.cursor.WriteCursor.{WriteCursor}
+use Rattle.timefd_date_format.specs.declared.cursor.WriteCursor.TheVariants as cursor
+use Rattle.timefd_date_format.specs.declared.unshown.Unshown.{Unshown}
+use Rattle.timefd_date_format.specs.declared.write.FormatError.{FormatError}
+use Rattle.timefd_date_format.specs.declared.write.FormatError.TheVariants as fails
+use Rattle.timefd_date_format.specs.Fields.{field}
+use Rattle.timefd_date_format.specs.Fronts.{IsLen}
+use Rattle.timefd_date_format.specs.Outcomes.{IsOutcome}
+use Rattle.timefd_date_format.specs.Writes.{IsIn, Writes}
+use Rattle.timefd_date_format.specs.Written.{followed, shown, text_of, written, written_all}
+use Rattle.timefd_date_format.proofs.LeafLemmas.{by_leaves}
 use Rattle.timefd_c_nodes.specs.Formatting.Cursors.{TriesToWrite}
 use Rattle.timefd_c_nodes.specs.Formatting.Texts.{ShowsNodes}
 use Rattle.timefd_c_nodes.specs.declared.formatting.format.NodesError.TheVariants as answers

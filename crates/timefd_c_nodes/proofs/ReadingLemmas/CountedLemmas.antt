@@ -1,21 +1,21 @@
 -- A `usize` counts the nodes of a text, and the bytes of its literals, if each item has one node.
 use Rattle.std.proofs.Common.{ℕ, ◌≡◌, ◌+◌, ◌*◌, ◌<◌, ◌≤◌, ◌^◌, ◌⊎◌, inl, inr, Bool, true, false, List, [], ◌∷◌, ◌++◌, length, length-append, refl, sym, ap, subst, arith}
-use Rattle.timefd_fault.specs.declared.borrowed_parse_error.BorrowedParseError.{BorrowedParseError}
-use Rattle.timefd_fault.specs.declared.borrowed_parse_error.BorrowedParseError.TheVariants as reported
-use Rattle.timefd_fault.specs.BorrowedFaults.{IsBorrowed, IsRefusal}
-use Rattle.timefd_component.specs.Tree.{Text, Tree, component, literal, compound, optional, first}
-use Rattle.timefd_fault.specs.Faults.{Fault}
+use Rattle.timefd_lang_fault.specs.declared.borrowed_parse_error.BorrowedParseError.{BorrowedParseError}
+use Rattle.timefd_lang_fault.specs.declared.borrowed_parse_error.BorrowedParseError.TheVariants as reported
+use Rattle.timefd_lang_fault.specs.BorrowedFaults.{IsBorrowed, IsRefusal}
+use Rattle.timefd_lang_component.specs.Tree.{Text, Tree, component, literal, compound, optional, first}
+use Rattle.timefd_lang_fault.specs.Faults.{Fault}
 use Rattle.timefd_language.specs.declared.description_version.DescriptionVersion.{DescriptionVersion}
-use Rattle.timefd_fault.specs.declared.read_error.ReadError.{ReadError}
-use Rattle.timefd_fault.specs.declared.read_error.ReadError.TheVariants as errors
+use Rattle.timefd_lang_fault.specs.declared.read_error.ReadError.{ReadError}
+use Rattle.timefd_lang_fault.specs.declared.read_error.ReadError.TheVariants as errors
 use Rattle.timefd_language.specs.Broken.{FaultOf, broken_fault}
 use Rattle.timefd_language.specs.Fault.{raised}
-use Rattle.timefd_fault.specs.ReadErrors.{MemoryOr}
+use Rattle.timefd_lang_fault.specs.ReadErrors.{MemoryOr}
 use Rattle.timefd_language.specs.Grammar.{no_pieces, spelling}
-use Rattle.timefd_fault.specs.ReadErrors.{IsInvalid}
+use Rattle.timefd_lang_fault.specs.ReadErrors.{IsInvalid}
 use Rattle.timefd_language.specs.Strftime.{StrftimeFaultOf, directives_text, ill_fault, no_directives}
-use Rattle.timefd_node_list.specs.Views.{walked}
-use Rattle.timefd_component.specs.Reserved.{reserve}
+use Rattle.timefd_lang_node_list.specs.Views.{walked}
+use Rattle.timefd_lang_component.specs.Reserved.{reserve}
 use Rattle.timefd_language.specs.declared.language.Language.TheVariants.{Version}
 use Rattle.timefd_parse.specs.declared.piece.Piece.{Piece}
 use Rattle.timefd_parse.specs.declared.piece.Piece.TheVariants as pieces

@@ -1,14 +1,14 @@
 -- How many nodes, and how many bytes of literals, a text has.
 use Rattle.std.proofs.Common.{ℕ, suc, ◌≡◌, ◌+◌, ◌*◌, ◌≤◌, Bool, true, List, [], ◌∷◌, ◌++◌, map, Ok, Option, Some, None, length, length-append, nat_le, refl, ap, subst, arith, ◌&&◌}
-use Rattle.timefd_component.specs.Tree.{Text, Tree, component, literal, compound, optional, first, Trees, no_trees, more_trees, trees, pack}
+use Rattle.timefd_lang_component.specs.Tree.{Text, Tree, component, literal, compound, optional, first, Trees, no_trees, more_trees, trees, pack}
 use Rattle.timefd_language.specs.Letters.{Flag, letters, item_of}
 use Rattle.timefd_language.specs.Strftime.{Directives, no_directives, plain, directive, is_plain, flag_text, directives_text, directive_items, AreDirectives, SpellsStrftime}
 use Rattle.timefd_language.proofs.Lookup.{Each, each-passes}
 use Rattle.timefd_language.proofs.ModernPieces.{item_has}
 use Rattle.timefd_language.proofs.Sizes.{length_one}
 use Rattle.timefd_c_nodes.specs.Encoding.{literals_of, own_text}
-use Rattle.timefd_component.specs.Reserved.{tree_count, trees_count}
-use Rattle.timefd_node_list.specs.Views.{walked, walked_all}
+use Rattle.timefd_lang_component.specs.Reserved.{tree_count, trees_count}
+use Rattle.timefd_lang_node_list.specs.Views.{walked, walked_all}
 use Rattle.timefd_language.specs.declared.description_version.DescriptionVersion.{DescriptionVersion}
 use Rattle.timefd_language.specs.declared.description_version.DescriptionVersion.TheVariants.{One, Two, Three}
 use Rattle.timefd_language.specs.Bytes.{right, left, is_run_byte, is_version_three}

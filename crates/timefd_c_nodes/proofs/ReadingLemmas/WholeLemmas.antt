@@ -1,8 +1,8 @@
 -- The description of version 3 that is written as a whole.
 use Rattle.std.proofs.Common.{◌≡◌, ℕ, ◌^◌, ◌<◌, ◌≤◌, List, [], ◌∷◌, ◌++◌, IfSome, Option, true, refl, ap, subst, arith, append-nil}
-use Rattle.timefd_component.specs.Reserved.{reserve, reserve_all}
-use Rattle.timefd_component.specs.Tree.{Text, Tree, pack, trees}
-use Rattle.timefd_node_list.specs.Views.{walked, walked_all}
+use Rattle.timefd_lang_component.specs.Reserved.{reserve, reserve_all}
+use Rattle.timefd_lang_component.specs.Tree.{Text, Tree, pack, trees}
+use Rattle.timefd_lang_node_list.specs.Views.{walked, walked_all}
 use Rattle.timefd_c_nodes.specs.declared.node.Node.{Node}
 use Rattle.timefd_c_nodes.specs.declared.position.TheConstants.{START}
 use Rattle.timefd_c_nodes.specs.declared.position.Written.{Written}

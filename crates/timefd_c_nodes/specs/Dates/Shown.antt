@@ -5,13 +5,13 @@ use Rattle.timefd_c_nodes.specs.Formatting.Literals.{is_text}
 use Rattle.timefd_c_nodes.specs.Formatting.Nodes.{node_fault, node_trees}
 use Rattle.timefd_c_nodes.specs.Formatting.Parts.{role_in}
 use Rattle.timefd_c_nodes.specs.declared.node.Node.{Node}
-use Rattle.timefd_component.specs.Tree.{Text, compound, trees}
-use Rattle.timefd_moment.specs.declared.moment.Moment.{Moment}
-use Rattle.timefd_moment.specs.declared.fields.fields.Fields.{Fields}
-use Rattle.timefd_moment.specs.declared.fields.short.Numbers.{Numbers}
-use Rattle.timefd_moment.specs.Fields.Reads.{fields_of}
-use Rattle.timefd_moment.specs.Fields.Short.{fields_with}
-use Rattle.timefd_moment.specs.Reading.Values.{IsMomentOf}
+use Rattle.timefd_lang_component.specs.Tree.{Text, compound, trees}
+use Rattle.timefd_date_moment.specs.declared.moment.Moment.{Moment}
+use Rattle.timefd_date_moment.specs.declared.fields.fields.Fields.{Fields}
+use Rattle.timefd_date_moment.specs.declared.fields.short.Numbers.{Numbers}
+use Rattle.timefd_date_moment.specs.Fields.Reads.{fields_of}
+use Rattle.timefd_date_moment.specs.Fields.Short.{fields_with}
+use Rattle.timefd_date_moment.specs.Reading.Values.{IsMomentOf}
 
 -- The nodes are a description, its literals are UTF-8, and by it the whole date shows these fields.
 pub record AreFields (nodes : List Node) (literals date : Text) (fields : Fields) : Type 0 where

@@ -4,12 +4,12 @@ use Rattle.timefd_c_nodes.specs.declared.dates.fast.walk.Taken.{Taken}
 use Rattle.timefd_c_nodes.specs.Formatting.Literals.{is_textual}
 use Rattle.timefd_c_nodes.specs.Formatting.Parts.{role_in}
 use Rattle.timefd_c_nodes.specs.declared.node.Node.{Node}
-use Rattle.timefd_component.specs.Modern.{modern}
-use Rattle.timefd_component.specs.Tree.{Text, component, literal}
-use Rattle.timefd_node_list.specs.Nodes.{Role, text, shown, together, perhaps, either, arity}
-use Rattle.timefd_moment.specs.declared.fields.short.Numbers.{Numbers}
-use Rattle.timefd_moment.specs.Fields.Reads.{Point, at, read}
-use Rattle.timefd_moment.specs.Fields.Short.{fields_with}
+use Rattle.timefd_lang_component.specs.Modern.{modern}
+use Rattle.timefd_lang_component.specs.Tree.{Text, component, literal}
+use Rattle.timefd_lang_node_list.specs.Nodes.{Role, text, shown, together, perhaps, either, arity}
+use Rattle.timefd_date_moment.specs.declared.fields.short.Numbers.{Numbers}
+use Rattle.timefd_date_moment.specs.Fields.Reads.{Point, at, read}
+use Rattle.timefd_date_moment.specs.Fields.Short.{fields_with}
 
 -- What a part reads by itself. Members of a compound were read before.
 abbrev pub ReadsRole : Role → Point → Point → Type 0

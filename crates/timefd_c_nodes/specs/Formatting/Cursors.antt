@@ -1,9 +1,9 @@
 -- What is written in front of a position in a buffer.
 use Rattle.std.specs.Prelude.{ℕ, ◌<◌, length, Option, Some, None, Result, IfOk}
-use Rattle.timefd_component.specs.Tree.{Text}
-use Rattle.timefd_format.specs.declared.cursor.WriteCursor.TheVariants as cursor
-use Rattle.timefd_format.specs.declared.unshown.Unshown.{Unshown}
-use Rattle.timefd_format.specs.Writes.{Writes}
+use Rattle.timefd_lang_component.specs.Tree.{Text}
+use Rattle.timefd_date_format.specs.declared.cursor.WriteCursor.TheVariants as cursor
+use Rattle.timefd_date_format.specs.declared.unshown.Unshown.{Unshown}
+use Rattle.timefd_date_format.specs.Writes.{Writes}
 
 -- The text is written before the position and begins at the index, if there is one. Otherwise there was no
 -- room, or something shows nothing.

@@ -1,9 +1,9 @@
 -- Nodes without members, as components and texts.
 use Rattle.std.specs.Prelude.{◌≡◌, [], Some, true}
-use Rattle.timefd_component.specs.Tree.{Text}
-use Rattle.timefd_node_list.specs.LeafMeaning.{leaf_tree}
-use Rattle.timefd_node_list.specs.Nodes.{Role, arity, made}
-use Rattle.timefd_node_list.specs.declared.leaves.Leaf.{Leaf}
+use Rattle.timefd_lang_component.specs.Tree.{Text}
+use Rattle.timefd_lang_node_list.specs.LeafMeaning.{leaf_tree}
+use Rattle.timefd_lang_node_list.specs.Nodes.{Role, arity, made}
+use Rattle.timefd_lang_node_list.specs.declared.leaves.Leaf.{Leaf}
 use Rattle.timefd_c_nodes.specs.declared.node.Node.{Node}
 use Rattle.timefd_c_nodes.specs.Formatting.Literals.{is_textual}
 use Rattle.timefd_c_nodes.specs.Formatting.Parts.{role_in}

@@ -1,11 +1,11 @@
 -- One step from a node to the next, in order.
 use Rattle.std.specs.Prelude.{ℕ, ◌≡◌, ◌+◌, ◌-◌, ◌≤◌, [], Some, Result, Ok, ⊤}
-use Rattle.timefd_component.specs.Tree.{Text}
-use Rattle.timefd_moment.specs.declared.moment.Moment.{Moment}
-use Rattle.timefd_format.specs.declared.unshown.Unshown.{Unshown}
-use Rattle.timefd_format.specs.Appends.{TriesToAppend}
-use Rattle.timefd_format.specs.Written as written
-use Rattle.timefd_node_list.specs.Nodes.{Role, text, shown, together, perhaps, either, arity}
+use Rattle.timefd_lang_component.specs.Tree.{Text}
+use Rattle.timefd_date_moment.specs.declared.moment.Moment.{Moment}
+use Rattle.timefd_date_format.specs.declared.unshown.Unshown.{Unshown}
+use Rattle.timefd_date_format.specs.Appends.{TriesToAppend}
+use Rattle.timefd_date_format.specs.Written as written
+use Rattle.timefd_lang_node_list.specs.Nodes.{Role, text, shown, together, perhaps, either, arity}
 use Rattle.timefd_c_nodes.specs.declared.node.Node.{Node}
 use Rattle.timefd_c_nodes.specs.Formatting.Parts.{role_in}
 use Rattle.timefd_c_nodes.specs.declared.formatting.forward.Reached.{Reached}

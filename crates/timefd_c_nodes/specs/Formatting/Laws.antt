@@ -1,8 +1,8 @@
 -- The nodes that are written for trees are a description.
 use Rattle.std.specs.Prelude.{◌≡◌, List, None}
-use Rattle.timefd_component.specs.Modern.{AreModern}
-use Rattle.timefd_component.specs.Tree.{Tree, trees}
-use Rattle.timefd_node_list.specs.Views.{walked_all}
+use Rattle.timefd_lang_component.specs.Modern.{AreModern}
+use Rattle.timefd_lang_component.specs.Tree.{Tree, trees}
+use Rattle.timefd_lang_node_list.specs.Views.{walked_all}
 use Rattle.timefd_c_nodes.specs.Encoding.{literals_of, nodes_from}
 use Rattle.timefd_c_nodes.specs.Formatting.Nodes.{node_fault}
 

@@ -1,7 +1,7 @@
 -- Whether the literals of nodes are UTF-8.
 use Rattle.std.specs.Prelude.{Bool, true, Option, Some, None}
 use Rattle.std.specs.Str.{is_utf8}
-use Rattle.timefd_node_list.specs.Nodes.{Role, text, shown, together, perhaps, either}
+use Rattle.timefd_lang_node_list.specs.Nodes.{Role, text, shown, together, perhaps, either}
 
 -- whether a part is no literal, or one in UTF-8
 abbrev pub is_textual : Role → Bool

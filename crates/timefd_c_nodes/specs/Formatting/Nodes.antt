@@ -1,8 +1,8 @@
 -- What nodes are as a whole.
 use Rattle.std.specs.Prelude.{ℕ, ◌+◌, ◌-◌, nat_lt, if◌then◌else◌, List, [], ◌∷◌, Option, Some, None}
-use Rattle.timefd_component.specs.Tree.{Text, Tree, component, literal}
-use Rattle.timefd_node_list.specs.Leaves.{leaves_in}
-use Rattle.timefd_node_list.specs.Nodes.{Role, arity}
+use Rattle.timefd_lang_component.specs.Tree.{Text, Tree, component, literal}
+use Rattle.timefd_lang_node_list.specs.Leaves.{leaves_in}
+use Rattle.timefd_lang_node_list.specs.Nodes.{Role, arity}
 use Rattle.timefd_c_nodes.specs.declared.node.Node.{Node}
 use Rattle.timefd_c_nodes.specs.Decoding.{read_nodes}
 use Rattle.timefd_c_nodes.specs.Formatting.Parts.{role_in}

@@ -1,8 +1,8 @@
 -- What a node is as part of a description.
 use Rattle.std.specs.Prelude.{ℕ, ◌+◌, ◌==◌, nat_lt, if◌then◌else◌, Bool, Option, Some, None, take, drop, length}
-use Rattle.timefd_component.specs.declared.component.Component.{Component}
-use Rattle.timefd_component.specs.Tree.{Text}
-use Rattle.timefd_node_list.specs.Nodes.{Role, text, shown, together, perhaps, either}
+use Rattle.timefd_lang_component.specs.declared.component.Component.{Component}
+use Rattle.timefd_lang_component.specs.Tree.{Text}
+use Rattle.timefd_lang_node_list.specs.Nodes.{Role, text, shown, together, perhaps, either}
 use Rattle.timefd_c_nodes.specs.declared.node.Node.{Node}
 use Rattle.timefd_c_nodes.specs.Decoding.{component_of, format_of}
 use Rattle.timefd_c_nodes.specs.declared.formatting.part.Kind.{Kind}

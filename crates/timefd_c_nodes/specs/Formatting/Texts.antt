@@ -1,8 +1,8 @@
 -- The result for nodes that a moment is written by.
 use Rattle.std.specs.Prelude.{◌≡◌, ◌<◌, ◌≤◌, ◌++◌, length, drop, Result, Ok, Err}
-use Rattle.timefd_component.specs.Tree.{Text}
-use Rattle.timefd_node_list.specs.Nodes.{kept_bytes}
-use Rattle.timefd_format.specs.declared.unshown.Unshown.{Unshown}
+use Rattle.timefd_lang_component.specs.Tree.{Text}
+use Rattle.timefd_lang_node_list.specs.Nodes.{kept_bytes}
+use Rattle.timefd_date_format.specs.declared.unshown.Unshown.{Unshown}
 use Rattle.timefd_c_nodes.specs.declared.formatting.format.NodesText.{NodesText}
 use Rattle.timefd_c_nodes.specs.declared.formatting.format.NodesError.{NodesError}
 use Rattle.timefd_c_nodes.specs.declared.formatting.format.NodesError.TheVariants as fails

@@ -1,8 +1,8 @@
 -- What a walk from the last node to the first counts.
 use Rattle.std.specs.Prelude.{ℕ, ◌+◌, ◌-◌, nat_lt, if◌then◌else◌, List, []}
-use Rattle.timefd_component.specs.Tree.{Tree}
-use Rattle.timefd_node_list.specs.Leaves.{role_leaves, unwritten}
-use Rattle.timefd_node_list.specs.Nodes.{Role, arity}
+use Rattle.timefd_lang_component.specs.Tree.{Tree}
+use Rattle.timefd_lang_node_list.specs.Leaves.{role_leaves, unwritten}
+use Rattle.timefd_lang_node_list.specs.Nodes.{Role, arity}
 
 -- how many trees have to be in front of a node, if `need` trees are wanted of which the last is its own
 abbrev pub needed : ℕ → Role → ℕ

@@ -1,9 +1,9 @@
 -- The composite letters of strftime, each as one node.
 use Rattle.std.specs.Prelude.{ℕ, ◌≡◌, List, [], ◌∷◌, drop, length, map, take}
-use Rattle.timefd_component.specs.Reserved.{reserve}
-use Rattle.timefd_component.specs.Tree.{Text, Tree, compound, trees}
+use Rattle.timefd_lang_component.specs.Reserved.{reserve}
+use Rattle.timefd_lang_component.specs.Tree.{Text, Tree, compound, trees}
 use Rattle.timefd_language.specs.Strftime.{SpellsStrftime}
-use Rattle.timefd_node_list.specs.Views.{walked_all}
+use Rattle.timefd_lang_node_list.specs.Views.{walked_all}
 use Rattle.timefd_language.specs.declared.strftime.letter.Composite.{Composite}
 use Rattle.timefd_language.specs.declared.strftime.letter.Composite.TheVariants.{DateAndTime, ShortDate, IsoDate, TimeOf12, HourAndMinute, TimeOf24, Offset}
 use Rattle.timefd_language.specs.declared.strftime.piece.StrftimePiece.{StrftimePiece}

@@ -1,10 +1,10 @@
 -- What is written for a text of strftime, where a composite letter is one node, or its members and a node
 -- after them.
 use Rattle.std.specs.Prelude.{◌≡◌, Bool, true, false, List, [], ◌∷◌, length, map}
-use Rattle.timefd_component.specs.Reserved.{reserve, reserve_all}
-use Rattle.timefd_component.specs.Tree.{Text, Tree, trees}
-use Rattle.timefd_node_list.specs.Nodes.{kept_bytes}
-use Rattle.timefd_node_list.specs.Views.{walked}
+use Rattle.timefd_lang_component.specs.Reserved.{reserve, reserve_all}
+use Rattle.timefd_lang_component.specs.Tree.{Text, Tree, trees}
+use Rattle.timefd_lang_node_list.specs.Nodes.{kept_bytes}
+use Rattle.timefd_lang_node_list.specs.Views.{walked}
 use Rattle.timefd_language.specs.declared.language.Language.TheVariants.{Strftime}
 use Rattle.timefd_language.specs.declared.strftime.piece.StrftimePiece.{StrftimePiece}
 use Rattle.timefd_language.specs.Directives.PieceMeaning.{piece_tree}

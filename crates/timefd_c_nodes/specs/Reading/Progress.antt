@@ -1,9 +1,9 @@
 -- What was read and written of a text so far.
 use Rattle.std.specs.Prelude.{ℕ, ◌≡◌, ◌+◌, List, length}
-use Rattle.timefd_component.specs.Reserved.{reserve_all}
-use Rattle.timefd_component.specs.Tree.{Text, Tree, trees}
-use Rattle.timefd_node_list.specs.Nodes.{kept_bytes}
-use Rattle.timefd_node_list.specs.Views.{walked_all}
+use Rattle.timefd_lang_component.specs.Reserved.{reserve_all}
+use Rattle.timefd_lang_component.specs.Tree.{Text, Tree, trees}
+use Rattle.timefd_lang_node_list.specs.Nodes.{kept_bytes}
+use Rattle.timefd_lang_node_list.specs.Views.{walked_all}
 use Rattle.timefd_c_nodes.specs.declared.node.Node.{Node}
 use Rattle.timefd_c_nodes.specs.declared.position.TheConstants.{START}
 use Rattle.timefd_c_nodes.specs.declared.position.Written.{Written}

@@ -1,16 +1,16 @@
 -- What is reported and written for a description that is read as nodes.
 use Rattle.std.specs.Prelude.{ℕ, ◌≡◌, ◌*◌, ◌^◌, ◌<◌, ◌≤◌, ◌++◌, ◌↔◌, ⊤, Bool, true, false, IsTrue, IfOk, IsOk, List, MatchResult, Result, [], ◌∷◌, length, drop}
 use Rattle.std.specs.Result.{IfErr}
-use Rattle.timefd_fault.specs.declared.borrowed_parse_error.BorrowedParseError.{BorrowedParseError}
-use Rattle.timefd_fault.specs.BorrowedFaults.{IsBorrowed, IsBorrowedOf, IsMemory}
-use Rattle.timefd_component.specs.Reserved.{reserve, reserve_all}
-use Rattle.timefd_component.specs.Tree.{Text, Tree, trees, pack}
-use Rattle.timefd_node_list.specs.Nodes.{kept_bytes}
-use Rattle.timefd_node_list.specs.Views.{walked, walked_all}
+use Rattle.timefd_lang_fault.specs.declared.borrowed_parse_error.BorrowedParseError.{BorrowedParseError}
+use Rattle.timefd_lang_fault.specs.BorrowedFaults.{IsBorrowed, IsBorrowedOf, IsMemory}
+use Rattle.timefd_lang_component.specs.Reserved.{reserve, reserve_all}
+use Rattle.timefd_lang_component.specs.Tree.{Text, Tree, trees, pack}
+use Rattle.timefd_lang_node_list.specs.Nodes.{kept_bytes}
+use Rattle.timefd_lang_node_list.specs.Views.{walked, walked_all}
 use Rattle.timefd_language.specs.declared.description_version.DescriptionVersion.TheVariants.{One, Two, Three}
 use Rattle.timefd_language.specs.declared.language.Language.{Language}
 use Rattle.timefd_language.specs.declared.language.Language.TheVariants.{Version, Strftime}
-use Rattle.timefd_fault.specs.Faults.{Fault}
+use Rattle.timefd_lang_fault.specs.Faults.{Fault}
 use Rattle.timefd_parse.specs.Language.{FaultIn, SpellsIn, amount}
 use Rattle.timefd_c_nodes.specs.declared.node.Node.{Node}
 use Rattle.timefd_c_nodes.specs.Encoding.{node_for, nodes_by, own_text, texts_of}

@@ -5,7 +5,7 @@ ghost use Rattle.timefd_c_nodes.specs.Decoding as spec;
 
 use crate::Node;
 use crate::formatting::modifier::{count_of, digits_of, flag_of, padding_of, trailing_input_of};
-use timefd_component::Component;
+use timefd_lang_component::Component;
 use timefd_modifier::{
     CalendarYearCenturyExtendedRange, CalendarYearCenturyStandardRange,
     CalendarYearFullExtendedRange, CalendarYearFullStandardRange, CalendarYearLastTwo, Day, End,

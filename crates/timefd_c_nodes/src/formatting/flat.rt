@@ -7,12 +7,12 @@ ghost use Rattle.timefd_c_nodes.specs.Formatting.Flat.{IsLeaf};
 ghost use Rattle.timefd_c_nodes.specs.Formatting.Literals.{is_text};
 ghost use Rattle.timefd_c_nodes.specs.Formatting.Nodes.{node_fault, node_trees};
 ghost use Rattle.timefd_c_nodes.specs.Formatting.Parts.{role_in};
-ghost use Rattle.timefd_node_list.specs.LeafMeaning.{leaf_tree};
+ghost use Rattle.timefd_lang_node_list.specs.LeafMeaning.{leaf_tree};
 
 use crate::Node;
 use crate::formatting::part::{Part, part_of};
 use std::alloc::Global;
-use timefd_node_list::Leaf;
+use timefd_lang_node_list::Leaf;
 
 /// The components and texts that nodes are, one after another. `None` says that the nodes are
 /// something else, or that memory ran out.

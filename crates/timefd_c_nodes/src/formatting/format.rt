@@ -4,9 +4,9 @@ ghost use Rattle.std.specs.Prelude.{◌≡◌, ◌<◌, ◌≤◌, ◌++◌, Err
 ghost use Rattle.timefd_c_nodes.specs.Formatting.Nodes as spec;
 ghost use Rattle.timefd_c_nodes.specs.Formatting.Nodes.{node_trees};
 ghost use Rattle.timefd_c_nodes.specs.Formatting.Texts.{ShowsNodes};
-ghost use Rattle.timefd_component.specs.Tree.{Text, trees};
-ghost use Rattle.timefd_format.specs.Fronts.{IsLen};
-ghost use Rattle.timefd_format.specs.Written.{written_all};
+ghost use Rattle.timefd_lang_component.specs.Tree.{Text, trees};
+ghost use Rattle.timefd_date_format.specs.Fronts.{IsLen};
+ghost use Rattle.timefd_date_format.specs.Written.{written_all};
 ghost use Rattle.std.specs.Prelude.{ℕ};
 
 use crate::Node;
@@ -14,8 +14,8 @@ use crate::formatting::fault::node_fault;
 use crate::formatting::len::text_len;
 use crate::formatting::short::format_short;
 use crate::formatting::write::write_nodes;
-use timefd_format::Unshown;
-use timefd_moment::Moment;
+use timefd_date_format::Unshown;
+use timefd_date_moment::Moment;
 
 /// How long the text of nodes is, and how many bytes of it were written.
 #[derive(Debug, Clone, Copy)]

@@ -6,16 +6,16 @@ ghost use Rattle.timefd_c_nodes.specs.Formatting.Forward.{IsAfter};
 ghost use Rattle.timefd_c_nodes.specs.Formatting.Nodes as spec;
 ghost use Rattle.timefd_c_nodes.specs.Formatting.Nodes.{node_trees};
 ghost use Rattle.timefd_c_nodes.specs.Decoding as decoded;
-ghost use Rattle.timefd_component.specs.Tree.{trees};
-ghost use Rattle.timefd_format.specs.Appends.{TriesToAppend};
-ghost use Rattle.timefd_format.specs.Written.{shown, written_all};
+ghost use Rattle.timefd_lang_component.specs.Tree.{trees};
+ghost use Rattle.timefd_date_format.specs.Appends.{TriesToAppend};
+ghost use Rattle.timefd_date_format.specs.Written.{shown, written_all};
 
 use crate::Node;
 use crate::formatting::component::component_of;
 use crate::formatting::part::{Part, part_of};
-use timefd_component::Component;
-use timefd_format::{append_literal, append_quickly, append_slowly};
-use timefd_moment::Moment;
+use timefd_date_format::{append_literal, append_quickly, append_slowly};
+use timefd_date_moment::Moment;
+use timefd_lang_component::Component;
 
 /// How far nodes are written: where the written text ends, and how many trees there are.
 #[derive(Clone, Copy)]

@@ -1,14 +1,14 @@
 //! The parts of nodes that a formatter writes, from the last to the first.
 
 ghost use Rattle.std.specs.Prelude.{◌≡◌, ◌++◌, ◌∷◌, ◌<◌, ◌≤◌, [], IfSome, MatchOption, None, length};
-ghost use Rattle.timefd_node_list.specs.Nodes.{arity, before, grown};
+ghost use Rattle.timefd_lang_node_list.specs.Nodes.{arity, before, grown};
 ghost use Rattle.timefd_c_nodes.specs.Formatting.Nodes as spec;
 ghost use Rattle.timefd_c_nodes.specs.Formatting.Nodes.{leaf_tree, node_leaves, node_trees};
 ghost use Rattle.timefd_c_nodes.specs.Formatting.Parts.{role};
 
 use crate::Node;
 use crate::formatting::part::{Part, members, part_of, unwritten_members};
-use timefd_component::Component;
+use timefd_lang_component::Component;
 
 /// A part that is written.
 #[derive(Clone, Copy)]

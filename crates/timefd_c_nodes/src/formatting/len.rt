@@ -3,14 +3,14 @@
 ghost use Rattle.std.specs.Prelude.{◌≡◌, None};
 ghost use Rattle.timefd_c_nodes.specs.Formatting.Nodes as spec;
 ghost use Rattle.timefd_c_nodes.specs.Formatting.Nodes.{leaf_tree, node_trees};
-ghost use Rattle.timefd_component.specs.Tree.{trees};
-ghost use Rattle.timefd_format.specs.Fronts.{IsLen};
-ghost use Rattle.timefd_format.specs.Written.{written, written_all};
+ghost use Rattle.timefd_lang_component.specs.Tree.{trees};
+ghost use Rattle.timefd_date_format.specs.Fronts.{IsLen};
+ghost use Rattle.timefd_date_format.specs.Written.{written, written_all};
 
 use crate::Node;
 use crate::formatting::leaf::{Leaf, split_last};
-use timefd_format::{Unshown, component_len, len_of_both};
-use timefd_moment::Moment;
+use timefd_date_format::{Unshown, component_len, len_of_both};
+use timefd_date_moment::Moment;
 
 /// How many bytes nodes write of the moment, at most `usize::MAX`. An `Err` names the first component
 /// that shows nothing.

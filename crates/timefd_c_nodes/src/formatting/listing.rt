@@ -6,14 +6,14 @@ ghost use Rattle.std.specs.Str as std;
 ghost use Rattle.timefd_c_nodes.specs.Formatting.Literals as spec;
 ghost use Rattle.timefd_c_nodes.specs.Formatting.Nodes.{node_fault, node_trees};
 ghost use Rattle.timefd_c_nodes.specs.Formatting.Parts.{role, role_in};
-ghost use Rattle.timefd_component.specs.Tree.{compound, trees};
-ghost use Rattle.timefd_node_list.specs.NodeTrees.{HasRoom, list_trees};
-ghost use Rattle.timefd_node_list.specs.Nodes.{arity, grown};
+ghost use Rattle.timefd_lang_component.specs.Tree.{compound, trees};
+ghost use Rattle.timefd_lang_node_list.specs.NodeTrees.{HasRoom, list_trees};
+ghost use Rattle.timefd_lang_node_list.specs.Nodes.{arity, grown};
 
 use crate::Node;
 use crate::formatting::part::{Part, members, part_of};
 use std::alloc::{AllocError, Global};
-use timefd_node_list::node_list::NodeList;
+use timefd_lang_node_list::node_list::NodeList;
 
 /// Whether each literal of nodes is UTF-8 by itself.
 pub fn are_texts(nodes: &[Node], literals: &[u8]) -> bool

@@ -3,13 +3,13 @@
 ghost use Rattle.std.specs.Prelude.{◌≡◌};
 ghost use Rattle.timefd_c_nodes.specs.Formatting.Parts as spec;
 ghost use Rattle.timefd_c_nodes.specs.Decoding as decoded;
-ghost use Rattle.timefd_node_list.specs.Leaves.{unwritten};
-ghost use Rattle.timefd_node_list.specs.Nodes.{arity};
+ghost use Rattle.timefd_lang_node_list.specs.Leaves.{unwritten};
+ghost use Rattle.timefd_lang_node_list.specs.Nodes.{arity};
 
 use crate::Node;
 use crate::formatting::component::component_of;
 use crate::formatting::modifier::flag_of;
-use timefd_component::Component;
+use timefd_lang_component::Component;
 
 /// Which of the five kinds a node is.
 #[derive(Clone, Copy)]

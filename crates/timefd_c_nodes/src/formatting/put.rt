@@ -2,11 +2,11 @@
 
 ghost use Rattle.std.specs.Prelude.{◌≤◌, Ok, length};
 ghost use Rattle.timefd_c_nodes.specs.Formatting.Cursors.{TriesToWrite};
-ghost use Rattle.timefd_format.specs.Written.{shown};
+ghost use Rattle.timefd_date_format.specs.Written.{shown};
 
-use timefd_component::Component;
-use timefd_format::write_component;
-use timefd_moment::Moment;
+use timefd_date_format::write_component;
+use timefd_date_moment::Moment;
+use timefd_lang_component::Component;
 
 /// Puts what a component shows in front of the written text. `None` says that it shows nothing, or
 /// that there is no room.

@@ -4,14 +4,14 @@ ghost use Rattle.std.specs.Prelude.{◌≡◌, ◌≤◌, ◌<◌, ◌++◌, IfS
 ghost use Rattle.timefd_c_nodes.specs.Formatting.Nodes as spec;
 ghost use Rattle.timefd_c_nodes.specs.Formatting.Nodes.{node_trees};
 ghost use Rattle.timefd_c_nodes.specs.Formatting.Texts.{IsShown, ShowsNodes};
-ghost use Rattle.timefd_component.specs.Tree.{trees};
-ghost use Rattle.timefd_format.specs.Written.{written_all};
+ghost use Rattle.timefd_lang_component.specs.Tree.{trees};
+ghost use Rattle.timefd_date_format.specs.Written.{written_all};
 
 use crate::Node;
 use crate::formatting::format::NodesText;
 use crate::formatting::forward::append_nodes;
 use crate::formatting::write::write_nodes;
-use timefd_moment::Moment;
+use timefd_date_moment::Moment;
 
 // Few texts are longer.
 const SHORT: usize = 128;

@@ -6,14 +6,14 @@ ghost use Rattle.timefd_c_nodes.specs.Formatting.Nodes.{node_trees};
 ghost use Rattle.timefd_c_nodes.specs.Formatting.Parts.{role};
 ghost use Rattle.timefd_c_nodes.specs.Formatting.Cursors.{TriesToWrite};
 ghost use Rattle.timefd_c_nodes.specs.Formatting.Walk.{leaves_here};
-ghost use Rattle.timefd_component.specs.Tree.{trees};
-ghost use Rattle.timefd_format.specs.Written.{written_all};
+ghost use Rattle.timefd_lang_component.specs.Tree.{trees};
+ghost use Rattle.timefd_date_format.specs.Written.{written_all};
 
 use crate::Node;
 use crate::formatting::part::{Part, part_of};
 use crate::formatting::put::{put_component, put_literal};
 use crate::formatting::walk::{needed, skipped};
-use timefd_moment::Moment;
+use timefd_date_moment::Moment;
 
 /// Writes what nodes show of the moment to the end of the buffer, and returns the index where it
 /// begins. `None` says that the nodes aren't a description, that a component shows nothing, or that

@@ -1,7 +1,7 @@
 //! The nodes of composite letters of strftime.
 
 ghost use Rattle.std.specs.Prelude.{◌≡◌, ◌+◌, ◌≤◌, ◌^◌, None, IfSome};
-ghost use Rattle.timefd_component.specs.Reserved.{reserve};
+ghost use Rattle.timefd_lang_component.specs.Reserved.{reserve};
 ghost use Rattle.timefd_c_nodes.specs.Writing.{Puts};
 ghost use Rattle.timefd_c_nodes.specs.Reading.Composites as spec;
 ghost use Rattle.timefd_c_nodes.specs.Reading.Composites.{composite_tree};

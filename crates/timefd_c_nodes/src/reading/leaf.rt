@@ -1,10 +1,10 @@
 //! Literals and components, each of one node.
 
 ghost use Rattle.std.specs.Prelude.{◌≡◌, ◌+◌, ◌≤◌, ◌^◌, None, IfSome};
-ghost use Rattle.timefd_component.specs.Reserved.{reserve};
-ghost use Rattle.timefd_component.specs.Tree as spec;
-ghost use Rattle.timefd_component.specs.Tree.{Text, Tree};
-ghost use Rattle.timefd_node_list.specs.Views.{walked};
+ghost use Rattle.timefd_lang_component.specs.Reserved.{reserve};
+ghost use Rattle.timefd_lang_component.specs.Tree as spec;
+ghost use Rattle.timefd_lang_component.specs.Tree.{Text, Tree};
+ghost use Rattle.timefd_lang_node_list.specs.Views.{walked};
 ghost use Rattle.timefd_c_nodes.specs.Writing.{IsPast, IsWritten};
 ghost use Rattle.timefd_parse.specs.Pieces.{IsLeaf, IsLeafTree};
 

@@ -1,11 +1,11 @@
 //! Texts of version 3. Long ones that nest descriptions are built first, and then written.
 
 ghost use Rattle.std.specs.Prelude.{◌≡◌, ◌<◌, ◌≤◌, IfSome, length};
-ghost use Rattle.timefd_component.specs.Reserved.{reserve};
+ghost use Rattle.timefd_lang_component.specs.Reserved.{reserve};
 ghost use Rattle.timefd_items.specs.Description.{description_tree};
 ghost use Rattle.timefd_language.specs.Grammar.{nesting_limit};
 ghost use Rattle.timefd_language.specs.declared.description_version.DescriptionVersion.TheVariants.{Three};
-ghost use Rattle.timefd_node_list.specs.Views.{walked};
+ghost use Rattle.timefd_lang_node_list.specs.Views.{walked};
 ghost use Rattle.timefd_c_nodes.specs.Reading.Reports.{IsRead, Reports};
 
 use crate::reading::report::{Report, has_room, report_of};

@@ -2,9 +2,9 @@
 
 ghost use Rattle.std.specs.Prelude.{◌≡◌, ◌≤◌, [], List, IfOk, IsOk, MatchResult, length};
 ghost use Rattle.std.specs.Result.{IfErr};
-ghost use Rattle.timefd_fault.specs.BorrowedFaults.{IsBorrowed, IsBorrowedOf, IsMemory, IsRefusal};
-ghost use Rattle.timefd_component.specs.Tree.{Tree};
-ghost use Rattle.timefd_fault.specs.Faults as spec;
+ghost use Rattle.timefd_lang_fault.specs.BorrowedFaults.{IsBorrowed, IsBorrowedOf, IsMemory, IsRefusal};
+ghost use Rattle.timefd_lang_component.specs.Tree.{Tree};
+ghost use Rattle.timefd_lang_fault.specs.Faults as spec;
 ghost use Rattle.timefd_language.specs.Grammar.{nesting_limit};
 ghost use Rattle.timefd_parse.specs.Language.{FaultIn, SpellsIn};
 ghost use Rattle.timefd_c_nodes.specs.Reading.Pieces.{IsReportOfPieces};

@@ -2,12 +2,12 @@
 
 ghost use Rattle.std.specs.Prelude.{◌≡◌, ◌<◌, List, None, IfSome, MatchResult, length};
 ghost use Rattle.std.specs.Result.{IfErr};
-ghost use Rattle.timefd_fault.specs.BorrowedFaults.{IsRefusal};
-ghost use Rattle.timefd_component.specs.Reserved.{reserve};
-ghost use Rattle.timefd_component.specs.Tree.{Tree, compound, trees};
-ghost use Rattle.timefd_fault.specs.ReadErrors.{MemoryOr, IsInvalid};
+ghost use Rattle.timefd_lang_fault.specs.BorrowedFaults.{IsRefusal};
+ghost use Rattle.timefd_lang_component.specs.Reserved.{reserve};
+ghost use Rattle.timefd_lang_component.specs.Tree.{Tree, compound, trees};
+ghost use Rattle.timefd_lang_fault.specs.ReadErrors.{MemoryOr, IsInvalid};
 ghost use Rattle.timefd_language.specs.Strftime.{SpellsStrftime};
-ghost use Rattle.timefd_node_list.specs.Views.{walked};
+ghost use Rattle.timefd_lang_node_list.specs.Views.{walked};
 ghost use Rattle.timefd_c_nodes.specs.Writing.{IsPast, IsWritten};
 ghost use Rattle.timefd_language.specs.Directives.LetterMeaning.{composite_list};
 ghost use Rattle.timefd_language.specs.Directives.StrftimeReading.{IsStrftimeFaultIn};
@@ -19,7 +19,7 @@ use crate::reading::leaf::write_component;
 use crate::reading::progress::{NOTHING, Progress, one_more};
 use crate::reading::report::{Report, has_room, report_of};
 use crate::{Node, WritePosition, Written, put_literal, write_compound};
-use timefd_fault::read_error::ReadError;
+use timefd_lang_fault::read_error::ReadError;
 use timefd_language::strftime::{
     Composite, StrftimePiece, StrftimeTables, next_strftime_piece, strftime_error,
 };

@@ -2,10 +2,10 @@
 
 ghost use Rattle.std.specs.Prelude.{◌≡◌, ◌<◌, [], List, IsFalse, MatchResult, length};
 ghost use Rattle.std.specs.Result.{IfErr};
-ghost use Rattle.timefd_fault.specs.BorrowedFaults.{IsRefusal};
-ghost use Rattle.timefd_component.specs.Tree.{Tree};
+ghost use Rattle.timefd_lang_fault.specs.BorrowedFaults.{IsRefusal};
+ghost use Rattle.timefd_lang_component.specs.Tree.{Tree};
 ghost use Rattle.timefd_language.specs.Bytes.{is_version_three};
-ghost use Rattle.timefd_fault.specs.ReadErrors.{MemoryOr, IsInvalid};
+ghost use Rattle.timefd_lang_fault.specs.ReadErrors.{MemoryOr, IsInvalid};
 ghost use Rattle.timefd_parse.specs.Read.{IsFaultIn, PiecesToEnd};
 ghost use Rattle.timefd_c_nodes.specs.Reading.Progress.{HasWritten};
 ghost use Rattle.timefd_c_nodes.specs.Reading.Reports.{IsRead};
@@ -15,8 +15,8 @@ use crate::reading::leaf::write_leaf;
 use crate::reading::progress::{NOTHING, Progress, one_more};
 use crate::reading::report::{Report, has_room, report_of};
 use std::alloc::Global;
-use timefd_fault::read_error::ReadError;
 use timefd_items::DescriptionBuilder;
+use timefd_lang_fault::read_error::ReadError;
 use timefd_parse::{BorrowedParseError, DescriptionVersion, Language, error_of, next_piece};
 
 /// Reads a text of version 1 or 2, in which a nested description is a fault: another fault if more

@@ -2,12 +2,12 @@
 
 ghost use Rattle.std.specs.Prelude.{◌≡◌, ◌+◌, ◌<◌, ◌≤◌, ◌^◌, [], List, IfSome, MatchResult, None, length, true};
 ghost use Rattle.std.specs.Result.{IfErr};
-ghost use Rattle.timefd_component.specs.Reserved.{reserve, reserve_all};
-ghost use Rattle.timefd_component.specs.Tree.{Text, Tree, pack, trees};
+ghost use Rattle.timefd_lang_component.specs.Reserved.{reserve, reserve_all};
+ghost use Rattle.timefd_lang_component.specs.Tree.{Text, Tree, pack, trees};
 ghost use Rattle.timefd_items.specs.Builder.{built};
-ghost use Rattle.timefd_fault.specs.ReadErrors.{MemoryOr};
+ghost use Rattle.timefd_lang_fault.specs.ReadErrors.{MemoryOr};
 ghost use Rattle.timefd_language.specs.declared.description_version.DescriptionVersion.TheVariants.{Three};
-ghost use Rattle.timefd_node_list.specs.Views.{walked};
+ghost use Rattle.timefd_lang_node_list.specs.Views.{walked};
 ghost use Rattle.timefd_c_nodes.specs.declared.node.Node as spec_node;
 ghost use Rattle.timefd_c_nodes.specs.declared.position.TheConstants as positions;
 ghost use Rattle.timefd_c_nodes.specs.Writing.{IsWritten};
@@ -22,8 +22,8 @@ use crate::reading::report::{Report, has_room, report_of};
 use crate::{Node, START, WritePosition, Written, put, write_view};
 use std::alloc::{AllocError, Global};
 use std::mem;
-use timefd_fault::read_error::ReadError;
 use timefd_items::DescriptionBuilder;
+use timefd_lang_fault::read_error::ReadError;
 use timefd_parse::{BorrowedParseError, DescriptionVersion, Language, Piece, error_of, next_piece};
 
 /// Reads a text of version 3, and writes each piece as it is read. A piece with nested descriptions

@@ -5,18 +5,18 @@ use Rattle.std.specs.declared.alloc.AllocError.{AllocError}
 use Rattle.std.proofs.Math.Seq.{take-length}
 use Rattle.std.proofs.lemmas.List.Elements.{All-nil, All-cons, All-append, All-take}
 use denote.Ref.{Bor}
-use Rattle.timefd_component.specs.Tree.{Text, Tree, pack}
-use Rattle.timefd_fault.specs.BorrowedFaults.{IsBorrowedOf, to_borrowed_fault}
-use Rattle.timefd_fault.specs.declared.borrowed_fault.BorrowedFault.{BorrowedFault}
-use Rattle.timefd_fault.specs.declared.borrowed_parse_error.BorrowedParseError.{BorrowedParseError}
-use Rattle.timefd_fault.specs.declared.borrowed_parse_error.BorrowedParseError.TheVariants.{Invalid}
+use Rattle.timefd_lang_component.specs.Tree.{Text, Tree, pack}
+use Rattle.timefd_lang_fault.specs.BorrowedFaults.{IsBorrowedOf, to_borrowed_fault}
+use Rattle.timefd_lang_fault.specs.declared.borrowed_fault.BorrowedFault.{BorrowedFault}
+use Rattle.timefd_lang_fault.specs.declared.borrowed_parse_error.BorrowedParseError.{BorrowedParseError}
+use Rattle.timefd_lang_fault.specs.declared.borrowed_parse_error.BorrowedParseError.TheVariants.{Invalid}
 use Rattle.timefd_description.specs.Guessing.Candidates.{Entry, entries, entry_of, rows_of, rows_in}
 use Rattle.timefd_description.specs.declared.guessing.candidates.Group.{Group}
 use Rattle.timefd_description.specs.Guessing.Found.{texts, Adds, IsRead, IsWritten, ReadBy, ComesBack, AllComeBack, Counts, one_if, ReadsAll, IsOffered, Appends, AreFound, IsReadBack, ReadsBack}
-use Rattle.timefd_fault.specs.Faults.{Fault}
+use Rattle.timefd_lang_fault.specs.Faults.{Fault}
 use Rattle.timefd_language.specs.Broken.{FaultOf}
-use Rattle.timefd_moment.specs.declared.moment.Moment.{Moment}
-use Rattle.timefd_moment.specs.Fields.Reads.{fields_of}
+use Rattle.timefd_date_moment.specs.declared.moment.Moment.{Moment}
+use Rattle.timefd_date_moment.specs.Fields.Reads.{fields_of}
 use Rattle.timefd_language.specs.Grammar.{Spells, nesting_limit}
 use Rattle.timefd_language.specs.declared.description_version.DescriptionVersion.TheVariants.{Three}
 use Rattle.timefd_description.specs.declared.guessing.candidate.Candidate.{Candidate}

@@ -1,20 +1,20 @@
 -- Which candidates read all texts and write them back.
 use Rattle.std.specs.Prelude.{ℕ, ◌≡◌, ◌⊎◌, ◌+◌, ◌++◌, Bool, true, false, All, List, [], ◌∷◌, take, Option, Some, None, Result, Ok, Err, ⊤}
 use denote.Ref.{Bor}
-use Rattle.timefd_component.specs.Tree.{Text, Tree, pack}
-use Rattle.timefd_fault.specs.Faults.{Fault}
-use Rattle.timefd_format.specs.Written.{written}
+use Rattle.timefd_lang_component.specs.Tree.{Text, Tree, pack}
+use Rattle.timefd_lang_fault.specs.Faults.{Fault}
+use Rattle.timefd_date_format.specs.Written.{written}
 use Rattle.timefd_description.specs.Guessing.Candidates.{Entry}
 use Rattle.timefd_description.specs.declared.guessing.guessing.Guess.{Guess}
 use Rattle.timefd_language.specs.Broken.{FaultOf}
 use Rattle.timefd_language.specs.Grammar.{Spells, nesting_limit}
 use Rattle.timefd_language.specs.declared.description_version.DescriptionVersion.TheVariants.{Three}
-use Rattle.timefd_moment.specs.declared.moment.Moment.{Moment}
-use Rattle.timefd_moment.specs.Fields.Reads.{fields_of}
-use Rattle.timefd_moment.specs.declared.fields.fault.ReadError.{ReadError}
-use Rattle.timefd_moment.specs.declared.fields.fields.Fields.{Fields}
-use Rattle.timefd_moment.specs.Reading.Values.{IsMomentOf}
-use Rattle.timefd_moment.specs.declared.reading.error.ValueError.{ValueError}
+use Rattle.timefd_date_moment.specs.declared.moment.Moment.{Moment}
+use Rattle.timefd_date_moment.specs.Fields.Reads.{fields_of}
+use Rattle.timefd_date_moment.specs.declared.fields.fault.ReadError.{ReadError}
+use Rattle.timefd_date_moment.specs.declared.fields.fields.Fields.{Fields}
+use Rattle.timefd_date_moment.specs.Reading.Values.{IsMomentOf}
+use Rattle.timefd_date_moment.specs.declared.reading.error.ValueError.{ValueError}
 
 abbrev pub texts : List (Bor Text) → List Text
 texts [] = []

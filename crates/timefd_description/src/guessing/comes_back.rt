@@ -2,16 +2,16 @@
 
 ghost use Rattle.std.specs.Prelude.{IfOk};
 ghost use Rattle.timefd_description.specs.Guessing.Found as spec;
-ghost use Rattle.timefd_node_list.specs.Views.{view_tree};
-ghost use Rattle.timefd_moment.specs.Fields.Reads.{fields_of};
+ghost use Rattle.timefd_lang_node_list.specs.Views.{view_tree};
+ghost use Rattle.timefd_date_moment.specs.Fields.Reads.{fields_of};
 
 use std::alloc::{AllocError, Global};
-use timefd_fault::BorrowedParseError;
-use timefd_format::{TextError, format};
-use timefd_moment::Moment;
-use timefd_moment::fields::read_fields;
-use timefd_moment::reading::moment;
-use timefd_node_list::View;
+use timefd_date_format::{TextError, format};
+use timefd_date_moment::Moment;
+use timefd_date_moment::fields::read_fields;
+use timefd_date_moment::reading::moment;
+use timefd_lang_fault::BorrowedParseError;
+use timefd_lang_node_list::View;
 use timefd_parse::{BorrowedOutput, DescriptionVersion, NESTING_LIMIT, parse_all_borrowed};
 
 /// Whether the description reads each text and writes it back. An `Err` says that memory ran out.

@@ -3,12 +3,12 @@
 ghost use Rattle.std.specs.Prelude.{◌≡◌, ◌<◌, ◌+◌, ◌^◌, IfOk};
 ghost use Rattle.timefd_description.specs.Guessing.Candidates.{text_option};
 ghost use Rattle.timefd_description.specs.Guessing.Found as spec;
-ghost use Rattle.timefd_node_list.specs.Views.{view_tree};
+ghost use Rattle.timefd_lang_node_list.specs.Views.{view_tree};
 
 use crate::guessing::comes_back::comes_back;
 use std::alloc::{AllocError, Global};
-use timefd_fault::BorrowedParseError;
-use timefd_node_list::View;
+use timefd_lang_fault::BorrowedParseError;
+use timefd_lang_node_list::View;
 use timefd_parse::{BorrowedOutput, DescriptionVersion, NESTING_LIMIT, parse_all_borrowed};
 
 /// How many texts the description with day and month swapped reads and writes back too. 0 if there is no

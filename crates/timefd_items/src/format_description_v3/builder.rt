@@ -1,15 +1,15 @@
 //! Descriptions that are built part by part.
 
 ghost use Rattle.std.specs.Prelude.{◌≡◌, ◌+◌, ◌-◌, ◌^◌, ◌≤◌, length};
-ghost use Rattle.timefd_node_list.specs.NodeTrees.{list_trees, node_count, room as list_room};
-ghost use Rattle.timefd_node_list.specs.Nodes.{largest};
-ghost use Rattle.timefd_node_list.specs.Tallies.{IsSum, IsSum-prop};
+ghost use Rattle.timefd_lang_node_list.specs.NodeTrees.{list_trees, node_count, room as list_room};
+ghost use Rattle.timefd_lang_node_list.specs.Nodes.{largest};
+ghost use Rattle.timefd_lang_node_list.specs.Tallies.{IsSum, IsSum-prop};
 
 use super::FormatDescriptionV3;
 use std::alloc::{AllocError, Global};
-use timefd_component::Component;
-use timefd_node_list::node_list::NodeList;
-use timefd_node_list::tally::ending_tally;
+use timefd_lang_component::Component;
+use timefd_lang_node_list::node_list::NodeList;
+use timefd_lang_node_list::tally::ending_tally;
 
 /// A description that is built part by part. It holds trees side by side: literals and components
 /// are added to them, and the last ones are made into one. An `Err` says that memory ran out, and
@@ -33,11 +33,11 @@ impl<'a> DescriptionBuilder<'a> {
     ghost use Rattle.std.specs.Prelude.{◌≡◌, ◌++◌, ◌∷◌, [], ◌+◌, nat_le, IfOk, IsOk, OnErr, OnOk};
     ghost use Rattle.timefd_items.specs.Builder.{built, room};
     ghost use Rattle.timefd_items.specs.Description.{description_tree};
-    ghost use Rattle.timefd_component.specs.Modern.{modern};
-    ghost use Rattle.timefd_node_list.specs.Nodes.{before, ending};
-    ghost use Rattle.timefd_component.specs.Reserved.{reserve_all};
-    ghost use Rattle.timefd_component.specs.Tree as spec;
-    ghost use Rattle.timefd_component.specs.Tree.{first, literal, optional, pack, trees};
+    ghost use Rattle.timefd_lang_component.specs.Modern.{modern};
+    ghost use Rattle.timefd_lang_node_list.specs.Nodes.{before, ending};
+    ghost use Rattle.timefd_lang_component.specs.Reserved.{reserve_all};
+    ghost use Rattle.timefd_lang_component.specs.Tree as spec;
+    ghost use Rattle.timefd_lang_component.specs.Tree.{first, literal, optional, pack, trees};
 
     /// No trees. It takes no memory.
     pub fn new(alloc: Global) -> Self

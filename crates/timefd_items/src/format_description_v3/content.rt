@@ -6,7 +6,7 @@ ghost use Rattle.timefd_items.specs.Content.{content_tree, IsOwned};
 ghost use Rattle.timefd_items.specs.Meaning.{inner_tree, owned_parts, owns};
 
 use super::inner::FormatDescriptionV3Inner;
-use timefd_component::Component;
+use timefd_lang_component::Component;
 
 /// What a tree is, with its parts borrowed: a borrowed and an owned part with the same content are
 /// one case.

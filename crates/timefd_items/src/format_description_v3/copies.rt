@@ -3,7 +3,7 @@
 ghost use Rattle.std.specs.Prelude.{◌≡◌, ◌+◌, IfOk, IsFalse, IsOk, map};
 ghost use Rattle.timefd_items.specs.Content.{content_tree};
 ghost use Rattle.timefd_items.specs.Meaning.{inner_tree, owned_parts, owns};
-ghost use Rattle.timefd_component.specs.Tree.{optional};
+ghost use Rattle.timefd_lang_component.specs.Tree.{optional};
 
 use super::content::Content;
 use super::inner::FormatDescriptionV3Inner;

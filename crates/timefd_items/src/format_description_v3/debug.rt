@@ -4,7 +4,7 @@ use super::FormatDescriptionV3;
 use super::content::Content;
 use super::inner::FormatDescriptionV3Inner;
 use std::fmt;
-use timefd_component::debug::ModifiersOf;
+use timefd_lang_component::debug::ModifiersOf;
 
 impl fmt::Debug for FormatDescriptionV3<'_> {
     fn fmt<W: fmt::Write>(&self, f: &mut fmt::Formatter<W>) -> fmt::Result {

@@ -3,13 +3,13 @@
 ghost use Rattle.std.specs.Prelude.{◌≡◌, ◌+◌, ◌≤◌, ◌∷◌, [], map, true, IsFalse, IsTrue};
 ghost use Rattle.timefd_items.specs.Content.{content_tree};
 ghost use Rattle.timefd_items.specs.Meaning.{inner_tree, owns};
-ghost use Rattle.timefd_node_list.specs.NodeTrees.{Adds, HasRoom};
-ghost use Rattle.timefd_component.specs.Reserved.{tree_count, trees_count, within};
-ghost use Rattle.timefd_component.specs.Tree.{trees};
+ghost use Rattle.timefd_lang_node_list.specs.NodeTrees.{Adds, HasRoom};
+ghost use Rattle.timefd_lang_component.specs.Reserved.{tree_count, trees_count, within};
+ghost use Rattle.timefd_lang_component.specs.Tree.{trees};
 
 use crate::format_description_v3::content::Content;
 use crate::format_description_v3::inner::FormatDescriptionV3Inner;
-use timefd_node_list::node_list::NodeList;
+use timefd_lang_node_list::node_list::NodeList;
 
 fn and_one(nodes: usize, limit: usize) -> Option<usize>
     ensures { result ≡ within limit (1 + nodes) }

@@ -2,13 +2,13 @@
 
 ghost use Rattle.std.specs.Prelude.{◌≡◌, ◌≤◌, [], IfOk, OnOk, length, map};
 ghost use Rattle.timefd_items.specs.Meaning.{inner_tree};
-ghost use Rattle.timefd_node_list.specs.Nodes.{Fit, arity, before, ending, grown_by, made, part};
-ghost use Rattle.timefd_component.specs.Tree as spec;
+ghost use Rattle.timefd_lang_node_list.specs.Nodes.{Fit, arity, before, ending, grown_by, made, part};
+ghost use Rattle.timefd_lang_component.specs.Tree as spec;
 
 use crate::format_description_v3::copies::owned_optional;
 use crate::format_description_v3::inner::FormatDescriptionV3Inner;
 use std::alloc::{AllocError, Global};
-use timefd_node_list::node::Node;
+use timefd_lang_node_list::node::Node;
 
 /// The trees that the nodes are. An `Err` says that memory ran out.
 pub fn all_trees<'a>(

@@ -3,14 +3,14 @@
 ghost use Rattle.std.specs.Prelude.{◌≡◌, ◌<◌, ◌≤◌, ◌↔◌, [], map, IfOk, IfSome, IsOk};
 ghost use Rattle.std.specs.Result.{IfErr};
 ghost use Rattle.timefd_items.specs.Meaning.{inner_tree};
-ghost use Rattle.timefd_component.specs.Reserved.{reserve, tree_count};
-ghost use Rattle.timefd_component.specs.Tree.{compound, is_none, no_trees, trees};
+ghost use Rattle.timefd_lang_component.specs.Reserved.{reserve, tree_count};
+ghost use Rattle.timefd_lang_component.specs.Tree.{compound, is_none, no_trees, trees};
 
 use crate::format_description_v3::FormatDescriptionV3;
 use crate::format_description_v3::content::Content;
 use crate::format_description_v3::inner::FormatDescriptionV3Inner;
 use std::alloc::Global;
-use timefd_node_list::node_list::NodeList;
+use timefd_lang_node_list::node_list::NodeList;
 
 /// Why a tree was not made a description.
 #[derive(Debug, Clone, Copy, PartialEq, Eq)]
@@ -32,7 +32,7 @@ pub struct NotOpaque<'a> {
 
 impl<'a> FormatDescriptionV3Inner<'a> {
     ghost use Rattle.timefd_items.specs.Description.{description_tree};
-    ghost use Rattle.timefd_node_list.specs.NodeTrees.{HasRoom, list_trees};
+    ghost use Rattle.timefd_lang_node_list.specs.NodeTrees.{HasRoom, list_trees};
 
     /// The description of this tree. An `Err` gives the same tree back: the call checks first
     /// whether its reserved bytes fit a `usize`, then whether there is memory, and only then takes

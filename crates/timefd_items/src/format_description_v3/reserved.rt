@@ -2,12 +2,12 @@
 
 ghost use Rattle.std.specs.Prelude.{◌≡◌, map};
 ghost use Rattle.timefd_items.specs.Meaning.{inner_tree};
-ghost use Rattle.timefd_component.specs.Reserved.{reserve, reserve_all, within};
-ghost use Rattle.timefd_component.specs.Tree.{trees};
+ghost use Rattle.timefd_lang_component.specs.Reserved.{reserve, reserve_all, within};
+ghost use Rattle.timefd_lang_component.specs.Tree.{trees};
 
 use super::content::Content;
 use super::inner::FormatDescriptionV3Inner;
-use timefd_component::reserved::reserved_bytes;
+use timefd_lang_component::reserved::reserved_bytes;
 
 fn up_to(bytes: usize, limit: usize) -> Option<usize>
     ensures { result ≡ within limit bytes }

@@ -7,10 +7,10 @@ use Rattle.std.specs.Borrow.{Bor}
 use Rattle.std.specs.Char.{is_ascii}
 use Rattle.std.specs.Prelude.{chars}
 use Rattle.timefd_modifier.specs.declared.enums.Padding.{Padding}
-use Rattle.timefd_node_list.specs.declared.item.borrowed_format_item.BorrowedFormatItem.{BorrowedFormatItem}
-use Rattle.timefd_fault.specs.Faults.{Fault}
-use Rattle.timefd_node_list.specs.Item.Meaning.{item_tree}
-use Rattle.timefd_component.specs.Tree.{Text, Tree, literal}
+use Rattle.timefd_lang_node_list.specs.declared.item.borrowed_format_item.BorrowedFormatItem.{BorrowedFormatItem}
+use Rattle.timefd_lang_fault.specs.Faults.{Fault}
+use Rattle.timefd_lang_node_list.specs.Item.Meaning.{item_tree}
+use Rattle.timefd_lang_component.specs.Tree.{Text, Tree, literal}
 use Rattle.timefd_language.specs.Bytes.{OneOrMore, StopsBefore}
 use Rattle.timefd_language.specs.Letters.{Flag, unflagged, flagged, item_of}
 use Rattle.timefd_language.specs.declared.strftime.letter.Letter.{Letter}
@@ -19,27 +19,27 @@ use Rattle.timefd_language.specs.Directives.LetterMeaning.{IsLetter, flag_paddin
 use Rattle.timefd_language.specs.Directives.PieceMeaning.{piece_tree}
 use Rattle.timefd_language.specs.Strftime.{percent, is_flag, is_plain, flag_text, Directives, no_directives, plain, directive, directives_text, directive_items, IsAfter, AreDirectives, SpellsStrftime, cut_short, unknown, cut_index, ill_text, unknown_kind, ill_fault, StrftimeFaultOf}
 use Rattle.timefd_language.specs.Laws.{HasOneStrftimeAnswer}
-use Rattle.timefd_fault.specs.declared.read_error.Fault as code_fault
-use Rattle.timefd_fault.specs.declared.read_error.ReadError.{ReadError}
-use Rattle.timefd_fault.specs.declared.read_error.ReadError.TheVariants as errors
-use Rattle.timefd_fault.specs.declared.parse_error.ParseError.{ParseError}
-use Rattle.timefd_fault.specs.declared.parse_error.ParseError.TheVariants as reported
-use Rattle.timefd_fault.specs.declared.borrowed_fault.BorrowedFault.{BorrowedFault}
-use Rattle.timefd_fault.specs.declared.borrowed_parse_error.BorrowedParseError.{BorrowedParseError}
-use Rattle.timefd_fault.specs.declared.borrowed_parse_error.BorrowedParseError.TheVariants.{Invalid, Memory}
-use Rattle.timefd_fault.specs.BorrowedFaults.{to_borrowed_fault, IsBorrowed, IsBorrowedOf, IsLent, IsMemory, IsOwned, Lends, LendsSpan}
-use Rattle.timefd_fault.proofs.BorrowedLemmas.{Assigned, borrowed_none, borrowed_of, borrowed_one}
-use Rattle.timefd_fault.specs.ReadErrors.{IsInvalid}
-use Rattle.timefd_fault.proofs.OwnedLemmas.{owned_of}
+use Rattle.timefd_lang_fault.specs.declared.read_error.Fault as code_fault
+use Rattle.timefd_lang_fault.specs.declared.read_error.ReadError.{ReadError}
+use Rattle.timefd_lang_fault.specs.declared.read_error.ReadError.TheVariants as errors
+use Rattle.timefd_lang_fault.specs.declared.parse_error.ParseError.{ParseError}
+use Rattle.timefd_lang_fault.specs.declared.parse_error.ParseError.TheVariants as reported
+use Rattle.timefd_lang_fault.specs.declared.borrowed_fault.BorrowedFault.{BorrowedFault}
+use Rattle.timefd_lang_fault.specs.declared.borrowed_parse_error.BorrowedParseError.{BorrowedParseError}
+use Rattle.timefd_lang_fault.specs.declared.borrowed_parse_error.BorrowedParseError.TheVariants.{Invalid, Memory}
+use Rattle.timefd_lang_fault.specs.BorrowedFaults.{to_borrowed_fault, IsBorrowed, IsBorrowedOf, IsLent, IsMemory, IsOwned, Lends, LendsSpan}
+use Rattle.timefd_lang_fault.proofs.BorrowedLemmas.{Assigned, borrowed_none, borrowed_of, borrowed_one}
+use Rattle.timefd_lang_fault.specs.ReadErrors.{IsInvalid}
+use Rattle.timefd_lang_fault.proofs.OwnedLemmas.{owned_of}
 use Rattle.timefd_language.specs.Fault.{raised}
-use Rattle.timefd_fault.specs.Words.{expected_escape}
+use Rattle.timefd_lang_fault.specs.Words.{expected_escape}
 use Rattle.timefd_language.specs.Cut.{IsCut}
 use Rattle.timefd_language.specs.declared.language.Language.TheVariants as languages
 use Rattle.timefd_language.specs.Spans.{HasSpan, IsSpanned, SpansStrftime, first_len, strftime_extent}
 use Rattle.timefd_language.proofs.SpanLemmas.{spanned, spans_after, spans_byte, spans_character}
 use Rattle.timefd_language.specs.Directives.StrftimeReading.{MayFollow, BeginsWithFlag, BeginsWithPiece, Leads, LeadsTo, HasItems, IsStrftimeFaultAt, IsStrftimeFaultIn, IsRestOf}
-use Rattle.timefd_fault.specs.RuleKinds.{rule_kind}
-use Rattle.timefd_fault.specs.ReadErrors.{IsFault, MemoryOr}
+use Rattle.timefd_lang_fault.specs.RuleKinds.{rule_kind}
+use Rattle.timefd_lang_fault.specs.ReadErrors.{IsFault, MemoryOr}
 use Rattle.timefd_language.specs.Directives.StrftimeAnswers.{IsStrftimeFault}
 use Rattle.timefd_language.proofs.StrftimeReader.{directive_regrouped, begins_no_plain, strftime_one_answer_law}
 

@@ -1,7 +1,7 @@
 -- What the code's letters of strftime mean.
 use Rattle.std.specs.Prelude.{ℕ, ◌≡◌, codes, List, [], ◌∷◌, Option, Some, None}
 use Rattle.timefd_modifier.specs.declared.enums.Padding.{Padding}
-use Rattle.timefd_component.specs.Tree.{Tree, component, literal, compound, trees}
+use Rattle.timefd_lang_component.specs.Tree.{Tree, component, literal, compound, trees}
 use Rattle.timefd_language.specs.declared.strftime.letter.Letter.{Letter}
 use Rattle.timefd_language.specs.declared.strftime.letter.Letter.TheVariants.{Percent, LineFeed, Tab, Fixed, Padded, Composite as OfComposite}
 use Rattle.timefd_language.specs.declared.strftime.letter.Field.{Field}

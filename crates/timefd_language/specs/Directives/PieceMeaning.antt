@@ -1,5 +1,5 @@
 -- What the code's pieces of a text of strftime mean.
-use Rattle.timefd_component.specs.Tree.{Tree, component, compound, literal, trees}
+use Rattle.timefd_lang_component.specs.Tree.{Tree, component, compound, literal, trees}
 use Rattle.timefd_language.specs.declared.strftime.piece.StrftimePiece.{StrftimePiece}
 use Rattle.timefd_language.specs.declared.strftime.piece.StrftimePiece.TheVariants.{Literal, Component, Composite}
 use Rattle.timefd_language.specs.Directives.LetterMeaning.{composite_list}

@@ -3,16 +3,16 @@ use Rattle.std.specs.Prelude.{ℕ, ◌≡◌, ◌<◌, List, [], ◌∷◌, ◌+
 use Rattle.std.specs.Borrow.{Bor}
 use Rattle.std.specs.Str.{IsUtf8}
 use Rattle.timefd_modifier.specs.declared.enums.Padding.{Padding}
-use Rattle.timefd_component.specs.Tree.{Text, Tree}
+use Rattle.timefd_lang_component.specs.Tree.{Text, Tree}
 use Rattle.timefd_language.specs.declared.strftime.piece.StrftimePiece.{StrftimePiece}
 use Rattle.timefd_language.specs.declared.strftime.text.PieceStart.{PieceStart}
 use Rattle.timefd_language.specs.declared.strftime.text.PieceStart.TheVariants.{End, Directive, Literal}
-use Rattle.timefd_fault.specs.declared.read_error.Fault.{Fault}
+use Rattle.timefd_lang_fault.specs.declared.read_error.Fault.{Fault}
 use Rattle.timefd_language.specs.Bytes.{StopsBefore}
 use Rattle.timefd_language.specs.Letters.{Flag, unflagged, flagged}
 use Rattle.timefd_language.specs.Directives.LetterMeaning.{flag_padding}
 use Rattle.timefd_language.specs.Directives.PieceMeaning.{piece_tree}
-use Rattle.timefd_fault.specs.ReadErrors.{IsFault}
+use Rattle.timefd_lang_fault.specs.ReadErrors.{IsFault}
 use Rattle.timefd_language.specs.Spans.{SpansStrftime}
 use Rattle.timefd_language.specs.Strftime.{percent, is_flag, is_plain, flag_text, IsFlag, Directives, AreDirectives, directives_text, directive_items, SpellsStrftime, IllDirective, ill_text, ill_fault, IsIll}
 

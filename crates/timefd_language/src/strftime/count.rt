@@ -2,12 +2,12 @@
 
 ghost use Rattle.std.specs.Prelude.{◌≡◌, ◌∷◌, List, IfOk, MatchResult, length};
 ghost use Rattle.std.specs.Result.{IfErr};
-ghost use Rattle.timefd_component.specs.Tree.{Tree};
+ghost use Rattle.timefd_lang_component.specs.Tree.{Tree};
 ghost use Rattle.timefd_language.specs.declared.strftime.text.PieceStart.TheVariants.{Literal};
 ghost use Rattle.timefd_language.specs.Strftime.{SpellsStrftime, StrftimeFaultOf, percent};
-ghost use Rattle.timefd_fault.specs.RuleKinds.{rule_kind};
-ghost use Rattle.timefd_fault.specs.BorrowedFaults.{HasShortWords, to_borrowed_fault};
-ghost use Rattle.timefd_fault.specs.Placed.{IsPlaced};
+ghost use Rattle.timefd_lang_fault.specs.RuleKinds.{rule_kind};
+ghost use Rattle.timefd_lang_fault.specs.BorrowedFaults.{HasShortWords, to_borrowed_fault};
+ghost use Rattle.timefd_lang_fault.specs.Placed.{IsPlaced};
 ghost use Rattle.timefd_language.specs.declared.language.Language.TheVariants.{Strftime};
 ghost use Rattle.timefd_language.specs.Spans.{IsSpanned};
 ghost use Rattle.timefd_language.specs.Directives.StrftimeReading.{BeginsPiece, HasItems, IsStrftimeFaultAt, IsStrftimeFaultIn, LeadsTo};
@@ -16,8 +16,8 @@ use crate::strftime::directive::{cut_short, unknown};
 use crate::strftime::letter::letter_of;
 use crate::strftime::text::{PieceStart, cut_flag, piece_start_of};
 use crate::text::{Class, cut, first_len, tail};
-use timefd_fault::BorrowedFault;
-use timefd_fault::read_error::Fault;
+use timefd_lang_fault::BorrowedFault;
+use timefd_lang_fault::read_error::Fault;
 
 /// How many items a text of strftime has. It takes no memory. This call is this port's own.
 ///

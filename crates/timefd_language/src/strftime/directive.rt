@@ -4,8 +4,8 @@ ghost use Rattle.std.specs.Prelude.{◌≡◌, ◌+◌, ◌<◌, ◌∷◌, leng
 ghost use Rattle.timefd_language.specs.Directives.LetterMeaning.{flag_padding, letter_tree};
 ghost use Rattle.timefd_language.specs.Directives.PieceMeaning.{piece_tree};
 ghost use Rattle.timefd_language.specs.Letters.{Flag};
-ghost use Rattle.timefd_fault.specs.Words.{expected_escape};
-ghost use Rattle.timefd_fault.specs.RuleKinds.{rule_kind};
+ghost use Rattle.timefd_lang_fault.specs.Words.{expected_escape};
+ghost use Rattle.timefd_lang_fault.specs.RuleKinds.{rule_kind};
 ghost use Rattle.timefd_language.specs.Strftime.{cut_index, flag_text, percent, unknown_kind};
 ghost use Rattle.timefd_language.specs.Directives.StrftimeReading.{ReadsDirective};
 
@@ -13,7 +13,7 @@ use crate::strftime::letter::{Letter, letter_of, padded};
 use crate::strftime::piece::StrftimePiece;
 use crate::strftime::text::cut_flag;
 use crate::text::{first_len, tail};
-use timefd_fault::{Fault, Rule};
+use timefd_lang_fault::{Fault, Rule};
 use timefd_modifier::Padding;
 
 /// A directive, and what follows it. `after` is the text after its `%`.

@@ -2,7 +2,7 @@
 
 ghost use Rattle.std.specs.Prelude.{◌≡◌, [], IfOk, MatchOption, MatchResult};
 ghost use Rattle.std.specs.Result.{IfErr};
-ghost use Rattle.timefd_fault.specs.BorrowedFaults.{to_borrowed_fault};
+ghost use Rattle.timefd_lang_fault.specs.BorrowedFaults.{to_borrowed_fault};
 ghost use Rattle.timefd_language.specs.Strftime.{StrftimeFaultOf};
 ghost use Rattle.timefd_language.specs.declared.language.Language.TheVariants.{Strftime};
 ghost use Rattle.timefd_language.specs.Spans.{IsSpanned};
@@ -10,8 +10,8 @@ ghost use Rattle.timefd_language.specs.Directives.StrftimeReading.{IsStrftimeFau
 
 use crate::strftime::count::{after_directive, after_run};
 use crate::strftime::text::{PieceStart, piece_start_of};
-use timefd_fault::BorrowedFault;
-use timefd_fault::read_error::Fault;
+use timefd_lang_fault::BorrowedFault;
+use timefd_lang_fault::read_error::Fault;
 
 /// What follows the first run or directive of a text of strftime; `None` for the empty text. It
 /// takes no memory. `first_piece` of `timefd_parse` calls it.

@@ -1,12 +1,12 @@
 //! The items that strftime gives.
 
 ghost use Rattle.std.specs.Prelude.{◌≡◌, IsTrue};
-ghost use Rattle.timefd_node_list.specs.Item.Meaning.{item_tree, item_trees};
-ghost use Rattle.timefd_component.specs.Tree.{component, compound, literal, trees};
+ghost use Rattle.timefd_lang_node_list.specs.Item.Meaning.{item_tree, item_trees};
+ghost use Rattle.timefd_lang_component.specs.Tree.{component, compound, literal, trees};
 ghost use Rattle.timefd_language.specs.Strings.{are_of_strings, is_of_strings};
 
-use timefd_component::Component;
-use timefd_node_list::item::BorrowedFormatItem;
+use timefd_lang_component::Component;
+use timefd_lang_node_list::item::BorrowedFormatItem;
 
 pub fn literal_item(text: &str) -> BorrowedFormatItem<'_>
     ensures tree { item_tree result ≡ literal text.now }

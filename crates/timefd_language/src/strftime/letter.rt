@@ -1,11 +1,11 @@
 //! The letters of strftime, and what each stands for.
 
 ghost use Rattle.std.specs.Prelude.{◌≡◌, ◌<◌, IfSome};
-ghost use Rattle.timefd_component.specs.Tree.{component};
+ghost use Rattle.timefd_lang_component.specs.Tree.{component};
 ghost use Rattle.timefd_language.specs.Letters as spec;
 ghost use Rattle.timefd_language.specs.Directives.LetterMeaning.{IsLetter, field_tree};
 
-use timefd_component::Component;
+use timefd_lang_component::Component;
 use timefd_modifier::{
     CalendarYearCenturyExtendedRange, CalendarYearFullExtendedRange, CalendarYearLastTwo, Day,
     Hour12, Hour24, IsoYearFullExtendedRange, IsoYearLastTwo, Minute, MonthLong, MonthNumerical,

@@ -2,15 +2,15 @@
 
 ghost use Rattle.std.specs.Prelude.{◌≡◌, ◌<◌, ◌≤◌, [], List, IfOk, IsOk, IsTrue, MatchResult, length};
 ghost use Rattle.std.specs.Result.{IfErr};
-ghost use Rattle.timefd_fault.specs.Faults as spec;
-ghost use Rattle.timefd_node_list.specs.Item.Meaning.{item_trees};
-ghost use Rattle.timefd_component.specs.Tree.{Tree};
-ghost use Rattle.timefd_fault.specs.BorrowedFaults.{HasShortFault, IsBorrowed, IsBorrowedOf, IsMemory};
-ghost use Rattle.timefd_fault.specs.Placed.{HasPlacedFault, IsPlaced};
-ghost use Rattle.timefd_fault.specs.Reported.{IsFaultOrMemory, MemoryAlone};
+ghost use Rattle.timefd_lang_fault.specs.Faults as spec;
+ghost use Rattle.timefd_lang_node_list.specs.Item.Meaning.{item_trees};
+ghost use Rattle.timefd_lang_component.specs.Tree.{Tree};
+ghost use Rattle.timefd_lang_fault.specs.BorrowedFaults.{HasShortFault, IsBorrowed, IsBorrowedOf, IsMemory};
+ghost use Rattle.timefd_lang_fault.specs.Placed.{HasPlacedFault, IsPlaced};
+ghost use Rattle.timefd_lang_fault.specs.Reported.{IsFaultOrMemory, MemoryAlone};
 ghost use Rattle.timefd_language.specs.Strftime.{SpellsStrftime, StrftimeFaultOf};
 ghost use Rattle.timefd_language.specs.Directives.StrftimeAnswers.{IsStrftimeFault};
-ghost use Rattle.timefd_fault.specs.ReadErrors.{MemoryOr};
+ghost use Rattle.timefd_lang_fault.specs.ReadErrors.{MemoryOr};
 ghost use Rattle.timefd_language.specs.Directives.StrftimeReading.{IsStrftimeFaultIn};
 ghost use Rattle.timefd_language.specs.Strings.{are_of_strings};
 ghost use Rattle.timefd_language.specs.declared.language.Language.TheVariants.{Strftime};
@@ -20,10 +20,10 @@ use crate::strftime::count::count_strftime;
 use crate::strftime::piece::next_strftime_piece;
 use crate::strftime::tables::StrftimeTables;
 use std::alloc::{AllocError, Global};
-use timefd_fault::borrowed_parse_error::{BorrowedParseError, borrowed};
-use timefd_fault::parse_error::ParseError;
-use timefd_fault::read_error::ReadError;
-use timefd_node_list::item::BorrowedFormatItem;
+use timefd_lang_fault::borrowed_parse_error::{BorrowedParseError, borrowed};
+use timefd_lang_fault::parse_error::ParseError;
+use timefd_lang_fault::read_error::ReadError;
+use timefd_lang_node_list::item::BorrowedFormatItem;
 
 /// Reads a text of strftime, like `time`'s `parse_strftime_borrowed`. The items of composite letters
 /// borrow the lists of `tables`.

@@ -11,9 +11,9 @@ use crate::strftime::letter::Composite;
 use crate::strftime::tables::StrftimeTables;
 use crate::strftime::text::{PieceStart, piece_start_of};
 use crate::text::{Class, cut};
-use timefd_component::Component;
-use timefd_fault::read_error::Fault;
-use timefd_node_list::item::BorrowedFormatItem;
+use timefd_lang_component::Component;
+use timefd_lang_fault::read_error::Fault;
+use timefd_lang_node_list::item::BorrowedFormatItem;
 
 /// A run, or what a directive stands for.
 #[derive(Clone, Copy)]
@@ -27,7 +27,7 @@ pub enum StrftimePiece<'a> {
 }
 
 impl<'a> StrftimePiece<'a> {
-    ghost use Rattle.timefd_node_list.specs.Item.Meaning.{item_tree};
+    ghost use Rattle.timefd_lang_node_list.specs.Item.Meaning.{item_tree};
     ghost use Rattle.timefd_language.specs.Strings.{is_of_strings};
 
     /// The piece as an item. The item of a composite letter borrows its list from `tables`.

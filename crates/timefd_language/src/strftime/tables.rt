@@ -2,16 +2,16 @@
 
 ghost use Rattle.timefd_modifier.specs.declared.enums.Padding.{Padding};
 ghost use Rattle.std.specs.Prelude.{◌≡◌, IsTrue};
-ghost use Rattle.timefd_node_list.specs.Item.Meaning.{item_tree};
+ghost use Rattle.timefd_lang_node_list.specs.Item.Meaning.{item_tree};
 ghost use Rattle.timefd_language.specs.Letters as spec;
 ghost use Rattle.timefd_language.specs.Directives.LetterMeaning.{composite_list, field_tree};
 ghost use Rattle.timefd_language.specs.Strings.{AreItems, are_items_once, is_of_strings};
 
 use crate::strftime::item::{component_item, literal_item};
 use crate::strftime::letter::{Composite, Field, calendar_year, padded};
-use timefd_component::Component;
+use timefd_lang_component::Component;
+use timefd_lang_node_list::item::BorrowedFormatItem;
 use timefd_modifier::{MonthShort, OffsetHour, OffsetMinute, Padding, Period, WeekdayShort};
-use timefd_node_list::item::BorrowedFormatItem;
 
 /// The lists that the composite letters of strftime stand for. The items of a text borrow them.
 #[derive(Drop)]

@@ -1,29 +1,29 @@
 -- A moment that was read from a text and is written again gives the same moment.
 use Rattle.std.proofs.Common.{◌≡◌, ◌∙◌, Bool, true, false, Option, Some, None, Result, Ok, Err, IfSome, refl, sym, ap, subst}
 use Rattle.std.specs.Prelude.{is_some}
-use Rattle.timefd_component.specs.Tree.{Text, Tree}
-use Rattle.timefd_format.specs.declared.field.Kind.{Kind}
-use Rattle.timefd_format.specs.declared.field.Kind.TheVariants as kind
-use Rattle.timefd_moment.specs.declared.date.Date.{Date}
-use Rattle.timefd_moment.specs.declared.time.Time.{Time}
-use Rattle.timefd_moment.specs.declared.offset.UtcOffset.{UtcOffset}
-use Rattle.timefd_moment.specs.declared.moment.Moment.{Moment}
-use Rattle.timefd_moment.specs.declared.unix_time.UnixTime.{UnixTime}
-use Rattle.timefd_moment.specs.declared.fields.fields.Fields.{Fields}
-use Rattle.timefd_moment.specs.declared.reading.error.ValueError.{ValueError}
-use Rattle.timefd_moment.specs.Reading.Dates as of_date
-use Rattle.timefd_moment.specs.Reading.Dates.{IsDateByParts}
-use Rattle.timefd_moment.specs.Reading.Known.{has_date, has_offset, has_time}
-use Rattle.timefd_moment.specs.Reading.Offsets as of_offset
-use Rattle.timefd_moment.specs.Reading.Offsets.{IsOffsetOf, shift_read}
-use Rattle.timefd_moment.specs.Reading.Shown.{OffsetAgrees, TimeAgrees}
-use Rattle.timefd_moment.specs.Reading.StampLaws.{AnswersParts, IsKnown}
-use Rattle.timefd_moment.specs.Reading.Stamps.{instant_read}
-use Rattle.timefd_moment.specs.Reading.Times as of_time
-use Rattle.timefd_moment.specs.Reading.Times.{IsTimeByParts, clock_read}
-use Rattle.timefd_moment.specs.Reading.Values.{IsMomentBy, IsMomentByParts, IsMomentOf, IsPart}
-use Rattle.timefd_moment.specs.Reading.Ways.{IsDetermined, date_way}
-use Rattle.timefd_moment.proofs.ReadingLemmas.ShownLemmas.{clash}
+use Rattle.timefd_lang_component.specs.Tree.{Text, Tree}
+use Rattle.timefd_date_format.specs.declared.field.Kind.{Kind}
+use Rattle.timefd_date_format.specs.declared.field.Kind.TheVariants as kind
+use Rattle.timefd_date_moment.specs.declared.date.Date.{Date}
+use Rattle.timefd_date_moment.specs.declared.time.Time.{Time}
+use Rattle.timefd_date_moment.specs.declared.offset.UtcOffset.{UtcOffset}
+use Rattle.timefd_date_moment.specs.declared.moment.Moment.{Moment}
+use Rattle.timefd_date_moment.specs.declared.unix_time.UnixTime.{UnixTime}
+use Rattle.timefd_date_moment.specs.declared.fields.fields.Fields.{Fields}
+use Rattle.timefd_date_moment.specs.declared.reading.error.ValueError.{ValueError}
+use Rattle.timefd_date_moment.specs.Reading.Dates as of_date
+use Rattle.timefd_date_moment.specs.Reading.Dates.{IsDateByParts}
+use Rattle.timefd_date_moment.specs.Reading.Known.{has_date, has_offset, has_time}
+use Rattle.timefd_date_moment.specs.Reading.Offsets as of_offset
+use Rattle.timefd_date_moment.specs.Reading.Offsets.{IsOffsetOf, shift_read}
+use Rattle.timefd_date_moment.specs.Reading.Shown.{OffsetAgrees, TimeAgrees}
+use Rattle.timefd_date_moment.specs.Reading.StampLaws.{AnswersParts, IsKnown}
+use Rattle.timefd_date_moment.specs.Reading.Stamps.{instant_read}
+use Rattle.timefd_date_moment.specs.Reading.Times as of_time
+use Rattle.timefd_date_moment.specs.Reading.Times.{IsTimeByParts, clock_read}
+use Rattle.timefd_date_moment.specs.Reading.Values.{IsMomentBy, IsMomentByParts, IsMomentOf, IsPart}
+use Rattle.timefd_date_moment.specs.Reading.Ways.{IsDetermined, date_way}
+use Rattle.timefd_date_moment.proofs.ReadingLemmas.ShownLemmas.{clash}
 use Rattle.timefd_laws.specs.Reading.Again.{AnswersSame, BothKnown, FieldsAgain, IsWrittenAgain, ShowsBack, parts}
 use Rattle.timefd_laws.specs.Reading.Shown.{Shows, fields_shown, shows}
 use Rattle.timefd_laws.specs.Reading.Values.{HasNoMoreOffset, HasNoMoreTime, IsReadBack}

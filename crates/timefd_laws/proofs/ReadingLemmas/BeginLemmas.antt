@@ -5,29 +5,29 @@ use Rattle.std.proofs.Common.{sym, ap, arith}
 use Rattle.std.specs.Char.{is_ascii_digit}
 use Rattle.std.specs.List.{prefix_len}
 use Rattle.std.proofs.lemmas.Bool.{not-true, or_left}
-use Rattle.timefd_component.specs.declared.component.Component.{Component}
-use Rattle.timefd_component.specs.declared.component.Component.TheVariants as of
-use Rattle.timefd_component.specs.Texts.{filled, long_months, long_weekdays, short_months, short_weekdays}
-use Rattle.timefd_component.specs.Tree.{Text}
-use Rattle.timefd_format.specs.declared.field.Field.{Field}
-use Rattle.timefd_format.specs.declared.field.Lack.{Lack}
-use Rattle.timefd_format.specs.Fields.{field, field_text, instant_field, on_date, on_offset, on_time, period_text, sign_of}
-use Rattle.timefd_format.specs.Fields.{sign_text, stamp_field, stamp_of, year}
-use Rattle.timefd_format.proofs.TextLemmas.{of_instant}
+use Rattle.timefd_lang_component.specs.declared.component.Component.{Component}
+use Rattle.timefd_lang_component.specs.declared.component.Component.TheVariants as of
+use Rattle.timefd_lang_component.specs.Texts.{filled, long_months, long_weekdays, short_months, short_weekdays}
+use Rattle.timefd_lang_component.specs.Tree.{Text}
+use Rattle.timefd_date_format.specs.declared.field.Field.{Field}
+use Rattle.timefd_date_format.specs.declared.field.Lack.{Lack}
+use Rattle.timefd_date_format.specs.Fields.{field, field_text, instant_field, on_date, on_offset, on_time, period_text, sign_of}
+use Rattle.timefd_date_format.specs.Fields.{sign_text, stamp_field, stamp_of, year}
+use Rattle.timefd_date_format.proofs.TextLemmas.{of_instant}
 use Rattle.timefd_modifier.specs.declared.enums.Padding.{Padding}
-use Rattle.timefd_moment.specs.declared.date.Date.{Date}
-use Rattle.timefd_moment.specs.declared.time.Time.{Time}
-use Rattle.timefd_moment.specs.declared.offset.UtcOffset.{UtcOffset}
-use Rattle.timefd_moment.specs.declared.moment.Moment.{Moment}
-use Rattle.timefd_moment.specs.declared.unix_time.UnixTime.{UnixTime}
-use Rattle.timefd_moment.specs.Moments.{days_from_monday, is_before_zero, iso_years, magnitude, unix_time}
-use Rattle.timefd_moment.specs.Fields.Laws.{HasNoDigit}
-use Rattle.timefd_moment.specs.Reading.Stamped.{whole_seconds}
-use Rattle.timefd_moment.proofs.ReadingLemmas.ShownLemmas.{clash}
-use Rattle.timefd_moment.proofs.ReadingLemmas.YearLemmas.{both}
-use Rattle.timefd_warnings.specs.declared.settled.bound.Bound.{Bound}
+use Rattle.timefd_date_moment.specs.declared.date.Date.{Date}
+use Rattle.timefd_date_moment.specs.declared.time.Time.{Time}
+use Rattle.timefd_date_moment.specs.declared.offset.UtcOffset.{UtcOffset}
+use Rattle.timefd_date_moment.specs.declared.moment.Moment.{Moment}
+use Rattle.timefd_date_moment.specs.declared.unix_time.UnixTime.{UnixTime}
+use Rattle.timefd_date_moment.specs.Moments.{days_from_monday, is_before_zero, iso_years, magnitude, unix_time}
+use Rattle.timefd_date_moment.specs.Fields.Laws.{HasNoDigit}
+use Rattle.timefd_date_moment.specs.Reading.Stamped.{whole_seconds}
+use Rattle.timefd_date_moment.proofs.ReadingLemmas.ShownLemmas.{clash}
+use Rattle.timefd_date_moment.proofs.ReadingLemmas.YearLemmas.{both}
+use Rattle.timefd_lang_warnings.specs.declared.settled.bound.Bound.{Bound}
 use Rattle.timefd_laws.specs.Reading.Bounds.{IsBounded}
-use Rattle.timefd_warnings.specs.Settling.Settled.{component_begin, signed_begin}
+use Rattle.timefd_lang_warnings.specs.Settling.Settled.{component_begin, signed_begin}
 use Rattle.timefd_laws.proofs.ReadingLemmas.RowLemmas.{of_year}
 
 -- a text begins as `begin` says if what follows it is as `known` says

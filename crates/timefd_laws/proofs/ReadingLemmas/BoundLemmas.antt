@@ -2,14 +2,14 @@
 use Rattle.std.proofs.Common.{ℕ, ◌≡◌, ◌+◌, ◌-◌, ◌*◌, ◌/◌, ◌≤◌, Bool, true, false, ◌||◌, ◌==◌, nat_le, nat_lt, if◌then◌else◌}
 use Rattle.std.proofs.Common.{sym, refl, arith}
 use Rattle.std.proofs.lemmas.Bool.{cond_both, leb-true, ltb-false}
-use Rattle.timefd_moment.specs.declared.date.Date.{Date}
-use Rattle.timefd_moment.specs.declared.unix_time.UnixTime.{UnixTime}
-use Rattle.timefd_moment.specs.Instants.{is_within}
-use Rattle.timefd_moment.specs.Calendar.{days_in_month, is_leap, days_in_year}
-use Rattle.timefd_moment.specs.Moments.{date_ordinal, iso_week, thursday}
-use Rattle.timefd_moment.proofs.CalendarLemmas.{months_fit}
-use Rattle.timefd_format.proofs.TextLemmas.{lowest, highest}
-use Rattle.timefd_moment.specs.Reading.Stamped.{whole_seconds}
+use Rattle.timefd_date_moment.specs.declared.date.Date.{Date}
+use Rattle.timefd_date_moment.specs.declared.unix_time.UnixTime.{UnixTime}
+use Rattle.timefd_date_moment.specs.Instants.{is_within}
+use Rattle.timefd_date_moment.specs.Calendar.{days_in_month, is_leap, days_in_year}
+use Rattle.timefd_date_moment.specs.Moments.{date_ordinal, iso_week, thursday}
+use Rattle.timefd_date_moment.proofs.CalendarLemmas.{months_fit}
+use Rattle.timefd_date_format.proofs.TextLemmas.{lowest, highest}
+use Rattle.timefd_date_moment.specs.Reading.Stamped.{whole_seconds}
 
 month_bound : (a b c : Bool)
     → (if a then (if b then 29 else 28) else (if c then 30 else 31)) ≤ 31

@@ -1,19 +1,19 @@
 -- What a settled description reads is written, and read as the same again.
 use Rattle.std.proofs.Common.{◌≡◌, ◌∙◌, true, false, Option, Some, None, Ok, IfSome, refl, sym, ap, arith, unwrap_or}
-use Rattle.timefd_component.specs.Modern.{modern}
-use Rattle.timefd_component.specs.Tree.{Text, Tree, component, literal, compound, optional, first, Trees, no_trees, more_trees}
-use Rattle.timefd_moment.specs.declared.date.Date.{Date}
-use Rattle.timefd_moment.specs.declared.time.Time.{Time}
-use Rattle.timefd_moment.specs.declared.offset.UtcOffset.{UtcOffset}
-use Rattle.timefd_moment.specs.declared.moment.Moment.{Moment}
-use Rattle.timefd_moment.specs.declared.fields.fields.Fields.{Fields}
-use Rattle.timefd_moment.specs.Fields.Reads.{Point, start}
-use Rattle.timefd_moment.proofs.FieldsLemmas.RelationLemmas.{reads_exactly}
-use Rattle.timefd_moment.specs.Reading.Values.{IsMomentOf}
-use Rattle.timefd_moment.proofs.ReadingLemmas.ShownLemmas.{clash}
-use Rattle.timefd_moment.proofs.ReadingLemmas.YearLemmas.{both}
-use Rattle.timefd_warnings.specs.declared.settled.bound.Bound.{Bound}
-use Rattle.timefd_warnings.specs.Settling.Settled.{begin_all, is_settled, settled, settled_all}
+use Rattle.timefd_lang_component.specs.Modern.{modern}
+use Rattle.timefd_lang_component.specs.Tree.{Text, Tree, component, literal, compound, optional, first, Trees, no_trees, more_trees}
+use Rattle.timefd_date_moment.specs.declared.date.Date.{Date}
+use Rattle.timefd_date_moment.specs.declared.time.Time.{Time}
+use Rattle.timefd_date_moment.specs.declared.offset.UtcOffset.{UtcOffset}
+use Rattle.timefd_date_moment.specs.declared.moment.Moment.{Moment}
+use Rattle.timefd_date_moment.specs.declared.fields.fields.Fields.{Fields}
+use Rattle.timefd_date_moment.specs.Fields.Reads.{Point, start}
+use Rattle.timefd_date_moment.proofs.FieldsLemmas.RelationLemmas.{reads_exactly}
+use Rattle.timefd_date_moment.specs.Reading.Values.{IsMomentOf}
+use Rattle.timefd_date_moment.proofs.ReadingLemmas.ShownLemmas.{clash}
+use Rattle.timefd_date_moment.proofs.ReadingLemmas.YearLemmas.{both}
+use Rattle.timefd_lang_warnings.specs.declared.settled.bound.Bound.{Bound}
+use Rattle.timefd_lang_warnings.specs.Settling.Settled.{begin_all, is_settled, settled, settled_all}
 use Rattle.timefd_laws.specs.Reading.Again.{IsWrittenAgain, parts}
 use Rattle.timefd_laws.specs.Reading.Shown.{IsOf, fields_shown, shows, with_tree, with_trees}
 use Rattle.timefd_laws.specs.Reading.Written.{ComesBack, HasText, IsKept, IsReadWritten, ReadsAllWritten, ReadsWritten}

@@ -1,14 +1,14 @@
 -- What reading a component does to the fields, and to the parts that were read.
 use Rattle.std.proofs.Common.{ℕ, ◌≡◌, ◌-◌, ◌==◌, Bool, true, false, nat_le, length, Option, Some, None, Ok, refl, subst}
-use Rattle.timefd_component.specs.declared.component.Component.{Component}
-use Rattle.timefd_component.specs.declared.component.Component.TheVariants as of
-use Rattle.timefd_format.specs.declared.field.Kind.TheVariants as kind
-use Rattle.timefd_format.specs.Fields.{kind as kind_of}
-use Rattle.timefd_moment.specs.declared.fields.fields.Fields.{Fields}
-use Rattle.timefd_moment.specs.Fields.Inputs.{after_monday, as_period, as_weekday, first_number}
-use Rattle.timefd_moment.specs.Fields.Numbers.{sign_in}
-use Rattle.timefd_moment.specs.Fields.Readings.{same}
-use Rattle.timefd_moment.specs.Fields.Reads.{Point, read_component, taken}
+use Rattle.timefd_lang_component.specs.declared.component.Component.{Component}
+use Rattle.timefd_lang_component.specs.declared.component.Component.TheVariants as of
+use Rattle.timefd_date_format.specs.declared.field.Kind.TheVariants as kind
+use Rattle.timefd_date_format.specs.Fields.{kind as kind_of}
+use Rattle.timefd_date_moment.specs.declared.fields.fields.Fields.{Fields}
+use Rattle.timefd_date_moment.specs.Fields.Inputs.{after_monday, as_period, as_weekday, first_number}
+use Rattle.timefd_date_moment.specs.Fields.Numbers.{sign_in}
+use Rattle.timefd_date_moment.specs.Fields.Readings.{same}
+use Rattle.timefd_date_moment.specs.Fields.Reads.{Point, read_component, taken}
 use Rattle.timefd_laws.specs.Reading.Again.{parts}
 use Rattle.timefd_laws.specs.Reading.Shown.{with_component}
 use Rattle.timefd_laws.proofs.ReadingLemmas.FractionReadLemmas.{fraction_read}

@@ -3,21 +3,21 @@ use Rattle.std.proofs.Common.{ℕ, ◌≡◌, ◌∙◌, ◌-◌, ◌++◌, fals
 use Rattle.std.proofs.Common.{ap, arith, Err, is_ok}
 use Rattle.std.proofs.lemmas.Bool.{eq-eqb}
 use Rattle.std.specs.Fmt.{decimal}
-use Rattle.timefd_component.specs.declared.component.Component.TheVariants.{CalendarYearFullExtendedRange, Day}
-use Rattle.timefd_component.specs.declared.component.Component.TheVariants.{MonthNumerical}
-use Rattle.timefd_component.specs.Texts.{filled}
-use Rattle.timefd_component.specs.Tree.{Text, optional}
-use Rattle.timefd_format.specs.declared.unshown.Unshown.{Unshown}
-use Rattle.timefd_format.specs.Fields.{plain, year}
-use Rattle.timefd_format.specs.Puts.{pair}
-use Rattle.timefd_format.specs.Written.{followed, text_of, written}
-use Rattle.timefd_format.proofs.DigitLemmas.{one_step, two_digits, two_filled}
-use Rattle.timefd_format.specs.declared.field.Lack.{Lack}
+use Rattle.timefd_lang_component.specs.declared.component.Component.TheVariants.{CalendarYearFullExtendedRange, Day}
+use Rattle.timefd_lang_component.specs.declared.component.Component.TheVariants.{MonthNumerical}
+use Rattle.timefd_lang_component.specs.Texts.{filled}
+use Rattle.timefd_lang_component.specs.Tree.{Text, optional}
+use Rattle.timefd_date_format.specs.declared.unshown.Unshown.{Unshown}
+use Rattle.timefd_date_format.specs.Fields.{plain, year}
+use Rattle.timefd_date_format.specs.Puts.{pair}
+use Rattle.timefd_date_format.specs.Written.{followed, text_of, written}
+use Rattle.timefd_date_format.proofs.DigitLemmas.{one_step, two_digits, two_filled}
+use Rattle.timefd_date_format.specs.declared.field.Lack.{Lack}
 use Rattle.timefd_modifier.specs.declared.enums.Padding.{Padding}
-use Rattle.timefd_moment.specs.declared.date.Date.{Date}
-use Rattle.timefd_moment.specs.declared.reading.part.DatePart.{DatePart}
-use Rattle.timefd_moment.specs.Reading.Shown.{DateAgrees, is_year}
-use Rattle.timefd_moment.proofs.ReadingLemmas.ShownLemmas.{clash}
+use Rattle.timefd_date_moment.specs.declared.date.Date.{Date}
+use Rattle.timefd_date_moment.specs.declared.reading.part.DatePart.{DatePart}
+use Rattle.timefd_date_moment.specs.Reading.Shown.{DateAgrees, is_year}
+use Rattle.timefd_date_moment.proofs.ReadingLemmas.ShownLemmas.{clash}
 use Rattle.timefd_laws.specs.Reading.Shown.{with_sign}
 use Rattle.timefd_laws.specs.Reading.Examples.{AgainExample, DateExample, OffsetExample, StampExample, TimeExample}
 use Rattle.timefd_laws.specs.Reading.Examples.{date_fields, iso_date, only}

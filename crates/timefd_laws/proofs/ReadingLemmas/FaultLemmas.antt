@@ -4,23 +4,23 @@ use Rattle.std.specs.Prelude.{eqb, is_some, if◌then◌else◌, ⊤}
 use Rattle.std.specs.Cmp.{unsigned_Decides}
 use Rattle.std.proofs.lemmas.Slice.Eq.{starts_is}
 use Rattle.std.specs.List.{starts_with}
-use Rattle.timefd_component.specs.declared.component.Component.{Component}
-use Rattle.timefd_component.specs.Modern.{modern}
-use Rattle.timefd_component.specs.Tree.{Text, Tree, component, literal, compound, optional, first, Trees, no_trees, more_trees}
-use Rattle.timefd_moment.specs.declared.fields.fault.ReadError.{ReadError}
-use Rattle.timefd_moment.specs.declared.fields.fault.Reason.{Reason}
-use Rattle.timefd_moment.specs.declared.fields.fault.Reason.TheVariants as for
-use Rattle.timefd_moment.specs.declared.fields.fields.Fields.{Fields}
-use Rattle.timefd_moment.specs.Fields.Inputs.{input}
-use Rattle.timefd_moment.specs.Fields.Laws.{IsAfter}
-use Rattle.timefd_moment.specs.Fields.Readings.{with_reading}
-use Rattle.timefd_moment.specs.Fields.Reads.{Point, agreed, at, earlier, ended, fault_at, fields_of, followed, read, read_all, read_first, read_literal, start, taken, unless_read, whole}
-use Rattle.timefd_moment.specs.Fields.Relations.{Reads, ReadsAll, ReadsComponent, ReadsFirst}
-use Rattle.timefd_moment.specs.Fields.Rules.{rule_of}
-use Rattle.timefd_moment.proofs.FieldsLemmas.FrontLemmas.{reads_fronts}
-use Rattle.timefd_moment.proofs.FieldsLemmas.RelationLemmas.{reads_exactly}
+use Rattle.timefd_lang_component.specs.declared.component.Component.{Component}
+use Rattle.timefd_lang_component.specs.Modern.{modern}
+use Rattle.timefd_lang_component.specs.Tree.{Text, Tree, component, literal, compound, optional, first, Trees, no_trees, more_trees}
+use Rattle.timefd_date_moment.specs.declared.fields.fault.ReadError.{ReadError}
+use Rattle.timefd_date_moment.specs.declared.fields.fault.Reason.{Reason}
+use Rattle.timefd_date_moment.specs.declared.fields.fault.Reason.TheVariants as for
+use Rattle.timefd_date_moment.specs.declared.fields.fields.Fields.{Fields}
+use Rattle.timefd_date_moment.specs.Fields.Inputs.{input}
+use Rattle.timefd_date_moment.specs.Fields.Laws.{IsAfter}
+use Rattle.timefd_date_moment.specs.Fields.Readings.{with_reading}
+use Rattle.timefd_date_moment.specs.Fields.Reads.{Point, agreed, at, earlier, ended, fault_at, fields_of, followed, read, read_all, read_first, read_literal, start, taken, unless_read, whole}
+use Rattle.timefd_date_moment.specs.Fields.Relations.{Reads, ReadsAll, ReadsComponent, ReadsFirst}
+use Rattle.timefd_date_moment.specs.Fields.Rules.{rule_of}
+use Rattle.timefd_date_moment.proofs.FieldsLemmas.FrontLemmas.{reads_fronts}
+use Rattle.timefd_date_moment.proofs.FieldsLemmas.RelationLemmas.{reads_exactly}
 use Rattle.std.proofs.lemmas.Bool.{eqb-true}
-use Rattle.timefd_moment.proofs.ReadingLemmas.ShownLemmas.{clash}
+use Rattle.timefd_date_moment.proofs.ReadingLemmas.ShownLemmas.{clash}
 use Rattle.timefd_laws.specs.Reading.Faults.{FaultsExactly, FieldsExactly, HasFault, HasOneAnswer, IsOtherwise, IsUnread, NoneReads, OneAnswer, ReadsWhole, Stops, StopsAmong, Trails, stands}
 
 -- reading returns only one result

@@ -2,29 +2,29 @@
 use Rattle.std.proofs.Common.{ℕ, ◌≡◌, ◌∙◌, ◌≤◌, ◌+◌, ◌*◌, ◌/◌, ◌==◌, ◌||◌, Bool, true, nat_le, if◌then◌else◌}
 use Rattle.std.proofs.Common.{Option, Some, None, Result, Ok, Err, refl, ap, subst, arith, is_ok}
 use Rattle.std.proofs.lemmas.Bool.{eqb-true, le-leb}
-use Rattle.timefd_component.specs.declared.component.Component.{Component}
-use Rattle.timefd_component.specs.declared.component.Component.TheVariants as of
-use Rattle.timefd_format.specs.declared.field.Field.{Field}
-use Rattle.timefd_format.specs.declared.field.Kind.{Kind}
-use Rattle.timefd_format.specs.declared.field.Kind.TheVariants as kinds
-use Rattle.timefd_format.specs.declared.field.Lack.{Lack}
-use Rattle.timefd_format.specs.declared.field.Lack.TheVariants as lack
-use Rattle.timefd_format.specs.Fields.{by_kind, date_field, field, instant_field, kind, offset_field, on_date, on_offset}
-use Rattle.timefd_format.specs.Fields.{on_time}
-use Rattle.timefd_format.specs.Fields.{signed, stamp_field, time_field, year}
+use Rattle.timefd_lang_component.specs.declared.component.Component.{Component}
+use Rattle.timefd_lang_component.specs.declared.component.Component.TheVariants as of
+use Rattle.timefd_date_format.specs.declared.field.Field.{Field}
+use Rattle.timefd_date_format.specs.declared.field.Kind.{Kind}
+use Rattle.timefd_date_format.specs.declared.field.Kind.TheVariants as kinds
+use Rattle.timefd_date_format.specs.declared.field.Lack.{Lack}
+use Rattle.timefd_date_format.specs.declared.field.Lack.TheVariants as lack
+use Rattle.timefd_date_format.specs.Fields.{by_kind, date_field, field, instant_field, kind, offset_field, on_date, on_offset}
+use Rattle.timefd_date_format.specs.Fields.{on_time}
+use Rattle.timefd_date_format.specs.Fields.{signed, stamp_field, time_field, year}
 use Rattle.timefd_modifier.specs.declared.enums.Padding.{Padding}
-use Rattle.timefd_moment.specs.declared.date.Date.{Date}
-use Rattle.timefd_moment.specs.declared.time.Time.{Time}
-use Rattle.timefd_moment.specs.declared.offset.UtcOffset.{UtcOffset}
-use Rattle.timefd_moment.specs.declared.moment.Moment.{Moment}
-use Rattle.timefd_moment.specs.Instants.{is_within}
-use Rattle.timefd_moment.specs.Moments.{is_before_zero, iso_years, magnitude, unix_time}
-use Rattle.timefd_moment.specs.declared.fields.fields.Fields.{Fields}
-use Rattle.timefd_moment.specs.declared.fields.fields.Signed.{Signed}
-use Rattle.timefd_moment.specs.Fields.Readings.{same}
-use Rattle.timefd_moment.specs.declared.reading.part.DatePart.{DatePart}
-use Rattle.timefd_moment.specs.Reading.Shown.{is_century, is_shown, is_year}
-use Rattle.timefd_moment.proofs.ReadingLemmas.YearLemmas.{both}
+use Rattle.timefd_date_moment.specs.declared.date.Date.{Date}
+use Rattle.timefd_date_moment.specs.declared.time.Time.{Time}
+use Rattle.timefd_date_moment.specs.declared.offset.UtcOffset.{UtcOffset}
+use Rattle.timefd_date_moment.specs.declared.moment.Moment.{Moment}
+use Rattle.timefd_date_moment.specs.Instants.{is_within}
+use Rattle.timefd_date_moment.specs.Moments.{is_before_zero, iso_years, magnitude, unix_time}
+use Rattle.timefd_date_moment.specs.declared.fields.fields.Fields.{Fields}
+use Rattle.timefd_date_moment.specs.declared.fields.fields.Signed.{Signed}
+use Rattle.timefd_date_moment.specs.Fields.Readings.{same}
+use Rattle.timefd_date_moment.specs.declared.reading.part.DatePart.{DatePart}
+use Rattle.timefd_date_moment.specs.Reading.Shown.{is_century, is_shown, is_year}
+use Rattle.timefd_date_moment.proofs.ReadingLemmas.YearLemmas.{both}
 use Rattle.timefd_laws.proofs.ReadingLemmas.ComponentReadLemmas.{range_of}
 use Rattle.timefd_laws.proofs.ReadingLemmas.GrowLemmas.{InRange, IsAtMost, years}
 use Rattle.timefd_laws.proofs.ReadingLemmas.MomentKnownLemmas.{Has, HasDate}

@@ -10,15 +10,15 @@ use Rattle.std.proofs.lemmas.Nat.{div-mul-add}
 use Rattle.std.specs.Char.{digit_value}
 use Rattle.std.specs.Fmt.{decimal}
 use Rattle.std.specs.Str.Parse.{AllDigits, digits_value, digits_value_after}
-use Rattle.timefd_component.specs.Texts.{at_least_one, before_trimmed, filled, trimmed}
-use Rattle.timefd_component.specs.Tree.{Text}
-use Rattle.timefd_format.proofs.FractionLemmas.{nine}
+use Rattle.timefd_lang_component.specs.Texts.{at_least_one, before_trimmed, filled, trimmed}
+use Rattle.timefd_lang_component.specs.Tree.{Text}
+use Rattle.timefd_date_format.proofs.FractionLemmas.{nine}
 use Rattle.timefd_modifier.specs.declared.enums.Padding.{Padding}
-use Rattle.timefd_moment.specs.Fields.Laws.{HasNoDigit}
-use Rattle.timefd_moment.specs.Fields.Numbers.{digits}
-use Rattle.timefd_moment.specs.Fields.Readings.{unit}
-use Rattle.timefd_moment.proofs.FieldsLemmas.BackLemmas.{zeros_digits, zeros_value}
-use Rattle.timefd_moment.proofs.FieldsLemmas.EndedLemmas.{digits_back}
+use Rattle.timefd_date_moment.specs.Fields.Laws.{HasNoDigit}
+use Rattle.timefd_date_moment.specs.Fields.Numbers.{digits}
+use Rattle.timefd_date_moment.specs.Fields.Readings.{unit}
+use Rattle.timefd_date_moment.proofs.FieldsLemmas.BackLemmas.{zeros_digits, zeros_value}
+use Rattle.timefd_date_moment.proofs.FieldsLemmas.EndedLemmas.{digits_back}
 
 -- values
 

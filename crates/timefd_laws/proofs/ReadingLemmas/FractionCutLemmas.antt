@@ -4,9 +4,9 @@ use Rattle.std.proofs.Common.{Option, None, Some, refl, sym, ap, subst, arith}
 use Rattle.std.proofs.Math.Nat.{div-div-eq-div-mul, mul-div_cancel, pow-le-pow_right}
 use Rattle.std.proofs.lemmas.Bool.{eq-eqb, leb-false, leb-true}
 use Rattle.std.proofs.lemmas.Nat.{pow-add}
-use Rattle.timefd_moment.specs.declared.fields.fields.Fields.{Fields}
-use Rattle.timefd_moment.specs.declared.fields.fields.Fraction.{Fraction}
-use Rattle.timefd_moment.specs.Fields.Readings.{agree, finer, fraction_with, unit, with_fraction}
+use Rattle.timefd_date_moment.specs.declared.fields.fields.Fields.{Fields}
+use Rattle.timefd_date_moment.specs.declared.fields.fields.Fraction.{Fraction}
+use Rattle.timefd_date_moment.specs.Fields.Readings.{agree, finer, fraction_with, unit, with_fraction}
 use Rattle.timefd_laws.specs.Reading.Shown.{cut, cut_where, more_digits}
 use Rattle.timefd_laws.proofs.ReadingLemmas.FractionBackLemmas.{unit_is}
 

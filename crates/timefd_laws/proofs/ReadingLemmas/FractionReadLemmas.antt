@@ -8,18 +8,18 @@ use Rattle.std.proofs.lemmas.Option.{cond_some, same_Some}
 use Rattle.std.specs.Char.{is_ascii_digit}
 use Rattle.std.specs.List.{prefix_len}
 use Rattle.std.specs.Str.Parse.{digits_value}
-use Rattle.timefd_component.specs.declared.component.Component.TheVariants.{Subsecond}
-use Rattle.timefd_component.specs.Tree.{Text}
-use Rattle.timefd_format.specs.declared.field.Kind.TheVariants as kind
+use Rattle.timefd_lang_component.specs.declared.component.Component.TheVariants.{Subsecond}
+use Rattle.timefd_lang_component.specs.Tree.{Text}
+use Rattle.timefd_date_format.specs.declared.field.Kind.TheVariants as kind
 use Rattle.timefd_modifier.specs.declared.clock.Subsecond.{Subsecond as SubsecondFields}
 use Rattle.timefd_modifier.specs.declared.enums.SubsecondDigits.{SubsecondDigits}
-use Rattle.timefd_moment.specs.declared.fields.fields.Fields.{Fields}
-use Rattle.timefd_moment.specs.declared.fields.fields.Fraction.{Fraction}
-use Rattle.timefd_moment.specs.Fields.Inputs.{as_fraction, digits_shown, fraction, least_digits}
-use Rattle.timefd_moment.specs.Fields.Numbers.{digits}
-use Rattle.timefd_moment.specs.Fields.Readings.{agree, finer, fraction_with, unit, with_fraction}
-use Rattle.timefd_moment.specs.Fields.Reads.{Point, taken}
-use Rattle.timefd_moment.specs.Reading.Known.{has_time}
+use Rattle.timefd_date_moment.specs.declared.fields.fields.Fields.{Fields}
+use Rattle.timefd_date_moment.specs.declared.fields.fields.Fraction.{Fraction}
+use Rattle.timefd_date_moment.specs.Fields.Inputs.{as_fraction, digits_shown, fraction, least_digits}
+use Rattle.timefd_date_moment.specs.Fields.Numbers.{digits}
+use Rattle.timefd_date_moment.specs.Fields.Readings.{agree, finer, fraction_with, unit, with_fraction}
+use Rattle.timefd_date_moment.specs.Fields.Reads.{Point, taken}
+use Rattle.timefd_date_moment.specs.Reading.Known.{has_time}
 use Rattle.timefd_laws.specs.Reading.Again.{digits_of, parts}
 use Rattle.timefd_laws.specs.Reading.Shown.{more_digits}
 use Rattle.timefd_laws.proofs.ReadingLemmas.GrowLemmas.{any, by_subsecond, kind_more}

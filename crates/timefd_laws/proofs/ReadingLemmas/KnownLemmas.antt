@@ -2,21 +2,21 @@
 use Rattle.std.proofs.Common.{ℕ, ◌≡◌, ◌∙◌, ◌&&◌, ◌||◌, not, Bool, true, false, if◌then◌else◌, Option, Some, None, Result}
 use Rattle.std.proofs.Common.{Ok, Err, refl, sym, ap, is_ok}
 use Rattle.std.specs.Prelude.{is_some}
-use Rattle.timefd_format.specs.declared.field.Kind.{Kind}
-use Rattle.timefd_format.specs.declared.field.Kind.TheVariants as of
-use Rattle.timefd_moment.specs.declared.fields.fields.Fields.{Fields}
-use Rattle.timefd_moment.specs.declared.fields.fields.Fraction.{Fraction}
-use Rattle.timefd_moment.specs.declared.fields.fields.Signed.{Signed}
-use Rattle.timefd_moment.specs.declared.reading.part.OffsetPart.{OffsetPart}
-use Rattle.timefd_moment.specs.declared.reading.part.TimePart.{TimePart}
-use Rattle.timefd_moment.specs.Reading.Known.{has_time}
-use Rattle.timefd_moment.specs.Reading.Offsets.{shift_at, shift_read}
-use Rattle.timefd_moment.specs.Reading.Stamps.{instant_by, instant_read}
-use Rattle.timefd_moment.specs.Reading.Times.{clock_at, clock_read, has_second, hour_read, is_left_out}
-use Rattle.timefd_moment.specs.Reading.Ways.{IsDetermined, calendar, date_way, iso_week, lack, monday_week, or_else, ordinal}
-use Rattle.timefd_moment.specs.Reading.Ways.{sunday_week, unless, way_of}
-use Rattle.timefd_moment.specs.Reading.Years.{years_read}
-use Rattle.timefd_moment.proofs.ReadingLemmas.ShownLemmas.{clash}
+use Rattle.timefd_date_format.specs.declared.field.Kind.{Kind}
+use Rattle.timefd_date_format.specs.declared.field.Kind.TheVariants as of
+use Rattle.timefd_date_moment.specs.declared.fields.fields.Fields.{Fields}
+use Rattle.timefd_date_moment.specs.declared.fields.fields.Fraction.{Fraction}
+use Rattle.timefd_date_moment.specs.declared.fields.fields.Signed.{Signed}
+use Rattle.timefd_date_moment.specs.declared.reading.part.OffsetPart.{OffsetPart}
+use Rattle.timefd_date_moment.specs.declared.reading.part.TimePart.{TimePart}
+use Rattle.timefd_date_moment.specs.Reading.Known.{has_time}
+use Rattle.timefd_date_moment.specs.Reading.Offsets.{shift_at, shift_read}
+use Rattle.timefd_date_moment.specs.Reading.Stamps.{instant_by, instant_read}
+use Rattle.timefd_date_moment.specs.Reading.Times.{clock_at, clock_read, has_second, hour_read, is_left_out}
+use Rattle.timefd_date_moment.specs.Reading.Ways.{IsDetermined, calendar, date_way, iso_week, lack, monday_week, or_else, ordinal}
+use Rattle.timefd_date_moment.specs.Reading.Ways.{sunday_week, unless, way_of}
+use Rattle.timefd_date_moment.specs.Reading.Years.{years_read}
+use Rattle.timefd_date_moment.proofs.ReadingLemmas.ShownLemmas.{clash}
 use Rattle.timefd_laws.specs.Reading.Again.{digits_of, parts}
 use Rattle.timefd_laws.specs.Reading.Shown.{Shows}
 use Rattle.timefd_laws.proofs.ReadingLemmas.GrowLemmas.{has_kind}

@@ -4,16 +4,16 @@ use Rattle.std.proofs.Common.{arith, ◌∙◌, ◌≤◌, ◌+◌, ◌-◌, ◌
 use Rattle.std.specs.Prelude.{⊤}
 use Rattle.std.proofs.lemmas.Fmt.{decimal_digit, decimal_is_IsNumeral_wide}
 use Rattle.std.specs.Fmt.{decimal}
-use Rattle.timefd_component.specs.Texts.{filled, long_months, long_weekdays, short_months, short_weekdays}
-use Rattle.timefd_component.specs.Tree.{Text}
-use Rattle.timefd_format.specs.Fields.{from_one, period_text}
+use Rattle.timefd_lang_component.specs.Texts.{filled, long_months, long_weekdays, short_months, short_weekdays}
+use Rattle.timefd_lang_component.specs.Tree.{Text}
+use Rattle.timefd_date_format.specs.Fields.{from_one, period_text}
 use Rattle.timefd_modifier.specs.declared.enums.Padding.{Padding}
-use Rattle.timefd_moment.specs.Fields.Names.{listed, name_from}
-use Rattle.timefd_moment.specs.Fields.Inputs.{first_number}
-use Rattle.timefd_moment.specs.Fields.Numbers.{digits, within}
-use Rattle.timefd_moment.specs.Fields.Rules.{period_names}
-use Rattle.timefd_moment.proofs.FieldsLemmas.BackLemmas.{in_range}
-use Rattle.timefd_moment.proofs.FieldsLemmas.EndedLemmas.{digits_back}
+use Rattle.timefd_date_moment.specs.Fields.Names.{listed, name_from}
+use Rattle.timefd_date_moment.specs.Fields.Inputs.{first_number}
+use Rattle.timefd_date_moment.specs.Fields.Numbers.{digits, within}
+use Rattle.timefd_date_moment.specs.Fields.Rules.{period_names}
+use Rattle.timefd_date_moment.proofs.FieldsLemmas.BackLemmas.{in_range}
+use Rattle.timefd_date_moment.proofs.FieldsLemmas.EndedLemmas.{digits_back}
 
 -- the property holds of each number below this
 abbrev Below : ℕ → (ℕ → Type 0) → Type 0

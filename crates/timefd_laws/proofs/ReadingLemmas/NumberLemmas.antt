@@ -1,13 +1,13 @@
 -- Numbers are read back.
 use Rattle.std.proofs.Common.{ℕ, ◌≡◌, ◌∙◌, ◌≤◌, ◌<◌, ◌^◌, ◌++◌, ◌⊎◌, inl, inr, length, Some, refl, ap, arith}
-use Rattle.timefd_component.specs.Texts.{filled}
-use Rattle.timefd_component.specs.Tree.{Text}
+use Rattle.timefd_lang_component.specs.Texts.{filled}
+use Rattle.timefd_lang_component.specs.Tree.{Text}
 use Rattle.timefd_modifier.specs.declared.enums.Padding.{Padding}
-use Rattle.timefd_moment.specs.Fields.Laws.{HasNoDigit}
-use Rattle.timefd_moment.specs.Fields.Numbers.{padded, within}
-use Rattle.timefd_moment.proofs.FieldsLemmas.BackLemmas.{in_range}
-use Rattle.timefd_moment.proofs.FieldsLemmas.EndedLemmas as ended
-use Rattle.timefd_warnings.specs.Settling.Bounds.{number_bound}
+use Rattle.timefd_date_moment.specs.Fields.Laws.{HasNoDigit}
+use Rattle.timefd_date_moment.specs.Fields.Numbers.{padded, within}
+use Rattle.timefd_date_moment.proofs.FieldsLemmas.BackLemmas.{in_range}
+use Rattle.timefd_date_moment.proofs.FieldsLemmas.EndedLemmas as ended
+use Rattle.timefd_lang_warnings.specs.Settling.Bounds.{number_bound}
 use Rattle.timefd_laws.specs.Reading.Bounds.{IsBounded}
 
 -- Either there is no room for more digits than the width, or no digit follows the number.

@@ -1,17 +1,17 @@
 -- What is read from a whole text. With a plain description that is everything that is written.
 use Rattle.std.proofs.Common.{◌≡◌, ◌∙◌, ◌-◌, ◌==◌, inl, inr, Bool, true, false, if◌then◌else◌, length, Result, Ok, Err}
 use Rattle.std.proofs.Common.{refl, sym, ap, subst, is_ok}
-use Rattle.timefd_component.specs.declared.component.Component.{Component}
-use Rattle.timefd_component.specs.Modern.{modern}
-use Rattle.timefd_component.specs.Tree.{Text, Tree, component, literal, compound, optional, first, Trees, no_trees, more_trees}
-use Rattle.timefd_moment.specs.declared.fields.fault.ReadError.{ReadError}
-use Rattle.timefd_moment.specs.declared.fields.fault.Reason.TheVariants as for
-use Rattle.timefd_moment.specs.declared.fields.fields.Fields.{Fields}
-use Rattle.timefd_moment.specs.Fields.Reads.{Point, fields_of, read, read_component, start, whole}
-use Rattle.timefd_moment.specs.Fields.Relations.{Reads, ReadsAll, ReadsFirst}
-use Rattle.timefd_moment.proofs.FieldsLemmas.RelationLemmas.{reads_exactly}
-use Rattle.timefd_moment.proofs.ReadingLemmas.ShownLemmas.{clash}
-use Rattle.timefd_moment.proofs.ReadingLemmas.YearLemmas.{both as both_true}
+use Rattle.timefd_lang_component.specs.declared.component.Component.{Component}
+use Rattle.timefd_lang_component.specs.Modern.{modern}
+use Rattle.timefd_lang_component.specs.Tree.{Text, Tree, component, literal, compound, optional, first, Trees, no_trees, more_trees}
+use Rattle.timefd_date_moment.specs.declared.fields.fault.ReadError.{ReadError}
+use Rattle.timefd_date_moment.specs.declared.fields.fault.Reason.TheVariants as for
+use Rattle.timefd_date_moment.specs.declared.fields.fields.Fields.{Fields}
+use Rattle.timefd_date_moment.specs.Fields.Reads.{Point, fields_of, read, read_component, start, whole}
+use Rattle.timefd_date_moment.specs.Fields.Relations.{Reads, ReadsAll, ReadsFirst}
+use Rattle.timefd_date_moment.proofs.FieldsLemmas.RelationLemmas.{reads_exactly}
+use Rattle.timefd_date_moment.proofs.ReadingLemmas.ShownLemmas.{clash}
+use Rattle.timefd_date_moment.proofs.ReadingLemmas.YearLemmas.{both as both_true}
 use Rattle.timefd_laws.specs.Reading.Again.{PartsRead, are_plain, is_plain, parts}
 use Rattle.timefd_laws.specs.Reading.Shown.{with_tree, with_trees}
 use Rattle.timefd_laws.proofs.ReadingLemmas.ComponentReadLemmas.{component_read}

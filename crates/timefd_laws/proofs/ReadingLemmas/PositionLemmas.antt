@@ -2,17 +2,17 @@
 use Rattle.std.proofs.Common.{ℕ, ◌≡◌, ◌/◌, ◌%◌, Bool, true, nat_le, Option, Some, None, refl}
 use Rattle.std.specs.Prelude.{is_some}
 use Rattle.std.proofs.lemmas.Bool.{or_left, or_right}
-use Rattle.timefd_format.specs.declared.field.Kind.{Kind}
-use Rattle.timefd_format.specs.declared.field.Kind.TheVariants as of
-use Rattle.timefd_moment.specs.declared.date.Date.{Date}
-use Rattle.timefd_moment.specs.declared.time.Time.{Time}
-use Rattle.timefd_moment.specs.declared.offset.UtcOffset.{UtcOffset}
-use Rattle.timefd_moment.specs.Moments as moment
-use Rattle.timefd_moment.specs.Moments.{date_ordinal, days_from_monday, hour_of_twelve, iso_years, magnitude, unix_time}
-use Rattle.timefd_moment.specs.declared.fields.fields.Fields.{Fields}
-use Rattle.timefd_moment.specs.declared.fields.fields.Signed.{Signed}
-use Rattle.timefd_moment.specs.Reading.Known.{has_hour}
-use Rattle.timefd_moment.specs.Reading.Stamped.{whole_seconds}
+use Rattle.timefd_date_format.specs.declared.field.Kind.{Kind}
+use Rattle.timefd_date_format.specs.declared.field.Kind.TheVariants as of
+use Rattle.timefd_date_moment.specs.declared.date.Date.{Date}
+use Rattle.timefd_date_moment.specs.declared.time.Time.{Time}
+use Rattle.timefd_date_moment.specs.declared.offset.UtcOffset.{UtcOffset}
+use Rattle.timefd_date_moment.specs.Moments as moment
+use Rattle.timefd_date_moment.specs.Moments.{date_ordinal, days_from_monday, hour_of_twelve, iso_years, magnitude, unix_time}
+use Rattle.timefd_date_moment.specs.declared.fields.fields.Fields.{Fields}
+use Rattle.timefd_date_moment.specs.declared.fields.fields.Signed.{Signed}
+use Rattle.timefd_date_moment.specs.Reading.Known.{has_hour}
+use Rattle.timefd_date_moment.specs.Reading.Stamped.{whole_seconds}
 use Rattle.timefd_laws.specs.Reading.Again.{parts}
 use Rattle.timefd_laws.specs.Reading.Shown.{Shows, fields_shown, if_shown, with_sign, year_part}
 use Rattle.timefd_laws.proofs.ReadingLemmas.GrowLemmas.{InRange, Range, but, century_more, iso_century_more, iso_year_more, kinds}

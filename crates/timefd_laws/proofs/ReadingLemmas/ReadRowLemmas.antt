@@ -4,20 +4,20 @@ use Rattle.std.proofs.Common.{Some, None}
 use Rattle.std.proofs.Common.{Ok, refl, sym, ap, subst}
 use Rattle.std.specs.Prelude.{is_some, ⊤}
 use Rattle.std.proofs.lemmas.Bool.{cond_both, eqb-true, leb-true}
-use Rattle.timefd_component.specs.declared.component.Component.{Component}
-use Rattle.timefd_component.specs.Tree.{Text}
-use Rattle.timefd_format.specs.declared.field.Kind.{Kind}
+use Rattle.timefd_lang_component.specs.declared.component.Component.{Component}
+use Rattle.timefd_lang_component.specs.Tree.{Text}
+use Rattle.timefd_date_format.specs.declared.field.Kind.{Kind}
 use Rattle.timefd_modifier.specs.declared.enums.Padding.{Padding}
-use Rattle.timefd_moment.specs.declared.fields.fields.Fields.{Fields}
-use Rattle.timefd_moment.specs.declared.fields.fields.Signed.{Signed}
-use Rattle.timefd_moment.specs.Fields.Fields.{amount as amount_of, count as count_of}
-use Rattle.timefd_moment.specs.Fields.Inputs.{as_amount, as_count, as_name}
-use Rattle.timefd_moment.specs.Fields.Numbers.{after, padded, signed_by, within}
-use Rattle.timefd_moment.specs.Fields.Numbers as numbers
-use Rattle.timefd_moment.specs.Fields.Readings.{amount_with, count_with, same, same_signed}
-use Rattle.timefd_moment.specs.Fields.Reads.{Point, agreed, taken}
-use Rattle.timefd_moment.proofs.ReadingLemmas.ShownLemmas.{clash}
-use Rattle.timefd_moment.proofs.ReadingLemmas.YearLemmas.{both}
+use Rattle.timefd_date_moment.specs.declared.fields.fields.Fields.{Fields}
+use Rattle.timefd_date_moment.specs.declared.fields.fields.Signed.{Signed}
+use Rattle.timefd_date_moment.specs.Fields.Fields.{amount as amount_of, count as count_of}
+use Rattle.timefd_date_moment.specs.Fields.Inputs.{as_amount, as_count, as_name}
+use Rattle.timefd_date_moment.specs.Fields.Numbers.{after, padded, signed_by, within}
+use Rattle.timefd_date_moment.specs.Fields.Numbers as numbers
+use Rattle.timefd_date_moment.specs.Fields.Readings.{amount_with, count_with, same, same_signed}
+use Rattle.timefd_date_moment.specs.Fields.Reads.{Point, agreed, taken}
+use Rattle.timefd_date_moment.proofs.ReadingLemmas.ShownLemmas.{clash}
+use Rattle.timefd_date_moment.proofs.ReadingLemmas.YearLemmas.{both}
 use Rattle.timefd_laws.specs.Reading.Again.{parts}
 use Rattle.timefd_laws.specs.Reading.Shown.{Shows}
 use Rattle.timefd_laws.proofs.ReadingLemmas.GrowLemmas.{Grows, InRange, IsAtMost, Knows, Range, any, kind_more, same_grows, years}

@@ -5,18 +5,18 @@ use Rattle.std.specs.Prelude.{is_some}
 use Rattle.std.proofs.Math.Nat.{div-mul-le_self}
 use Rattle.std.proofs.lemmas.Bool.{eqb-true, le-leb, leb-false, leb-true, lt-ltb, ltb-true}
 use Rattle.std.proofs.lemmas.Option.{same_Some}
-use Rattle.timefd_moment.specs.declared.unix_time.UnixTime.{UnixTime}
-use Rattle.timefd_moment.specs.Instants.{count, is_within}
-use Rattle.timefd_moment.specs.Moments.{unix_start}
-use Rattle.timefd_moment.specs.declared.fields.fields.Fraction.{Fraction}
-use Rattle.timefd_moment.specs.declared.fields.fields.Signed.{Signed}
-use Rattle.timefd_moment.specs.Fields.Readings.{unit}
-use Rattle.timefd_moment.specs.Reading.StampLaws.{HasDigitsBy, HasRest}
-use Rattle.timefd_moment.specs.Reading.Stamped.{has_digits}
-use Rattle.timefd_moment.specs.Reading.Stamps.{after_second, by_second, by_unit, fraction_read, in_second, instant_by}
-use Rattle.timefd_moment.specs.Reading.Stamps.{is_finer, stamp_magnitude, within_second}
-use Rattle.timefd_moment.specs.Reading.Times.{nanosecond_read}
-use Rattle.timefd_moment.proofs.ReadingLemmas.StampedLemmas.{unix_at}
+use Rattle.timefd_date_moment.specs.declared.unix_time.UnixTime.{UnixTime}
+use Rattle.timefd_date_moment.specs.Instants.{count, is_within}
+use Rattle.timefd_date_moment.specs.Moments.{unix_start}
+use Rattle.timefd_date_moment.specs.declared.fields.fields.Fraction.{Fraction}
+use Rattle.timefd_date_moment.specs.declared.fields.fields.Signed.{Signed}
+use Rattle.timefd_date_moment.specs.Fields.Readings.{unit}
+use Rattle.timefd_date_moment.specs.Reading.StampLaws.{HasDigitsBy, HasRest}
+use Rattle.timefd_date_moment.specs.Reading.Stamped.{has_digits}
+use Rattle.timefd_date_moment.specs.Reading.Stamps.{after_second, by_second, by_unit, fraction_read, in_second, instant_by}
+use Rattle.timefd_date_moment.specs.Reading.Stamps.{is_finer, stamp_magnitude, within_second}
+use Rattle.timefd_date_moment.specs.Reading.Times.{nanosecond_read}
+use Rattle.timefd_date_moment.proofs.ReadingLemmas.StampedLemmas.{unix_at}
 use Rattle.timefd_laws.specs.Reading.Again.{digits_of}
 use Rattle.timefd_laws.specs.Reading.Shown.{cut_where, if_shown}
 use Rattle.timefd_laws.proofs.ReadingLemmas.StepLemmas.{IsWhole}

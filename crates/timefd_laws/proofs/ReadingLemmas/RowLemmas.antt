@@ -3,26 +3,26 @@ use Rattle.std.proofs.Common.{ℕ, ◌≡◌, ◌∙◌, ◌≤◌, ◌<◌, ◌
 use Rattle.std.proofs.Common.{length, Option, Some, None, Result, Ok, Err, IfOk, IfSome, refl, sym, ap, subst}
 use Rattle.std.proofs.Math.Seq.{drop-append_seam}
 use Rattle.std.proofs.lemmas.Bool.{cond_both, eq-eqb, leb-false, leb-true}
-use Rattle.timefd_component.specs.declared.component.Component.{Component}
-use Rattle.timefd_component.specs.Tree.{Text}
-use Rattle.timefd_format.specs.declared.field.Field.{Field}
-use Rattle.timefd_format.specs.declared.field.Lack.{Lack}
-use Rattle.timefd_format.specs.Fields.{date_field, field_text, instant_field, offset_field, on_date, on_offset, on_time}
-use Rattle.timefd_format.specs.Fields.{signed, stamp_field, time_field, year}
-use Rattle.timefd_format.proofs.TextLemmas.{of_instant}
+use Rattle.timefd_lang_component.specs.declared.component.Component.{Component}
+use Rattle.timefd_lang_component.specs.Tree.{Text}
+use Rattle.timefd_date_format.specs.declared.field.Field.{Field}
+use Rattle.timefd_date_format.specs.declared.field.Lack.{Lack}
+use Rattle.timefd_date_format.specs.Fields.{date_field, field_text, instant_field, offset_field, on_date, on_offset, on_time}
+use Rattle.timefd_date_format.specs.Fields.{signed, stamp_field, time_field, year}
+use Rattle.timefd_date_format.proofs.TextLemmas.{of_instant}
 use Rattle.timefd_modifier.specs.declared.enums.Padding.{Padding}
-use Rattle.timefd_moment.specs.declared.date.Date.{Date}
-use Rattle.timefd_moment.specs.declared.time.Time.{Time}
-use Rattle.timefd_moment.specs.declared.offset.UtcOffset.{UtcOffset}
-use Rattle.timefd_moment.specs.Moments.{is_before_zero, magnitude, unix_time}
-use Rattle.timefd_moment.specs.declared.moment.Moment.{Moment}
-use Rattle.timefd_moment.specs.Instants.{is_within}
-use Rattle.timefd_moment.specs.declared.fields.fields.Fields.{Fields}
-use Rattle.timefd_moment.specs.declared.fields.fields.Signed.{Signed}
-use Rattle.timefd_moment.specs.Fields.Readings.{kept, same, same_signed}
-use Rattle.timefd_moment.specs.Fields.Reads.{agreed, read_component}
-use Rattle.timefd_moment.proofs.ReadingLemmas.ShownLemmas.{clash}
-use Rattle.timefd_warnings.specs.Settling.Bounds.{bound_of}
+use Rattle.timefd_date_moment.specs.declared.date.Date.{Date}
+use Rattle.timefd_date_moment.specs.declared.time.Time.{Time}
+use Rattle.timefd_date_moment.specs.declared.offset.UtcOffset.{UtcOffset}
+use Rattle.timefd_date_moment.specs.Moments.{is_before_zero, magnitude, unix_time}
+use Rattle.timefd_date_moment.specs.declared.moment.Moment.{Moment}
+use Rattle.timefd_date_moment.specs.Instants.{is_within}
+use Rattle.timefd_date_moment.specs.declared.fields.fields.Fields.{Fields}
+use Rattle.timefd_date_moment.specs.declared.fields.fields.Signed.{Signed}
+use Rattle.timefd_date_moment.specs.Fields.Readings.{kept, same, same_signed}
+use Rattle.timefd_date_moment.specs.Fields.Reads.{agreed, read_component}
+use Rattle.timefd_date_moment.proofs.ReadingLemmas.ShownLemmas.{clash}
+use Rattle.timefd_lang_warnings.specs.Settling.Bounds.{bound_of}
 use Rattle.timefd_laws.specs.Reading.Bounds.{IsBounded}
 use Rattle.timefd_laws.specs.Reading.Laws.{at}
 use Rattle.timefd_laws.specs.Reading.Shown.{IsOf, Shows, fields_shown, if_shown, with_component}

@@ -1,23 +1,23 @@
 -- The digits of a second are read back, and the end of a text.
 use Rattle.std.proofs.Common.{ℕ, ◌≡◌, ◌∙◌, ◌≤◌, ◌*◌, ◌/◌, ◌++◌, [], length, take, Some, Ok, refl, sym, ap, subst, arith}
-use Rattle.timefd_component.specs.declared.component.Component.{Component}
-use Rattle.timefd_component.specs.declared.component.Component.TheVariants.{End, Subsecond}
-use Rattle.timefd_component.specs.Reserved.{digits_shown}
-use Rattle.timefd_component.specs.Texts.{at_least_one, filled, subsecond, trimmed}
-use Rattle.timefd_component.specs.Tree.{Text}
+use Rattle.timefd_lang_component.specs.declared.component.Component.{Component}
+use Rattle.timefd_lang_component.specs.declared.component.Component.TheVariants.{End, Subsecond}
+use Rattle.timefd_lang_component.specs.Reserved.{digits_shown}
+use Rattle.timefd_lang_component.specs.Texts.{at_least_one, filled, subsecond, trimmed}
+use Rattle.timefd_lang_component.specs.Tree.{Text}
 use Rattle.timefd_modifier.specs.declared.clock.Subsecond.{Subsecond as SubsecondFields}
 use Rattle.timefd_modifier.specs.declared.input.End.{End as EndFields}
 use Rattle.timefd_modifier.specs.declared.enums.Padding.{Padding}
 use Rattle.timefd_modifier.specs.declared.enums.SubsecondDigits.{SubsecondDigits}
 use Rattle.timefd_modifier.specs.declared.enums.TrailingInput.{TrailingInput}
-use Rattle.timefd_moment.specs.declared.date.Date.{Date}
-use Rattle.timefd_moment.specs.declared.time.Time.{Time}
-use Rattle.timefd_moment.specs.declared.offset.UtcOffset.{UtcOffset}
-use Rattle.timefd_moment.specs.Fields.Inputs.{as_fraction, end, fraction}
-use Rattle.timefd_moment.specs.Fields.Numbers.{digits}
-use Rattle.timefd_moment.specs.Fields.Readings.{unit}
-use Rattle.timefd_moment.specs.Fields.Reads.{taken}
-use Rattle.timefd_warnings.specs.Settling.Bounds.{fraction_bound}
+use Rattle.timefd_date_moment.specs.declared.date.Date.{Date}
+use Rattle.timefd_date_moment.specs.declared.time.Time.{Time}
+use Rattle.timefd_date_moment.specs.declared.offset.UtcOffset.{UtcOffset}
+use Rattle.timefd_date_moment.specs.Fields.Inputs.{as_fraction, end, fraction}
+use Rattle.timefd_date_moment.specs.Fields.Numbers.{digits}
+use Rattle.timefd_date_moment.specs.Fields.Readings.{unit}
+use Rattle.timefd_date_moment.specs.Fields.Reads.{taken}
+use Rattle.timefd_lang_warnings.specs.Settling.Bounds.{fraction_bound}
 use Rattle.timefd_laws.specs.Reading.Bounds.{IsBounded}
 use Rattle.timefd_laws.specs.Reading.Laws.{at}
 use Rattle.timefd_laws.specs.Reading.Shown.{Shows, cut_where, fields_shown, more_digits, with_component}

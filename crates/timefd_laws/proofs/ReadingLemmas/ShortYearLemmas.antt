@@ -2,26 +2,26 @@
 use Rattle.std.proofs.Common.{◌≡◌, ◌∙◌, ◌||◌, true, false, Option, IfSome, Ok, refl, subst, arith, ℕ, ◌/◌, Bool}
 use Rattle.std.proofs.Common.{nat_le, Result, Err, IfErr, sym, is_ok, unwrap_or}
 use Rattle.std.proofs.lemmas.Bool.{cond_both}
-use Rattle.timefd_component.specs.declared.component.Component.{Component}
-use Rattle.timefd_component.specs.declared.component.Component.TheVariants as of
-use Rattle.timefd_component.specs.Modern.{modern}
-use Rattle.timefd_component.specs.Tree.{Text, Tree, Trees, component, compound, first, literal, more_trees, no_trees}
-use Rattle.timefd_component.specs.Tree.{optional}
-use Rattle.timefd_format.specs.declared.field.Kind.{Kind}
-use Rattle.timefd_format.specs.Fields.{date_field, field, kind as kind_of, on_date, signed, year}
-use Rattle.timefd_format.specs.Written.{followed, shown, text_of, written}
-use Rattle.timefd_format.specs.declared.field.Field.{Field}
-use Rattle.timefd_format.specs.declared.field.Lack.{Lack}
-use Rattle.timefd_format.specs.declared.unshown.Unshown.{Unshown}
+use Rattle.timefd_lang_component.specs.declared.component.Component.{Component}
+use Rattle.timefd_lang_component.specs.declared.component.Component.TheVariants as of
+use Rattle.timefd_lang_component.specs.Modern.{modern}
+use Rattle.timefd_lang_component.specs.Tree.{Text, Tree, Trees, component, compound, first, literal, more_trees, no_trees}
+use Rattle.timefd_lang_component.specs.Tree.{optional}
+use Rattle.timefd_date_format.specs.declared.field.Kind.{Kind}
+use Rattle.timefd_date_format.specs.Fields.{date_field, field, kind as kind_of, on_date, signed, year}
+use Rattle.timefd_date_format.specs.Written.{followed, shown, text_of, written}
+use Rattle.timefd_date_format.specs.declared.field.Field.{Field}
+use Rattle.timefd_date_format.specs.declared.field.Lack.{Lack}
+use Rattle.timefd_date_format.specs.declared.unshown.Unshown.{Unshown}
 use Rattle.timefd_modifier.specs.declared.enums.Padding.{Padding}
-use Rattle.timefd_moment.specs.declared.date.Date.{Date}
-use Rattle.timefd_moment.specs.declared.time.Time.{Time}
-use Rattle.timefd_moment.specs.declared.offset.UtcOffset.{UtcOffset}
-use Rattle.timefd_moment.specs.declared.moment.Moment.{Moment}
-use Rattle.timefd_moment.specs.Moments.{is_before_zero, iso_years, magnitude}
-use Rattle.timefd_moment.specs.declared.fields.fields.Fields.{Fields}
-use Rattle.timefd_moment.specs.Reading.Values.{IsMomentOf}
-use Rattle.timefd_moment.proofs.ReadingLemmas.ShownLemmas.{clash}
+use Rattle.timefd_date_moment.specs.declared.date.Date.{Date}
+use Rattle.timefd_date_moment.specs.declared.time.Time.{Time}
+use Rattle.timefd_date_moment.specs.declared.offset.UtcOffset.{UtcOffset}
+use Rattle.timefd_date_moment.specs.declared.moment.Moment.{Moment}
+use Rattle.timefd_date_moment.specs.Moments.{is_before_zero, iso_years, magnitude}
+use Rattle.timefd_date_moment.specs.declared.fields.fields.Fields.{Fields}
+use Rattle.timefd_date_moment.specs.Reading.Values.{IsMomentOf}
+use Rattle.timefd_date_moment.proofs.ReadingLemmas.ShownLemmas.{clash}
 use Rattle.timefd_laws.specs.Reading.Again.{parts}
 use Rattle.timefd_laws.specs.Reading.ShortYears.{HasShortYears, LacksYearsAlone, WritesShortYears}
 use Rattle.timefd_laws.specs.Reading.Shown.{Shows, shows, shows_nothing, with_tree, with_trees}

@@ -1,18 +1,18 @@
 -- The kinds of what a component shows.
 use Rattle.std.proofs.Common.{◌≡◌, true, refl, ap, subst}
 use Rattle.std.specs.Prelude.{is_some, ⊤}
-use Rattle.timefd_component.specs.declared.component.Component.{Component}
-use Rattle.timefd_component.specs.declared.component.Component.TheVariants as of
-use Rattle.timefd_component.specs.Modern.{modern}
-use Rattle.timefd_component.proofs.ModernLemmas.{IsReplacement, hour_replaced, month_replaced, timestamp_replaced}
-use Rattle.timefd_component.proofs.ModernLemmas.{week_replaced, weekday_replaced, year_replaced}
-use Rattle.timefd_format.specs.declared.field.Kind.{Kind}
-use Rattle.timefd_format.specs.declared.field.Kind.TheVariants as kind
-use Rattle.timefd_format.specs.Fields.{kind as kind_of}
-use Rattle.timefd_moment.specs.declared.date.Date.{Date}
-use Rattle.timefd_moment.specs.declared.time.Time.{Time}
-use Rattle.timefd_moment.specs.declared.offset.UtcOffset.{UtcOffset}
-use Rattle.timefd_moment.specs.declared.fields.fields.Fields.{Fields}
+use Rattle.timefd_lang_component.specs.declared.component.Component.{Component}
+use Rattle.timefd_lang_component.specs.declared.component.Component.TheVariants as of
+use Rattle.timefd_lang_component.specs.Modern.{modern}
+use Rattle.timefd_lang_component.proofs.ModernLemmas.{IsReplacement, hour_replaced, month_replaced, timestamp_replaced}
+use Rattle.timefd_lang_component.proofs.ModernLemmas.{week_replaced, weekday_replaced, year_replaced}
+use Rattle.timefd_date_format.specs.declared.field.Kind.{Kind}
+use Rattle.timefd_date_format.specs.declared.field.Kind.TheVariants as kind
+use Rattle.timefd_date_format.specs.Fields.{kind as kind_of}
+use Rattle.timefd_date_moment.specs.declared.date.Date.{Date}
+use Rattle.timefd_date_moment.specs.declared.time.Time.{Time}
+use Rattle.timefd_date_moment.specs.declared.offset.UtcOffset.{UtcOffset}
+use Rattle.timefd_date_moment.specs.declared.fields.fields.Fields.{Fields}
 use Rattle.timefd_laws.specs.Reading.Shown.{Shows, fields_shown, with_component}
 use Rattle.timefd_laws.proofs.ReadingLemmas.GrowLemmas.{kind_more, by_subsecond, has_kind}
 use Rattle.timefd_laws.proofs.ReadingLemmas.PositionLemmas as position

@@ -1,13 +1,13 @@
 -- The parts of the fields that are shown.
 use Rattle.std.proofs.Common.{ℕ, ◌≡◌, ◌/◌, ◌%◌, ◌∙◌, Bool, true, false, nat_le, Option, Some, None, refl, sym}
 use Rattle.std.specs.Prelude.{is_some}
-use Rattle.timefd_moment.specs.declared.date.Date.{Date}
-use Rattle.timefd_moment.specs.declared.time.Time.{Time}
-use Rattle.timefd_moment.specs.declared.offset.UtcOffset.{UtcOffset}
-use Rattle.timefd_moment.specs.Moments.{date_ordinal, days_from_monday, hour_of_twelve, iso_week, iso_years, magnitude}
-use Rattle.timefd_moment.specs.Moments.{monday_week, sunday_week, unix_time}
-use Rattle.timefd_moment.specs.declared.fields.fields.Fields.{Fields}
-use Rattle.timefd_moment.specs.Reading.Stamped.{whole_seconds}
+use Rattle.timefd_date_moment.specs.declared.date.Date.{Date}
+use Rattle.timefd_date_moment.specs.declared.time.Time.{Time}
+use Rattle.timefd_date_moment.specs.declared.offset.UtcOffset.{UtcOffset}
+use Rattle.timefd_date_moment.specs.Moments.{date_ordinal, days_from_monday, hour_of_twelve, iso_week, iso_years, magnitude}
+use Rattle.timefd_date_moment.specs.Moments.{monday_week, sunday_week, unix_time}
+use Rattle.timefd_date_moment.specs.declared.fields.fields.Fields.{Fields}
+use Rattle.timefd_date_moment.specs.Reading.Stamped.{whole_seconds}
 use Rattle.timefd_laws.specs.Reading.Again.{digits_of, parts}
 use Rattle.timefd_laws.specs.Reading.Shown.{Shows, cut_where, fields_shown, if_shown, with_sign, year_part}
 

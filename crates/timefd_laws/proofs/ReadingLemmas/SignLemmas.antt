@@ -1,16 +1,16 @@
 -- Numbers with a sign are read back.
 use Rattle.std.proofs.Common.{ℕ, ◌≡◌, ◌∙◌, ◌≤◌, ◌<◌, ◌+◌, ◌-◌, ◌^◌, ◌++◌, inl, inr, Bool, true, false}
 use Rattle.std.proofs.Common.{◌∷◌, length, Some, refl, ap, arith}
-use Rattle.timefd_component.specs.Texts.{filled}
-use Rattle.timefd_component.specs.Tree.{Text}
-use Rattle.timefd_format.specs.Fields.{sign_of, sign_text}
+use Rattle.timefd_lang_component.specs.Texts.{filled}
+use Rattle.timefd_lang_component.specs.Tree.{Text}
+use Rattle.timefd_date_format.specs.Fields.{sign_of, sign_text}
 use Rattle.timefd_modifier.specs.declared.enums.Padding.{Padding}
-use Rattle.timefd_moment.specs.Fields.Numbers.{after, padded, signed, signed_by, within}
-use Rattle.timefd_moment.specs.Fields.Numbers as numbers
-use Rattle.timefd_moment.proofs.FieldsLemmas.BackLemmas.{in_range, wide}
-use Rattle.timefd_moment.proofs.ReadingLemmas.ShownLemmas.{clash}
+use Rattle.timefd_date_moment.specs.Fields.Numbers.{after, padded, signed, signed_by, within}
+use Rattle.timefd_date_moment.specs.Fields.Numbers as numbers
+use Rattle.timefd_date_moment.proofs.FieldsLemmas.BackLemmas.{in_range, wide}
+use Rattle.timefd_date_moment.proofs.ReadingLemmas.ShownLemmas.{clash}
 use Rattle.timefd_laws.specs.Reading.Shown.{with_sign}
-use Rattle.timefd_moment.proofs.FieldsLemmas.EndedLemmas.{no_sign_filled}
+use Rattle.timefd_date_moment.proofs.FieldsLemmas.EndedLemmas.{no_sign_filled}
 use Rattle.timefd_laws.proofs.ReadingLemmas.NumberLemmas.{IsEnded, filled_back}
 
 -- the bounds of a form: its width, the most digits without a sign and with one, the greatest number

@@ -3,32 +3,32 @@ use Rattle.std.proofs.Common.{ℕ, ◌≡◌, ◌∙◌, ◌+◌, ◌-◌, ◌*�
 use Rattle.std.proofs.Common.{replicate, if◌then◌else◌, Result, Ok, refl, sym, ap, arith}
 use Rattle.std.proofs.lemmas.Fmt.{decimal_digit}
 use Rattle.std.specs.Fmt.{decimal}
-use Rattle.timefd_component.specs.declared.component.Component.TheVariants.{Subsecond, UnixTimestampSecond}
-use Rattle.timefd_component.specs.Texts.{at_least_one, filled, trimmed}
-use Rattle.timefd_component.specs.Tree.{Text}
-use Rattle.timefd_format.specs.declared.field.Field.TheVariants as shows
-use Rattle.timefd_format.specs.declared.unshown.Unshown.{Unshown}
-use Rattle.timefd_format.specs.Fields.{instant_field}
-use Rattle.timefd_format.specs.Puts.{pair}
-use Rattle.timefd_format.specs.Written.{followed, text_of}
-use Rattle.timefd_format.proofs.DigitLemmas.{one_step}
+use Rattle.timefd_lang_component.specs.declared.component.Component.TheVariants.{Subsecond, UnixTimestampSecond}
+use Rattle.timefd_lang_component.specs.Texts.{at_least_one, filled, trimmed}
+use Rattle.timefd_lang_component.specs.Tree.{Text}
+use Rattle.timefd_date_format.specs.declared.field.Field.TheVariants as shows
+use Rattle.timefd_date_format.specs.declared.unshown.Unshown.{Unshown}
+use Rattle.timefd_date_format.specs.Fields.{instant_field}
+use Rattle.timefd_date_format.specs.Puts.{pair}
+use Rattle.timefd_date_format.specs.Written.{followed, text_of}
+use Rattle.timefd_date_format.proofs.DigitLemmas.{one_step}
 use Rattle.timefd_modifier.specs.declared.enums.Padding.{Padding}
 use Rattle.timefd_modifier.specs.declared.enums.SubsecondDigits.{SubsecondDigits}
-use Rattle.timefd_moment.specs.declared.date.Date.{Date}
-use Rattle.timefd_moment.specs.declared.time.Time.{Time}
-use Rattle.timefd_moment.specs.declared.offset.UtcOffset.{UtcOffset}
-use Rattle.timefd_moment.specs.declared.unix_time.UnixTime.{UnixTime}
-use Rattle.timefd_moment.specs.Calendar.{days_of_months, days_of_years, ordinal}
-use Rattle.timefd_moment.specs.Moments.{unix_start, unix_time, utc_nanoseconds}
-use Rattle.timefd_moment.proofs.CalendarLemmas.{days_before}
-use Rattle.timefd_moment.specs.declared.reading.part.DatePart.{DatePart}
-use Rattle.timefd_moment.specs.declared.reading.part.InstantPart.{InstantPart}
-use Rattle.timefd_moment.specs.declared.reading.part.OffsetPart.{OffsetPart}
-use Rattle.timefd_moment.specs.declared.reading.part.Part.TheVariants as part
-use Rattle.timefd_moment.specs.declared.reading.part.TimePart.{TimePart}
-use Rattle.timefd_moment.specs.Reading.Offsets.{ShiftHas}
-use Rattle.timefd_moment.specs.Reading.Stamped.{MomentAgrees, has_digits, stamp_has, utc_shift}
-use Rattle.timefd_moment.proofs.ReadingLemmas.StampedLemmas.{unix_at}
+use Rattle.timefd_date_moment.specs.declared.date.Date.{Date}
+use Rattle.timefd_date_moment.specs.declared.time.Time.{Time}
+use Rattle.timefd_date_moment.specs.declared.offset.UtcOffset.{UtcOffset}
+use Rattle.timefd_date_moment.specs.declared.unix_time.UnixTime.{UnixTime}
+use Rattle.timefd_date_moment.specs.Calendar.{days_of_months, days_of_years, ordinal}
+use Rattle.timefd_date_moment.specs.Moments.{unix_start, unix_time, utc_nanoseconds}
+use Rattle.timefd_date_moment.proofs.CalendarLemmas.{days_before}
+use Rattle.timefd_date_moment.specs.declared.reading.part.DatePart.{DatePart}
+use Rattle.timefd_date_moment.specs.declared.reading.part.InstantPart.{InstantPart}
+use Rattle.timefd_date_moment.specs.declared.reading.part.OffsetPart.{OffsetPart}
+use Rattle.timefd_date_moment.specs.declared.reading.part.Part.TheVariants as part
+use Rattle.timefd_date_moment.specs.declared.reading.part.TimePart.{TimePart}
+use Rattle.timefd_date_moment.specs.Reading.Offsets.{ShiftHas}
+use Rattle.timefd_date_moment.specs.Reading.Stamped.{MomentAgrees, has_digits, stamp_has, utc_shift}
+use Rattle.timefd_date_moment.proofs.ReadingLemmas.StampedLemmas.{unix_at}
 use Rattle.timefd_laws.specs.Reading.Examples.{IsHalfBefore, StampAgainExample, stamp_fields}
 
 -- the instant

@@ -1,31 +1,31 @@
 -- The errors of moments name what was read, or what wasn't: with a timestamp, and without one.
 use Rattle.std.proofs.Common.{ℕ, ◌≡◌, ◌∙◌, ◌/◌, ◌==◌, ◌||◌, ◌⊎◌, inl, inr, Bool, true, false, nat_lt, if◌then◌else◌, List, [], ◌∷◌, Option, Some, None, Result, Ok, Err, refl, sym, ap, subst, arith}
 use Rattle.std.specs.Prelude.{IfSome, is_some, ⊤}
-use Rattle.timefd_moment.specs.declared.fields.fields.Fields.{Fields}
-use Rattle.timefd_moment.specs.declared.fields.fields.Fraction.{Fraction}
-use Rattle.timefd_moment.specs.declared.fields.fields.Signed.{Signed}
-use Rattle.timefd_moment.specs.declared.date.Date.{Date}
-use Rattle.timefd_moment.specs.declared.time.Time.{Time}
-use Rattle.timefd_moment.specs.declared.offset.UtcOffset.{UtcOffset}
-use Rattle.timefd_moment.specs.declared.unix_time.UnixTime.{UnixTime}
-use Rattle.timefd_moment.specs.Moments.{unix_time}
-use Rattle.timefd_moment.specs.declared.reading.error.ValueError.{ValueError}
-use Rattle.timefd_moment.specs.declared.reading.error.ValueError.TheVariants as error
-use Rattle.timefd_moment.specs.declared.reading.part.InstantPart.{InstantPart}
-use Rattle.timefd_moment.specs.declared.reading.part.OffsetPart.{OffsetPart}
-use Rattle.timefd_moment.specs.declared.reading.part.Part.{Part}
-use Rattle.timefd_moment.specs.declared.reading.part.Part.TheVariants as part
-use Rattle.timefd_moment.specs.declared.reading.part.TimePart.{TimePart}
-use Rattle.timefd_moment.specs.Reading.Faults.{shift_fault}
-use Rattle.timefd_moment.specs.Reading.Known.{has_date, has_offset, has_time}
-use Rattle.timefd_moment.specs.Reading.Offsets.{HasShift, IsOffsetOf, shift_at, shift_read}
-use Rattle.timefd_moment.specs.Reading.Dates.{IsDateByParts}
-use Rattle.timefd_moment.specs.Reading.Shown.{first_false, is_count, is_flag, is_shown}
-use Rattle.timefd_moment.specs.Reading.Stamped.{IsAt, IsStamped, has_digits, moment_has, moment_parts, part_or_stamp, stamp_fault, stamp_has, time_shows, utc_shift, zone_if, zone_read}
-use Rattle.timefd_moment.specs.Reading.Stamps.{finest, finest_of, instant_by, instant_read}
-use Rattle.timefd_moment.specs.Reading.Times.{IsTimeByParts, is_left_out, number}
-use Rattle.timefd_moment.specs.Reading.Values.{IsDateBy, IsErrorAfterDate, IsMomentBy, IsMomentByParts, IsPart, IsTimeBy}
-use Rattle.timefd_moment.proofs.ReadingLemmas.ShownLemmas.{clash}
+use Rattle.timefd_date_moment.specs.declared.fields.fields.Fields.{Fields}
+use Rattle.timefd_date_moment.specs.declared.fields.fields.Fraction.{Fraction}
+use Rattle.timefd_date_moment.specs.declared.fields.fields.Signed.{Signed}
+use Rattle.timefd_date_moment.specs.declared.date.Date.{Date}
+use Rattle.timefd_date_moment.specs.declared.time.Time.{Time}
+use Rattle.timefd_date_moment.specs.declared.offset.UtcOffset.{UtcOffset}
+use Rattle.timefd_date_moment.specs.declared.unix_time.UnixTime.{UnixTime}
+use Rattle.timefd_date_moment.specs.Moments.{unix_time}
+use Rattle.timefd_date_moment.specs.declared.reading.error.ValueError.{ValueError}
+use Rattle.timefd_date_moment.specs.declared.reading.error.ValueError.TheVariants as error
+use Rattle.timefd_date_moment.specs.declared.reading.part.InstantPart.{InstantPart}
+use Rattle.timefd_date_moment.specs.declared.reading.part.OffsetPart.{OffsetPart}
+use Rattle.timefd_date_moment.specs.declared.reading.part.Part.{Part}
+use Rattle.timefd_date_moment.specs.declared.reading.part.Part.TheVariants as part
+use Rattle.timefd_date_moment.specs.declared.reading.part.TimePart.{TimePart}
+use Rattle.timefd_date_moment.specs.Reading.Faults.{shift_fault}
+use Rattle.timefd_date_moment.specs.Reading.Known.{has_date, has_offset, has_time}
+use Rattle.timefd_date_moment.specs.Reading.Offsets.{HasShift, IsOffsetOf, shift_at, shift_read}
+use Rattle.timefd_date_moment.specs.Reading.Dates.{IsDateByParts}
+use Rattle.timefd_date_moment.specs.Reading.Shown.{first_false, is_count, is_flag, is_shown}
+use Rattle.timefd_date_moment.specs.Reading.Stamped.{IsAt, IsStamped, has_digits, moment_has, moment_parts, part_or_stamp, stamp_fault, stamp_has, time_shows, utc_shift, zone_if, zone_read}
+use Rattle.timefd_date_moment.specs.Reading.Stamps.{finest, finest_of, instant_by, instant_read}
+use Rattle.timefd_date_moment.specs.Reading.Times.{IsTimeByParts, is_left_out, number}
+use Rattle.timefd_date_moment.specs.Reading.Values.{IsDateBy, IsErrorAfterDate, IsMomentBy, IsMomentByParts, IsPart, IsTimeBy}
+use Rattle.timefd_date_moment.proofs.ReadingLemmas.ShownLemmas.{clash}
 use Rattle.timefd_laws.specs.Reading.ValueFaults.{ErrorsNameRead, NamesRead, is_read, offset_is_read}
 use Rattle.timefd_laws.proofs.ReadingLemmas.ValueFaultLemmas.{OffsetOf, OffsetWas, count_unread, date_names, date_unread, first_is, flag_unread, offset_missing, offset_names, offset_of, offset_unread, shift_was, shown_unread, time_names}
 

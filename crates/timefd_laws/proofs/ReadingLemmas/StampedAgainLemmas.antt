@@ -1,34 +1,34 @@
 -- A moment that was read with a timestamp and is written again is read as that moment.
 use Rattle.std.proofs.Common.{ℕ, ◌≡◌, ◌∙◌, Bool, true, false, Option, Some, None, Result, Ok, Err, refl, sym, ap, subst}
 use Rattle.std.specs.Prelude.{is_some}
-use Rattle.timefd_component.specs.Tree.{Text, Tree}
-use Rattle.timefd_format.specs.declared.field.Kind.TheVariants as kind
-use Rattle.timefd_moment.specs.declared.date.Date.{Date}
-use Rattle.timefd_moment.specs.declared.time.Time.{Time}
-use Rattle.timefd_moment.specs.declared.offset.UtcOffset.{UtcOffset}
-use Rattle.timefd_moment.specs.declared.moment.Moment.{Moment}
-use Rattle.timefd_moment.specs.declared.unix_time.UnixTime.{UnixTime}
-use Rattle.timefd_moment.specs.Instants.{is_within}
-use Rattle.timefd_moment.specs.Moments.{utc_seconds}
-use Rattle.timefd_moment.specs.declared.fields.fields.Fields.{Fields}
-use Rattle.timefd_moment.specs.declared.reading.error.ValueError.{ValueError}
-use Rattle.timefd_moment.specs.declared.reading.part.Part.TheVariants as part
-use Rattle.timefd_moment.specs.declared.reading.part.TimePart.{TimePart}
-use Rattle.timefd_moment.specs.Reading.Dates as of_date
-use Rattle.timefd_moment.specs.Reading.Known.{has_offset}
-use Rattle.timefd_moment.specs.Reading.Offsets as of_offset
-use Rattle.timefd_moment.specs.Reading.Offsets.{HasShift, shift_read}
-use Rattle.timefd_moment.specs.Reading.Shown.{OffsetAgrees}
-use Rattle.timefd_moment.specs.Reading.StampLaws.{AnswersMoment, AreThese, IsRead}
-use Rattle.timefd_moment.specs.Reading.Stamped.{IsAt, MomentAgrees, zone_if}
-use Rattle.timefd_moment.specs.Reading.Stamps.{instant_read}
-use Rattle.timefd_moment.specs.Reading.Times as of_time
-use Rattle.timefd_moment.specs.Reading.Values.{IsMomentBy, IsMomentOf}
-use Rattle.timefd_moment.specs.Reading.Ways.{IsDetermined}
-use Rattle.timefd_moment.proofs.ReadingLemmas.OffsetLemmas.{shift_has}
-use Rattle.timefd_moment.proofs.ReadingLemmas.ShownLemmas.{clash}
-use Rattle.timefd_moment.proofs.ReadingLemmas.StampLawLemmas.{stamped_moment_back}
-use Rattle.timefd_moment.proofs.ReadingLemmas.StampedLemmas.{unix_at}
+use Rattle.timefd_lang_component.specs.Tree.{Text, Tree}
+use Rattle.timefd_date_format.specs.declared.field.Kind.TheVariants as kind
+use Rattle.timefd_date_moment.specs.declared.date.Date.{Date}
+use Rattle.timefd_date_moment.specs.declared.time.Time.{Time}
+use Rattle.timefd_date_moment.specs.declared.offset.UtcOffset.{UtcOffset}
+use Rattle.timefd_date_moment.specs.declared.moment.Moment.{Moment}
+use Rattle.timefd_date_moment.specs.declared.unix_time.UnixTime.{UnixTime}
+use Rattle.timefd_date_moment.specs.Instants.{is_within}
+use Rattle.timefd_date_moment.specs.Moments.{utc_seconds}
+use Rattle.timefd_date_moment.specs.declared.fields.fields.Fields.{Fields}
+use Rattle.timefd_date_moment.specs.declared.reading.error.ValueError.{ValueError}
+use Rattle.timefd_date_moment.specs.declared.reading.part.Part.TheVariants as part
+use Rattle.timefd_date_moment.specs.declared.reading.part.TimePart.{TimePart}
+use Rattle.timefd_date_moment.specs.Reading.Dates as of_date
+use Rattle.timefd_date_moment.specs.Reading.Known.{has_offset}
+use Rattle.timefd_date_moment.specs.Reading.Offsets as of_offset
+use Rattle.timefd_date_moment.specs.Reading.Offsets.{HasShift, shift_read}
+use Rattle.timefd_date_moment.specs.Reading.Shown.{OffsetAgrees}
+use Rattle.timefd_date_moment.specs.Reading.StampLaws.{AnswersMoment, AreThese, IsRead}
+use Rattle.timefd_date_moment.specs.Reading.Stamped.{IsAt, MomentAgrees, zone_if}
+use Rattle.timefd_date_moment.specs.Reading.Stamps.{instant_read}
+use Rattle.timefd_date_moment.specs.Reading.Times as of_time
+use Rattle.timefd_date_moment.specs.Reading.Values.{IsMomentBy, IsMomentOf}
+use Rattle.timefd_date_moment.specs.Reading.Ways.{IsDetermined}
+use Rattle.timefd_date_moment.proofs.ReadingLemmas.OffsetLemmas.{shift_has}
+use Rattle.timefd_date_moment.proofs.ReadingLemmas.ShownLemmas.{clash}
+use Rattle.timefd_date_moment.proofs.ReadingLemmas.StampLawLemmas.{stamped_moment_back}
+use Rattle.timefd_date_moment.proofs.ReadingLemmas.StampedLemmas.{unix_at}
 use Rattle.timefd_laws.specs.Reading.Again.{AnswersSame, BothKnown, IsWrittenAgain, parts}
 use Rattle.timefd_laws.specs.Reading.Shown.{IsOf, Shows, fields_shown, shows}
 use Rattle.timefd_laws.specs.Reading.Values.{HasNoMoreOffset}

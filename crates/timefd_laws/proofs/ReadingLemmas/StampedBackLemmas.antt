@@ -2,19 +2,19 @@
 use Rattle.std.proofs.Common.{ℕ, ◌≡◌, ◌*◌, ◌/◌, true, nat_le, Option, Some, None, refl, subst}
 use Rattle.std.proofs.Math.Nat.{mul-div_cancel}
 use Rattle.std.proofs.lemmas.Bool.{eq-eqb}
-use Rattle.timefd_component.specs.Tree.{Tree}
-use Rattle.timefd_moment.specs.declared.date.Date.{Date}
-use Rattle.timefd_moment.specs.declared.time.Time.{Time}
-use Rattle.timefd_moment.specs.declared.offset.UtcOffset.{UtcOffset}
-use Rattle.timefd_moment.specs.Moments.{hour_of_twelve, unix_time}
-use Rattle.timefd_moment.specs.declared.fields.fields.Fields.{Fields}
-use Rattle.timefd_moment.specs.Fields.Readings.{unit}
-use Rattle.timefd_moment.specs.declared.reading.part.InstantPart.{InstantPart}
-use Rattle.timefd_moment.specs.declared.reading.part.Part.TheVariants as part
-use Rattle.timefd_moment.specs.declared.reading.part.TimePart.{TimePart}
-use Rattle.timefd_moment.specs.Reading.StampLaws.{IsRead}
-use Rattle.timefd_moment.specs.Reading.Stamped.{MomentAgrees, has_digits, stamp_has, time_shows, whole_seconds}
-use Rattle.timefd_moment.proofs.ReadingLemmas.StampLawLemmas as lower
+use Rattle.timefd_lang_component.specs.Tree.{Tree}
+use Rattle.timefd_date_moment.specs.declared.date.Date.{Date}
+use Rattle.timefd_date_moment.specs.declared.time.Time.{Time}
+use Rattle.timefd_date_moment.specs.declared.offset.UtcOffset.{UtcOffset}
+use Rattle.timefd_date_moment.specs.Moments.{hour_of_twelve, unix_time}
+use Rattle.timefd_date_moment.specs.declared.fields.fields.Fields.{Fields}
+use Rattle.timefd_date_moment.specs.Fields.Readings.{unit}
+use Rattle.timefd_date_moment.specs.declared.reading.part.InstantPart.{InstantPart}
+use Rattle.timefd_date_moment.specs.declared.reading.part.Part.TheVariants as part
+use Rattle.timefd_date_moment.specs.declared.reading.part.TimePart.{TimePart}
+use Rattle.timefd_date_moment.specs.Reading.StampLaws.{IsRead}
+use Rattle.timefd_date_moment.specs.Reading.Stamped.{MomentAgrees, has_digits, stamp_has, time_shows, whole_seconds}
+use Rattle.timefd_date_moment.proofs.ReadingLemmas.StampLawLemmas as lower
 use Rattle.timefd_laws.specs.Reading.Shown.{Shows, cut_where, fields_shown, shows}
 use Rattle.timefd_laws.specs.Reading.StampedValues.{IsStampedBack, StampedDateReadBack, StampedInstantReadBack}
 use Rattle.timefd_laws.specs.Reading.StampedValues.{StampedMomentReadBack, StampedTimeReadBack}

@@ -3,14 +3,14 @@ use Rattle.std.proofs.Common.{ℕ, ◌≡◌, ◌%◌, ◌==◌, Bool, true, fal
 use Rattle.std.proofs.Common.{Result, Ok, Err, refl, ap, subst, is_ok}
 use Rattle.std.specs.Prelude.{⊤}
 use Rattle.std.proofs.lemmas.Option.{none-some, same_Some}
-use Rattle.timefd_component.specs.declared.component.Component.{Component}
+use Rattle.timefd_lang_component.specs.declared.component.Component.{Component}
 use Rattle.timefd_modifier.specs.declared.enums.TrailingInput.{TrailingInput}
-use Rattle.timefd_moment.specs.declared.fields.fields.Fields.{Fields}
-use Rattle.timefd_moment.specs.declared.fields.fields.Fraction.{Fraction}
-use Rattle.timefd_moment.specs.Fields.Inputs.{end}
-use Rattle.timefd_moment.specs.Fields.Readings.{kept, unit}
-use Rattle.timefd_moment.specs.Fields.Reads.{Point, agreed, taken}
-use Rattle.timefd_moment.proofs.ReadingLemmas.ShownLemmas.{clash}
+use Rattle.timefd_date_moment.specs.declared.fields.fields.Fields.{Fields}
+use Rattle.timefd_date_moment.specs.declared.fields.fields.Fraction.{Fraction}
+use Rattle.timefd_date_moment.specs.Fields.Inputs.{end}
+use Rattle.timefd_date_moment.specs.Fields.Readings.{kept, unit}
+use Rattle.timefd_date_moment.specs.Fields.Reads.{Point, agreed, taken}
+use Rattle.timefd_date_moment.proofs.ReadingLemmas.ShownLemmas.{clash}
 use Rattle.timefd_laws.proofs.ReadingLemmas.RowLemmas.{merged}
 
 -- results

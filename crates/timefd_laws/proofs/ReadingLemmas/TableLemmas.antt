@@ -1,25 +1,25 @@
 -- The text that is written for each component is read back.
 use Rattle.std.proofs.Common.{ℕ, ◌≡◌, ◌∙◌, ◌≤◌, ◌<◌, ◌^◌, ◌-◌, ◌/◌, ◌%◌, inl, inr, true, false, nat_le, [], Result, Ok}
 use Rattle.std.proofs.Common.{Err, IfOk, refl, ap, arith, subst}
-use Rattle.timefd_component.specs.declared.component.Component.{Component}
-use Rattle.timefd_component.specs.declared.component.Component.TheVariants as of
-use Rattle.timefd_component.specs.Modern.{modern}
-use Rattle.timefd_component.specs.Texts.{filled, long_months, long_weekdays, short_months, short_weekdays}
-use Rattle.timefd_component.specs.Tree.{Text}
-use Rattle.timefd_format.specs.declared.field.Field.{Field}
-use Rattle.timefd_format.specs.declared.field.Lack.{Lack}
-use Rattle.timefd_format.specs.declared.unshown.Unshown.{Unshown}
-use Rattle.timefd_format.specs.Fields.{field, field_text, from_one, name_at, period_text}
-use Rattle.timefd_format.specs.Written.{text_of}
+use Rattle.timefd_lang_component.specs.declared.component.Component.{Component}
+use Rattle.timefd_lang_component.specs.declared.component.Component.TheVariants as of
+use Rattle.timefd_lang_component.specs.Modern.{modern}
+use Rattle.timefd_lang_component.specs.Texts.{filled, long_months, long_weekdays, short_months, short_weekdays}
+use Rattle.timefd_lang_component.specs.Tree.{Text}
+use Rattle.timefd_date_format.specs.declared.field.Field.{Field}
+use Rattle.timefd_date_format.specs.declared.field.Lack.{Lack}
+use Rattle.timefd_date_format.specs.declared.unshown.Unshown.{Unshown}
+use Rattle.timefd_date_format.specs.Fields.{field, field_text, from_one, name_at, period_text}
+use Rattle.timefd_date_format.specs.Written.{text_of}
 use Rattle.timefd_modifier.specs.declared.enums.Padding.{Padding}
-use Rattle.timefd_moment.specs.declared.date.Date.{Date}
-use Rattle.timefd_moment.specs.declared.time.Time.{Time}
-use Rattle.timefd_moment.specs.declared.offset.UtcOffset.{UtcOffset}
-use Rattle.timefd_moment.specs.declared.moment.Moment.{Moment}
-use Rattle.timefd_moment.specs.Moments.{date_ordinal, days_from_monday, days_from_sunday, hour_of_twelve, iso_week, iso_years}
-use Rattle.timefd_moment.specs.Moments.{magnitude, monday_week, sunday_week, unix_time}
-use Rattle.timefd_moment.specs.Fields.Inputs.{after_monday, first_number}
-use Rattle.timefd_moment.specs.Reading.Stamped.{whole_seconds}
+use Rattle.timefd_date_moment.specs.declared.date.Date.{Date}
+use Rattle.timefd_date_moment.specs.declared.time.Time.{Time}
+use Rattle.timefd_date_moment.specs.declared.offset.UtcOffset.{UtcOffset}
+use Rattle.timefd_date_moment.specs.declared.moment.Moment.{Moment}
+use Rattle.timefd_date_moment.specs.Moments.{date_ordinal, days_from_monday, days_from_sunday, hour_of_twelve, iso_week, iso_years}
+use Rattle.timefd_date_moment.specs.Moments.{magnitude, monday_week, sunday_week, unix_time}
+use Rattle.timefd_date_moment.specs.Fields.Inputs.{after_monday, first_number}
+use Rattle.timefd_date_moment.specs.Reading.Stamped.{whole_seconds}
 use Rattle.timefd_laws.specs.Reading.Laws.{ComponentBack}
 use Rattle.timefd_laws.specs.Reading.Shown.{IsOf, Shows}
 use Rattle.timefd_laws.proofs.ReadingLemmas.BoundLemmas.{in_month, iso_week_in, nanoseconds_in, ordinal_first, ordinal_last}

@@ -6,29 +6,29 @@ use Rattle.std.specs.List.{prefix_len}
 use Rattle.std.proofs.lemmas.List.{append-nil, append_assoc}
 use Rattle.std.proofs.lemmas.Result.{IfOk-at_ok}
 use Rattle.std.proofs.lemmas.Bool.{cond_both}
-use Rattle.timefd_component.specs.declared.component.Component.{Component}
-use Rattle.timefd_component.specs.Modern.{modern}
-use Rattle.timefd_component.specs.Tree.{Text, Tree, component, literal, compound, optional, first, Trees, no_trees, more_trees}
-use Rattle.timefd_format.specs.declared.field.Field.{Field}
-use Rattle.timefd_format.specs.declared.field.Lack.{Lack}
-use Rattle.timefd_format.specs.declared.unshown.Unshown.{Unshown}
-use Rattle.timefd_format.specs.Fields.{field, field_text}
-use Rattle.timefd_format.specs.Written.{followed, shown, text_of, written, written_all, written_first}
-use Rattle.timefd_moment.specs.declared.date.Date.{Date}
-use Rattle.timefd_moment.specs.declared.time.Time.{Time}
-use Rattle.timefd_moment.specs.declared.offset.UtcOffset.{UtcOffset}
-use Rattle.timefd_moment.specs.declared.moment.Moment.{Moment}
-use Rattle.timefd_moment.specs.Fields.Reads.{Point, whole}
-use Rattle.timefd_moment.specs.Fields.Relations.{Reads, ReadsAll}
-use Rattle.timefd_moment.proofs.FieldsLemmas.RelationLemmas.{reads_exactly}
-use Rattle.timefd_moment.proofs.ReadingLemmas.ShownLemmas.{clash}
-use Rattle.timefd_moment.proofs.ReadingLemmas.YearLemmas.{both}
-use Rattle.timefd_warnings.specs.declared.settled.bound.Bound.{Bound}
-use Rattle.timefd_warnings.specs.Settling.Bounds.{bound_of}
+use Rattle.timefd_lang_component.specs.declared.component.Component.{Component}
+use Rattle.timefd_lang_component.specs.Modern.{modern}
+use Rattle.timefd_lang_component.specs.Tree.{Text, Tree, component, literal, compound, optional, first, Trees, no_trees, more_trees}
+use Rattle.timefd_date_format.specs.declared.field.Field.{Field}
+use Rattle.timefd_date_format.specs.declared.field.Lack.{Lack}
+use Rattle.timefd_date_format.specs.declared.unshown.Unshown.{Unshown}
+use Rattle.timefd_date_format.specs.Fields.{field, field_text}
+use Rattle.timefd_date_format.specs.Written.{followed, shown, text_of, written, written_all, written_first}
+use Rattle.timefd_date_moment.specs.declared.date.Date.{Date}
+use Rattle.timefd_date_moment.specs.declared.time.Time.{Time}
+use Rattle.timefd_date_moment.specs.declared.offset.UtcOffset.{UtcOffset}
+use Rattle.timefd_date_moment.specs.declared.moment.Moment.{Moment}
+use Rattle.timefd_date_moment.specs.Fields.Reads.{Point, whole}
+use Rattle.timefd_date_moment.specs.Fields.Relations.{Reads, ReadsAll}
+use Rattle.timefd_date_moment.proofs.FieldsLemmas.RelationLemmas.{reads_exactly}
+use Rattle.timefd_date_moment.proofs.ReadingLemmas.ShownLemmas.{clash}
+use Rattle.timefd_date_moment.proofs.ReadingLemmas.YearLemmas.{both}
+use Rattle.timefd_lang_warnings.specs.declared.settled.bound.Bound.{Bound}
+use Rattle.timefd_lang_warnings.specs.Settling.Bounds.{bound_of}
 use Rattle.timefd_laws.specs.Reading.Bounds.{IsBounded}
 use Rattle.timefd_laws.specs.Reading.Laws.{ReadsBack, at}
-use Rattle.timefd_warnings.specs.Settling.Settled.{begin, begin_all, begin_first, component_begin, is_enough, literal_begin, settled}
-use Rattle.timefd_warnings.specs.Settling.Settled.{settled_all}
+use Rattle.timefd_lang_warnings.specs.Settling.Settled.{begin, begin_all, begin_first, component_begin, is_enough, literal_begin, settled}
+use Rattle.timefd_lang_warnings.specs.Settling.Settled.{settled_all}
 use Rattle.timefd_laws.specs.Reading.Shown.{IsOf, Shows, shows, shows_nothing, with_component, with_tree, with_trees}
 use Rattle.timefd_laws.proofs.ReadingLemmas.BeginLemmas.{Begins, field_begins}
 use Rattle.timefd_laws.proofs.ReadingLemmas.RowLemmas.{Row}

@@ -4,23 +4,23 @@ use Rattle.std.proofs.Common.{Ok, Err, refl, sym, ap, subst, arith}
 use Rattle.std.proofs.Math.Nat.{div-mul-le_self, mod-eq-sub-div-mul}
 use Rattle.std.proofs.lemmas.Bool.{eq-eqb, eqb-true}
 use Rattle.std.specs.Prelude.{is_some}
-use Rattle.timefd_component.specs.Tree.{Tree}
-use Rattle.timefd_moment.specs.declared.date.Date.{Date}
-use Rattle.timefd_moment.specs.declared.time.Time.{Time}
-use Rattle.timefd_moment.specs.declared.offset.UtcOffset.{UtcOffset}
-use Rattle.timefd_moment.specs.Moments.{date_ordinal, days_from_monday, hour_of_twelve, is_before_zero, iso_week}
-use Rattle.timefd_moment.specs.Moments.{iso_years, magnitude, monday_week, sunday_week}
-use Rattle.timefd_moment.specs.declared.fields.fault.ReadError.{ReadError}
-use Rattle.timefd_moment.specs.declared.fields.fields.Fields.{Fields}
-use Rattle.timefd_moment.specs.Fields.Readings.{same, unit}
-use Rattle.timefd_moment.specs.declared.fields.fields.Fraction.{Fraction}
-use Rattle.timefd_moment.specs.declared.reading.part.DatePart.{DatePart}
-use Rattle.timefd_moment.specs.declared.reading.part.TimePart.{TimePart}
-use Rattle.timefd_moment.specs.declared.reading.part.OffsetPart.{OffsetPart}
-use Rattle.timefd_moment.specs.Reading.Shown.{DateAgrees, OffsetAgrees, TimeAgrees, is_count, is_count_or_zero, is_flag}
-use Rattle.timefd_moment.specs.Reading.Shown.{is_fraction, is_shown}
-use Rattle.timefd_moment.proofs.ReadingLemmas.LawLemmas.{date_back, offset_back, time_back}
-use Rattle.timefd_moment.proofs.ReadingLemmas.StampLawLemmas.{instant_back, moment_back}
+use Rattle.timefd_lang_component.specs.Tree.{Tree}
+use Rattle.timefd_date_moment.specs.declared.date.Date.{Date}
+use Rattle.timefd_date_moment.specs.declared.time.Time.{Time}
+use Rattle.timefd_date_moment.specs.declared.offset.UtcOffset.{UtcOffset}
+use Rattle.timefd_date_moment.specs.Moments.{date_ordinal, days_from_monday, hour_of_twelve, is_before_zero, iso_week}
+use Rattle.timefd_date_moment.specs.Moments.{iso_years, magnitude, monday_week, sunday_week}
+use Rattle.timefd_date_moment.specs.declared.fields.fault.ReadError.{ReadError}
+use Rattle.timefd_date_moment.specs.declared.fields.fields.Fields.{Fields}
+use Rattle.timefd_date_moment.specs.Fields.Readings.{same, unit}
+use Rattle.timefd_date_moment.specs.declared.fields.fields.Fraction.{Fraction}
+use Rattle.timefd_date_moment.specs.declared.reading.part.DatePart.{DatePart}
+use Rattle.timefd_date_moment.specs.declared.reading.part.TimePart.{TimePart}
+use Rattle.timefd_date_moment.specs.declared.reading.part.OffsetPart.{OffsetPart}
+use Rattle.timefd_date_moment.specs.Reading.Shown.{DateAgrees, OffsetAgrees, TimeAgrees, is_count, is_count_or_zero, is_flag}
+use Rattle.timefd_date_moment.specs.Reading.Shown.{is_fraction, is_shown}
+use Rattle.timefd_date_moment.proofs.ReadingLemmas.LawLemmas.{date_back, offset_back, time_back}
+use Rattle.timefd_date_moment.proofs.ReadingLemmas.StampLawLemmas.{instant_back, moment_back}
 use Rattle.timefd_laws.specs.Reading.Shown.{Shows, cut_where, fields_shown, if_shown, shows, with_sign}
 use Rattle.timefd_laws.specs.Reading.Values.{DateReadBack, EndsWith, HasNoMoreOffset, HasNoMoreTime, InstantReadBack}
 use Rattle.timefd_laws.specs.Reading.Values.{IsReadBack, IsZeroWithout, MomentReadBack, OffsetReadBack, TimeReadBack}

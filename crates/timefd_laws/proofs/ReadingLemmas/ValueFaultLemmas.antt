@@ -2,30 +2,30 @@
 use Rattle.std.proofs.Common.{ℕ, ◌≡◌, ◌∙◌, ◌≤◌, ◌<◌, ◌+◌, ◌/◌, ◌%◌, ◌==◌, ◌&&◌, ◌||◌, ◌⊎◌, inl, inr, Bool, true, false, nat_le, nat_lt, if◌then◌else◌, List, [], ◌∷◌, Option, Some, None, Result, Ok, Err, IsTrue, refl, sym, ap, subst, arith}
 use Rattle.std.specs.Prelude.{IfSome, is_some, ⊤}
 use Rattle.std.proofs.lemmas.Bool.{eq-eqb, ltb-true}
-use Rattle.timefd_moment.specs.declared.fields.fields.Fields.{Fields}
-use Rattle.timefd_moment.specs.declared.fields.fields.Fraction.{Fraction}
-use Rattle.timefd_moment.specs.declared.fields.fields.Signed.{Signed}
-use Rattle.timefd_moment.specs.declared.date.Date.{Date}
-use Rattle.timefd_moment.specs.declared.time.Time.{Time}
-use Rattle.timefd_moment.specs.declared.offset.UtcOffset.{UtcOffset}
-use Rattle.timefd_moment.specs.declared.reading.error.ValueError.{ValueError}
-use Rattle.timefd_moment.specs.declared.reading.error.ValueError.TheVariants as error
-use Rattle.timefd_moment.specs.declared.reading.part.DatePart.{DatePart}
-use Rattle.timefd_moment.specs.declared.reading.part.OffsetPart.{OffsetPart}
-use Rattle.timefd_moment.specs.declared.reading.part.Part.{Part}
-use Rattle.timefd_moment.specs.declared.reading.part.Part.TheVariants as part
-use Rattle.timefd_moment.specs.declared.reading.part.TimePart.{TimePart}
-use Rattle.timefd_moment.specs.Reading.Dates as dates
-use Rattle.timefd_moment.specs.Reading.Dates.{HasWay, IsDateByParts}
-use Rattle.timefd_moment.specs.Reading.Faults.{IsNamed, clock_fault, date_fault, is_above, is_beyond, iso_year_fault, month_fault, offset_fault, shift_fault, time_fault, way_fault, weekday_fault, year_fault}
-use Rattle.timefd_moment.specs.Reading.Offsets as offsets
-use Rattle.timefd_moment.specs.Reading.Offsets.{HasShift, IsOffsetOf, ShiftHas, shift_at, shift_read}
-use Rattle.timefd_moment.specs.Reading.Shown.{date_has, date_parts, first_false, is_count, is_count_or_zero, is_flag, is_fraction, is_shown, offset_has, offset_parts, time_has, time_parts}
-use Rattle.timefd_moment.specs.Reading.Times as times
-use Rattle.timefd_moment.specs.Reading.Times.{ClockHas, HasClock, IsTimeByParts, clock_at, clock_from, clock_read, has_second, hour_by_period, hour_read, is_left_out, lack_of_hour, nanosecond_read, number}
-use Rattle.timefd_moment.specs.Reading.Ways.{IsDetermined, calendar, date_way, iso_week, lack, monday_week, or_else, ordinal, sunday_week, unless, way_of}
-use Rattle.timefd_moment.specs.Reading.Years.{years_of_century, years_read}
-use Rattle.timefd_moment.proofs.ReadingLemmas.ShownLemmas.{clash}
+use Rattle.timefd_date_moment.specs.declared.fields.fields.Fields.{Fields}
+use Rattle.timefd_date_moment.specs.declared.fields.fields.Fraction.{Fraction}
+use Rattle.timefd_date_moment.specs.declared.fields.fields.Signed.{Signed}
+use Rattle.timefd_date_moment.specs.declared.date.Date.{Date}
+use Rattle.timefd_date_moment.specs.declared.time.Time.{Time}
+use Rattle.timefd_date_moment.specs.declared.offset.UtcOffset.{UtcOffset}
+use Rattle.timefd_date_moment.specs.declared.reading.error.ValueError.{ValueError}
+use Rattle.timefd_date_moment.specs.declared.reading.error.ValueError.TheVariants as error
+use Rattle.timefd_date_moment.specs.declared.reading.part.DatePart.{DatePart}
+use Rattle.timefd_date_moment.specs.declared.reading.part.OffsetPart.{OffsetPart}
+use Rattle.timefd_date_moment.specs.declared.reading.part.Part.{Part}
+use Rattle.timefd_date_moment.specs.declared.reading.part.Part.TheVariants as part
+use Rattle.timefd_date_moment.specs.declared.reading.part.TimePart.{TimePart}
+use Rattle.timefd_date_moment.specs.Reading.Dates as dates
+use Rattle.timefd_date_moment.specs.Reading.Dates.{HasWay, IsDateByParts}
+use Rattle.timefd_date_moment.specs.Reading.Faults.{IsNamed, clock_fault, date_fault, is_above, is_beyond, iso_year_fault, month_fault, offset_fault, shift_fault, time_fault, way_fault, weekday_fault, year_fault}
+use Rattle.timefd_date_moment.specs.Reading.Offsets as offsets
+use Rattle.timefd_date_moment.specs.Reading.Offsets.{HasShift, IsOffsetOf, ShiftHas, shift_at, shift_read}
+use Rattle.timefd_date_moment.specs.Reading.Shown.{date_has, date_parts, first_false, is_count, is_count_or_zero, is_flag, is_fraction, is_shown, offset_has, offset_parts, time_has, time_parts}
+use Rattle.timefd_date_moment.specs.Reading.Times as times
+use Rattle.timefd_date_moment.specs.Reading.Times.{ClockHas, HasClock, IsTimeByParts, clock_at, clock_from, clock_read, has_second, hour_by_period, hour_read, is_left_out, lack_of_hour, nanosecond_read, number}
+use Rattle.timefd_date_moment.specs.Reading.Ways.{IsDetermined, calendar, date_way, iso_week, lack, monday_week, or_else, ordinal, sunday_week, unless, way_of}
+use Rattle.timefd_date_moment.specs.Reading.Years.{years_of_century, years_read}
+use Rattle.timefd_date_moment.proofs.ReadingLemmas.ShownLemmas.{clash}
 use Rattle.timefd_laws.specs.Reading.ValueFaults.{NamesRead, date_is_read, offset_is_read, time_is_read}
 
 -- What a test shows.

@@ -1,24 +1,24 @@
 -- Values that were read are written.
 use Rattle.std.proofs.Common.{ℕ, ◌≡◌, ◌∙◌, ◌+◌, ◌-◌, ◌*◌, if◌then◌else◌, Bool, true, Option, Some, None, Ok}
 use Rattle.std.proofs.Common.{refl, sym, ap, subst}
-use Rattle.timefd_format.specs.declared.field.Kind.{Kind}
-use Rattle.timefd_moment.specs.declared.date.Date.{Date}
-use Rattle.timefd_moment.specs.declared.time.Time.{Time}
-use Rattle.timefd_moment.specs.declared.offset.UtcOffset.{UtcOffset}
-use Rattle.timefd_moment.specs.declared.moment.Moment.{Moment}
-use Rattle.timefd_moment.specs.declared.unix_time.UnixTime.{UnixTime}
-use Rattle.timefd_moment.specs.Instants.{is_within}
-use Rattle.timefd_moment.specs.Moments.{day_number, unix_time, utc_nanoseconds}
-use Rattle.timefd_moment.specs.declared.fields.fields.Fields.{Fields}
-use Rattle.timefd_moment.specs.declared.reading.part.Part.TheVariants as part
-use Rattle.timefd_moment.specs.Reading.Offsets as of_offset
-use Rattle.timefd_moment.specs.Reading.Offsets.{HasShift, IsOffsetOf}
-use Rattle.timefd_moment.specs.Reading.Stamped.{IsAt, zone_read}
-use Rattle.timefd_moment.specs.Reading.Stamps.{instant_read}
-use Rattle.timefd_moment.specs.Reading.Times as of_time
-use Rattle.timefd_moment.specs.Reading.Values.{IsDateBy, IsDateOf, IsTimeBy, IsTimeOf}
-use Rattle.timefd_moment.proofs.ReadingLemmas.LawLemmas.{one_shift}
-use Rattle.timefd_moment.proofs.ReadingLemmas.StampedLemmas.{one_local, unix_at}
+use Rattle.timefd_date_format.specs.declared.field.Kind.{Kind}
+use Rattle.timefd_date_moment.specs.declared.date.Date.{Date}
+use Rattle.timefd_date_moment.specs.declared.time.Time.{Time}
+use Rattle.timefd_date_moment.specs.declared.offset.UtcOffset.{UtcOffset}
+use Rattle.timefd_date_moment.specs.declared.moment.Moment.{Moment}
+use Rattle.timefd_date_moment.specs.declared.unix_time.UnixTime.{UnixTime}
+use Rattle.timefd_date_moment.specs.Instants.{is_within}
+use Rattle.timefd_date_moment.specs.Moments.{day_number, unix_time, utc_nanoseconds}
+use Rattle.timefd_date_moment.specs.declared.fields.fields.Fields.{Fields}
+use Rattle.timefd_date_moment.specs.declared.reading.part.Part.TheVariants as part
+use Rattle.timefd_date_moment.specs.Reading.Offsets as of_offset
+use Rattle.timefd_date_moment.specs.Reading.Offsets.{HasShift, IsOffsetOf}
+use Rattle.timefd_date_moment.specs.Reading.Stamped.{IsAt, zone_read}
+use Rattle.timefd_date_moment.specs.Reading.Stamps.{instant_read}
+use Rattle.timefd_date_moment.specs.Reading.Times as of_time
+use Rattle.timefd_date_moment.specs.Reading.Values.{IsDateBy, IsDateOf, IsTimeBy, IsTimeOf}
+use Rattle.timefd_date_moment.proofs.ReadingLemmas.LawLemmas.{one_shift}
+use Rattle.timefd_date_moment.proofs.ReadingLemmas.StampedLemmas.{one_local, unix_at}
 use Rattle.timefd_laws.specs.Reading.WrittenValues.{HasValues, HasValuesBy, WritesValues}
 use Rattle.timefd_laws.proofs.ReadingLemmas.GrowLemmas.{has_kind}
 use Rattle.timefd_laws.proofs.ReadingLemmas.MomentKnownLemmas.{Has, HasInstant, by_parts, of_instant, value_known}

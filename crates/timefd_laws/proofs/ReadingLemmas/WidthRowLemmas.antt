@@ -2,23 +2,23 @@
 use Rattle.std.proofs.Common.{ℕ, ◌≡◌, ◌∙◌, ◌≤◌, ◌<◌, ◌+◌, ◌-◌, ◌/◌, ◌^◌, ◌++◌, ◌==◌, inr, ◌||◌, Bool, true, false, nat_le}
 use Rattle.std.proofs.Common.{length, Option, Some, Ok, refl, sym, ap, arith}
 use Rattle.std.proofs.lemmas.Bool.{eq-eqb}
-use Rattle.timefd_component.specs.declared.component.Component.{Component}
-use Rattle.timefd_component.specs.Texts.{filled}
-use Rattle.timefd_component.specs.Tree.{Text}
-use Rattle.timefd_format.specs.Fields.{sign_of, sign_text}
+use Rattle.timefd_lang_component.specs.declared.component.Component.{Component}
+use Rattle.timefd_lang_component.specs.Texts.{filled}
+use Rattle.timefd_lang_component.specs.Tree.{Text}
+use Rattle.timefd_date_format.specs.Fields.{sign_of, sign_text}
 use Rattle.timefd_modifier.specs.declared.enums.Padding.{Padding}
-use Rattle.timefd_moment.specs.declared.date.Date.{Date}
-use Rattle.timefd_moment.specs.declared.time.Time.{Time}
-use Rattle.timefd_moment.specs.declared.offset.UtcOffset.{UtcOffset}
-use Rattle.timefd_moment.specs.Moments.{is_before_zero, magnitude}
-use Rattle.timefd_moment.specs.declared.fields.fields.Signed.{Signed}
-use Rattle.timefd_moment.specs.Fields.Fields.{amount as amount_of, count as count_of}
-use Rattle.timefd_moment.specs.Fields.Inputs.{after_monday, amount, as_amount, as_count, as_name, as_period, as_weekday, number}
-use Rattle.timefd_moment.specs.Fields.Laws.{HasNoDigit}
-use Rattle.timefd_moment.specs.Fields.Readings.{amount_with, count_with, same, same_signed}
-use Rattle.timefd_moment.specs.Fields.Reads.{Point, taken}
-use Rattle.timefd_moment.specs.Fields.Rules as rules
-use Rattle.timefd_warnings.specs.Settling.Bounds.{number_bound}
+use Rattle.timefd_date_moment.specs.declared.date.Date.{Date}
+use Rattle.timefd_date_moment.specs.declared.time.Time.{Time}
+use Rattle.timefd_date_moment.specs.declared.offset.UtcOffset.{UtcOffset}
+use Rattle.timefd_date_moment.specs.Moments.{is_before_zero, magnitude}
+use Rattle.timefd_date_moment.specs.declared.fields.fields.Signed.{Signed}
+use Rattle.timefd_date_moment.specs.Fields.Fields.{amount as amount_of, count as count_of}
+use Rattle.timefd_date_moment.specs.Fields.Inputs.{after_monday, amount, as_amount, as_count, as_name, as_period, as_weekday, number}
+use Rattle.timefd_date_moment.specs.Fields.Laws.{HasNoDigit}
+use Rattle.timefd_date_moment.specs.Fields.Readings.{amount_with, count_with, same, same_signed}
+use Rattle.timefd_date_moment.specs.Fields.Reads.{Point, taken}
+use Rattle.timefd_date_moment.specs.Fields.Rules as rules
+use Rattle.timefd_lang_warnings.specs.Settling.Bounds.{number_bound}
 use Rattle.timefd_laws.specs.Reading.Bounds.{IsBounded}
 use Rattle.timefd_laws.specs.Reading.Laws.{at}
 use Rattle.timefd_laws.specs.Reading.Shown.{Shows, fields_shown, with_sign, year_part}

@@ -1,22 +1,22 @@
 -- What was read is written again.
 use Rattle.std.proofs.Common.{◌≡◌, true, false, [], Result, Ok, Err, refl, sym, subst, is_ok}
 use Rattle.std.specs.Prelude.{⊤}
-use Rattle.timefd_component.specs.declared.component.Component.{Component}
-use Rattle.timefd_component.specs.Modern.{modern}
-use Rattle.timefd_component.specs.Tree.{Text, Tree, component, literal, compound, optional, first, Trees, no_trees, more_trees}
-use Rattle.timefd_format.specs.declared.field.Field.{Field}
-use Rattle.timefd_format.specs.declared.field.Kind.{Kind}
-use Rattle.timefd_format.specs.declared.field.Lack.{Lack}
-use Rattle.timefd_format.specs.declared.unshown.Unshown.{Unshown}
-use Rattle.timefd_format.specs.Fields.{field, kind}
-use Rattle.timefd_format.specs.Written.{followed, shown, text_of, written, written_all}
-use Rattle.timefd_moment.specs.declared.moment.Moment.{Moment}
-use Rattle.timefd_moment.specs.declared.fields.fields.Fields.{Fields}
-use Rattle.timefd_moment.specs.Fields.Reads.{Point, start}
-use Rattle.timefd_moment.specs.Fields.Relations.{Reads, ReadsAll}
-use Rattle.timefd_moment.proofs.FieldsLemmas.RelationLemmas.{reads_exactly}
-use Rattle.timefd_moment.proofs.ReadingLemmas.ShownLemmas.{clash}
-use Rattle.timefd_moment.proofs.ReadingLemmas.YearLemmas.{both}
+use Rattle.timefd_lang_component.specs.declared.component.Component.{Component}
+use Rattle.timefd_lang_component.specs.Modern.{modern}
+use Rattle.timefd_lang_component.specs.Tree.{Text, Tree, component, literal, compound, optional, first, Trees, no_trees, more_trees}
+use Rattle.timefd_date_format.specs.declared.field.Field.{Field}
+use Rattle.timefd_date_format.specs.declared.field.Kind.{Kind}
+use Rattle.timefd_date_format.specs.declared.field.Lack.{Lack}
+use Rattle.timefd_date_format.specs.declared.unshown.Unshown.{Unshown}
+use Rattle.timefd_date_format.specs.Fields.{field, kind}
+use Rattle.timefd_date_format.specs.Written.{followed, shown, text_of, written, written_all}
+use Rattle.timefd_date_moment.specs.declared.moment.Moment.{Moment}
+use Rattle.timefd_date_moment.specs.declared.fields.fields.Fields.{Fields}
+use Rattle.timefd_date_moment.specs.Fields.Reads.{Point, start}
+use Rattle.timefd_date_moment.specs.Fields.Relations.{Reads, ReadsAll}
+use Rattle.timefd_date_moment.proofs.FieldsLemmas.RelationLemmas.{reads_exactly}
+use Rattle.timefd_date_moment.proofs.ReadingLemmas.ShownLemmas.{clash}
+use Rattle.timefd_date_moment.proofs.ReadingLemmas.YearLemmas.{both}
 use Rattle.timefd_laws.specs.Reading.Again.{are_plain, is_plain, parts}
 use Rattle.timefd_laws.specs.Reading.Shown.{with_component}
 use Rattle.timefd_laws.specs.Reading.Written.{HasText, IsReadWritten, ReadsAllWritten, ReadsWritten, WritesAgain}

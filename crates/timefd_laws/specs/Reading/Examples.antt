@@ -1,26 +1,26 @@
 -- Examples. They show that the premises of the laws can be met.
 use Rattle.std.specs.Prelude.{◌≡◌, true, false, [], ◌∷◌, codes, Some, None, Ok}
-use Rattle.timefd_component.specs.declared.component.Component.TheVariants.{CalendarYearFullExtendedRange}
-use Rattle.timefd_component.specs.declared.component.Component.TheVariants.{CalendarYearFullStandardRange, Day, Hour24}
-use Rattle.timefd_component.specs.declared.component.Component.TheVariants.{Minute, MonthNumerical, OffsetHour}
-use Rattle.timefd_component.specs.declared.component.Component.TheVariants.{OffsetMinute, Second, Subsecond}
-use Rattle.timefd_component.specs.declared.component.Component.TheVariants.{UnixTimestampSecond}
-use Rattle.timefd_component.specs.Tree.{Tree, component, literal, compound, trees}
-use Rattle.timefd_format.specs.Written.{written}
+use Rattle.timefd_lang_component.specs.declared.component.Component.TheVariants.{CalendarYearFullExtendedRange}
+use Rattle.timefd_lang_component.specs.declared.component.Component.TheVariants.{CalendarYearFullStandardRange, Day, Hour24}
+use Rattle.timefd_lang_component.specs.declared.component.Component.TheVariants.{Minute, MonthNumerical, OffsetHour}
+use Rattle.timefd_lang_component.specs.declared.component.Component.TheVariants.{OffsetMinute, Second, Subsecond}
+use Rattle.timefd_lang_component.specs.declared.component.Component.TheVariants.{UnixTimestampSecond}
+use Rattle.timefd_lang_component.specs.Tree.{Tree, component, literal, compound, trees}
+use Rattle.timefd_date_format.specs.Written.{written}
 use Rattle.timefd_modifier.specs.declared.enums.Padding.{Padding}
 use Rattle.timefd_modifier.specs.declared.enums.SubsecondDigits.{SubsecondDigits}
-use Rattle.timefd_moment.specs.declared.date.Date.{Date}
-use Rattle.timefd_moment.specs.declared.time.Time.{Time}
-use Rattle.timefd_moment.specs.declared.offset.UtcOffset.{UtcOffset}
-use Rattle.timefd_moment.specs.declared.moment.Moment.{Moment}
-use Rattle.timefd_moment.specs.declared.fields.fields.Fields.{Fields}
-use Rattle.timefd_moment.specs.Fields.Fields.{no_fields}
-use Rattle.timefd_moment.specs.Fields.Reads.{fields_of}
-use Rattle.timefd_moment.specs.Reading.Offsets.{shift_read}
-use Rattle.timefd_moment.specs.Reading.Stamps.{instant_read}
-use Rattle.timefd_moment.specs.Reading.Times.{clock_read}
-use Rattle.timefd_moment.specs.Reading.Ways.{IsDetermined, date_way}
-use Rattle.timefd_warnings.specs.Settling.Settled.{is_settled}
+use Rattle.timefd_date_moment.specs.declared.date.Date.{Date}
+use Rattle.timefd_date_moment.specs.declared.time.Time.{Time}
+use Rattle.timefd_date_moment.specs.declared.offset.UtcOffset.{UtcOffset}
+use Rattle.timefd_date_moment.specs.declared.moment.Moment.{Moment}
+use Rattle.timefd_date_moment.specs.declared.fields.fields.Fields.{Fields}
+use Rattle.timefd_date_moment.specs.Fields.Fields.{no_fields}
+use Rattle.timefd_date_moment.specs.Fields.Reads.{fields_of}
+use Rattle.timefd_date_moment.specs.Reading.Offsets.{shift_read}
+use Rattle.timefd_date_moment.specs.Reading.Stamps.{instant_read}
+use Rattle.timefd_date_moment.specs.Reading.Times.{clock_read}
+use Rattle.timefd_date_moment.specs.Reading.Ways.{IsDetermined, date_way}
+use Rattle.timefd_lang_warnings.specs.Settling.Settled.{is_settled}
 use Rattle.timefd_laws.specs.Reading.Again.{IsWrittenAgain}
 use Rattle.timefd_laws.specs.Reading.Shown.{shows, shows_nothing, with_sign}
 

@@ -1,17 +1,17 @@
 -- Why a text can't be read, and where: a relation between the text, the description, and what comes first. It
 -- says nothing about the order in which a reader tries things.
 use Rattle.std.specs.Prelude.{◌≡◌, ◌↔◌, ◌⊎◌, ◌++◌, ⊤, Bool, true, false, [], is_some, length, Ok, Err}
-use Rattle.timefd_component.specs.declared.component.Component.{Component}
-use Rattle.timefd_component.specs.Modern.{modern}
-use Rattle.timefd_component.specs.Tree.{Text, Tree, component, literal, compound, optional, first, Trees, no_trees, more_trees}
-use Rattle.timefd_moment.specs.declared.fields.fault.ReadError.{ReadError}
-use Rattle.timefd_moment.specs.declared.fields.fault.Reason.{Reason}
-use Rattle.timefd_moment.specs.declared.fields.fault.Reason.TheVariants as for
-use Rattle.timefd_moment.specs.declared.fields.fields.Fields.{Fields}
-use Rattle.timefd_moment.specs.Fields.Inputs.{input}
-use Rattle.timefd_moment.specs.Fields.Reads.{Point, at, fields_of, start}
-use Rattle.timefd_moment.specs.Fields.Relations.{Reads, ReadsComponent}
-use Rattle.timefd_moment.specs.Fields.Rules.{rule_of}
+use Rattle.timefd_lang_component.specs.declared.component.Component.{Component}
+use Rattle.timefd_lang_component.specs.Modern.{modern}
+use Rattle.timefd_lang_component.specs.Tree.{Text, Tree, component, literal, compound, optional, first, Trees, no_trees, more_trees}
+use Rattle.timefd_date_moment.specs.declared.fields.fault.ReadError.{ReadError}
+use Rattle.timefd_date_moment.specs.declared.fields.fault.Reason.{Reason}
+use Rattle.timefd_date_moment.specs.declared.fields.fault.Reason.TheVariants as for
+use Rattle.timefd_date_moment.specs.declared.fields.fields.Fields.{Fields}
+use Rattle.timefd_date_moment.specs.Fields.Inputs.{input}
+use Rattle.timefd_date_moment.specs.Fields.Reads.{Point, at, fields_of, start}
+use Rattle.timefd_date_moment.specs.Fields.Relations.{Reads, ReadsComponent}
+use Rattle.timefd_date_moment.specs.Fields.Rules.{rule_of}
 
 -- whether the text begins with something that the component reads
 abbrev pub stands : Component → Text → Bool

@@ -1,17 +1,17 @@
 -- What holds of texts that were written, and are read.
 use Rattle.std.specs.Prelude.{◌≡◌, ◌++◌, true, Ok}
-use Rattle.timefd_component.specs.declared.component.Component.{Component}
-use Rattle.timefd_component.specs.Modern.{modern}
-use Rattle.timefd_component.specs.Tree.{Text, Tree, component}
-use Rattle.timefd_format.specs.Written.{shown, written}
-use Rattle.timefd_moment.specs.declared.date.Date.{Date}
-use Rattle.timefd_moment.specs.declared.time.Time.{Time}
-use Rattle.timefd_moment.specs.declared.offset.UtcOffset.{UtcOffset}
-use Rattle.timefd_moment.specs.declared.moment.Moment.{Moment}
-use Rattle.timefd_moment.specs.Fields.Reads.{Point, fields_of, read}
-use Rattle.timefd_warnings.specs.Settling.Bounds.{bound_of}
+use Rattle.timefd_lang_component.specs.declared.component.Component.{Component}
+use Rattle.timefd_lang_component.specs.Modern.{modern}
+use Rattle.timefd_lang_component.specs.Tree.{Text, Tree, component}
+use Rattle.timefd_date_format.specs.Written.{shown, written}
+use Rattle.timefd_date_moment.specs.declared.date.Date.{Date}
+use Rattle.timefd_date_moment.specs.declared.time.Time.{Time}
+use Rattle.timefd_date_moment.specs.declared.offset.UtcOffset.{UtcOffset}
+use Rattle.timefd_date_moment.specs.declared.moment.Moment.{Moment}
+use Rattle.timefd_date_moment.specs.Fields.Reads.{Point, fields_of, read}
+use Rattle.timefd_lang_warnings.specs.Settling.Bounds.{bound_of}
 use Rattle.timefd_laws.specs.Reading.Bounds.{IsBounded}
-use Rattle.timefd_warnings.specs.Settling.Settled.{is_settled}
+use Rattle.timefd_lang_warnings.specs.Settling.Settled.{is_settled}
 use Rattle.timefd_laws.specs.Reading.Shown.{IsOf, Shows, fields_shown, shows, with_component}
 
 -- in front of this text, with these fields of the moment read

@@ -1,15 +1,15 @@
 -- What can be written if the fields that were read are the fields that are written, whichever optional parts
 -- and alternatives were read.
 use Rattle.std.specs.Prelude.{◌≡◌, ◌≤◌, IfErr, IfSome, Ok}
-use Rattle.timefd_component.specs.Tree.{Text, Tree}
-use Rattle.timefd_format.specs.declared.field.Lack.{Lack}
-use Rattle.timefd_format.specs.Written.{written}
-use Rattle.timefd_moment.specs.declared.date.Date.{Date}
-use Rattle.timefd_moment.specs.declared.moment.Moment.{Moment}
-use Rattle.timefd_moment.specs.Moments.{iso_years, magnitude}
-use Rattle.timefd_moment.specs.declared.fields.fields.Fields.{Fields}
-use Rattle.timefd_moment.specs.Fields.Reads.{fields_of}
-use Rattle.timefd_moment.specs.Reading.Values.{IsMomentOf}
+use Rattle.timefd_lang_component.specs.Tree.{Text, Tree}
+use Rattle.timefd_date_format.specs.declared.field.Lack.{Lack}
+use Rattle.timefd_date_format.specs.Written.{written}
+use Rattle.timefd_date_moment.specs.declared.date.Date.{Date}
+use Rattle.timefd_date_moment.specs.declared.moment.Moment.{Moment}
+use Rattle.timefd_date_moment.specs.Moments.{iso_years, magnitude}
+use Rattle.timefd_date_moment.specs.declared.fields.fields.Fields.{Fields}
+use Rattle.timefd_date_moment.specs.Fields.Reads.{fields_of}
+use Rattle.timefd_date_moment.specs.Reading.Values.{IsMomentOf}
 use Rattle.timefd_laws.specs.Reading.Again.{parts}
 use Rattle.timefd_laws.specs.Reading.Shown.{shows}
 use Rattle.timefd_laws.specs.Reading.Written.{HasText}

@@ -1,21 +1,21 @@
 -- Which fields a description shows, and their values for a moment.
 use Rattle.std.specs.Prelude.{ℕ, ◌≡◌, ◌*◌, ◌/◌, ◌%◌, Bool, true, false, nat_le, if◌then◌else◌, Option, Some, None, IfSome}
-use Rattle.timefd_component.specs.declared.component.Component.{Component}
-use Rattle.timefd_component.specs.declared.component.Component.TheVariants as of
-use Rattle.timefd_component.specs.Modern.{modern}
-use Rattle.timefd_component.specs.Reserved.{digits_shown}
-use Rattle.timefd_component.specs.Tree.{Tree, component, literal, compound, optional, first, Trees, no_trees, more_trees}
-use Rattle.timefd_moment.specs.declared.date.Date.{Date}
-use Rattle.timefd_moment.specs.declared.time.Time.{Time}
-use Rattle.timefd_moment.specs.declared.offset.UtcOffset.{UtcOffset}
-use Rattle.timefd_moment.specs.declared.moment.Moment.{Moment}
-use Rattle.timefd_moment.specs.Moments.{date_ordinal, days_from_monday, iso_years, iso_week, sunday_week, monday_week}
-use Rattle.timefd_moment.specs.Moments.{magnitude, is_before_zero, hour_of_twelve, unix_time}
-use Rattle.timefd_moment.specs.declared.fields.fields.Fields.{Fields}
-use Rattle.timefd_moment.specs.declared.fields.fields.Fraction.{Fraction}
-use Rattle.timefd_moment.specs.declared.fields.fields.Signed.{Signed}
-use Rattle.timefd_moment.specs.Fields.Readings.{unit}
-use Rattle.timefd_moment.specs.Reading.Stamped.{whole_seconds}
+use Rattle.timefd_lang_component.specs.declared.component.Component.{Component}
+use Rattle.timefd_lang_component.specs.declared.component.Component.TheVariants as of
+use Rattle.timefd_lang_component.specs.Modern.{modern}
+use Rattle.timefd_lang_component.specs.Reserved.{digits_shown}
+use Rattle.timefd_lang_component.specs.Tree.{Tree, component, literal, compound, optional, first, Trees, no_trees, more_trees}
+use Rattle.timefd_date_moment.specs.declared.date.Date.{Date}
+use Rattle.timefd_date_moment.specs.declared.time.Time.{Time}
+use Rattle.timefd_date_moment.specs.declared.offset.UtcOffset.{UtcOffset}
+use Rattle.timefd_date_moment.specs.declared.moment.Moment.{Moment}
+use Rattle.timefd_date_moment.specs.Moments.{date_ordinal, days_from_monday, iso_years, iso_week, sunday_week, monday_week}
+use Rattle.timefd_date_moment.specs.Moments.{magnitude, is_before_zero, hour_of_twelve, unix_time}
+use Rattle.timefd_date_moment.specs.declared.fields.fields.Fields.{Fields}
+use Rattle.timefd_date_moment.specs.declared.fields.fields.Fraction.{Fraction}
+use Rattle.timefd_date_moment.specs.declared.fields.fields.Signed.{Signed}
+use Rattle.timefd_date_moment.specs.Fields.Readings.{unit}
+use Rattle.timefd_date_moment.specs.Reading.Stamped.{whole_seconds}
 
 -- the parts that a moment has are this date, this time of day and this offset
 abbrev pub IsOf : Moment → Date → Time → UtcOffset → Type 0

@@ -1,23 +1,23 @@
 -- What is read from a text with a timestamp that was written for a moment.
 use Rattle.std.specs.Prelude.{◌≡◌, IsTrue, Some, Result, Ok}
-use Rattle.timefd_component.specs.Tree.{Tree}
-use Rattle.timefd_moment.specs.declared.date.Date.{Date}
-use Rattle.timefd_moment.specs.declared.time.Time.{Time}
-use Rattle.timefd_moment.specs.declared.offset.UtcOffset.{UtcOffset}
-use Rattle.timefd_moment.specs.declared.moment.Moment.{Moment}
-use Rattle.timefd_moment.specs.declared.unix_time.UnixTime.{UnixTime}
-use Rattle.timefd_moment.specs.Instants.{is_within}
-use Rattle.timefd_moment.specs.Moments.{unix_time}
-use Rattle.timefd_moment.specs.declared.fields.fields.Fields.{Fields}
-use Rattle.timefd_moment.specs.declared.reading.error.ValueError.{ValueError}
-use Rattle.timefd_moment.specs.Reading.Dates as of_date
-use Rattle.timefd_moment.specs.Reading.Laws.{Answers}
-use Rattle.timefd_moment.specs.Reading.Offsets.{HasShift}
-use Rattle.timefd_moment.specs.Reading.StampLaws.{AnswersMoment, HasDigits}
-use Rattle.timefd_moment.specs.Reading.Stamped.{zone_read}
-use Rattle.timefd_moment.specs.Reading.Stamps.{instant_read}
-use Rattle.timefd_moment.specs.Reading.Times as of_time
-use Rattle.timefd_moment.specs.Reading.Values.{IsDateOf, IsInstantOf, IsMomentOf, IsTimeOf}
+use Rattle.timefd_lang_component.specs.Tree.{Tree}
+use Rattle.timefd_date_moment.specs.declared.date.Date.{Date}
+use Rattle.timefd_date_moment.specs.declared.time.Time.{Time}
+use Rattle.timefd_date_moment.specs.declared.offset.UtcOffset.{UtcOffset}
+use Rattle.timefd_date_moment.specs.declared.moment.Moment.{Moment}
+use Rattle.timefd_date_moment.specs.declared.unix_time.UnixTime.{UnixTime}
+use Rattle.timefd_date_moment.specs.Instants.{is_within}
+use Rattle.timefd_date_moment.specs.Moments.{unix_time}
+use Rattle.timefd_date_moment.specs.declared.fields.fields.Fields.{Fields}
+use Rattle.timefd_date_moment.specs.declared.reading.error.ValueError.{ValueError}
+use Rattle.timefd_date_moment.specs.Reading.Dates as of_date
+use Rattle.timefd_date_moment.specs.Reading.Laws.{Answers}
+use Rattle.timefd_date_moment.specs.Reading.Offsets.{HasShift}
+use Rattle.timefd_date_moment.specs.Reading.StampLaws.{AnswersMoment, HasDigits}
+use Rattle.timefd_date_moment.specs.Reading.Stamped.{zone_read}
+use Rattle.timefd_date_moment.specs.Reading.Stamps.{instant_read}
+use Rattle.timefd_date_moment.specs.Reading.Times as of_time
+use Rattle.timefd_date_moment.specs.Reading.Values.{IsDateOf, IsInstantOf, IsMomentOf, IsTimeOf}
 use Rattle.timefd_laws.specs.Reading.Values.{HasNoMoreOffset, IsReadBack}
 
 -- The offset is the one that was read, or UTC if none was. Everything finer than what was read is 0, and the

@@ -1,16 +1,16 @@
 -- The part that the error of a value names: a missing part wasn't read, and a contradicting part was.
 use Rattle.std.specs.Prelude.{◌≡◌, Bool, true, false, is_some, Err}
-use Rattle.timefd_moment.specs.declared.fields.fields.Fields.{Fields}
-use Rattle.timefd_moment.specs.declared.reading.error.ValueError.{ValueError}
-use Rattle.timefd_moment.specs.declared.reading.error.ValueError.TheVariants.{Missing, Contradiction}
-use Rattle.timefd_moment.specs.declared.reading.part.DatePart.{DatePart}
-use Rattle.timefd_moment.specs.declared.reading.part.InstantPart.{InstantPart}
-use Rattle.timefd_moment.specs.declared.reading.part.OffsetPart.{OffsetPart}
-use Rattle.timefd_moment.specs.declared.reading.part.Part.{Part}
-use Rattle.timefd_moment.specs.declared.reading.part.Part.TheVariants.{Date, Time, Offset, Instant}
-use Rattle.timefd_moment.specs.declared.reading.part.TimePart.{TimePart}
-use Rattle.timefd_moment.specs.Reading.Values.{IsDateOf, IsMomentOf, IsTimeOf}
-use Rattle.timefd_moment.specs.Reading.Offsets.{IsOffsetOf}
+use Rattle.timefd_date_moment.specs.declared.fields.fields.Fields.{Fields}
+use Rattle.timefd_date_moment.specs.declared.reading.error.ValueError.{ValueError}
+use Rattle.timefd_date_moment.specs.declared.reading.error.ValueError.TheVariants.{Missing, Contradiction}
+use Rattle.timefd_date_moment.specs.declared.reading.part.DatePart.{DatePart}
+use Rattle.timefd_date_moment.specs.declared.reading.part.InstantPart.{InstantPart}
+use Rattle.timefd_date_moment.specs.declared.reading.part.OffsetPart.{OffsetPart}
+use Rattle.timefd_date_moment.specs.declared.reading.part.Part.{Part}
+use Rattle.timefd_date_moment.specs.declared.reading.part.Part.TheVariants.{Date, Time, Offset, Instant}
+use Rattle.timefd_date_moment.specs.declared.reading.part.TimePart.{TimePart}
+use Rattle.timefd_date_moment.specs.Reading.Values.{IsDateOf, IsMomentOf, IsTimeOf}
+use Rattle.timefd_date_moment.specs.Reading.Offsets.{IsOffsetOf}
 
 -- whether a part was read
 

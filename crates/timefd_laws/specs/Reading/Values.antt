@@ -1,30 +1,30 @@
 -- What is read from a text that was written for a moment: as a date, a time, an offset and an instant.
 use Rattle.std.specs.Prelude.{ℕ, ◌≡◌, ◌/◌, ◌%◌, ⊤, true, Option, Some, None, Result, Ok}
-use Rattle.timefd_component.specs.Tree.{Text, Tree}
-use Rattle.timefd_format.specs.Written.{written}
-use Rattle.timefd_moment.specs.declared.date.Date.{Date}
-use Rattle.timefd_moment.specs.declared.time.Time.{Time}
-use Rattle.timefd_moment.specs.declared.offset.UtcOffset.{UtcOffset}
-use Rattle.timefd_moment.specs.declared.moment.Moment.{Moment}
-use Rattle.timefd_moment.specs.declared.unix_time.UnixTime.{UnixTime}
-use Rattle.timefd_moment.specs.Moments.{unix_time}
-use Rattle.timefd_moment.specs.declared.fields.fields.Fields.{Fields}
-use Rattle.timefd_moment.specs.declared.fields.fields.Fraction.{Fraction}
-use Rattle.timefd_moment.specs.Fields.Readings.{unit}
-use Rattle.timefd_moment.specs.Fields.Reads.{fields_of}
-use Rattle.timefd_moment.specs.declared.reading.error.ValueError.{ValueError}
-use Rattle.timefd_moment.specs.Reading.Dates as of_date
-use Rattle.timefd_moment.specs.Reading.Known.{has_date, has_offset, has_time}
-use Rattle.timefd_moment.specs.Reading.Laws.{Answers}
-use Rattle.timefd_moment.specs.Reading.Offsets as of_offset
-use Rattle.timefd_moment.specs.Reading.Offsets.{IsOffsetOf, shift_read}
-use Rattle.timefd_moment.specs.Reading.StampLaws.{AnswersParts}
-use Rattle.timefd_moment.specs.Reading.Stamps.{instant_read}
-use Rattle.timefd_moment.specs.Reading.Times as of_time
-use Rattle.timefd_moment.specs.Reading.Times.{clock_read}
-use Rattle.timefd_moment.specs.Reading.Values.{IsDateOf, IsInstantOf, IsMomentOf, IsTimeOf}
-use Rattle.timefd_moment.specs.Reading.Ways.{IsDetermined, date_way}
-use Rattle.timefd_warnings.specs.Settling.Settled.{is_settled}
+use Rattle.timefd_lang_component.specs.Tree.{Text, Tree}
+use Rattle.timefd_date_format.specs.Written.{written}
+use Rattle.timefd_date_moment.specs.declared.date.Date.{Date}
+use Rattle.timefd_date_moment.specs.declared.time.Time.{Time}
+use Rattle.timefd_date_moment.specs.declared.offset.UtcOffset.{UtcOffset}
+use Rattle.timefd_date_moment.specs.declared.moment.Moment.{Moment}
+use Rattle.timefd_date_moment.specs.declared.unix_time.UnixTime.{UnixTime}
+use Rattle.timefd_date_moment.specs.Moments.{unix_time}
+use Rattle.timefd_date_moment.specs.declared.fields.fields.Fields.{Fields}
+use Rattle.timefd_date_moment.specs.declared.fields.fields.Fraction.{Fraction}
+use Rattle.timefd_date_moment.specs.Fields.Readings.{unit}
+use Rattle.timefd_date_moment.specs.Fields.Reads.{fields_of}
+use Rattle.timefd_date_moment.specs.declared.reading.error.ValueError.{ValueError}
+use Rattle.timefd_date_moment.specs.Reading.Dates as of_date
+use Rattle.timefd_date_moment.specs.Reading.Known.{has_date, has_offset, has_time}
+use Rattle.timefd_date_moment.specs.Reading.Laws.{Answers}
+use Rattle.timefd_date_moment.specs.Reading.Offsets as of_offset
+use Rattle.timefd_date_moment.specs.Reading.Offsets.{IsOffsetOf, shift_read}
+use Rattle.timefd_date_moment.specs.Reading.StampLaws.{AnswersParts}
+use Rattle.timefd_date_moment.specs.Reading.Stamps.{instant_read}
+use Rattle.timefd_date_moment.specs.Reading.Times as of_time
+use Rattle.timefd_date_moment.specs.Reading.Times.{clock_read}
+use Rattle.timefd_date_moment.specs.Reading.Values.{IsDateOf, IsInstantOf, IsMomentOf, IsTimeOf}
+use Rattle.timefd_date_moment.specs.Reading.Ways.{IsDetermined, date_way}
+use Rattle.timefd_lang_warnings.specs.Settling.Settled.{is_settled}
 use Rattle.timefd_laws.specs.Reading.Shown.{IsOf}
 
 -- A settled description wrote the text for this date, time and offset, and read it back as these fields.

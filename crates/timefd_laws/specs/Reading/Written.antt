@@ -1,14 +1,14 @@
 -- A moment that was read from a text can be written, and is read as the same moment again.
 use Rattle.std.specs.Prelude.{◌≡◌, true, false, Result, Ok}
-use Rattle.timefd_component.specs.Tree.{Text, Tree, component, literal, compound, optional, first, Trees, no_trees, more_trees}
-use Rattle.timefd_format.specs.Written.{written}
-use Rattle.timefd_moment.specs.declared.moment.Moment.{Moment}
-use Rattle.timefd_moment.specs.declared.fields.fields.Fields.{Fields}
-use Rattle.timefd_moment.specs.Fields.Reads.{Point, fields_of, start}
-use Rattle.timefd_moment.specs.Fields.Relations.{Reads}
-use Rattle.timefd_moment.specs.declared.reading.error.ValueError.{ValueError}
-use Rattle.timefd_moment.specs.Reading.Values.{IsMomentOf}
-use Rattle.timefd_warnings.specs.Settling.Settled.{is_settled}
+use Rattle.timefd_lang_component.specs.Tree.{Text, Tree, component, literal, compound, optional, first, Trees, no_trees, more_trees}
+use Rattle.timefd_date_format.specs.Written.{written}
+use Rattle.timefd_date_moment.specs.declared.moment.Moment.{Moment}
+use Rattle.timefd_date_moment.specs.declared.fields.fields.Fields.{Fields}
+use Rattle.timefd_date_moment.specs.Fields.Reads.{Point, fields_of, start}
+use Rattle.timefd_date_moment.specs.Fields.Relations.{Reads}
+use Rattle.timefd_date_moment.specs.declared.reading.error.ValueError.{ValueError}
+use Rattle.timefd_date_moment.specs.Reading.Values.{IsMomentOf}
+use Rattle.timefd_lang_warnings.specs.Settling.Settled.{is_settled}
 use Rattle.timefd_laws.specs.Reading.Again.{AnswersSame, is_plain}
 
 -- Everything that a formatter writes for a description was read: the optional parts that are written, and

@@ -1,17 +1,17 @@
 -- Examples of what was read and is written, and of what was read but can't be written.
 use Rattle.std.specs.Prelude.{◌≡◌, true, false, [], ◌∷◌, codes, Some, Ok, Err}
-use Rattle.timefd_component.specs.declared.component.Component.{Component}
-use Rattle.timefd_component.specs.declared.component.Component.TheVariants.{CalendarYearFullStandardRange, Hour24, Minute}
-use Rattle.timefd_component.specs.Tree.{Text, Tree, component, literal, compound, optional, trees}
-use Rattle.timefd_format.specs.declared.field.Lack.{Lack}
-use Rattle.timefd_format.specs.Written.{written}
+use Rattle.timefd_lang_component.specs.declared.component.Component.{Component}
+use Rattle.timefd_lang_component.specs.declared.component.Component.TheVariants.{CalendarYearFullStandardRange, Hour24, Minute}
+use Rattle.timefd_lang_component.specs.Tree.{Text, Tree, component, literal, compound, optional, trees}
+use Rattle.timefd_date_format.specs.declared.field.Lack.{Lack}
+use Rattle.timefd_date_format.specs.Written.{written}
 use Rattle.timefd_modifier.specs.declared.enums.Padding.{Padding}
-use Rattle.timefd_moment.specs.declared.date.Date.{Date}
-use Rattle.timefd_moment.specs.declared.moment.Moment.{Moment}
-use Rattle.timefd_moment.specs.declared.fields.fields.Fields.{Fields}
-use Rattle.timefd_moment.specs.Fields.Fields.{no_fields}
-use Rattle.timefd_moment.specs.Fields.Reads.{fields_of}
-use Rattle.timefd_moment.specs.Reading.Values.{IsMomentOf}
+use Rattle.timefd_date_moment.specs.declared.date.Date.{Date}
+use Rattle.timefd_date_moment.specs.declared.moment.Moment.{Moment}
+use Rattle.timefd_date_moment.specs.declared.fields.fields.Fields.{Fields}
+use Rattle.timefd_date_moment.specs.Fields.Fields.{no_fields}
+use Rattle.timefd_date_moment.specs.Fields.Reads.{fields_of}
+use Rattle.timefd_date_moment.specs.Reading.Values.{IsMomentOf}
 use Rattle.timefd_laws.specs.Reading.Again.{is_plain, parts}
 use Rattle.timefd_laws.specs.Reading.Examples.{date_fields, day, iso_date, month, only, year}
 use Rattle.timefd_laws.specs.Reading.Shown.{shows, with_sign}

@@ -1,14 +1,14 @@
 -- Values that were read can be written, one by one or as a moment.
 use Rattle.std.specs.Prelude.{Bool, true, false, ⊤, Option, Some, None, Ok}
-use Rattle.timefd_component.specs.Tree.{Text, Tree}
-use Rattle.timefd_moment.specs.declared.moment.Moment.{Moment}
-use Rattle.timefd_moment.specs.declared.unix_time.UnixTime.{UnixTime}
-use Rattle.timefd_moment.specs.declared.fields.fields.Fields.{Fields}
-use Rattle.timefd_moment.specs.Reading.Known.{has_date, has_offset, has_time}
-use Rattle.timefd_moment.specs.Reading.Offsets.{HasShift, IsOffsetOf}
-use Rattle.timefd_moment.specs.Reading.Stamped.{zone_read}
-use Rattle.timefd_moment.specs.Reading.Stamps.{instant_read}
-use Rattle.timefd_moment.specs.Reading.Values.{IsDateOf, IsTimeOf}
+use Rattle.timefd_lang_component.specs.Tree.{Text, Tree}
+use Rattle.timefd_date_moment.specs.declared.moment.Moment.{Moment}
+use Rattle.timefd_date_moment.specs.declared.unix_time.UnixTime.{UnixTime}
+use Rattle.timefd_date_moment.specs.declared.fields.fields.Fields.{Fields}
+use Rattle.timefd_date_moment.specs.Reading.Known.{has_date, has_offset, has_time}
+use Rattle.timefd_date_moment.specs.Reading.Offsets.{HasShift, IsOffsetOf}
+use Rattle.timefd_date_moment.specs.Reading.Stamped.{zone_read}
+use Rattle.timefd_date_moment.specs.Reading.Stamps.{instant_read}
+use Rattle.timefd_date_moment.specs.Reading.Values.{IsDateOf, IsTimeOf}
 use Rattle.timefd_laws.specs.Reading.Written.{HasText, IsReadWritten}
 
 -- If a value is needed, it is known and has this property.

@@ -2,10 +2,10 @@
 use Rattle.std.specs.Prelude.{ℕ, ◌≡◌, ◌≤◌, ◌-◌, ◌⊎◌, false, [], ◌++◌, length, slice_range, Option, Some, None, IfSome, IsUtf8}
 use Rattle.std.specs.Fmt.{debug_str}
 use Rattle.std.specs.Str.{IsCharBoundary}
-use Rattle.timefd_component.specs.Tree.{Text}
-use Rattle.timefd_sources.specs.declared.description.Description.{Description}
-use Rattle.timefd_sources.specs.Literals.{body_end, inside}
-use Rattle.timefd_sources.specs.Written.{IsBodyFor, has_body}
+use Rattle.timefd_lang_component.specs.Tree.{Text}
+use Rattle.timefd_lint_scan.specs.declared.description.Description.{Description}
+use Rattle.timefd_lint_scan.specs.Literals.{body_end, inside}
+use Rattle.timefd_lint_scan.specs.Written.{IsBodyFor, has_body}
 
 -- A literal with escapes. What they are is known for ASCII.
 abbrev pub IsEscaped : Text → Text → Type 0

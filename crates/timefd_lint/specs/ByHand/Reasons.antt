@@ -1,9 +1,9 @@
 -- Why a description stays, in words.
 use Rattle.std.specs.Prelude.{codes, ◌++◌, Option, Some, None}
-use Rattle.timefd_component.specs.Tree.{Text}
-use Rattle.timefd_sources.specs.declared.description.Description.{Description}
-use Rattle.timefd_sources.specs.declared.version.VersionPosition.{VersionPosition}
-use Rattle.timefd_sources.specs.declared.version.VersionPosition.TheVariants as positions
+use Rattle.timefd_lang_component.specs.Tree.{Text}
+use Rattle.timefd_lint_scan.specs.declared.description.Description.{Description}
+use Rattle.timefd_lint_scan.specs.declared.version.VersionPosition.{VersionPosition}
+use Rattle.timefd_lint_scan.specs.declared.version.VersionPosition.TheVariants as positions
 use Rattle.timefd_lint.specs.declared.by_hand.call.Call.{Call}
 use Rattle.timefd_lint.specs.ByHand.Calls.{call_before, name, numbered}
 

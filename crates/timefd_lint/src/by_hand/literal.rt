@@ -5,7 +5,7 @@ ghost use Rattle.timefd_lint.specs.ByHand.Literals as spec;
 
 use std::alloc::{AllocError, Global};
 use std::str;
-use timefd_sources::{Description, body_alike, body_end, inside};
+use timefd_lint_scan::{Description, body_alike, body_end, inside};
 
 /// A literal that denotes this text: of the description's kind and between its quotes, or else one with
 /// escapes. An `Err` says that memory ran out.

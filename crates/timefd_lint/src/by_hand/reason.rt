@@ -5,7 +5,7 @@ ghost use Rattle.timefd_lint.specs.ByHand.Reasons as spec;
 
 use crate::by_hand::call::{Call, call_before};
 use std::alloc::{AllocError, Global};
-use timefd_sources::{Description, VersionPosition};
+use timefd_lint_scan::{Description, VersionPosition};
 
 /// Why a description with `[optional ..]` or `[first ..]` isn't converted to a version. An `Err` says that
 /// memory ran out.

@@ -7,10 +7,10 @@ ghost use Rattle.timefd_lint_sources.specs.Rewriting.Written.{Becoming, IsLaidOu
 
 use std::alloc::{AllocError, Global};
 use std::str;
+use timefd_lint_rewrite::{Layout, lay_out};
+use timefd_lint_scan::Description;
 use timefd_lint_sources::rewriting::{Change, layout_of};
 use timefd_parse::ParseError;
-use timefd_rewrite::{Layout, lay_out};
-use timefd_sources::Description;
 
 /// The text that a description would become. `None` if there is none. An `Err` says that memory ran out.
 #[tactic(auto, using(crate::proofs::HandLemmas::no_layout, crate::proofs::HandLemmas::no_utf8))]

@@ -1,9 +1,9 @@
 -- One more key after others.
 use Rattle.std.proofs.Common.{◌≡◌, List, [], ◌∷◌, ◌++◌, sym, ap, ◌∙◌, append_assoc, append-nil}
 use Rattle.std.proofs.lemmas.List.{map-append}
-use Rattle.timefd_sources.specs.declared.keys.key.Key.{Key}
-use Rattle.timefd_sources.specs.Keys.Keys.{Named}
-use Rattle.timefd_sources.specs.Keys.Keys as borrowed
+use Rattle.timefd_lint_scan.specs.declared.keys.key.Key.{Key}
+use Rattle.timefd_lint_scan.specs.Keys.Keys.{Named}
+use Rattle.timefd_lint_scan.specs.Keys.Keys as borrowed
 use Rattle.timefd_lint_options.specs.declared.config.keys.OwnedKey.{OwnedKey}
 use Rattle.timefd_lint_options.specs.Config.Config.{named, named_all}
 

@@ -2,7 +2,7 @@
 use Rattle.std.proofs.Common.{◌≡◌, List, [], ◌∷◌, ◌++◌, refl, sym, ap, ◌∙◌, append_assoc, string_bytes}
 use Rattle.std.specs.Prelude.{Result, Ok, Err}
 use Rattle.std.proofs.lemmas.List.{map-append}
-use Rattle.timefd_sources.specs.Keys.Keys.{Named}
+use Rattle.timefd_lint_scan.specs.Keys.Keys.{Named}
 use Rattle.toml.specs.View.{members_view, view}
 use Rattle.toml.proofs.Views.{Entry}
 use Rattle.timefd_lint_options.specs.declared.config.keys.OwnedKey.{OwnedKey}

@@ -1,9 +1,9 @@
 -- One more entry of the table of levels, and one more warning.
 use Rattle.std.proofs.Common.{◌≡◌, List, [], ◌∷◌, refl, sym, ap, ◌∙◌, string_bytes}
 use Rattle.std.specs.Prelude.{Result, Ok}
-use Rattle.timefd_warnings.specs.declared.warning.Warning.{Warning}
-use Rattle.timefd_warnings.specs.Codes.{all}
-use Rattle.timefd_warnings.specs.Levels.{level_of, with_level}
+use Rattle.timefd_lang_warnings.specs.declared.warning.Warning.{Warning}
+use Rattle.timefd_lang_warnings.specs.Codes.{all}
+use Rattle.timefd_lang_warnings.specs.Levels.{level_of, with_level}
 use Rattle.toml.specs.View.{members_view, view}
 use Rattle.toml.proofs.Views.{Entry}
 use Rattle.timefd_lint_options.specs.Config.Faults.{Fault}

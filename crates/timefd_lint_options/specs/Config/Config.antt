@@ -1,11 +1,11 @@
 -- What a file of settings says.
 use Rattle.std.specs.Prelude.{ℤ, pos, ◌==◌, Option, Some, None, Result, Ok, Err, Bool, ◌||◌, List, [], ◌∷◌, ◌++◌, codes, bytes_eq, length, map, if◌then◌else◌, string_bytes}
 use Rattle.std.specs.Ordering.{int_eq}
-use Rattle.timefd_sources.specs.declared.dialect.Dialect.{Dialect}
-use Rattle.timefd_sources.specs.declared.dialect.Dialect.TheVariants.{One, Two, Three}
-use Rattle.timefd_sources.specs.Bytes.{Text}
-use Rattle.timefd_sources.specs.Keys.Keys.{Named}
-use Rattle.timefd_sources.specs.Dialects.{dialect_named}
+use Rattle.timefd_lint_scan.specs.declared.dialect.Dialect.{Dialect}
+use Rattle.timefd_lint_scan.specs.declared.dialect.Dialect.TheVariants.{One, Two, Three}
+use Rattle.timefd_lint_scan.specs.Bytes.{Text}
+use Rattle.timefd_lint_scan.specs.Keys.Keys.{Named}
+use Rattle.timefd_lint_scan.specs.Dialects.{dialect_named}
 use Rattle.toml.specs.Data.{Data, string, integer, float, boolean, datetime, array, table, Items, no_items, item, Members, no_members, member, get_member}
 use Rattle.toml.specs.Parse.{parse_document}
 use Rattle.timefd_lint_options.specs.declared.config.config.Config.{Config}

@@ -1,7 +1,7 @@
 -- What is wrong with a file of settings.
 use Rattle.std.specs.Prelude.{Option, Some, None, string_bytes}
-use Rattle.timefd_sources.specs.Bytes.{Text}
-use Rattle.timefd_warnings.specs.declared.warning.Warning.{Warning}
+use Rattle.timefd_lint_scan.specs.Bytes.{Text}
+use Rattle.timefd_lang_warnings.specs.declared.warning.Warning.{Warning}
 use Rattle.timefd_lint_options.specs.declared.config.error.ConfigError.{ConfigError}
 use Rattle.timefd_lint_options.specs.declared.config.error.ConfigError.TheVariants as error
 

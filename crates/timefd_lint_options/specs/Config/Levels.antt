@@ -1,12 +1,12 @@
 -- The levels that a file of settings gives warnings.
 use Rattle.std.specs.Prelude.{Option, Some, None, Result, Ok, Err, codes, bytes_eq, if◌then◌else◌}
-use Rattle.timefd_sources.specs.Bytes.{Text}
-use Rattle.timefd_warnings.specs.declared.levels.Level.{Level}
-use Rattle.timefd_warnings.specs.declared.levels.Level.TheVariants.{Allowed, Warned, Denied}
-use Rattle.timefd_warnings.specs.declared.levels.Levels as of_warnings
-use Rattle.timefd_warnings.specs.declared.warning.Warning.{Warning}
-use Rattle.timefd_warnings.specs.Codes as warnings
-use Rattle.timefd_warnings.specs.Levels.{all_at, by, level_of, with_level}
+use Rattle.timefd_lint_scan.specs.Bytes.{Text}
+use Rattle.timefd_lang_warnings.specs.declared.levels.Level.{Level}
+use Rattle.timefd_lang_warnings.specs.declared.levels.Level.TheVariants.{Allowed, Warned, Denied}
+use Rattle.timefd_lang_warnings.specs.declared.levels.Levels as of_warnings
+use Rattle.timefd_lang_warnings.specs.declared.warning.Warning.{Warning}
+use Rattle.timefd_lang_warnings.specs.Codes as warnings
+use Rattle.timefd_lang_warnings.specs.Levels.{all_at, by, level_of, with_level}
 use Rattle.toml.specs.Data.{Data, string, integer, float, boolean, datetime, array, table, Members, no_members, member}
 use Rattle.timefd_lint_options.specs.Config.Faults.{Fault, NoLevel, UnknownLevel, UnknownWarning}
 

@@ -1,12 +1,12 @@
 //! Joins the keys of a command line and those of a file.
 
 ghost use Rattle.std.specs.Prelude.{◌≡◌, ◌++◌, IfOk};
-ghost use Rattle.timefd_sources.specs.Keys.Keys as borrowed;
+ghost use Rattle.timefd_lint_scan.specs.Keys.Keys as borrowed;
 ghost use Rattle.timefd_lint_options.specs.Config.Config as spec;
 
 use crate::config::keys::OwnedKey;
 use std::alloc::{AllocError, Global};
-use timefd_sources::keys::Key;
+use timefd_lint_scan::keys::Key;
 
 // The key, borrowed.
 fn borrowed(key: &OwnedKey) -> Key<'_>

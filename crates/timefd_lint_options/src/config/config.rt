@@ -11,7 +11,7 @@ use crate::config::exclude::patterns_in;
 use crate::config::keys::{OwnedKey, keys_in};
 use crate::config::levels::levels_in;
 use std::alloc::Global;
-use timefd_warnings::Levels;
+use timefd_lang_warnings::Levels;
 use toml::{Table, Value, table_from_str};
 
 // The tables of the file.

@@ -4,7 +4,7 @@ ghost use Rattle.std.specs.Prelude.{◌≡◌};
 ghost use Rattle.timefd_lint_options.specs.declared.config.error.ConfigError.TheVariants.{Memory};
 
 use std::alloc::AllocError;
-use timefd_warnings::Warning;
+use timefd_lang_warnings::Warning;
 use toml::de;
 
 /// Why a text isn't a file of settings.

@@ -8,7 +8,7 @@ ghost use Rattle.timefd_lint_options.specs.Config.Faults as faults;
 use crate::config::error::ConfigError;
 use crate::config::language::{ValueFault, dialect_valued};
 use std::alloc::{AllocError, Global};
-use timefd_sources::Dialect;
+use timefd_lint_scan::Dialect;
 use toml::{Table, Value};
 
 /// A key whose strings are descriptions in a language.

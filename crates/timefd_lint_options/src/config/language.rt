@@ -4,8 +4,8 @@ ghost use Rattle.std.specs.Prelude.{◌≡◌};
 ghost use Rattle.toml.specs.View.{view};
 ghost use Rattle.timefd_lint_options.specs.Config.Config as spec;
 
-use timefd_sources::Dialect;
-use timefd_sources::dialect::dialect_named;
+use timefd_lint_scan::Dialect;
+use timefd_lint_scan::dialect::dialect_named;
 use toml::Value;
 
 /// Why a value isn't a language.

@@ -6,7 +6,7 @@ ghost use Rattle.timefd_lint_options.specs.Config.Faults as faults;
 ghost use Rattle.timefd_lint_options.specs.Config.Levels as spec;
 
 use crate::config::error::ConfigError;
-use timefd_warnings::{Level, Levels, Warning};
+use timefd_lang_warnings::{Level, Levels, Warning};
 use toml::{Table, Value};
 
 // The level that a word names.

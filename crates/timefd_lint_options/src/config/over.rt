@@ -5,7 +5,7 @@ ghost use Rattle.timefd_lint_options.specs.Config.Levels as spec;
 ghost use Rattle.timefd_lint_options.specs.Config.Over.{with_levels};
 
 use crate::settings::Settings;
-use timefd_warnings::{Level, Levels, Warning};
+use timefd_lang_warnings::{Level, Levels, Warning};
 
 /// The settings of a run with the levels of a file of settings. If there are any, warnings are reported, and those
 /// that the command line neither allows nor denies have the file's level.

@@ -1,16 +1,16 @@
 -- What one description is fixed or converted to.
 use Rattle.std.proofs.Common.{ℕ, ◌≡◌, ◌≢◌, true, false, inl, inr, refl, sym, subst, ◌∙◌}
 use Rattle.std.specs.Prelude.{IsUtf8, Option, None, Some}
-use Rattle.timefd_component.specs.Tree.{Text}
-use Rattle.timefd_fault.specs.declared.invalid_format_description.InvalidFormatDescription.{InvalidFormatDescription}
-use Rattle.timefd_fault.specs.Faults.{Fault, fault_of}
-use Rattle.timefd_fault.specs.declared.parse_error.ParseError.{ParseError}
-use Rattle.timefd_fault.specs.declared.parse_error.ParseError.TheVariants.{Invalid}
-use Rattle.timefd_rewrite.specs.declared.layout.Layout.{Layout}
-use Rattle.timefd_rewrite.specs.Layouts.{IsConverted, IsRefusal, IsRefusedFor}
-use Rattle.timefd_rewrite.proofs.LineChangeLemmas.{refused_for}
-use Rattle.timefd_sources.specs.declared.description.Description.{Description}
-use Rattle.timefd_sources.specs.Written.{IsBodyFor, has_body}
+use Rattle.timefd_lang_component.specs.Tree.{Text}
+use Rattle.timefd_lang_fault.specs.declared.invalid_format_description.InvalidFormatDescription.{InvalidFormatDescription}
+use Rattle.timefd_lang_fault.specs.Faults.{Fault, fault_of}
+use Rattle.timefd_lang_fault.specs.declared.parse_error.ParseError.{ParseError}
+use Rattle.timefd_lang_fault.specs.declared.parse_error.ParseError.TheVariants.{Invalid}
+use Rattle.timefd_lint_rewrite.specs.declared.layout.Layout.{Layout}
+use Rattle.timefd_lint_rewrite.specs.Layouts.{IsConverted, IsRefusal, IsRefusedFor}
+use Rattle.timefd_lint_rewrite.proofs.LineChangeLemmas.{refused_for}
+use Rattle.timefd_lint_scan.specs.declared.description.Description.{Description}
+use Rattle.timefd_lint_scan.specs.Written.{IsBodyFor, has_body}
 use Rattle.timefd_lint_sources.specs.Items.{HoldsItem, taking}
 use Rattle.timefd_lint_sources.specs.Judged.{text_of}
 use Rattle.timefd_lint_sources.specs.declared.rewriting.answer.Answer.TheVariants.{Stays}

@@ -5,18 +5,18 @@ use Rattle.std.proofs.lemmas.List.{append_assoc, append-nil, drop-drop, drop_all
 use Rattle.std.specs.declared.alloc.Global.{Global}
 use Rattle.std.specs.declared.vec.Vec.{Vec}
 use denote.Ref.{Bor}
-use Rattle.timefd_component.specs.Tree.{Text}
-use Rattle.timefd_sources.specs.declared.description.Description.{Description}
-use Rattle.timefd_sources.specs.declared.dialect.Dialect.{Dialect}
-use Rattle.timefd_sources.specs.declared.piece.Piece.{Piece}
-use Rattle.timefd_sources.specs.declared.token.Kind.{Kind}
-use Rattle.timefd_sources.specs.Bytes.{seen}
-use Rattle.timefd_sources.specs.Escapes.{Placed, placed}
-use Rattle.timefd_sources.specs.declared.version.VersionPosition.{VersionPosition}
-use Rattle.timefd_sources.specs.declared.version.VersionPosition.TheVariants.{Digit, Unsaid, Call, Elsewhere}
-use Rattle.timefd_sources.specs.Found.{AllStandIn, AreInOrder, StandsIn, begin_of}
-use Rattle.timefd_sources.specs.Versions.{IsSaid, digit_of, first_position}
-use Rattle.timefd_sources.specs.Literals.{EndsAt, body, body_end, body_text, cut, inside, inside_of, text_of}
+use Rattle.timefd_lang_component.specs.Tree.{Text}
+use Rattle.timefd_lint_scan.specs.declared.description.Description.{Description}
+use Rattle.timefd_lint_scan.specs.declared.dialect.Dialect.{Dialect}
+use Rattle.timefd_lint_scan.specs.declared.piece.Piece.{Piece}
+use Rattle.timefd_lint_scan.specs.declared.token.Kind.{Kind}
+use Rattle.timefd_lint_scan.specs.Bytes.{seen}
+use Rattle.timefd_lint_scan.specs.Escapes.{Placed, placed}
+use Rattle.timefd_lint_scan.specs.declared.version.VersionPosition.{VersionPosition}
+use Rattle.timefd_lint_scan.specs.declared.version.VersionPosition.TheVariants.{Digit, Unsaid, Call, Elsewhere}
+use Rattle.timefd_lint_scan.specs.Found.{AllStandIn, AreInOrder, StandsIn, begin_of}
+use Rattle.timefd_lint_scan.specs.Versions.{IsSaid, digit_of, first_position}
+use Rattle.timefd_lint_scan.specs.Literals.{EndsAt, body, body_end, body_text, cut, inside, inside_of, text_of}
 use Rattle.timefd_lint_sources.specs.declared.rewriting.answer.NewParts.{NewParts}
 use Rattle.timefd_lint_sources.specs.declared.rewriting.answer.Answer.{Answer}
 use Rattle.timefd_lint_sources.specs.declared.rewriting.answer.Answer.TheVariants.{Stays, Becomes}

@@ -4,12 +4,12 @@ use Rattle.std.specs.Prelude.{◌≢◌, IsUtf8, Option, None, Some}
 use Rattle.std.proofs.lemmas.List.{append_assoc, append-nil, drop_all, drop_more}
 use Rattle.std.specs.declared.alloc.Global.{Global}
 use Rattle.std.specs.declared.vec.Vec.{Vec}
-use Rattle.timefd_component.specs.Tree.{Text}
-use Rattle.timefd_rewrite.specs.LineChanges.{IsChanged, IsUnchangeable}
-use Rattle.timefd_rewrite.specs.declared.line_change.LineChange.{LineChange}
-use Rattle.timefd_sources.specs.declared.description.Description.{Description}
-use Rattle.timefd_sources.specs.declared.keys.format.Format.{Format}
-use Rattle.timefd_sources.specs.Keys.Spelled.{IsStringFor, string_end}
+use Rattle.timefd_lang_component.specs.Tree.{Text}
+use Rattle.timefd_lint_rewrite.specs.LineChanges.{IsChanged, IsUnchangeable}
+use Rattle.timefd_lint_rewrite.specs.declared.line_change.LineChange.{LineChange}
+use Rattle.timefd_lint_scan.specs.declared.description.Description.{Description}
+use Rattle.timefd_lint_scan.specs.declared.keys.format.Format.{Format}
+use Rattle.timefd_lint_scan.specs.Keys.Spelled.{IsStringFor, string_end}
 use Rattle.timefd_lint_sources.specs.Judged.{text_of}
 use Rattle.timefd_lint_sources.specs.Rewriting.Values.{Adds, AreRewritten, IsAnswer, IsAnswerIn, front_of, next_of, value_change}
 use Rattle.timefd_lint_sources.specs.declared.rewriting.change.Change.{Change}

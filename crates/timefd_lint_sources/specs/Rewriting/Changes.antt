@@ -1,16 +1,16 @@
 -- How the descriptions of a source are laid out, and which versions they have then.
 use Rattle.std.specs.Prelude.{ℕ, ◌==◌, Option, None, Some, option_map, if◌then◌else◌}
-use Rattle.timefd_component.specs.Tree.{Text}
-use Rattle.timefd_convert.specs.declared.conversion.Conversion.{Conversion}
-use Rattle.timefd_convert.specs.Conversions.{conversion_between}
+use Rattle.timefd_lang_component.specs.Tree.{Text}
+use Rattle.timefd_lang_convert.specs.declared.conversion.Conversion.{Conversion}
+use Rattle.timefd_lang_convert.specs.Conversions.{conversion_between}
 use Rattle.timefd_language.specs.declared.description_version.DescriptionVersion.{DescriptionVersion}
 use Rattle.timefd_language.specs.declared.description_version.DescriptionVersion.TheVariants as versions
 use Rattle.timefd_language.specs.declared.language.Language.TheVariants as languages
-use Rattle.timefd_rewrite.specs.declared.layout.Layout.{Layout}
-use Rattle.timefd_rewrite.specs.declared.layout.Layout.TheVariants as layouts
-use Rattle.timefd_sources.specs.declared.dialect.Dialect.{Dialect}
-use Rattle.timefd_sources.specs.declared.dialect.Dialect.TheVariants.{One, Two, Three, Strftime, Python, C, Gnu, Chrono, Jiff, Ruby, Java, Go, Moment}
-use Rattle.timefd_sources.specs.Versions.{digit_of}
+use Rattle.timefd_lint_rewrite.specs.declared.layout.Layout.{Layout}
+use Rattle.timefd_lint_rewrite.specs.declared.layout.Layout.TheVariants as layouts
+use Rattle.timefd_lint_scan.specs.declared.dialect.Dialect.{Dialect}
+use Rattle.timefd_lint_scan.specs.declared.dialect.Dialect.TheVariants.{One, Two, Three, Strftime, Python, C, Gnu, Chrono, Jiff, Ruby, Java, Go, Moment}
+use Rattle.timefd_lint_scan.specs.Versions.{digit_of}
 use Rattle.timefd_lint_sources.specs.Judged.{is_passed_over, language_of}
 use Rattle.timefd_lint_sources.specs.declared.rewriting.change.Change.{Change}
 use Rattle.timefd_lint_sources.specs.declared.rewriting.change.Change.TheVariants.{Mended, Least, Normal}

@@ -2,25 +2,25 @@
 use Rattle.std.specs.Prelude.{ℕ, ◌≡◌, ◌≢◌, ◌-◌, false, List, [], ◌∷◌, ◌++◌, drop, take, Option, None, Some, IsUtf8}
 use Rattle.std.specs.declared.alloc.Global.{Global}
 use Rattle.std.specs.declared.vec.Vec.{Vec}
-use Rattle.timefd_component.specs.Tree.{Text}
-use Rattle.timefd_convert.specs.declared.conversion.Conversion.{Conversion}
-use Rattle.timefd_convert.specs.Conversions.{conversion_between}
-use Rattle.timefd_dialect.specs.declared.dialect.Dialect as other
+use Rattle.timefd_lang_component.specs.Tree.{Text}
+use Rattle.timefd_lang_convert.specs.declared.conversion.Conversion.{Conversion}
+use Rattle.timefd_lang_convert.specs.Conversions.{conversion_between}
+use Rattle.timefd_lang_dialect.specs.declared.dialect.Dialect as other
 use Rattle.timefd_language.specs.declared.description_version.DescriptionVersion.{DescriptionVersion}
 use Rattle.timefd_language.specs.declared.description_version.DescriptionVersion.TheVariants.{One, Two, Three}
 use Rattle.timefd_language.specs.declared.language.Language.{Language}
 use Rattle.timefd_language.specs.declared.language.Language.TheVariants.{Version}
-use Rattle.timefd_rewrite.specs.LineChanges.{IsChanged, IsUnchangeable}
-use Rattle.timefd_rewrite.specs.declared.layout.Layout.TheVariants as layouts
-use Rattle.timefd_rewrite.specs.declared.line_change.LineChange.{LineChange}
-use Rattle.timefd_rewrite.specs.declared.line_change.LineChange.TheVariants.{Own, Other}
-use Rattle.timefd_sources.specs.declared.description.Description.{Description}
-use Rattle.timefd_sources.specs.declared.dialect.Dialect.{Dialect}
-use Rattle.timefd_sources.specs.declared.keys.format.Format.{Format}
-use Rattle.timefd_sources.specs.declared.keys.key.Key.{Key}
-use Rattle.timefd_sources.specs.Found.{AreInOrder}
-use Rattle.timefd_sources.specs.Keys.Found.{AreAllValues}
-use Rattle.timefd_sources.specs.Keys.Spelled.{IsStringFor, string_end}
+use Rattle.timefd_lint_rewrite.specs.LineChanges.{IsChanged, IsUnchangeable}
+use Rattle.timefd_lint_rewrite.specs.declared.layout.Layout.TheVariants as layouts
+use Rattle.timefd_lint_rewrite.specs.declared.line_change.LineChange.{LineChange}
+use Rattle.timefd_lint_rewrite.specs.declared.line_change.LineChange.TheVariants.{Own, Other}
+use Rattle.timefd_lint_scan.specs.declared.description.Description.{Description}
+use Rattle.timefd_lint_scan.specs.declared.dialect.Dialect.{Dialect}
+use Rattle.timefd_lint_scan.specs.declared.keys.format.Format.{Format}
+use Rattle.timefd_lint_scan.specs.declared.keys.key.Key.{Key}
+use Rattle.timefd_lint_scan.specs.Found.{AreInOrder}
+use Rattle.timefd_lint_scan.specs.Keys.Found.{AreAllValues}
+use Rattle.timefd_lint_scan.specs.Keys.Spelled.{IsStringFor, string_end}
 use Rattle.timefd_lint_sources.specs.Judged.{language_of, other_of, text_of}
 use Rattle.timefd_lint_sources.specs.Rewriting.Written.{IsSourceRewritten, is_rewriting}
 use Rattle.timefd_lint_sources.specs.declared.reported.Finder.{Finder}

@@ -2,17 +2,17 @@
 use Rattle.std.specs.Prelude.{ℕ, ◌≡◌, ◌≢◌, ◌+◌, Bool, true, false, ◌==◌, ◌⊎◌, List, [], ◌∷◌, ◌++◌, codes, count_by, drop, Option, None, Some, IsUtf8, IsTrue, IsFalse, ⊤}
 use Rattle.std.specs.declared.alloc.Global.{Global}
 use Rattle.std.specs.declared.vec.Vec.{Vec}
-use Rattle.timefd_component.specs.Tree.{Text}
-use Rattle.timefd_fault.specs.Faults.{Fault}
-use Rattle.timefd_rewrite.specs.declared.layout.Layout.{Layout}
-use Rattle.timefd_rewrite.specs.Layouts.{IsConverted, IsRefusedFor}
-use Rattle.timefd_sources.specs.declared.description.Description.{Description}
-use Rattle.timefd_sources.specs.declared.version.VersionPosition.{VersionPosition}
-use Rattle.timefd_sources.specs.declared.version.VersionPosition.TheVariants.{Digit, Unsaid, Call, Elsewhere}
-use Rattle.timefd_sources.specs.Found.{AllStandIn, AreDescriptionsOf, AreInOrder}
-use Rattle.timefd_sources.specs.Literals.{body_end, inside}
-use Rattle.timefd_sources.specs.Versions.{digit_of}
-use Rattle.timefd_sources.specs.Written.{IsBodyFor, has_body}
+use Rattle.timefd_lang_component.specs.Tree.{Text}
+use Rattle.timefd_lang_fault.specs.Faults.{Fault}
+use Rattle.timefd_lint_rewrite.specs.declared.layout.Layout.{Layout}
+use Rattle.timefd_lint_rewrite.specs.Layouts.{IsConverted, IsRefusedFor}
+use Rattle.timefd_lint_scan.specs.declared.description.Description.{Description}
+use Rattle.timefd_lint_scan.specs.declared.version.VersionPosition.{VersionPosition}
+use Rattle.timefd_lint_scan.specs.declared.version.VersionPosition.TheVariants.{Digit, Unsaid, Call, Elsewhere}
+use Rattle.timefd_lint_scan.specs.Found.{AllStandIn, AreDescriptionsOf, AreInOrder}
+use Rattle.timefd_lint_scan.specs.Literals.{body_end, inside}
+use Rattle.timefd_lint_scan.specs.Versions.{digit_of}
+use Rattle.timefd_lint_scan.specs.Written.{IsBodyFor, has_body}
 use Rattle.timefd_lint_sources.specs.Items.{HoldsItem, taking}
 use Rattle.timefd_lint_sources.specs.Judged.{text_of}
 use Rattle.timefd_lint_sources.specs.declared.rewriting.answer.Answer.{Answer}

@@ -2,8 +2,8 @@
 
 ghost use Rattle.std.specs.Prelude.{◌≡◌, ◌≢◌, IfOk, IsTrue, IsUtf8, None};
 ghost use Rattle.timefd_lint_sources.specs.Judged.{text_of};
-ghost use Rattle.timefd_fault.specs.Faults.{Fault};
-ghost use Rattle.timefd_rewrite.specs.Layouts.{IsConverted, IsRefusedFor};
+ghost use Rattle.timefd_lang_fault.specs.Faults.{Fault};
+ghost use Rattle.timefd_lint_rewrite.specs.Layouts.{IsConverted, IsRefusedFor};
 ghost use Rattle.timefd_lint_sources.specs.Rewriting.Changes as changes;
 ghost use Rattle.timefd_lint_sources.specs.Rewriting.Written.{Becoming, IsAnswer, IsLaidOutBy, is_sayable, line_ends, old_line_ends};
 ghost use Rattle.timefd_lint_sources.specs.Rewriting.Written as spec;
@@ -13,9 +13,9 @@ use crate::rewriting::change::{Change, layout_of, new_digit};
 use crate::rewriting::outcome::Outcome;
 use std::alloc::{AllocError, Global};
 use std::str;
+use timefd_lint_rewrite::{Layout, lay_out};
+use timefd_lint_scan::{Description, VersionPosition, body_alike, inside};
 use timefd_parse::ParseError;
-use timefd_rewrite::{Layout, lay_out};
-use timefd_sources::{Description, VersionPosition, body_alike, inside};
 
 /// What is new in a literal or next to it.
 #[derive(Drop)]

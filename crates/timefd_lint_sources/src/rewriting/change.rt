@@ -5,10 +5,10 @@ ghost use Rattle.timefd_lint_sources.specs.Rewriting.Changes as spec;
 ghost use Rattle.timefd_lint_sources.specs.declared.rewriting.change.Change.TheVariants as variants;
 
 use crate::{is_passed_over, language_of};
-use timefd_convert::{Conversion, conversion_between};
+use timefd_lang_convert::{Conversion, conversion_between};
+use timefd_lint_rewrite::{Fixes, Layout};
+use timefd_lint_scan::{Dialect, digit_of};
 use timefd_parse::{DescriptionVersion, Language};
-use timefd_rewrite::{Fixes, Layout};
-use timefd_sources::{Dialect, digit_of};
 
 /// How the descriptions of a source are changed.
 #[derive(Clone, Copy)]

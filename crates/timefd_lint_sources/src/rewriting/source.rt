@@ -1,14 +1,14 @@
 //! All descriptions of a source, rewritten.
 
 ghost use Rattle.std.specs.Prelude.{◌≡◌, ◌≤◌, ◌-◌, ◌++◌, IfOk, IsTrue, OnOk, drop, length, take};
-ghost use Rattle.timefd_sources.specs.Found.{AllStandIn, AreInOrder, StandsIn, begin_of};
+ghost use Rattle.timefd_lint_scan.specs.Found.{AllStandIn, AreInOrder, StandsIn, begin_of};
 ghost use Rattle.timefd_lint_sources.specs.Rewriting.Written.{AddsRewritten, AreRewritten, IsSourceRewritten, Puts, Renumbers, Replaces, argument, is_sayable, items_of};
 
 use crate::rewriting::answer::{Answer, NewParts, answer_to};
 use crate::rewriting::change::Change;
 use crate::rewriting::outcome::Outcome;
 use std::alloc::{AllocError, Global};
-use timefd_sources::{Description, VersionPosition, body_end, descriptions_of, inside};
+use timefd_lint_scan::{Description, VersionPosition, body_end, descriptions_of, inside};
 
 /// A source whose descriptions are rewritten.
 #[derive(Drop)]

@@ -3,19 +3,19 @@
 ghost use Rattle.std.specs.Prelude.{◌≡◌, ◌≢◌, IfOk, Some};
 ghost use Rattle.timefd_lint_sources.specs.Judged.{text_of};
 ghost use Rattle.timefd_lint_sources.specs.Rewriting.Values as spec;
-ghost use Rattle.timefd_rewrite.specs.LineChanges.{IsChanged};
+ghost use Rattle.timefd_lint_rewrite.specs.LineChanges.{IsChanged};
 
 use crate::language::{language_of, other_of};
 use crate::rewriting::change::Change;
 use crate::rewriting::outcome::Outcome;
 use std::alloc::{AllocError, Global};
 use std::str;
-use timefd_convert::{Conversion, conversion_between};
-use timefd_dialect::Dialect as Other;
+use timefd_lang_convert::{Conversion, conversion_between};
+use timefd_lang_dialect::Dialect as Other;
+use timefd_lint_rewrite::{Layout, LineChange, changed_text};
+use timefd_lint_scan::keys::{Format, string_for};
+use timefd_lint_scan::{Description, Dialect};
 use timefd_parse::{DescriptionVersion, Language};
-use timefd_rewrite::{Layout, LineChange, changed_text};
-use timefd_sources::keys::{Format, string_for};
-use timefd_sources::{Description, Dialect};
 
 /// What becomes of the string of a value.
 #[derive(Drop)]

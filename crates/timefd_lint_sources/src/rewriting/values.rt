@@ -8,8 +8,8 @@ use crate::rewriting::outcome::Outcome;
 use crate::rewriting::source::NewSource;
 use crate::rewriting::value::{ValueAnswer, answer_for};
 use std::alloc::{AllocError, Global};
-use timefd_sources::Description;
-use timefd_sources::keys::{Format, Key, descriptions_by, string_end};
+use timefd_lint_scan::Description;
+use timefd_lint_scan::keys::{Format, Key, descriptions_by, string_end};
 
 /// Fixes or converts the values of keys in a file of this format, each in its language. The strings of those that change
 /// are written anew, and every other byte stays. An `Err` says that memory ran out.

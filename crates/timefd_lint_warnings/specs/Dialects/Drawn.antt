@@ -1,20 +1,20 @@
 -- A finding as it is written in each form.
 use Rattle.std.specs.Prelude.{ℕ, Bool, [], ◌++◌, codes, decimal}
-use Rattle.timefd_component.specs.Tree.{Text}
-use Rattle.timefd_diagnosis.specs.declared.span.Span.{Span}
-use Rattle.timefd_drawing.specs.declared.draw.Format.{Format}
-use Rattle.timefd_drawing.specs.declared.draw.Format.TheVariants.{Human, Json, Short, Github, Sarif}
-use Rattle.timefd_drawing.specs.declared.draw.Style.{Style}
-use Rattle.timefd_drawing.specs.declared.position.Origin.{Origin}
-use Rattle.timefd_drawing.specs.Drawing.{margin, source}
-use Rattle.timefd_drawing.specs.Github.{annotation}
-use Rattle.timefd_drawing.specs.Json.{text_field, number_field}
-use Rattle.timefd_drawing.specs.Lines.{position_line, help_line}
-use Rattle.timefd_drawing.specs.Positions.{line_number, column, char_column, before, spanned, after_span}
-use Rattle.timefd_drawing.specs.Sarif.{note_result, with_help}
-use Rattle.timefd_drawing.specs.Shown.{safe}
+use Rattle.timefd_lang_component.specs.Tree.{Text}
+use Rattle.timefd_lint_diagnosis.specs.declared.span.Span.{Span}
+use Rattle.timefd_lint_drawing.specs.declared.draw.Format.{Format}
+use Rattle.timefd_lint_drawing.specs.declared.draw.Format.TheVariants.{Human, Json, Short, Github, Sarif}
+use Rattle.timefd_lint_drawing.specs.declared.draw.Style.{Style}
+use Rattle.timefd_lint_drawing.specs.declared.position.Origin.{Origin}
+use Rattle.timefd_lint_drawing.specs.Drawing.{margin, source}
+use Rattle.timefd_lint_drawing.specs.Github.{annotation}
+use Rattle.timefd_lint_drawing.specs.Json.{text_field, number_field}
+use Rattle.timefd_lint_drawing.specs.Lines.{position_line, help_line}
+use Rattle.timefd_lint_drawing.specs.Positions.{line_number, column, char_column, before, spanned, after_span}
+use Rattle.timefd_lint_drawing.specs.Sarif.{note_result, with_help}
+use Rattle.timefd_lint_drawing.specs.Shown.{safe}
 use Rattle.timefd_lint_warnings.specs.Messages.{severity, head, command}
-use Rattle.timefd_warnings.specs.declared.levels.Level.{Level}
+use Rattle.timefd_lang_warnings.specs.declared.levels.Level.{Level}
 
 abbrev pub human_at : Bool → Text → ℕ → Text → Level → Text → Text → Text → Span → Text
 human_at colored file line text level code message help span =

@@ -1,20 +1,20 @@
 -- What the linter says of a format of another language.
 use Rattle.std.specs.Prelude.{ℕ, ◌≡◌, Bool, true, false, List, [], flat_map, length}
-use Rattle.timefd_component.specs.Tree.{Text}
-use Rattle.timefd_diagnosis.specs.declared.span.Span.{Span}
-use Rattle.timefd_dialect.specs.declared.dialect.Dialect.{Dialect}
-use Rattle.timefd_dialect.specs.declared.reason.Reason.{Reason}
-use Rattle.timefd_dialect.specs.declared.trapping.Found.{Found}
-use Rattle.timefd_dialect.specs.Reading.{Piece, Means, RefusedAt}
-use Rattle.timefd_dialect.specs.Reasons as reasons
-use Rattle.timefd_dialect.specs.Traps.{AreTraps}
-use Rattle.timefd_dialect.specs.TrapWords as traps
-use Rattle.timefd_drawing.specs.declared.draw.Style.{Style}
-use Rattle.timefd_drawing.specs.declared.position.Origin.{Origin}
+use Rattle.timefd_lang_component.specs.Tree.{Text}
+use Rattle.timefd_lint_diagnosis.specs.declared.span.Span.{Span}
+use Rattle.timefd_lang_dialect.specs.declared.dialect.Dialect.{Dialect}
+use Rattle.timefd_lang_dialect.specs.declared.reason.Reason.{Reason}
+use Rattle.timefd_lang_dialect.specs.declared.trapping.Found.{Found}
+use Rattle.timefd_lang_dialect.specs.Reading.{Piece, Means, RefusedAt}
+use Rattle.timefd_lang_dialect.specs.Reasons as reasons
+use Rattle.timefd_lang_dialect.specs.Traps.{AreTraps}
+use Rattle.timefd_lang_dialect.specs.TrapWords as traps
+use Rattle.timefd_lint_drawing.specs.declared.draw.Style.{Style}
+use Rattle.timefd_lint_drawing.specs.declared.position.Origin.{Origin}
 use Rattle.timefd_lint_warnings.specs.declared.dialects.judging.Judgement.{Judgement}
 use Rattle.timefd_lint_warnings.specs.declared.dialects.judging.Judgement.TheVariants.{Converted, Refused}
 use Rattle.timefd_lint_warnings.specs.Dialects.Drawn.{drawn}
-use Rattle.timefd_warnings.specs.declared.levels.Level.TheVariants.{Warned, Denied}
+use Rattle.timefd_lang_warnings.specs.declared.levels.Level.TheVariants.{Warned, Denied}
 
 -- the message on a part that is refused: an error where the part begins
 abbrev pub refusal_drawn : Style → Origin → Text → Reason → ℕ → Text

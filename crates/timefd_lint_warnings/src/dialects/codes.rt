@@ -3,7 +3,7 @@
 ghost use Rattle.std.specs.Prelude.{◌≡◌};
 ghost use Rattle.timefd_lint_warnings.specs.Dialects.Codes as spec;
 
-use timefd_dialect::{Reason, Trap};
+use timefd_lang_dialect::{Reason, Trap};
 
 /// All reasons, in the order of their codes.
 pub fn all_reasons() -> &'static [Reason]

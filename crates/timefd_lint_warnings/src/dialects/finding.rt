@@ -1,19 +1,19 @@
 //! A finding in each form of output.
 
 ghost use Rattle.std.specs.Prelude.{◌≡◌, IfOk, string_bytes};
-ghost use Rattle.timefd_drawing.specs.Counted.{IsCounted};
+ghost use Rattle.timefd_lint_drawing.specs.Counted.{IsCounted};
 ghost use Rattle.timefd_lint_warnings.specs.Dialects.Drawn as spec;
 ghost use Rattle.timefd_lint_warnings.specs.Messages as messages;
 
 use crate::dialects::human::human;
 use std::alloc::{AllocError, Global};
-use timefd_diagnosis::Span;
-use timefd_drawing::github::{Command, annotation};
-use timefd_drawing::json::{Entry, push_number, push_text};
-use timefd_drawing::sarif::{note_result, with_help};
-use timefd_drawing::shown::safe;
-use timefd_drawing::{Counter, Format, Origin, Position, Style, char_position_from, position_from};
-use timefd_warnings::Level;
+use timefd_lang_warnings::Level;
+use timefd_lint_diagnosis::Span;
+use timefd_lint_drawing::github::{Command, annotation};
+use timefd_lint_drawing::json::{Entry, push_number, push_text};
+use timefd_lint_drawing::sarif::{note_result, with_help};
+use timefd_lint_drawing::shown::safe;
+use timefd_lint_drawing::{Counter, Format, Origin, Position, Style, char_position_from, position_from};
 
 /// What is found in a part of a text.
 #[derive(Clone, Copy)]

@@ -1,15 +1,15 @@
 //! A finding as a drawing.
 
 ghost use Rattle.std.specs.Prelude.{◌≡◌, IfOk, string_bytes};
-ghost use Rattle.timefd_drawing.specs.Counted.{IsCounted};
+ghost use Rattle.timefd_lint_drawing.specs.Counted.{IsCounted};
 ghost use Rattle.timefd_lint_warnings.specs.Dialects.Drawn as spec;
 
 use crate::dialects::finding::Finding;
 use crate::head;
 use std::alloc::{AllocError, Global};
-use timefd_drawing::lines::{push_help_line, push_position_line};
-use timefd_drawing::source_line::{margin, push_source};
-use timefd_drawing::{Counter, Origin, line_of, position_from};
+use timefd_lint_drawing::lines::{push_help_line, push_position_line};
+use timefd_lint_drawing::source_line::{margin, push_source};
+use timefd_lint_drawing::{Counter, Origin, line_of, position_from};
 
 /// The drawing of a finding: its sentence, its position, the line with carets, and the help. An `Err` says
 /// that memory ran out.

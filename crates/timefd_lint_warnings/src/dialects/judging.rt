@@ -1,16 +1,16 @@
 //! What the linter says of a format of another language.
 
 ghost use Rattle.std.specs.Prelude.{◌≡◌, ◌++◌, IfOk, List, OnOk, flat_map};
-ghost use Rattle.timefd_dialect.specs.Reading.{Means, Piece};
-ghost use Rattle.timefd_drawing.specs.Counted.{IsCounted};
+ghost use Rattle.timefd_lang_dialect.specs.Reading.{Means, Piece};
+ghost use Rattle.timefd_lint_drawing.specs.Counted.{IsCounted};
 ghost use Rattle.timefd_lint_warnings.specs.Dialects.Judging as spec;
 
 use crate::dialects::finding::{Finding, drawn};
 use std::alloc::{AllocError, Global};
-use timefd_diagnosis::Span;
-use timefd_dialect::{Dialect, DialectError, Found, Refusal, to_version_three, traps};
-use timefd_drawing::{Counter, Origin, Style, none_counted};
-use timefd_warnings::Level;
+use timefd_lang_dialect::{Dialect, DialectError, Found, Refusal, to_version_three, traps};
+use timefd_lang_warnings::Level;
+use timefd_lint_diagnosis::Span;
+use timefd_lint_drawing::{Counter, Origin, Style, none_counted};
 
 /// What a format of another language is.
 #[derive(Clone, Copy)]

@@ -1,8 +1,8 @@
 //! Brackets that hold only the name of a component, as most brackets do.
 
 ghost use Rattle.std.specs.Prelude.{◌≡◌, ◌++◌, ◌∷◌, [], IfSome, MatchOption, Ok, ⊤};
-ghost use Rattle.timefd_component.specs.Modern.{modern};
-ghost use Rattle.timefd_component.specs.Reserved.{reserved};
+ghost use Rattle.timefd_lang_component.specs.Modern.{modern};
+ghost use Rattle.timefd_lang_component.specs.Reserved.{reserved};
 ghost use Rattle.timefd_language.specs.Bytes.{is_version_three};
 ghost use Rattle.timefd_language.specs.Names.{row_for};
 ghost use Rattle.timefd_language.specs.Settings.{defaults};

@@ -4,8 +4,8 @@ use Rattle.std.proofs.lemmas.Fmt.{IsAscii-decimal}
 use Rattle.std.proofs.lemmas.Str.{IsUtf8-from_ascii}
 use Rattle.json.specs.Token.{string, number}
 use Rattle.json.specs.Lex.{Lexeme, token}
-use Rattle.timefd_component.specs.Tree.{Text}
-use Rattle.timefd_drawing.specs.Json.{all_escaped, number_field, text_field}
+use Rattle.timefd_lang_component.specs.Tree.{Text}
+use Rattle.timefd_lint_drawing.specs.Json.{all_escaped, number_field, text_field}
 use Rattle.timefd_web.proofs.JsonLawLemmas.Encoded.{quoted_utf8}
 use Rattle.timefd_web.proofs.JsonLawLemmas.Escapes.{text_passes}
 use Rattle.timefd_web.proofs.JsonLawLemmas.Pieces.{Lexes, Opens, both, closed, string_after, number_after}

@@ -4,8 +4,8 @@ use Rattle.json.specs.Token.{end_object, boolean}
 use Rattle.json.specs.Lex.{Lexeme, token, punctuate, fresh}
 use Rattle.json.specs.Strict.{HasUniqueKeys}
 use Rattle.json.specs.Tree.{json_tokens, depth}
-use Rattle.timefd_component.specs.Tree.{Text}
-use Rattle.timefd_drawing.specs.Json as drawing
+use Rattle.timefd_lang_component.specs.Tree.{Text}
+use Rattle.timefd_lint_drawing.specs.Json as drawing
 use Rattle.timefd_lint_warnings.specs.Messages as warnings
 use Rattle.timefd_web.specs.JsonLaws.Objects.{ObjectsAreJson, NotesAreJson, IsWord, IsNumber64, WarningsAreJson, object_value, note_value, warning_value}
 use Rattle.timefd_web.proofs.JsonLawLemmas.Distinct.{unique_keys}

@@ -7,10 +7,10 @@ use Rattle.json.specs.Word.{ends_word}
 use Rattle.json.specs.Lex.{Lexeme, token, comma, lex, punctuate, fresh, after_value, after_comma}
 use Rattle.json.specs.Strict.{HasUniqueKeys}
 use Rattle.json.specs.Tree.{json_tokens, depth}
-use Rattle.timefd_component.specs.Tree.{Text}
-use Rattle.timefd_drawing.specs.Sarif as drawing
-use Rattle.timefd_drawing.specs.Json.{text_field}
-use Rattle.timefd_drawing.specs.Sarif.{uri}
+use Rattle.timefd_lang_component.specs.Tree.{Text}
+use Rattle.timefd_lint_drawing.specs.Sarif as drawing
+use Rattle.timefd_lint_drawing.specs.Json.{text_field}
+use Rattle.timefd_lint_drawing.specs.Sarif.{uri}
 use Rattle.timefd_web.specs.JsonLaws.Objects.{IsNumber64, IsWord}
 use Rattle.timefd_web.specs.JsonLaws.Results.{Result, fault, note, result_text, result_value, IsProper, ResultsAreJson}
 use Rattle.timefd_web.proofs.JsonLawLemmas.Distinct.{unique_keys}

@@ -6,8 +6,8 @@ use Rattle.std.specs.Char.{digit_value, digit_char, encode_utf8}
 use Rattle.json.specs.Text.{content, plain, after_high, prepend, code_unit, is_high_surrogate, is_low_surrogate, surrogate_pair}
 use Rattle.json.specs.Word.{is_operator, is_space}
 use Rattle.json.specs.Lex.{Lexeme, Mode, lex, lex_byte, in_string, operator, space, other}
-use Rattle.timefd_component.specs.Tree.{Text}
-use Rattle.timefd_drawing.specs.Json.{hex_digit, unit}
+use Rattle.timefd_lang_component.specs.Tree.{Text}
+use Rattle.timefd_lint_drawing.specs.Json.{hex_digit, unit}
 
 hex_char : (n : ℕ) → n < 16 → hex_digit n ≡ digit_char n
 hex_char n small = elim (cases_Bool (nat_lt n 10)) [

@@ -1,5 +1,5 @@
 use Rattle.std.proofs.Common.{◌≡◌, ◌∙◌, true, false, IsUtf8, length, string_bytes, sym, subst}
-use Rattle.timefd_convert.specs.Conversions.{FitsIn, IsConversion, KeepsItems, language_of}
+use Rattle.timefd_lang_convert.specs.Conversions.{FitsIn, IsConversion, KeepsItems, language_of}
 use Rattle.timefd_c.specs.Conversions.{ConvertsTo}
 use Rattle.timefd_c.specs.declared.answer.TheConstants.{ACCEPTED}
 use Rattle.timefd_c.proofs.ConversionLemmas.{converted, error_has_room, unconverted}

@@ -1,10 +1,10 @@
 use Rattle.std.proofs.Common.{◌∙◌, IfSome, length, map, true, refl, sym, ap, subst, arith}
 use Rattle.std.proofs.lemmas.List.{length-map}
-use Rattle.timefd_node_list.specs.Item.Meaning.{item_tree}
-use Rattle.timefd_component.specs.Reserved.{reserve}
-use Rattle.timefd_component.specs.Tree.{compound, optional, first, trees}
+use Rattle.timefd_lang_node_list.specs.Item.Meaning.{item_tree}
+use Rattle.timefd_lang_component.specs.Reserved.{reserve}
+use Rattle.timefd_lang_component.specs.Tree.{compound, optional, first, trees}
 use Rattle.timefd_items.proofs.BytesLemmas.{bytes_step}
-use Rattle.timefd_node_list.specs.Views.{walked, walked_all}
+use Rattle.timefd_lang_node_list.specs.Views.{walked, walked_all}
 use Rattle.timefd_c_nodes.specs.Writing.{IsWritten}
 use Rattle.timefd_c_nodes.proofs.ItemLemmas.{component_tree}
 use Rattle.timefd_c_nodes.proofs.TreeLemmas.{walked_at}

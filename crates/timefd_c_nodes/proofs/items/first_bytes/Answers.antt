@@ -1,5 +1,5 @@
 use Rattle.std.proofs.Common.{◌∙◌, arith}
-use Rattle.timefd_node_list.specs.Item.Meaning.{item_tree}
+use Rattle.timefd_lang_node_list.specs.Item.Meaning.{item_tree}
 use Rattle.timefd_items.proofs.BytesLemmas.{first_none, first_some}
 use Rattle.timefd_c_nodes.proofs.items.first_bytes.Goals as goal
 

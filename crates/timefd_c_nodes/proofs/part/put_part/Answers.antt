@@ -1,5 +1,5 @@
 use Rattle.std.proofs.Common.{sym, ap}
-use Rattle.timefd_node_list.specs.Views.{member_trees, view_tree}
+use Rattle.timefd_lang_node_list.specs.Views.{member_trees, view_tree}
 use Rattle.timefd_c_nodes.specs.Encoding.{own_text}
 use Rattle.timefd_c_nodes.proofs.TreeLemmas.{compound_is, first_is}
 use Rattle.timefd_c_nodes.proofs.WithinLemmas.{put_node}

@@ -1,6 +1,6 @@
 use Rattle.std.proofs.Common.{rules, ◌≡◌, [], ◌∷◌, refl}
-use Rattle.timefd_node_list.specs.Turns.{walk_trees}
-use Rattle.timefd_node_list.specs.Views.{view_tree}
+use Rattle.timefd_lang_node_list.specs.Turns.{walk_trees}
+use Rattle.timefd_lang_node_list.specs.Views.{view_tree}
 use Rattle.timefd_c_nodes.proofs.WithinLemmas.{part_past, part_step}
 use Rattle.timefd_c_nodes.proofs.view.write_view.Goals as goal
 

@@ -1,5 +1,5 @@
-use Rattle.timefd_node_list.specs.Turns.{walk_trees}
-use Rattle.timefd_node_list.specs.Views.{view_tree, walked}
+use Rattle.timefd_lang_node_list.specs.Turns.{walk_trees}
+use Rattle.timefd_lang_node_list.specs.Views.{view_tree, walked}
 use Rattle.timefd_c_nodes.proofs.WithinLemmas.{Part}
 use Rattle.timefd_c_nodes.proofs.view.write_view.Given as goal
 

@@ -2,10 +2,10 @@
 
 ghost use Rattle.std.specs.Prelude.{◌≡◌, IfSome, Some};
 ghost use Rattle.timefd_c_nodes.specs.Decoding as decoded;
-ghost use Rattle.timefd_component.specs.Modern.{modern};
+ghost use Rattle.timefd_lang_component.specs.Modern.{modern};
 
 use crate::Node;
-use timefd_component::Component;
+use timefd_lang_component::Component;
 use timefd_modifier::{
     CalendarYearFullExtendedRange, CalendarYearFullStandardRange, Day, Hour24, Minute,
     MonthNumerical, Padding, Second,

@@ -3,7 +3,7 @@
 ghost use Rattle.std.specs.List.{starts_with};
 ghost use Rattle.std.specs.Prelude.{◌≡◌, IfSome, Some, eqb};
 ghost use Rattle.timefd_c_nodes.specs.Formatting.Parts.{literal_role};
-ghost use Rattle.timefd_node_list.specs.Nodes.{text};
+ghost use Rattle.timefd_lang_node_list.specs.Nodes.{text};
 
 /// The bytes of a literal, if all of them are there.
 #[inline(always)]

@@ -9,10 +9,10 @@ ghost use Rattle.timefd_c_nodes.specs.Dates.Taken.{IsTaken};
 use crate::Node;
 use crate::dates::fast::component::number_of;
 use crate::dates::fast::literal::{begins, literal_of};
-use timefd_moment::Moment;
-use timefd_moment::fields::{NO_NUMBERS, Numbers, take_leaf};
-use timefd_moment::reading::moment_of_numbers;
-use timefd_node_list::Leaf;
+use timefd_date_moment::Moment;
+use timefd_date_moment::fields::{NO_NUMBERS, Numbers, take_leaf};
+use timefd_date_moment::reading::moment_of_numbers;
+use timefd_lang_node_list::Leaf;
 
 /// The number of literal texts, as a node says what it is.
 const LITERAL: u8 = 1;

@@ -1,5 +1,5 @@
 use Rattle.std.proofs.Common.{IsTrue, subst, sym}
-use Rattle.timefd_node_list.specs.Item.Meaning.{item_tree}
+use Rattle.timefd_lang_node_list.specs.Item.Meaning.{item_tree}
 use Rattle.timefd_language.specs.Strings.{is_of_strings}
 use Rattle.timefd_description.proofs.CompositeLemmas.{leaf_at, string_at}
 use Rattle.timefd_description.proofs.composite.add_items.Goals as goal

@@ -1,5 +1,5 @@
 use Rattle.std.proofs.Common.{◌≡◌, ◌++◌, take}
-use Rattle.timefd_node_list.specs.Item.Meaning.{item_trees}
+use Rattle.timefd_lang_node_list.specs.Item.Meaning.{item_trees}
 use Rattle.timefd_items.specs.Builder.{built}
 use Rattle.timefd_description.specs.Modern.{modern_list}
 use Rattle.timefd_description.proofs.composite.add_items.Given as goal

@@ -1,6 +1,6 @@
 use Rattle.std.proofs.Common.{subst}
-use Rattle.timefd_component.specs.Tree.{trees}
-use Rattle.timefd_format.specs.Written.{written_all}
+use Rattle.timefd_lang_component.specs.Tree.{trees}
+use Rattle.timefd_date_format.specs.Written.{written_all}
 use Rattle.timefd_parse.specs.Answers.{IsOutput}
 use Rattle.timefd_description.proofs.FormatLemmas.{description_shown, items_shown, nothing_shown}
 use Rattle.timefd_description.proofs.formatting.format_version.Goals as goal

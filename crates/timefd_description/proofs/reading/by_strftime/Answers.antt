@@ -1,8 +1,8 @@
-use Rattle.timefd_component.specs.Tree.{compound, trees}
-use Rattle.timefd_node_list.specs.Item.Meaning.{item_trees}
+use Rattle.timefd_lang_component.specs.Tree.{compound, trees}
+use Rattle.timefd_lang_node_list.specs.Item.Meaning.{item_trees}
 use Rattle.timefd_language.specs.Grammar.{nesting_limit}
 use Rattle.timefd_parse.specs.Language.{FaultIn}
-use Rattle.timefd_moment.specs.Fields.Reads.{fields_of}
+use Rattle.timefd_date_moment.specs.Fields.Reads.{fields_of}
 use Rattle.timefd_description.proofs.ReadTextLemmas.{no_fault, nothing_read, strftime_read}
 use Rattle.timefd_description.specs.ReadAnswers.{fields_in}
 use Rattle.timefd_language.specs.declared.language.Language.TheVariants as languages

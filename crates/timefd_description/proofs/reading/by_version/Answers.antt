@@ -1,12 +1,12 @@
 use Rattle.std.proofs.Common.{subst}
-use Rattle.timefd_component.specs.Tree.{compound, trees}
-use Rattle.timefd_node_list.specs.Item.Meaning.{item_trees}
+use Rattle.timefd_lang_component.specs.Tree.{compound, trees}
+use Rattle.timefd_lang_node_list.specs.Item.Meaning.{item_trees}
 use Rattle.timefd_items.specs.Description.{description_tree}
 use Rattle.timefd_language.specs.Grammar.{nesting_limit}
 use Rattle.timefd_parse.specs.Answers.{IsOutput}
 use Rattle.timefd_language.specs.declared.language.Language.TheVariants as languages
 use Rattle.timefd_parse.specs.Language.{FaultIn}
-use Rattle.timefd_moment.specs.Fields.Reads.{fields_of}
+use Rattle.timefd_date_moment.specs.Fields.Reads.{fields_of}
 use Rattle.timefd_description.proofs.ReadTextLemmas.{description_read, fault_kept, fault_reported, items_read, memory_reported, no_fault}
 use Rattle.timefd_description.specs.ReadAnswers.{fields_in}
 use Rattle.timefd_description.proofs.reading.by_version.Goals as goal

@@ -1,7 +1,7 @@
 use Rattle.std.proofs.Common.{◌∙◌, sym, ap, arith}
-use Rattle.timefd_node_list.specs.Item.Meaning.{item_tree}
-use Rattle.timefd_node_list.specs.Nodes.{kept_bytes}
-use Rattle.timefd_component.specs.Reserved.{reserve}
+use Rattle.timefd_lang_node_list.specs.Item.Meaning.{item_tree}
+use Rattle.timefd_lang_node_list.specs.Nodes.{kept_bytes}
+use Rattle.timefd_lang_component.specs.Reserved.{reserve}
 use Rattle.timefd_items.proofs.BytesLemmas.{first_tree}
 use Rattle.timefd_items.proofs.BytesLemmas.{bytes_step, bytes_end, first_none, first_some}
 use Rattle.timefd_items.proofs.most_bytes.+bytes.Goals as goal

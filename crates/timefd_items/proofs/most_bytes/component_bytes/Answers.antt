@@ -1,8 +1,8 @@
 use Rattle.std.proofs.Common.{◌∙◌, ap, sym}
-use Rattle.timefd_component.specs.ComponentEquality.{component_sound}
-use Rattle.timefd_component.specs.Reserved.{reserved}
 use Rattle.timefd_items.proofs.BytesLemmas.{deprecated_none, unlike}
 use Rattle.timefd_items.proofs.most_bytes.component_bytes.Goals as goal
+use Rattle.timefd_lang_component.specs.ComponentEquality.{component_sound}
+use Rattle.timefd_lang_component.specs.Reserved.{reserved}
 
 pub returns-then-eq : goal.returns-then-eq
 returns-then-eq c =

@@ -1,6 +1,6 @@
 use Rattle.timefd_language.specs.declared.description_version.DescriptionVersion.TheVariants.{Two}
 use Rattle.timefd_language.specs.Grammar.{nesting_limit}
-use Rattle.timefd_fault.proofs.OwnedLemmas.{owned_fault, owned_memory}
+use Rattle.timefd_lang_fault.proofs.OwnedLemmas.{owned_fault, owned_memory}
 use Rattle.timefd_language.proofs.PlacedLemmas.{owned_placed}
 use Rattle.timefd_parse.proofs.ParseLemmas.{owned_assigned}
 use Rattle.timefd_lift.proofs.from_two.v2_to_v3.Goals as goal

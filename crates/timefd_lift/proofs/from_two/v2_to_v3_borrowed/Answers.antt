@@ -1,5 +1,5 @@
 use Rattle.std.proofs.Common.{rules, ◌≡◌, ◌∙◌, [], refl, sym, ap, subst}
-use Rattle.timefd_node_list.specs.Item.Meaning.{item_trees}
+use Rattle.timefd_lang_node_list.specs.Item.Meaning.{item_trees}
 use Rattle.timefd_language.specs.declared.description_version.DescriptionVersion.TheVariants.{Two, Three}
 use Rattle.timefd_language.specs.Grammar.{no_pieces, Spells, nesting_limit}
 use Rattle.timefd_parse.specs.Answers.{IsOutput, HasStrings}

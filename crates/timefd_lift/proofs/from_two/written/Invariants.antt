@@ -1,5 +1,5 @@
 use Rattle.std.proofs.Common.{◌≡◌, ◌++◌, drop, string_bytes}
-use Rattle.timefd_node_list.specs.Item.Meaning.{item_trees}
+use Rattle.timefd_lang_node_list.specs.Item.Meaning.{item_trees}
 use Rattle.timefd_lift.specs.Plain.{ArePlainItems}
 use Rattle.timefd_lift.specs.Written.{written}
 use Rattle.timefd_lift.proofs.from_two.written.Given as goal

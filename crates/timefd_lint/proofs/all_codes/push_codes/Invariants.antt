@@ -1,6 +1,6 @@
 use Rattle.std.proofs.Common.{◌≡◌, ◌++◌, length, map}
-use Rattle.timefd_diagnosis.specs.Words.{texts}
 use Rattle.timefd_lint.proofs.all_codes.push_codes.Given as goal
+use Rattle.timefd_lint_diagnosis.specs.Words.{texts}
 
 -- The codes that are left follow.
 abbrev pub invariant-codes : goal.invariant-codes

@@ -1,5 +1,5 @@
 use Rattle.std.proofs.Common.{◌≡◌, ◌++◌, codes, flat_map, drop, string_bytes}
-use Rattle.timefd_warnings.specs.Codes.{name_of}
+use Rattle.timefd_lang_warnings.specs.Codes.{name_of}
 use Rattle.timefd_lint.proofs.arguments.push_more.Given as goal
 
 abbrev pub invariant-loop-warning : goal.invariant-loop-warning

@@ -1,6 +1,6 @@
 use Rattle.std.proofs.Common.{rules, ◌≡◌, false, string_bytes}
 use Rattle.std.proofs.lemmas.Result.{on_ok_weaker}
-use Rattle.timefd_rewrite.specs.Lines.{is_passed_over}
+use Rattle.timefd_lint_rewrite.specs.Lines.{is_passed_over}
 use Rattle.timefd_lint.proofs.LimitedLemmas.{of_text}
 use Rattle.timefd_lint.proofs.limited.push_note.Goals as goal
 

@@ -1,5 +1,5 @@
 use Rattle.std.proofs.Common.{string_bytes, subst}
-use Rattle.timefd_dialect.specs.Answers.{IsRefusedFor}
+use Rattle.timefd_lang_dialect.specs.Answers.{IsRefusedFor}
 use Rattle.timefd_lint.proofs.LimitedLemmas.{of_refusal}
 use Rattle.timefd_lint.proofs.limited.push_text_note.Goals as goal
 

@@ -1,9 +1,9 @@
 use Rattle.std.proofs.Common.{◌≡◌, IfOk, OnOk, rules}
 use Rattle.std.specs.Io.KnownBytes.{Appends}
-use Rattle.timefd_diagnosis.specs.Diagnoses.{IsDiagnosis}
-use Rattle.timefd_diagnosis.specs.Further.{AreFurther, most_further, without}
-use Rattle.timefd_drawing.specs.Drawing.{drawn_all}
-use Rattle.timefd_fault.specs.Faults.{fault_of}
+use Rattle.timefd_lint_diagnosis.specs.Diagnoses.{IsDiagnosis}
+use Rattle.timefd_lint_diagnosis.specs.Further.{AreFurther, most_further, without}
+use Rattle.timefd_lint_drawing.specs.Drawing.{drawn_all}
+use Rattle.timefd_lang_fault.specs.Faults.{fault_of}
 use Rattle.timefd_language.specs.Grammar.{nesting_limit}
 use Rattle.timefd_parse.specs.Language.{FaultIn}
 use Rattle.timefd_lint.specs.declared.line.TextEnd.TheVariants.{Refused}

@@ -1,6 +1,6 @@
 use Rattle.std.proofs.Common.{rules, ◌&&◌, ◌<◌, length, ap, subst, ◌∙◌}
 use Rattle.std.specs.Prelude.{IsTrue}
-use Rattle.timefd_rewrite.specs.Lines.{without_newline}
+use Rattle.timefd_lint_rewrite.specs.Lines.{without_newline}
 use Rattle.timefd_lint.specs.Marks.{Notes, has_mark}
 use Rattle.timefd_lint.proofs.ReportedLemmas.{next_reported, read_fails}
 use Rattle.timefd_lint.proofs.lines.lint_next.Goals as goal

@@ -1,5 +1,5 @@
 use Rattle.std.proofs.Common.{codes, ap, ◌∙◌}
-use Rattle.timefd_diagnosis.specs.Words.{texts}
+use Rattle.timefd_lint_diagnosis.specs.Words.{texts}
 use Rattle.timefd_lint.specs.NoCodes.{all_codes}
 use Rattle.timefd_lint.proofs.NoneOfLemmas.{of_words}
 use Rattle.timefd_lint.proofs.no_code.no_code_sentence.Goals as goal

@@ -1,5 +1,5 @@
 use Rattle.std.proofs.Common.{rules, arith}
-use Rattle.timefd_lsp.proofs.EditorLemmas.EachLemmas.{one_more_at}
+use Rattle.timefd_lint_lsp.proofs.EditorLemmas.EachLemmas.{one_more_at}
 use Rattle.timefd_lint.specs.Rules.{IsReasonRule}
 use Rattle.timefd_lint.proofs.other_rules.push_reasons.Goals as goal
 

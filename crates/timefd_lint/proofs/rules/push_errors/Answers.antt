@@ -1,5 +1,5 @@
 use Rattle.std.proofs.Common.{rules, arith}
-use Rattle.timefd_lsp.proofs.EditorLemmas.EachLemmas.{one_more_at}
+use Rattle.timefd_lint_lsp.proofs.EditorLemmas.EachLemmas.{one_more_at}
 use Rattle.timefd_lint.specs.Rules.{IsErrorRule}
 use Rattle.timefd_lint.proofs.rules.push_errors.Goals as goal
 

@@ -1,5 +1,5 @@
 use Rattle.std.proofs.Common.{drop}
-use Rattle.timefd_lsp.proofs.EditorLemmas.EachLemmas.{IsReported}
+use Rattle.timefd_lint_lsp.proofs.EditorLemmas.EachLemmas.{IsReported}
 use Rattle.timefd_lint.specs.Rules.{IsErrorRule}
 use Rattle.timefd_lint.proofs.rules.push_errors.Given as goal
 

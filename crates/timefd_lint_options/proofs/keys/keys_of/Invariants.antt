@@ -1,5 +1,5 @@
 use Rattle.std.proofs.Common.{◌≡◌, ◌++◌, length}
-use Rattle.timefd_sources.specs.Keys.Keys.{named_all}
+use Rattle.timefd_lint_scan.specs.Keys.Keys.{named_all}
 use Rattle.timefd_lint_options.specs.KeyWords.{keys_from, keys_of}
 use Rattle.timefd_lint_options.proofs.keys.keys_of.Given as goal
 

@@ -1,5 +1,5 @@
 use Rattle.std.proofs.Common.{length}
-use Rattle.timefd_diagnosis.specs.Words.{texts}
+use Rattle.timefd_lint_diagnosis.specs.Words.{texts}
 use Rattle.timefd_lint_options.proofs.OrderLemmas.{IsOrderedFrom}
 use Rattle.timefd_lint_options.proofs.order.ordered.Given as goal
 

@@ -1,4 +1,4 @@
-use Rattle.timefd_diagnosis.specs.Words.{texts}
+use Rattle.timefd_lint_diagnosis.specs.Words.{texts}
 use Rattle.timefd_lint_options.proofs.SuggestionLemmas.{option_named}
 use Rattle.timefd_lint_options.proofs.suggestion.nearest_option.Goals as goal
 

@@ -1,6 +1,6 @@
 use Rattle.std.proofs.Common.{subst}
-use Rattle.timefd_diagnosis.specs.Further.{AreFurther, most_further, without}
-use Rattle.timefd_fault.specs.Faults.{fault_of}
+use Rattle.timefd_lang_fault.specs.Faults.{fault_of}
+use Rattle.timefd_lint_diagnosis.specs.Further.{AreFurther, most_further, without}
 use Rattle.timefd_lint_sources.proofs.ReportedLemmas.{all_reported, further_reported, items_reported}
 use Rattle.timefd_lint_sources.proofs.further.further_of.Goals as goal
 

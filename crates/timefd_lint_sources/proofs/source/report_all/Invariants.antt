@@ -1,5 +1,5 @@
 use Rattle.std.proofs.Common.{drop}
-use Rattle.timefd_drawing.specs.Counted.{IsCounted}
+use Rattle.timefd_lint_drawing.specs.Counted.{IsCounted}
 use Rattle.timefd_lint_sources.proofs.ReportLemmas.{IsReportedTo}
 use Rattle.timefd_lint_sources.proofs.source.report_all.Given as goal
 

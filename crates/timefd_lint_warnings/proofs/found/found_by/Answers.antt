@@ -1,6 +1,6 @@
 use Rattle.std.proofs.Common.{◌≡◌, ◌∙◌, List, ap, subst, sym}
 use Rattle.std.specs.Prelude.{IfOk}
-use Rattle.timefd_component.specs.Tree.{Tree}
+use Rattle.timefd_lang_component.specs.Tree.{Tree}
 use Rattle.timefd_language.specs.Grammar.{nesting_limit}
 use Rattle.timefd_parse.specs.Language.{SpellsIn}
 use Rattle.timefd_lint_warnings.specs.Found.{found_by}

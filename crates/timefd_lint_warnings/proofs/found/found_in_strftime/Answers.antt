@@ -1,5 +1,5 @@
 use Rattle.std.proofs.Common.{◌∙◌, ap}
-use Rattle.timefd_node_list.specs.Item.Meaning.{item_trees}
+use Rattle.timefd_lang_node_list.specs.Item.Meaning.{item_trees}
 use Rattle.timefd_lint_warnings.proofs.FoundLemmas.{items_as_spelled}
 use Rattle.timefd_lint_warnings.proofs.found.found_in_strftime.Goals as goal
 

@@ -1,5 +1,5 @@
 use Rattle.std.proofs.Common.{◌≡◌, ◌++◌, codes, flat_map, drop, string_bytes}
-use Rattle.timefd_dialect.specs.Dialects.{name_of}
+use Rattle.timefd_lang_dialect.specs.Dialects.{name_of}
 use Rattle.timefd_lint_warnings.proofs.hint.push_more.Given as goal
 
 abbrev pub invariant-loop-dialect : goal.invariant-loop-dialect

@@ -1,8 +1,8 @@
 use Rattle.std.proofs.Common.{List, refl, sym, subst}
-use Rattle.timefd_fault.specs.Faults.{Fault}
-use Rattle.timefd_component.specs.Tree.{Tree}
-use Rattle.timefd_fault.specs.BorrowedFaults.{IsBorrowed, IsMemory}
-use Rattle.timefd_fault.specs.Placed.{IsPlaced}
+use Rattle.timefd_lang_fault.specs.Faults.{Fault}
+use Rattle.timefd_lang_component.specs.Tree.{Tree}
+use Rattle.timefd_lang_fault.specs.BorrowedFaults.{IsBorrowed, IsMemory}
+use Rattle.timefd_lang_fault.specs.Placed.{IsPlaced}
 use Rattle.timefd_language.proofs.PlacedLemmas.{is_placed, borrowed_more}
 use Rattle.timefd_language.proofs.ShortWords.{short_fault, short_borrowed}
 use Rattle.timefd_language.specs.declared.description_version.DescriptionVersion.TheVariants.{Three}

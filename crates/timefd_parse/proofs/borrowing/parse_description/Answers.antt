@@ -1,7 +1,7 @@
 use Rattle.std.proofs.Common.{◌∙◌, ◌≤◌, ◌++◌, length, refl, sym, ap, subst, arith}
 use Rattle.timefd_items.specs.Builder.{built}
-use Rattle.timefd_component.specs.Reserved.{reserve_all}
-use Rattle.timefd_component.specs.Tree.{pack, trees}
+use Rattle.timefd_lang_component.specs.Reserved.{reserve_all}
+use Rattle.timefd_lang_component.specs.Tree.{pack, trees}
 use Rattle.timefd_parse.proofs.ParseLemmas.{items_spelled, same_list, none_read, no_fault_in, reserves_at_most}
 use Rattle.timefd_parse.proofs.BuildingLemmas.{list_within}
 use Rattle.timefd_parse.proofs.borrowing.parse_description.Goals as goal

@@ -1,7 +1,7 @@
 use Rattle.std.proofs.Common.{◌∷◌, ◌++◌, [], length, true, ap, arith, subst}
 use Rattle.std.proofs.lemmas.Result.{err_from_is_err_and}
-use Rattle.timefd_component.specs.Reserved.{reserve_all}
-use Rattle.timefd_component.specs.Tree.{trees}
+use Rattle.timefd_lang_component.specs.Reserved.{reserve_all}
+use Rattle.timefd_lang_component.specs.Tree.{trees}
 use Rattle.timefd_items.specs.Builder.{built}
 use Rattle.timefd_language.specs.declared.description_version.DescriptionVersion.TheVariants.{Three}
 use Rattle.timefd_parse.specs.Read.{IsFaultIn, IsNext, PiecesToEnd}

@@ -1,8 +1,8 @@
 use Rattle.std.proofs.Common.{◌≡◌, ◌+◌, ◌≤◌, [], length, refl, ap, arith}
 use Rattle.std.proofs.lemmas.Bool.{true≢false}
-use Rattle.timefd_component.specs.Reserved.{reserve, reserve_all}
-use Rattle.timefd_component.specs.Tree.{trees}
 use Rattle.timefd_items.specs.Builder.{built}
+use Rattle.timefd_lang_component.specs.Reserved.{reserve, reserve_all}
+use Rattle.timefd_lang_component.specs.Tree.{trees}
 use Rattle.timefd_language.specs.declared.description_version.DescriptionVersion.TheVariants.{Three}
 use Rattle.timefd_parse.proofs.AmountLemmas.{borrowed-in-version}
 use Rattle.timefd_parse.proofs.BuildingLemmas.{list_within}

@@ -1,9 +1,9 @@
 use Rattle.std.proofs.Common.{◌≡◌, List, IfOk, IfErr, IsFalse, MatchResult, sym, subst}
-use Rattle.timefd_fault.specs.Faults.{Fault}
-use Rattle.timefd_component.specs.Tree.{Tree}
-use Rattle.timefd_fault.specs.BorrowedFaults.{HasShortFault, IsBorrowed, IsBorrowedOf, IsMemory}
+use Rattle.timefd_lang_fault.specs.Faults.{Fault}
+use Rattle.timefd_lang_component.specs.Tree.{Tree}
+use Rattle.timefd_lang_fault.specs.BorrowedFaults.{HasShortFault, IsBorrowed, IsBorrowedOf, IsMemory}
 use Rattle.timefd_parse.specs.Language.{SpellsIn, FaultIn, amount, takes_memory}
-use Rattle.timefd_fault.specs.Placed.{IsPlaced}
+use Rattle.timefd_lang_fault.specs.Placed.{IsPlaced}
 use Rattle.timefd_language.specs.Spans.{HasSpan}
 use Rattle.timefd_language.proofs.PlacedLemmas.{borrowed_more}
 use Rattle.timefd_language.proofs.ShortWords.{short_borrowed}

@@ -1,4 +1,4 @@
-use Rattle.timefd_fault.proofs.OwnedLemmas.{owned_fault, owned_memory}
+use Rattle.timefd_lang_fault.proofs.OwnedLemmas.{owned_fault, owned_memory}
 use Rattle.timefd_language.proofs.PlacedLemmas.{owned_placed}
 use Rattle.timefd_parse.proofs.AmountLemmas.{owned-assigned-in}
 use Rattle.timefd_parse.proofs.language.amount_within.Goals as goal

@@ -1,8 +1,8 @@
 use Rattle.timefd_language.specs.declared.description_version.DescriptionVersion.TheVariants.{One}
 use Rattle.timefd_language.specs.Broken.{FaultOf}
 use Rattle.timefd_language.specs.Grammar.{nesting_limit}
-use Rattle.timefd_fault.specs.Placed.{IsPlaced}
-use Rattle.timefd_fault.proofs.OwnedLemmas.{owned_fault, owned_memory}
+use Rattle.timefd_lang_fault.specs.Placed.{IsPlaced}
+use Rattle.timefd_lang_fault.proofs.OwnedLemmas.{owned_fault, owned_memory}
 use Rattle.timefd_language.proofs.PlacedLemmas.{is_placed, borrowed_more, owned_placed}
 use Rattle.timefd_parse.proofs.ParseLemmas.{owned_assigned}
 use Rattle.timefd_parse.proofs.parsing.parse.Goals as goal

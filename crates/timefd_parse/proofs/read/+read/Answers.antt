@@ -1,7 +1,7 @@
 use Rattle.std.proofs.Common.{◌+◌, ◌≤◌, ◌==◌, IsTrue, not, rules, length, ap, subst, arith, lit<, [], ◌∷◌, ◌++◌, length-append, refl}
 use Rattle.std.proofs.lemmas.Result.{err_from_is_err_and}
 use Rattle.timefd_items.specs.Builder.{built}
-use Rattle.timefd_component.specs.Tree.{pack}
+use Rattle.timefd_lang_component.specs.Tree.{pack}
 use Rattle.timefd_language.specs.Bytes.{left, right, is_version_three}
 use Rattle.timefd_parse.specs.Read.{IsFaultIn, IsNext}
 use Rattle.timefd_parse.proofs.BuildingLemmas.{built_none, built_more, built_there, built_within}

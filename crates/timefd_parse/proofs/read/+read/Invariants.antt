@@ -2,7 +2,7 @@ use Rattle.std.proofs.Common.{◌≡◌, List, ◌∷◌, length, ◌<◌, ◌�
 use denote.Text.{Utf8}
 use denote.Shadow.{shadow}
 use Rattle.timefd_items.specs.Builder.{built}
-use Rattle.timefd_component.specs.Tree.{Tree}
+use Rattle.timefd_lang_component.specs.Tree.{Tree}
 use Rattle.timefd_language.specs.Bytes.{left}
 use Rattle.timefd_parse.specs.Pieces.{IsBuilt}
 use Rattle.timefd_parse.specs.Spans.{HasByteAt}

@@ -1,5 +1,5 @@
 use Rattle.std.proofs.Common.{◌≤◌, length, map, IsTrue, IsUtf8}
-use Rattle.timefd_node_list.specs.Item.Meaning.{item_tree}
+use Rattle.timefd_lang_node_list.specs.Item.Meaning.{item_tree}
 use Rattle.timefd_language.specs.Strings.{are_of_strings}
 use Rattle.timefd_parse.proofs.ReadLemmas.{Continues}
 use Rattle.timefd_parse.proofs.read.items.Given as goal

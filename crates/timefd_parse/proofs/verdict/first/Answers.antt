@@ -1,8 +1,8 @@
 use Rattle.std.proofs.Common.{◌∙◌, refl, sym, arith}
 use Rattle.std.proofs.lemmas.Bool.{true≢false}
 use Rattle.timefd_items.specs.Builder.{built}
-use Rattle.timefd_fault.specs.Faults.{fault}
-use Rattle.timefd_fault.specs.Words.{first_item, expected_alternative}
+use Rattle.timefd_lang_fault.specs.Faults.{fault}
+use Rattle.timefd_lang_fault.specs.Words.{first_item, expected_alternative}
 use Rattle.timefd_parse.proofs.BuildingLemmas.{is_off, is_on}
 use Rattle.timefd_parse.proofs.VerdictLemmas.{first_lax, first_empty, first_made, parts_none}
 use Rattle.timefd_language.specs.Bytes.{is_version_three}

@@ -1,8 +1,8 @@
 use Rattle.std.proofs.Common.{◌∙◌, refl, sym, arith}
 use Rattle.std.proofs.lemmas.Bool.{true≢false}
 use Rattle.timefd_items.specs.Builder.{built}
-use Rattle.timefd_fault.specs.Faults.{fault}
-use Rattle.timefd_fault.specs.Words.{expected_nested, optional_item}
+use Rattle.timefd_lang_fault.specs.Faults.{fault}
+use Rattle.timefd_lang_fault.specs.Words.{expected_nested, optional_item}
 use Rattle.timefd_parse.proofs.BuildingLemmas.{is_off, is_on}
 use Rattle.timefd_parse.proofs.VerdictLemmas.{parts_none, parts_one, parts_many, optional_none, optional_many, optional_lax, optional_made}
 use Rattle.timefd_language.specs.Bytes.{is_version_three}

@@ -1,5 +1,5 @@
 use Rattle.std.proofs.Common.{◌==◌, not, Ok, ◌++◌, sym, ap, ◌∙◌, subst, append-nil}
-use Rattle.timefd_component.specs.Tree.{component}
+use Rattle.timefd_lang_component.specs.Tree.{component}
 use Rattle.timefd_items.specs.Builder.{built}
 use Rattle.timefd_language.specs.Verdict.{optional_verdict, first_verdict}
 use Rattle.timefd_parse.specs.HeadVerdicts.{IsVerdict}

@@ -1,6 +1,6 @@
 use Rattle.std.proofs.Common.{◌≡◌, ◌∙◌, Some, sym, ap}
-use Rattle.timefd_component.specs.Tree.{literal}
-use Rattle.timefd_node_list.specs.declared.leaves.Leaf.TheVariants as leaf
+use Rattle.timefd_lang_component.specs.Tree.{literal}
+use Rattle.timefd_lang_node_list.specs.declared.leaves.Leaf.TheVariants as leaf
 use Rattle.timefd_c_nodes.specs.Formatting.Parts.{role}
 use Rattle.timefd_c_nodes.proofs.FormattingLemmas.FlatLemmas.{text_leaf}
 use Rattle.timefd_c_nodes.proofs.formatting.flat.leaf_of.Goals as goal

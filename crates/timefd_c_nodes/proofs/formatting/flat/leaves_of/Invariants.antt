@@ -1,5 +1,5 @@
 use Rattle.std.proofs.Common.{map}
-use Rattle.timefd_node_list.specs.LeafMeaning.{leaf_tree}
+use Rattle.timefd_lang_node_list.specs.LeafMeaning.{leaf_tree}
 use Rattle.timefd_c_nodes.proofs.FormattingLemmas.FlatLemmas.{AreInFront}
 use Rattle.timefd_c_nodes.proofs.formatting.flat.leaves_of.Given as goal
 

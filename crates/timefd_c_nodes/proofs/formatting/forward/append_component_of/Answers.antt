@@ -1,7 +1,7 @@
 use Rattle.std.proofs.Common.{subst}
 use Rattle.std.specs.Prelude.{IfSome}
-use Rattle.timefd_format.specs.Written.{shown}
-use Rattle.timefd_format.specs.Appends.{TriesToAppend}
+use Rattle.timefd_date_format.specs.Written.{shown}
+use Rattle.timefd_date_format.specs.Appends.{TriesToAppend}
 use Rattle.timefd_c_nodes.proofs.FormattingLemmas.ForwardLemmas.{again}
 use Rattle.timefd_c_nodes.proofs.formatting.forward.append_component_of.Goals as goal
 

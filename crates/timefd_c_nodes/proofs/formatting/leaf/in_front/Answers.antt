@@ -1,5 +1,5 @@
 use Rattle.std.proofs.Common.{◌≡◌, ◌∙◌, ◌+◌, ◌-◌, ◌≤◌, length, ap, subst, arith}
-use Rattle.timefd_node_list.specs.Nodes.{arity, before}
+use Rattle.timefd_lang_node_list.specs.Nodes.{arity, before}
 use Rattle.timefd_c_nodes.specs.Formatting.Parts.{role}
 use Rattle.timefd_c_nodes.specs.Formatting.Nodes.{node_trees}
 use Rattle.timefd_c_nodes.proofs.FormattingLemmas.CutLemmas.{few, skipped_fits, skipped_one}

@@ -1,5 +1,5 @@
 use Rattle.std.proofs.Common.{◌≡◌, ◌≤◌, None, length}
-use Rattle.timefd_node_list.specs.Nodes.{before}
+use Rattle.timefd_lang_node_list.specs.Nodes.{before}
 use Rattle.timefd_c_nodes.specs.Formatting.Nodes.{node_fault, node_trees}
 use Rattle.timefd_c_nodes.proofs.formatting.leaf.in_front.Given as goal
 

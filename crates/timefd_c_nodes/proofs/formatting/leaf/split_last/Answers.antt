@@ -1,7 +1,7 @@
 use Rattle.std.proofs.Common.{◌≡◌, ◌∙◌, ◌∷◌, [], ◌⊎◌, inl, inr, Bool, ℕ, refl, sym, ap}
-use Rattle.timefd_component.specs.Tree.{component}
-use Rattle.timefd_node_list.specs.Leaves.{role_leaves}
-use Rattle.timefd_node_list.proofs.LeafLemmas.{at_leaf, at_inner}
+use Rattle.timefd_lang_component.specs.Tree.{component}
+use Rattle.timefd_lang_node_list.specs.Leaves.{role_leaves}
+use Rattle.timefd_lang_node_list.proofs.LeafLemmas.{at_leaf, at_inner}
 use Rattle.timefd_c_nodes.specs.declared.formatting.part.Part.{Part}
 use Rattle.timefd_c_nodes.specs.declared.formatting.part.Part.TheVariants as part
 use Rattle.timefd_c_nodes.specs.Formatting.Parts.{role}

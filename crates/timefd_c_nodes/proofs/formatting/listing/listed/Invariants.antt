@@ -1,6 +1,6 @@
 use Rattle.std.proofs.Common.{◌≡◌, ◌≤◌, length, take}
 use Rattle.timefd_c_nodes.specs.Formatting.Nodes.{node_trees}
-use Rattle.timefd_node_list.specs.NodeTrees.{list_trees}
+use Rattle.timefd_lang_node_list.specs.NodeTrees.{list_trees}
 use Rattle.timefd_c_nodes.proofs.formatting.listing.listed.Given as goal
 
 -- the nodes in front are listed

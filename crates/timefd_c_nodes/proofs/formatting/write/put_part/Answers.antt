@@ -1,7 +1,7 @@
 use Rattle.std.proofs.Common.{ℕ, ◌≡◌, ◌∙◌, ◌≤◌, sym, ap, subst, arith}
-use Rattle.timefd_component.specs.Tree.{trees}
-use Rattle.timefd_moment.specs.declared.moment.Moment.{Moment}
-use Rattle.timefd_format.specs.Written.{written_all}
+use Rattle.timefd_lang_component.specs.Tree.{trees}
+use Rattle.timefd_date_moment.specs.declared.moment.Moment.{Moment}
+use Rattle.timefd_date_format.specs.Written.{written_all}
 use Rattle.timefd_c_nodes.specs.declared.formatting.part.Part.{Part}
 use Rattle.timefd_c_nodes.specs.declared.formatting.part.Part.TheVariants as part
 use Rattle.timefd_c_nodes.specs.Formatting.Parts.{role}

@@ -1,10 +1,10 @@
 use Rattle.std.proofs.Common.{◌∙◌, ◌-◌, length, refl, sym, ap, subst, arith}
 use Rattle.timefd_c_nodes.specs.Formatting.Parts.{part_role, role}
-use Rattle.timefd_component.specs.Tree.{trees}
-use Rattle.timefd_format.specs.Written.{written_all}
+use Rattle.timefd_lang_component.specs.Tree.{trees}
+use Rattle.timefd_date_format.specs.Written.{written_all}
 use Rattle.timefd_c_nodes.specs.Formatting.Nodes.{node_trees}
 use Rattle.timefd_c_nodes.specs.Formatting.Cursors.{TriesToWrite}
-use Rattle.timefd_format.specs.declared.cursor.WriteCursor.TheVariants as cursor
+use Rattle.timefd_date_format.specs.declared.cursor.WriteCursor.TheVariants as cursor
 use Rattle.timefd_c_nodes.proofs.FormattingLemmas.WalkLemmas.{all_written, meaningless, not_written, one_walked, too_few}
 use Rattle.timefd_c_nodes.proofs.formatting.write.write_nodes.Goals as goal
 

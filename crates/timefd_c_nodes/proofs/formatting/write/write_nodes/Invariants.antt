@@ -1,4 +1,4 @@
-use Rattle.timefd_format.specs.declared.cursor.WriteCursor.TheVariants as cursor
+use Rattle.timefd_date_format.specs.declared.cursor.WriteCursor.TheVariants as cursor
 use Rattle.timefd_c_nodes.proofs.FormattingLemmas.WalkLemmas.{IsWalked}
 use Rattle.timefd_c_nodes.proofs.formatting.write.write_nodes.Given as goal
 

@@ -1,8 +1,8 @@
 use Rattle.std.proofs.Common.{ℕ, ◌≡◌, drop, length, refl, take}
-use Rattle.timefd_component.specs.Tree.{trees}
+use Rattle.timefd_lang_component.specs.Tree.{trees}
 use Rattle.timefd_language.specs.Letters.{unflagged, item_of}
 use Rattle.timefd_language.specs.Strftime.{Directives, AreDirectives, directive, no_directives}
-use Rattle.timefd_node_list.specs.Views.{walked_all}
+use Rattle.timefd_lang_node_list.specs.Views.{walked_all}
 use Rattle.timefd_language.specs.declared.strftime.letter.Composite.{Composite}
 use Rattle.timefd_language.specs.declared.strftime.letter.Composite.TheVariants.{DateAndTime, ShortDate, IsoDate, TimeOf12, HourAndMinute, TimeOf24, Offset}
 use Rattle.timefd_language.specs.Directives.LetterMeaning.{composite_list}

@@ -1,5 +1,5 @@
 use Rattle.std.proofs.Common.{subst}
-use Rattle.timefd_component.specs.Tree.{pack}
+use Rattle.timefd_lang_component.specs.Tree.{pack}
 use Rattle.timefd_items.specs.Description.{description_tree}
 use Rattle.timefd_language.specs.declared.description_version.DescriptionVersion.TheVariants.{Three}
 use Rattle.timefd_parse.specs.Answers.{IsOutput}

@@ -1,7 +1,7 @@
 use Rattle.std.proofs.Common.{subst}
-use Rattle.timefd_component.specs.Reserved.{reserve}
+use Rattle.timefd_lang_component.specs.Reserved.{reserve}
 use Rattle.timefd_items.specs.Description.{description_tree}
-use Rattle.timefd_node_list.specs.Views.{walked}
+use Rattle.timefd_lang_node_list.specs.Views.{walked}
 use Rattle.timefd_c_nodes.specs.declared.position.TheConstants.{START}
 use Rattle.timefd_c_nodes.specs.Writing.{WritesWithin}
 use Rattle.timefd_c_nodes.proofs.ReadingLemmas.ReportLemmas.{reports_within}

@@ -1,5 +1,5 @@
 use Rattle.std.proofs.Common.{◌≤◌, ◌==◌, not, List, length, IsUtf8}
-use Rattle.timefd_component.specs.Tree.{Tree}
+use Rattle.timefd_lang_component.specs.Tree.{Tree}
 use Rattle.timefd_language.proofs.DirectiveLemmas.DirectiveLemmas.{Continues}
 use Rattle.timefd_c_nodes.specs.Reading.Pieces.{PiecesAreWritten}
 use Rattle.timefd_c_nodes.proofs.ReadingLemmas.CountedLemmas.{FitsIf}

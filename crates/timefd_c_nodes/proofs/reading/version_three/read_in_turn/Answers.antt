@@ -1,8 +1,8 @@
 use Rattle.std.proofs.Common.{◌≤◌, [], length, refl, ap, arith}
-use Rattle.timefd_component.specs.Reserved.{reserve_all}
-use Rattle.timefd_component.specs.Tree.{trees}
+use Rattle.timefd_lang_component.specs.Reserved.{reserve_all}
+use Rattle.timefd_lang_component.specs.Tree.{trees}
 use Rattle.timefd_language.specs.declared.description_version.DescriptionVersion.TheVariants.{Three}
-use Rattle.timefd_node_list.specs.Views.{walked_all}
+use Rattle.timefd_lang_node_list.specs.Views.{walked_all}
 use Rattle.timefd_language.specs.declared.language.Language.TheVariants.{Version}
 use Rattle.timefd_parse.proofs.BuildingLemmas.{list_within}
 use Rattle.timefd_parse.proofs.CountingLemmas.{pack_sum}

@@ -1,6 +1,6 @@
 use Rattle.std.proofs.Common.{◌∷◌, ◌++◌, [], List, true, arith, subst}
 use Rattle.std.proofs.lemmas.Result.{err_from_is_err_and}
-use Rattle.timefd_component.specs.Tree.{Tree}
+use Rattle.timefd_lang_component.specs.Tree.{Tree}
 use Rattle.timefd_items.specs.Builder.{built}
 use Rattle.timefd_language.specs.declared.description_version.DescriptionVersion.TheVariants.{Three}
 use Rattle.timefd_parse.specs.Pieces.{IsPiece}

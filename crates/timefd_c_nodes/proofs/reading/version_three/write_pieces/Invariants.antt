@@ -1,5 +1,5 @@
 use Rattle.std.proofs.Common.{◌≡◌, ◌≤◌, [], List, length, IsUtf8}
-use Rattle.timefd_component.specs.Tree.{Tree}
+use Rattle.timefd_lang_component.specs.Tree.{Tree}
 use Rattle.timefd_items.specs.Builder.{built}
 use Rattle.timefd_language.specs.declared.description_version.DescriptionVersion.TheVariants.{Three}
 use Rattle.timefd_parse.proofs.ReadLemmas.{Continues}

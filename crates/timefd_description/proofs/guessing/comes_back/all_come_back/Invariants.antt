@@ -1,7 +1,7 @@
 use Rattle.std.proofs.Common.{length}
 use Rattle.timefd_description.specs.Guessing.Found.{texts}
 use Rattle.timefd_description.proofs.GuessingLemmas.FoundLemmas.{Decides}
-use Rattle.timefd_node_list.specs.Views.{view_tree}
+use Rattle.timefd_lang_node_list.specs.Views.{view_tree}
 use Rattle.timefd_description.proofs.guessing.comes_back.all_come_back.Given as goal
 
 -- the result depends only on what is left

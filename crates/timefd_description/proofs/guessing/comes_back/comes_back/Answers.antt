@@ -1,5 +1,5 @@
 use Rattle.timefd_description.proofs.GuessingLemmas.FoundLemmas.{comes_some, comes_none}
-use Rattle.timefd_node_list.specs.Views.{view_tree}
+use Rattle.timefd_lang_node_list.specs.Views.{view_tree}
 use Rattle.timefd_description.proofs.guessing.comes_back.comes_back.Goals as goal
 
 pub returns-in-Some : goal.returns-in-Some

@@ -3,7 +3,7 @@ use Rattle.timefd_description.specs.Guessing.Found.{texts}
 use Rattle.timefd_description.proofs.GuessingLemmas.FoundLemmas.{reads_none_of, reads_of}
 use Rattle.timefd_items.specs.Description.{description_tree}
 use Rattle.timefd_language.specs.declared.description_version.DescriptionVersion.TheVariants.{Three}
-use Rattle.timefd_node_list.specs.Views.{view_tree}
+use Rattle.timefd_lang_node_list.specs.Views.{view_tree}
 use Rattle.timefd_parse.specs.Answers.{IsOutput}
 use Rattle.timefd_description.proofs.guessing.comes_back.reads_all.Goals as goal
 

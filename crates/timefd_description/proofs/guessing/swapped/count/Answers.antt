@@ -2,7 +2,7 @@ use Rattle.std.proofs.Common.{length, rules, arith}
 use Rattle.std.proofs.lemmas.List.{nil_from_length}
 use Rattle.timefd_description.specs.Guessing.Found.{texts}
 use Rattle.timefd_description.proofs.GuessingLemmas.FoundLemmas.{all_counted, bound_more, first_counted}
-use Rattle.timefd_node_list.specs.Views.{view_tree}
+use Rattle.timefd_lang_node_list.specs.Views.{view_tree}
 use Rattle.timefd_description.proofs.guessing.swapped.count.Goals as goal
 
 pub texts-preserved : goal.texts-preserved

@@ -1,8 +1,8 @@
 use Rattle.std.proofs.Common.{◌∙◌, arith}
 use Rattle.timefd_items.specs.Description.{description_tree}
-use Rattle.timefd_node_list.specs.NodeTrees.{list_trees}
-use Rattle.timefd_component.proofs.Greatest.{reached_at, longest_at}
-use Rattle.timefd_node_list.proofs.NodeListLemmas.{kept_of_one}
+use Rattle.timefd_lang_node_list.specs.NodeTrees.{list_trees}
+use Rattle.timefd_lang_component.proofs.Greatest.{reached_at, longest_at}
+use Rattle.timefd_lang_node_list.proofs.NodeListLemmas.{kept_of_one}
 use Rattle.timefd_items.proofs.format_description_v3.FormatDescriptionV3.max_bytes_needed.Goals as goal
 
 pub returns-clause-reserved : goal.returns-clause-reserved

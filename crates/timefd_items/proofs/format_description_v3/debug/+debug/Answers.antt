@@ -1,7 +1,7 @@
 use Rattle.std.proofs.Common.{ap, arith, rules}
-use Rattle.timefd_component.specs.Reserved.{tree_count}
 use Rattle.timefd_items.proofs.InnerLemmas.{member_count}
 use Rattle.timefd_items.proofs.format_description_v3.debug.+debug.Goals as goal
+use Rattle.timefd_lang_component.specs.Reserved.{tree_count}
 
 pub write_members-write_content-requires : goal.write_members-write_content-requires
 write_members-write_content-requires g t c κs within = (

@@ -1,8 +1,8 @@
 use Rattle.std.proofs.Common.{◌+◌, ◌*◌, map}
 use Rattle.timefd_items.specs.Content.{content_tree}
 use Rattle.timefd_items.specs.Meaning.{inner_tree}
-use Rattle.timefd_component.specs.Reserved.{tree_count, trees_count}
-use Rattle.timefd_component.specs.Tree.{trees}
+use Rattle.timefd_lang_component.specs.Reserved.{tree_count, trees_count}
+use Rattle.timefd_lang_component.specs.Tree.{trees}
 use Rattle.timefd_items.proofs.format_description_v3.debug.+debug.Given as goal
 
 -- a list is one step before its first member

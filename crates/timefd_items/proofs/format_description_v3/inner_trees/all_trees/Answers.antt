@@ -1,6 +1,6 @@
 use Rattle.std.proofs.Common.{◌∙◌, ◌≤◌, [], length, map, take, sym, ap, add-one, arith}
-use Rattle.timefd_node_list.specs.Nodes.{arity, grown_by, part}
-use Rattle.timefd_node_list.proofs.NodeLemmas.{fits_at, grown_at}
+use Rattle.timefd_lang_node_list.specs.Nodes.{arity, grown_by, part}
+use Rattle.timefd_lang_node_list.proofs.NodeLemmas.{fits_at, grown_at}
 use Rattle.timefd_items.proofs.InnerLemmas.{length-inner_trees, tree_pushed}
 use Rattle.timefd_items.proofs.format_description_v3.inner_trees.all_trees.Goals as goal
 

@@ -1,7 +1,7 @@
 use Rattle.std.proofs.Common.{◌∙◌, ap, arith}
-use Rattle.timefd_component.specs.Tree.{compound, trees}
 use Rattle.timefd_items.proofs.InnerLemmas.{before_taken, ending_taken}
 use Rattle.timefd_items.proofs.format_description_v3.inner_trees.compound.Goals as goal
+use Rattle.timefd_lang_component.specs.Tree.{compound, trees}
 
 pub returns-clause-tree : goal.returns-clause-tree
 returns-clause-tree c =

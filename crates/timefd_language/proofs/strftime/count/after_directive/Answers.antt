@@ -1,5 +1,5 @@
 use Rattle.std.proofs.Common.{Some, None, get_or, subst, arith, refl}
-use Rattle.timefd_component.specs.Tree.{Text}
+use Rattle.timefd_lang_component.specs.Tree.{Text}
 use Rattle.timefd_language.specs.Directives.LetterMeaning.{IsLetter}
 use Rattle.timefd_language.proofs.DirectiveLemmas.DirectiveLemmas.{none_left, directive_leads_to, directive_unknown, directive_cut_short}
 use Rattle.timefd_language.proofs.strftime.count.after_directive.Goals as goal

@@ -1,6 +1,6 @@
 use Rattle.std.proofs.Common.{arith, refl, subst, sym}
 use Rattle.std.proofs.lemmas.Result.{err_from_is_err_and}
-use Rattle.timefd_component.specs.Tree.{Text}
+use Rattle.timefd_lang_component.specs.Tree.{Text}
 use Rattle.timefd_language.specs.Directives.StrftimeReading.{IsStrftimeFaultAt, LeadsTo}
 use Rattle.timefd_language.proofs.DirectiveLemmas.DirectiveLemmas.{all_counted, counts_none, counts_more, counted_fault, leads_from}
 use Rattle.timefd_language.proofs.strftime.count.count_of.Goals as goal

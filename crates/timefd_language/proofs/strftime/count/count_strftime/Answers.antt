@@ -1,4 +1,4 @@
-use Rattle.timefd_fault.specs.BorrowedFaults.{to_borrowed_fault}
+use Rattle.timefd_lang_fault.specs.BorrowedFaults.{to_borrowed_fault}
 use Rattle.timefd_language.proofs.PlacedLemmas.{is_strftime_placed}
 use Rattle.timefd_language.proofs.ShortWords.{short_strftime_fault}
 use Rattle.timefd_language.proofs.DirectiveLemmas.DirectiveLemmas.{borrowed_strftime_fault, spanned_strftime_fault}

@@ -1,7 +1,7 @@
 use Rattle.std.proofs.Common.{List, map, sym, subst, arith, IsTrue}
 use Rattle.std.proofs.lemmas.Result.{err_from_is_err_and}
-use Rattle.timefd_node_list.specs.declared.item.borrowed_format_item.BorrowedFormatItem.{BorrowedFormatItem}
-use Rattle.timefd_node_list.specs.Item.Meaning.{item_tree}
+use Rattle.timefd_lang_node_list.specs.declared.item.borrowed_format_item.BorrowedFormatItem.{BorrowedFormatItem}
+use Rattle.timefd_lang_node_list.specs.Item.Meaning.{item_tree}
 use Rattle.timefd_language.specs.Strings.{are_of_strings}
 use Rattle.timefd_language.proofs.DirectiveLemmas.DirectiveLemmas.{Continues, IsNext, all_read, items_more, fault_after}
 use Rattle.timefd_language.proofs.StringLemmas.{more_strings}

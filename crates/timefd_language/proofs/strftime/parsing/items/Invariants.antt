@@ -1,7 +1,7 @@
 use Rattle.std.proofs.Common.{length, map, ◌≤◌, IsTrue}
 use denote.Text.{Utf8}
 use denote.Shadow.{shadow}
-use Rattle.timefd_node_list.specs.Item.Meaning.{item_tree}
+use Rattle.timefd_lang_node_list.specs.Item.Meaning.{item_tree}
 use Rattle.timefd_language.specs.Strings.{are_of_strings}
 use Rattle.timefd_language.proofs.DirectiveLemmas.DirectiveLemmas.{Continues}
 use Rattle.timefd_language.proofs.strftime.parsing.items.Given as goal

@@ -1,5 +1,5 @@
 use Rattle.timefd_language.specs.Strftime.{StrftimeFaultOf}
-use Rattle.timefd_fault.specs.Placed.{IsPlaced}
+use Rattle.timefd_lang_fault.specs.Placed.{IsPlaced}
 use Rattle.timefd_language.proofs.PlacedLemmas.{is_strftime_placed, borrowed_more}
 use Rattle.timefd_language.proofs.ShortWords.{short_borrowed, short_strftime_fault}
 use Rattle.timefd_language.proofs.DirectiveLemmas.DirectiveLemmas.{one}

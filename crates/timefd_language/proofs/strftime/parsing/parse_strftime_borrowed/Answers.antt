@@ -1,4 +1,4 @@
-use Rattle.timefd_fault.proofs.OwnedLemmas.{owned_fault, owned_memory}
+use Rattle.timefd_lang_fault.proofs.OwnedLemmas.{owned_fault, owned_memory}
 use Rattle.timefd_language.proofs.PlacedLemmas.{owned_placed}
 use Rattle.timefd_language.proofs.DirectiveLemmas.DirectiveLemmas.{owned_strftime}
 use Rattle.timefd_language.proofs.strftime.parsing.parse_strftime_borrowed.Goals as goal

@@ -1,5 +1,5 @@
 use Rattle.std.proofs.Common.{◌≡◌, ◌++◌, length}
-use Rattle.timefd_sources.specs.Keys.Keys.{named_all}
+use Rattle.timefd_lint_scan.specs.Keys.Keys.{named_all}
 use Rattle.timefd_lint_options.proofs.config.borrowed.same_keys.Given as goal
 
 -- The remaining keys follow.

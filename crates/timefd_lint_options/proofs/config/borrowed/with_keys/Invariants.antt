@@ -1,5 +1,5 @@
 use Rattle.std.proofs.Common.{◌≡◌, ◌++◌, length}
-use Rattle.timefd_sources.specs.Keys.Keys as borrowed
+use Rattle.timefd_lint_scan.specs.Keys.Keys as borrowed
 use Rattle.timefd_lint_options.specs.Config.Config.{named_all}
 use Rattle.timefd_lint_options.proofs.config.borrowed.with_keys.Given as goal
 

@@ -1,8 +1,8 @@
 use Rattle.std.proofs.Common.{ℕ, ◌≡◌, ◌∙◌, ◌++◌, ◌∷◌, [], ap, arith, rules}
 use Rattle.timefd_items.specs.Builder.{built}
-use Rattle.timefd_node_list.specs.Nodes.{before, ending}
-use Rattle.timefd_node_list.specs.NodeTrees.{list_trees}
-use Rattle.timefd_component.specs.Tree.{Tree, first, trees}
+use Rattle.timefd_lang_node_list.specs.Nodes.{before, ending}
+use Rattle.timefd_lang_node_list.specs.NodeTrees.{list_trees}
+use Rattle.timefd_lang_component.specs.Tree.{Tree, first, trees}
 use Rattle.timefd_items.proofs.BuilderLemmas.{few_nodes, largest-made, length-made, first-ending}
 use Rattle.timefd_items.proofs.format_description_v3.builder.DescriptionBuilder.first.Goals as goal
 

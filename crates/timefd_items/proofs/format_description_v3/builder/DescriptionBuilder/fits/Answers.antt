@@ -1,7 +1,7 @@
 use Rattle.std.proofs.Common.{◌∙◌, [], ap, is_some}
 use Rattle.timefd_items.specs.Builder.{built}
-use Rattle.timefd_node_list.specs.Nodes.{ending, grown_by}
-use Rattle.timefd_node_list.specs.Tallies.{kept_sum}
+use Rattle.timefd_lang_node_list.specs.Nodes.{ending, grown_by}
+use Rattle.timefd_lang_node_list.specs.Tallies.{kept_sum}
 use Rattle.timefd_items.proofs.BuilderLemmas.{sum_tells}
 use Rattle.timefd_items.proofs.format_description_v3.builder.DescriptionBuilder.fits.Goals as goal
 

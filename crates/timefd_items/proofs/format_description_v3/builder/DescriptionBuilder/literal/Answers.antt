@@ -1,10 +1,10 @@
 use Rattle.std.proofs.Common.{◌≡◌, ◌∙◌, ◌++◌, ◌∷◌, [], ap, arith, refl, subst, sym}
 use Rattle.timefd_items.specs.Builder.{built}
-use Rattle.timefd_node_list.specs.NodeTrees.{list_trees}
-use Rattle.timefd_node_list.specs.Tallies.{IsSum}
-use Rattle.timefd_component.specs.Tree.{literal}
+use Rattle.timefd_lang_node_list.specs.NodeTrees.{list_trees}
+use Rattle.timefd_lang_node_list.specs.Tallies.{IsSum}
+use Rattle.timefd_lang_component.specs.Tree.{literal}
 use Rattle.timefd_items.proofs.BuilderLemmas.{largest-one_more, length-one_more}
-use Rattle.timefd_node_list.proofs.SumLemmas.{sum-one_more}
+use Rattle.timefd_lang_node_list.proofs.SumLemmas.{sum-one_more}
 use Rattle.timefd_items.proofs.format_description_v3.builder.DescriptionBuilder.literal.Goals as goal
 
 pub invariant_of-self-2 : goal.invariant_of-self-2

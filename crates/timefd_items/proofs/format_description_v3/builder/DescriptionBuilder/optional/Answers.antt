@@ -1,10 +1,10 @@
 use Rattle.std.proofs.Common.{◌≡◌, ◌∙◌, ◌++◌, ◌∷◌, [], ap, arith}
 use Rattle.timefd_items.specs.Builder.{built}
-use Rattle.timefd_node_list.specs.Nodes.{before, ending}
-use Rattle.timefd_node_list.specs.NodeTrees.{list_trees}
-use Rattle.timefd_component.specs.Tree.{Tree, optional, pack}
+use Rattle.timefd_lang_node_list.specs.Nodes.{before, ending}
+use Rattle.timefd_lang_node_list.specs.NodeTrees.{list_trees}
+use Rattle.timefd_lang_component.specs.Tree.{Tree, optional, pack}
 use Rattle.timefd_items.proofs.BuilderLemmas.{few_nodes, largest-made, length-made, optional-ending}
-use Rattle.timefd_node_list.proofs.SumLemmas.{sum-optional}
+use Rattle.timefd_lang_node_list.proofs.SumLemmas.{sum-optional}
 use Rattle.timefd_items.proofs.format_description_v3.builder.DescriptionBuilder.optional.Goals as goal
 
 pub overflow_add-self : goal.overflow_add-self

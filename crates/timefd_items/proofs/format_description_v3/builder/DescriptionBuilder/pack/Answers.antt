@@ -1,10 +1,10 @@
 use Rattle.std.proofs.Common.{ℕ, ◌≡◌, ◌∙◌, ◌++◌, ◌∷◌, [], ap, arith}
 use Rattle.timefd_items.specs.Builder.{built}
-use Rattle.timefd_node_list.specs.Nodes.{before, ending}
-use Rattle.timefd_node_list.specs.NodeTrees.{list_trees}
-use Rattle.timefd_component.specs.Tree.{Tree, compound, trees}
+use Rattle.timefd_lang_node_list.specs.Nodes.{before, ending}
+use Rattle.timefd_lang_node_list.specs.NodeTrees.{list_trees}
+use Rattle.timefd_lang_component.specs.Tree.{Tree, compound, trees}
 use Rattle.timefd_items.proofs.BuilderLemmas.{few_nodes, largest-made, length-made}
-use Rattle.timefd_node_list.proofs.SumLemmas.{sum-packed}
+use Rattle.timefd_lang_node_list.proofs.SumLemmas.{sum-packed}
 use Rattle.timefd_items.proofs.format_description_v3.builder.DescriptionBuilder.pack.Goals as goal
 
 pub overflow_add-self : goal.overflow_add-self

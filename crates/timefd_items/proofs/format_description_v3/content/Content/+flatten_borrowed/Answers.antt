@@ -1,7 +1,7 @@
 use Rattle.std.proofs.Common.{ap, arith}
-use Rattle.timefd_component.specs.Reserved.{tree_count}
 use Rattle.timefd_items.proofs.InnerLemmas.{member_count, member_left}
 use Rattle.timefd_items.proofs.format_description_v3.content.Content.+flatten_borrowed.Goals as goal
+use Rattle.timefd_lang_component.specs.Reserved.{tree_count}
 
 pub flatten_all-flatten-requires : goal.flatten_all-flatten-requires
 flatten_all-flatten-requires t c = (

@@ -1,7 +1,7 @@
 use Rattle.std.proofs.Common.{◌≡◌, map, ◌+◌, ◌*◌, ◌≤◌, drop}
 use Rattle.timefd_items.specs.Meaning.{inner_tree}
-use Rattle.timefd_component.specs.Reserved.{reserve_all, tree_count, trees_count}
-use Rattle.timefd_component.specs.Tree.{trees}
+use Rattle.timefd_lang_component.specs.Reserved.{reserve_all, tree_count, trees_count}
+use Rattle.timefd_lang_component.specs.Tree.{trees}
 use Rattle.timefd_items.proofs.format_description_v3.inner.FormatDescriptionV3Inner.+bytes.Given as goal
 
 -- the total and what is left are the whole

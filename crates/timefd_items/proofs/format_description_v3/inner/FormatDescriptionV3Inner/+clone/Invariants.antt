@@ -1,7 +1,7 @@
 use Rattle.std.proofs.Common.{◌≡◌, ◌+◌, ◌*◌, map, take}
 use Rattle.timefd_items.specs.Meaning.{inner_tree, owned_parts}
-use Rattle.timefd_component.specs.Reserved.{tree_count, trees_count}
-use Rattle.timefd_component.specs.Tree.{trees}
+use Rattle.timefd_lang_component.specs.Reserved.{tree_count, trees_count}
+use Rattle.timefd_lang_component.specs.Tree.{trees}
 use Rattle.timefd_items.proofs.format_description_v3.inner.FormatDescriptionV3Inner.+clone.Given as goal
 
 -- the copies are of those before this one

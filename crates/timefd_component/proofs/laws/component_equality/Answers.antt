@@ -1,5 +1,0 @@
-use Rattle.timefd_component.proofs.EqualityLemmas.{component_equality_law}
-use Rattle.timefd_component.proofs.laws.component_equality.Goals as goal
-
-pub returns : goal.returns
-returns c = component_equality_law

@@ -1,8 +1,0 @@
--- Equality of components.
-use Rattle.std.specs.Prelude.{Bool}
-use Rattle.timefd_component.specs.declared.component.Component.{Component}
-use Rattle.timefd_component.specs.contracts.component.ComponentPartialEq.TheImpl as component_eq
-
--- `==` of components
-abbrev pub same_component : Component → Component → Bool
-same_component = (component_eq.ghosts).eq

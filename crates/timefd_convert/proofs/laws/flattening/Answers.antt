@@ -1,5 +1,0 @@
-use Rattle.timefd_convert.proofs.LetterLemmas.{flattening_law}
-use Rattle.timefd_convert.proofs.laws.flattening.Goals as goal
-
-pub returns : goal.returns
-returns c = flattening_law

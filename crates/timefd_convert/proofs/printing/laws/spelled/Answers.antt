@@ -1,5 +1,0 @@
-use Rattle.timefd_convert.proofs.PrintingLemmas.SpelledLemmas.{spelled_law}
-use Rattle.timefd_convert.proofs.printing.laws.spelled.Goals as goal
-
-pub returns : goal.returns
-returns c = spelled_law

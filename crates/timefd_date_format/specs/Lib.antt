@@ -1,0 +1,12 @@
+pub mod Puts
+pub mod Fields
+pub mod Written
+pub mod Writes
+pub mod Laws
+pub mod Outcomes
+pub mod Literals
+pub mod Answers
+pub mod Sent
+pub mod Sentences
+pub mod Appends
+pub mod Fronts

@@ -1,0 +1,55 @@
+-- Numbers that are read without fields.
+use Rattle.std.proofs.Common.{ℕ, ◌≡◌, ◌∙◌, ◌≤◌, ◌==◌, false, if◌then◌else◌, [], ◌∷◌, length, drop, Option, Some, None, Result, Ok, Err, refl, sym, ap, subst}
+use Rattle.timefd_modifier.specs.declared.enums.Padding.{Padding}
+use Rattle.timefd_lang_component.specs.declared.component.Component.{Component}
+use Rattle.timefd_lang_component.specs.Modern.{modern}
+use Rattle.timefd_lang_component.specs.Tree.{Text, Trees, compound, component}
+use Rattle.timefd_date_moment.specs.declared.fields.fault.Fault.{Fault}
+use Rattle.timefd_date_moment.specs.declared.fields.fields.Amount.{Amount}
+use Rattle.timefd_date_moment.specs.declared.fields.fields.Count.{Count}
+use Rattle.timefd_date_moment.specs.declared.fields.fields.Fields.{Fields}
+use Rattle.timefd_date_moment.specs.declared.fields.reading.Reading.{Reading}
+use Rattle.timefd_date_moment.specs.declared.fields.rule.Form.{Form}
+use Rattle.timefd_date_moment.specs.declared.fields.rule.Rule.TheVariants as by
+use Rattle.timefd_date_moment.specs.declared.fields.short.Numbers.{Numbers}
+use Rattle.timefd_date_moment.specs.Fields.Inputs.{as_amount, as_count, input}
+use Rattle.timefd_date_moment.specs.Fields.Numbers.{digits, signed, within}
+use Rattle.timefd_date_moment.specs.Fields.Readings.{with_reading}
+use Rattle.timefd_date_moment.specs.Fields.Reads.{Point, TakesFront, agreed, at, ended, fields_of, read, read_all, start, taken, whole}
+use Rattle.timefd_date_moment.specs.Fields.Rules.{rule_of}
+use Rattle.timefd_date_moment.specs.Fields.Short.{TakesNumber, fields_with}
+use Rattle.timefd_date_moment.proofs.FieldsLemmas.QuickLemmas as quick
+
+pub number_by : (c : Component) (field : Count) (l h : ℕ) (text : Text) (old : Numbers) (r : Option (ℕ × Numbers))
+    → by.Number field Padding.Zero 2 l h ≡ rule_of c
+    → TakesNumber (as_count field (within l h (digits 2 2 text))) text old r
+    → TakesNumber (input (rule_of (modern c)) text) text old r
+number_by c field l h text old None is takes = tt
+number_by c field l h text old (Some r) is takes =
+    quick.by_number c field l h text (fields_with old) (fields_with r.1) (Some r.0) is takes
+
+pub sign_by : (c : Component) (form : Form) (text : Text) (old : Numbers) (r : Option (ℕ × Numbers))
+    → by.Signed Amount.Year false form ≡ rule_of c
+    → TakesNumber (as_amount Amount.Year (signed false form text)) text old r
+    → TakesNumber (input (rule_of (modern c)) text) text old r
+sign_by c form text old None is takes = tt
+sign_by c form text old (Some r) is takes =
+    quick.by_sign c Amount.Year form text (fields_with old) (fields_with r.1) (Some r.0) is takes
+
+-- A component that was taken was read.
+pub component_read : (c : Component) (text : Text) (old : Numbers) (r : ℕ × Numbers)
+    → TakesNumber (input (rule_of (modern c)) text) text old (Some r)
+    → read (component c) (at text (fields_with old)) ≡ Ok (at (drop r.0 text) (fields_with r.1))
+component_read c text old r takes =
+    ap (taken (modern c) (at text (fields_with old))) takes.1
+    ∙ ap (agreed (modern c) (at text (fields_with old)) r.0) takes.2
+
+pub component_within : (c : Component) (text : Text) (old : Numbers) (r : ℕ × Numbers)
+    → TakesNumber (input (rule_of (modern c)) text) text old (Some r) → r.0 ≤ length text
+component_within c text old r takes = takes.3
+
+-- All of the text is read.
+pub all_read : (ts : Trees) (text rest : Text) (fields : Fields) → Ok (at rest fields) ≡ read_all ts (start text)
+    → rest ≡ [] → fields_of (compound ts) text ≡ Ok fields
+all_read ts text rest fields is none =
+    ap (whole (length text)) (sym is) ∙ ap (λ r. ended (length text) r fields) none

@@ -1,0 +1,7 @@
+use Rattle.timefd_date_moment.proofs.ReadingLemmas.ValueLemmas.{stamped_date}
+use Rattle.timefd_date_moment.proofs.reading.dates.date.Goals as goal
+
+pub returns-in-Ok : goal.returns-in-Ok
+returns-in-Ok c =
+    stamped_date c.args.fields.now c.instant_read.result c.in-Some.unix c.in-Ok.stamped c.instant_read.ensures
+    c.in-Some.is c.in-Ok.ensures

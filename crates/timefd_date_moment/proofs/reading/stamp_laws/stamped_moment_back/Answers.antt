@@ -1,0 +1,5 @@
+use Rattle.timefd_date_moment.proofs.ReadingLemmas.StampLawLemmas.{stamped_moment_back}
+use Rattle.timefd_date_moment.proofs.reading.stamp_laws.stamped_moment_back.Goals as goal
+
+pub returns : goal.returns
+returns c = stamped_moment_back

@@ -1,5 +1,0 @@
-use Rattle.timefd_dialect.proofs.SpotLemmas.{one_list_of_traps_law}
-use Rattle.timefd_dialect.proofs.laws.one_list_of_traps.Goals as goal
-
-pub returns : goal.returns
-returns c = one_list_of_traps_law

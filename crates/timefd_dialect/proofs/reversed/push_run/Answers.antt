@@ -1,6 +1,0 @@
-use Rattle.timefd_dialect.proofs.AskedLemmas.{all_run}
-use Rattle.timefd_dialect.proofs.reversed.push_run.Goals as goal
-
-pub returns : goal.returns
-returns c =
-    all_run c.args.text.now _ _ c.characters.rest c.characters.invariant.1 (search) (search)

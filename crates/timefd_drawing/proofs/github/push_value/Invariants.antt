@@ -1,7 +1,0 @@
-use Rattle.std.proofs.Common.{◌≡◌, ◌++◌, flat_map, drop}
-use Rattle.timefd_drawing.specs.Github.{property_byte}
-use Rattle.timefd_drawing.proofs.github.push_value.Given as goal
-
-abbrev pub invariant-loop-byte : goal.invariant-loop-byte
-invariant-loop-byte l = l.out.items ++ flat_map property_byte (drop l.byte-index l.value)
-    ≡ l.fn.out.items ++ flat_map property_byte l.value

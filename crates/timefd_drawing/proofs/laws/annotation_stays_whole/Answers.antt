@@ -1,5 +1,0 @@
-use Rattle.timefd_drawing.proofs.GithubLemmas.{annotation_stays_whole}
-use Rattle.timefd_drawing.proofs.laws.annotation_stays_whole.Goals as goal
-
-pub returns : goal.returns
-returns c = annotation_stays_whole

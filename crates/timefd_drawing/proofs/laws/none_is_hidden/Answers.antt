@@ -1,5 +1,0 @@
-use Rattle.timefd_drawing.proofs.ShownLemmas.{none_is_hidden}
-use Rattle.timefd_drawing.proofs.laws.none_is_hidden.Goals as goal
-
-pub returns : goal.returns
-returns c = none_is_hidden

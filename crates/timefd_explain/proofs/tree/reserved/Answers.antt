@@ -1,9 +1,0 @@
-use Rattle.std.proofs.Common.{subst}
-use Rattle.timefd_fault.specs.Reported.{MemoryAlone}
-use Rattle.timefd_explain.proofs.tree.reserved.Goals as goal
-
--- A text that is spelled has no fault.
-pub returns-in-Err-Invalid : goal.returns-in-Err-Invalid
-returns-in-Err-Invalid c = λ list s.
-    absurd (subst MemoryAlone c.in-Err-Invalid.field-0-is
-    (c.in-Err-Invalid.ensures.spelled list s))

@@ -1,5 +1,0 @@
-use Rattle.timefd_fault.proofs.CodeLemmas as lemmas
-use Rattle.timefd_fault.proofs.code.names_differ.Goals as goal
-
-pub returns : goal.returns
-returns c = lemmas.names_differ

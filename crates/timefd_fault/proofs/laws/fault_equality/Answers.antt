@@ -1,5 +1,0 @@
-use Rattle.timefd_fault.proofs.FaultEqualityLemmas.{fault_equality_law}
-use Rattle.timefd_fault.proofs.laws.fault_equality.Goals as goal
-
-pub returns : goal.returns
-returns c = fault_equality_law

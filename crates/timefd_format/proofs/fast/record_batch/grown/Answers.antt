@@ -1,0 +1,11 @@
+use Rattle.std.proofs.Common.{refl}
+use Rattle.timefd_format.proofs.FieldLemmas.{slice_to_end}
+use Rattle.timefd_format.proofs.RecordBatchLemmas.{one_more}
+use Rattle.timefd_format.proofs.fast.record_batch.grown.Goals as goal
+
+pub returns : goal.returns
+returns c =
+    one_more c.args.source.now c.args.description.now c.args.count c.args.text.now _ _ c.args.room.now
+    c.append_record.new.room c.args.batch c.in_ok-len.len c.in_ok-end.end c.requires.batch
+    (slice_to_end c.args.text.now c.args.batch.read) c.in_ok-len.ensures.within c.in_ok-len.ensures.record
+    refl c.in_ok-end.ensures

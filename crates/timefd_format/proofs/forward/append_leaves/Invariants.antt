@@ -1,6 +1,0 @@
-use Rattle.timefd_format.proofs.ForwardLemmas.{IsSoFar}
-use Rattle.timefd_format.proofs.forward.append_leaves.Given as goal
-
--- The leaves that are left follow what is appended.
-abbrev pub invariant-leaves : goal.invariant-leaves
-invariant-leaves l = IsSoFar l.moment l.leaves l.leaf-index l.fn.room l.fn.from l.room l.at

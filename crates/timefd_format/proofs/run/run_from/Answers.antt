@@ -1,0 +1,16 @@
+use Rattle.timefd_format.proofs.RunLemmas.{ran}
+use Rattle.timefd_format.proofs.run.run_from.Goals as goal
+use Rattle.timefd_lint_diagnosis.specs.Words.{texts}
+
+pub returns-in_ok-tally-in-Description : goal.returns-in_ok-tally-in-Description
+returns-in_ok-tally-in-Description g c = record {
+  ends = tt;
+  unread = c.in_ok-tally-in-Description.ensures.unread;
+  run =
+      ran c.args.column c.args.otherwise c.args.source.now c.args.manner.is_quiet c.args.languages c.args.description.now (texts c.args.words.now)
+      (g.I.BufferedSource.remaining c.args.input.now) (g.W.Sink.contents c.args.output.now)
+      (g.W.Sink.contents c.write_all.new.output) c.in_ok-diagnostic.field-0
+      c.in-Description.description c.warned_by-warned.result c.in_ok-tally-in-Description.tally c.in-Description.is
+      c.in_ok-diagnostic.ensures c.warned_by-warned.ensures
+      c.in_ok-tally-in-Description.ensures.run;
+}

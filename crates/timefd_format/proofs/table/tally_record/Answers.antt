@@ -1,0 +1,13 @@
+use Rattle.std.proofs.Common.{◌∙◌}
+use Rattle.timefd_format.proofs.TableLemmas.{has_some, of_cell_ok}
+use Rattle.timefd_format.proofs.table.tally_record.Goals as goal
+
+pub returns-in_ok-text_in-in-Some-clause-one : goal.returns-in_ok-text_in-in-Some-clause-one
+returns-in_ok-text_in-in-Some-clause-one g c =
+    of_cell_ok c.args.otherwise c.args.source.now c.args.description.now c.args.count c.args.row.now
+    c.as_slice.result.now c.in-Some.cell (g.W.Sink.contents c.args.output.now)
+    (g.W.Sink.contents c.tally_one.new.output) c.tally_one.result c.requires.closed
+    (has_some c.args.row.now c.without_newline.result.now c.is_empty.result c.is_empty.ensures
+    c.if-is_empty.false c.without_newline.ensures)
+    c.in-Some.ensures.some (c.as_slice.ensures.value ∙ c.in_ok-text_in-in-Some.ensures)
+    c.tally_one.ensures.one

@@ -1,0 +1,38 @@
+//! How a run ends, and its exit status.
+
+ghost use Rattle.std.specs.Prelude.{◌≡◌};
+ghost use Rattle.timefd_format.specs.Tallies as spec;
+
+use crate::outcome::Tally;
+use crate::warned::Warned;
+
+/// How a run ends that wasn't broken off.
+#[derive(Clone, Copy)]
+pub enum RunEnd {
+    /// The description is refused, and nothing is written.
+    Refused,
+    /// Every moment was looked at. It carries the warnings about the descriptions.
+    Done(Warned, Tally),
+}
+
+impl RunEnd {
+    /// The exit status of the program.
+    pub fn status(self) -> u8
+        ensures { result ≡ spec.status self }
+    {
+        match self {
+            RunEnd::Refused => 1,
+            RunEnd::Done(_, tally) => {
+                if tally.has_failed {
+                    4
+                } else if tally.not_text {
+                    5
+                } else if tally.is_refused {
+                    1
+                } else {
+                    0
+                }
+            }
+        }
+    }
+}

@@ -1,0 +1,20 @@
+use Rattle.timefd_lang_fault.proofs.OwnedLemmas.{owned_fault, owned_memory}
+use Rattle.timefd_language.proofs.PlacedLemmas.{owned_placed}
+use Rattle.timefd_language.proofs.DirectiveLemmas.DirectiveLemmas.{owned_strftime}
+use Rattle.timefd_lang_convert.proofs.strftime.strftime_to_v3.Goals as goal
+
+pub returns-in-Err-clause-fault : goal.returns-in-Err-clause-fault
+returns-in-Err-clause-fault c =
+    owned_strftime c.args.s.now _ _ c.in-Err.ensures.fault c.into_owned.ensures
+
+pub returns-in-Err-clause-spelled : goal.returns-in-Err-clause-spelled
+returns-in-Err-clause-spelled c = λ list s.
+    owned_memory _ _ (c.in-Err.ensures.spelled list s) c.into_owned.ensures
+
+pub returns-in-Err-clause-refused : goal.returns-in-Err-clause-refused
+returns-in-Err-clause-refused c = λ f h.
+    owned_fault f _ _ (c.in-Err.ensures.refused f h) c.into_owned.ensures
+
+pub returns-in-Err-clause-position : goal.returns-in-Err-clause-position
+returns-in-Err-clause-position c =
+    owned_placed c.args.s.now _ _ c.in-Err.ensures.position c.into_owned.ensures

@@ -1,0 +1,170 @@
+-- The rows of widths and other marks of C, by the byte that selects them, the longest first.
+use Rattle.std.specs.Prelude.{codes, List, [], ◌∷◌}
+use Rattle.timefd_lang_dialect.specs.declared.reason.Reason.TheVariants.{Capitals, Flag, Unsupported, Width}
+use Rattle.timefd_lang_dialect.specs.declared.row.Range.TheVariants.{YearsFrom1, YearsFrom1000}
+use Rattle.timefd_lang_dialect.specs.Groups.{Group, under}
+use Rattle.timefd_lang_dialect.specs.Rows.{◌means◌, ◌refused_for◌, within}
+use Rattle.timefd_lang_dialect.specs.Strftime.{percent_sign}
+
+unfoldable pub c_marked : List Group
+c_marked =
+    under 37 percent_sign
+    ∷ under 94 (codes "%^Ec" refused_for Capitals
+    ∷ within YearsFrom1000 (codes "%^EC") (codes "[year repr:century]")
+    ∷ codes "%^Ex" means codes "[month]/[day]/[year repr:last_two]"
+    ∷ codes "%^EX" means codes "[hour]:[minute]:[second]"
+    ∷ codes "%^Ey" means codes "[year repr:last_two]"
+    ∷ within YearsFrom1000 (codes "%^EY") (codes "[year]")
+    ∷ codes "%^Od" means codes "[day]"
+    ∷ codes "%^OH" means codes "[hour]"
+    ∷ codes "%^OI" means codes "[hour repr:12]"
+    ∷ codes "%^OM" means codes "[minute]"
+    ∷ codes "%^OS" means codes "[second]"
+    ∷ codes "%^OU" means codes "[week_number repr:sunday]"
+    ∷ codes "%^OV" means codes "[week_number]"
+    ∷ codes "%^OW" means codes "[week_number repr:monday]"
+    ∷ codes "%^Om" means codes "[month]"
+    ∷ codes "%^Ou" means codes "[weekday repr:monday]"
+    ∷ codes "%^Ow" means codes "[weekday repr:sunday one_indexed:false]"
+    ∷ codes "%^Oy" means codes "[year repr:last_two]"
+    ∷ codes "%^Oe" means codes "[day padding:space]"
+    ∷ codes "%^Ok" means codes "[hour padding:space]"
+    ∷ codes "%^Ol" means codes "[hour repr:12 padding:space]"
+    ∷ codes "%^a" refused_for Capitals
+    ∷ codes "%^A" refused_for Capitals
+    ∷ codes "%^b" refused_for Capitals
+    ∷ codes "%^B" refused_for Capitals
+    ∷ codes "%^h" refused_for Capitals
+    ∷ codes "%^c" refused_for Capitals
+    ∷ codes "%^d" means codes "[day]"
+    ∷ codes "%^e" means codes "[day padding:space]"
+    ∷ codes "%^H" means codes "[hour]"
+    ∷ codes "%^k" means codes "[hour padding:space]"
+    ∷ codes "%^I" means codes "[hour repr:12]"
+    ∷ codes "%^l" means codes "[hour repr:12 padding:space]"
+    ∷ codes "%^j" means codes "[ordinal]"
+    ∷ codes "%^m" means codes "[month]"
+    ∷ codes "%^M" means codes "[minute]"
+    ∷ codes "%^S" means codes "[second]"
+    ∷ codes "%^U" means codes "[week_number repr:sunday]"
+    ∷ codes "%^V" means codes "[week_number]"
+    ∷ codes "%^W" means codes "[week_number repr:monday]"
+    ∷ codes "%^y" means codes "[year repr:last_two]"
+    ∷ within YearsFrom1 (codes "%^g") (codes "[year repr:last_two base:iso_week]")
+    ∷ within YearsFrom1000 (codes "%^C") (codes "[year repr:century]")
+    ∷ within YearsFrom1000 (codes "%^Y") (codes "[year]")
+    ∷ within YearsFrom1000 (codes "%^G") (codes "[year base:iso_week]")
+    ∷ codes "%^u" means codes "[weekday repr:monday]"
+    ∷ codes "%^w" means codes "[weekday repr:sunday one_indexed:false]"
+    ∷ codes "%^p" means codes "[period]"
+    ∷ codes "%^P" means codes "[period case:lower]"
+    ∷ codes "%^D" means codes "[month]/[day]/[year repr:last_two]"
+    ∷ within YearsFrom1000 (codes "%^F") (codes "[year]-[month]-[day]")
+    ∷ codes "%^r" means codes "[hour repr:12]:[minute]:[second] [period]"
+    ∷ codes "%^R" means codes "[hour]:[minute]"
+    ∷ codes "%^T" means codes "[hour]:[minute]:[second]"
+    ∷ codes "%^x" means codes "[month]/[day]/[year repr:last_two]"
+    ∷ codes "%^X" means codes "[hour]:[minute]:[second]"
+    ∷ codes "%^%" means codes "%"
+    ∷ codes "%^n" means (10 ∷ [])
+    ∷ codes "%^t" means (9 ∷ [])
+    ∷ codes "%^s" means codes "[unix_timestamp]"
+    ∷ codes "%^" refused_for Flag
+    ∷ [])
+    ∷ under 35 (within YearsFrom1000 (codes "%#Ec") (codes "[weekday repr:short] [month repr:short] [day padding:space] [hour]:[minute]:[second] [year]")
+    ∷ within YearsFrom1000 (codes "%#EC") (codes "[year repr:century]")
+    ∷ codes "%#Ex" means codes "[month]/[day]/[year repr:last_two]"
+    ∷ codes "%#EX" means codes "[hour]:[minute]:[second]"
+    ∷ codes "%#Ey" means codes "[year repr:last_two]"
+    ∷ within YearsFrom1000 (codes "%#EY") (codes "[year]")
+    ∷ codes "%#Od" means codes "[day]"
+    ∷ codes "%#OH" means codes "[hour]"
+    ∷ codes "%#OI" means codes "[hour repr:12]"
+    ∷ codes "%#OM" means codes "[minute]"
+    ∷ codes "%#OS" means codes "[second]"
+    ∷ codes "%#OU" means codes "[week_number repr:sunday]"
+    ∷ codes "%#OV" means codes "[week_number]"
+    ∷ codes "%#OW" means codes "[week_number repr:monday]"
+    ∷ codes "%#Om" means codes "[month]"
+    ∷ codes "%#Ou" means codes "[weekday repr:monday]"
+    ∷ codes "%#Ow" means codes "[weekday repr:sunday one_indexed:false]"
+    ∷ codes "%#Oy" means codes "[year repr:last_two]"
+    ∷ codes "%#Oe" means codes "[day padding:space]"
+    ∷ codes "%#Ok" means codes "[hour padding:space]"
+    ∷ codes "%#Ol" means codes "[hour repr:12 padding:space]"
+    ∷ codes "%#a" refused_for Capitals
+    ∷ codes "%#A" refused_for Capitals
+    ∷ codes "%#b" refused_for Capitals
+    ∷ codes "%#B" refused_for Capitals
+    ∷ codes "%#h" refused_for Capitals
+    ∷ codes "%#p" means codes "[period case:lower]"
+    ∷ codes "%#d" means codes "[day]"
+    ∷ codes "%#e" means codes "[day padding:space]"
+    ∷ codes "%#H" means codes "[hour]"
+    ∷ codes "%#k" means codes "[hour padding:space]"
+    ∷ codes "%#I" means codes "[hour repr:12]"
+    ∷ codes "%#l" means codes "[hour repr:12 padding:space]"
+    ∷ codes "%#j" means codes "[ordinal]"
+    ∷ codes "%#m" means codes "[month]"
+    ∷ codes "%#M" means codes "[minute]"
+    ∷ codes "%#S" means codes "[second]"
+    ∷ codes "%#U" means codes "[week_number repr:sunday]"
+    ∷ codes "%#V" means codes "[week_number]"
+    ∷ codes "%#W" means codes "[week_number repr:monday]"
+    ∷ codes "%#y" means codes "[year repr:last_two]"
+    ∷ within YearsFrom1 (codes "%#g") (codes "[year repr:last_two base:iso_week]")
+    ∷ within YearsFrom1000 (codes "%#C") (codes "[year repr:century]")
+    ∷ within YearsFrom1000 (codes "%#Y") (codes "[year]")
+    ∷ within YearsFrom1000 (codes "%#G") (codes "[year base:iso_week]")
+    ∷ codes "%#u" means codes "[weekday repr:monday]"
+    ∷ codes "%#w" means codes "[weekday repr:sunday one_indexed:false]"
+    ∷ codes "%#P" means codes "[period case:lower]"
+    ∷ within YearsFrom1000 (codes "%#c") (codes "[weekday repr:short] [month repr:short] [day padding:space] [hour]:[minute]:[second] [year]")
+    ∷ codes "%#D" means codes "[month]/[day]/[year repr:last_two]"
+    ∷ within YearsFrom1000 (codes "%#F") (codes "[year]-[month]-[day]")
+    ∷ codes "%#r" means codes "[hour repr:12]:[minute]:[second] [period]"
+    ∷ codes "%#R" means codes "[hour]:[minute]"
+    ∷ codes "%#T" means codes "[hour]:[minute]:[second]"
+    ∷ codes "%#x" means codes "[month]/[day]/[year repr:last_two]"
+    ∷ codes "%#X" means codes "[hour]:[minute]:[second]"
+    ∷ codes "%#%" means codes "%"
+    ∷ codes "%#n" means (10 ∷ [])
+    ∷ codes "%#t" means (9 ∷ [])
+    ∷ codes "%#s" means codes "[unix_timestamp]"
+    ∷ codes "%#" refused_for Flag
+    ∷ [])
+    ∷ under 43 (codes "%+" refused_for Unsupported ∷ [])
+    ∷ under 52 (codes "%4Y" means codes "[year]"
+    ∷ within YearsFrom1 (codes "%4G") (codes "[year base:iso_week]")
+    ∷ codes "%4" refused_for Width
+    ∷ [])
+    ∷ under 50 (codes "%2C" means codes "[year repr:century]"
+    ∷ codes "%2d" means codes "[day]"
+    ∷ codes "%2e" means codes "[day padding:space]"
+    ∷ codes "%2H" means codes "[hour]"
+    ∷ codes "%2k" means codes "[hour padding:space]"
+    ∷ codes "%2I" means codes "[hour repr:12]"
+    ∷ codes "%2l" means codes "[hour repr:12 padding:space]"
+    ∷ codes "%2m" means codes "[month]"
+    ∷ codes "%2M" means codes "[minute]"
+    ∷ codes "%2S" means codes "[second]"
+    ∷ codes "%2U" means codes "[week_number repr:sunday]"
+    ∷ codes "%2V" means codes "[week_number]"
+    ∷ codes "%2W" means codes "[week_number repr:monday]"
+    ∷ codes "%2y" means codes "[year repr:last_two]"
+    ∷ within YearsFrom1 (codes "%2g") (codes "[year repr:last_two base:iso_week]")
+    ∷ codes "%2" refused_for Width
+    ∷ [])
+    ∷ under 51 (codes "%3j" means codes "[ordinal]"
+    ∷ codes "%3" refused_for Width
+    ∷ [])
+    ∷ under 49 (codes "%1u" means codes "[weekday repr:monday]"
+    ∷ codes "%1w" means codes "[weekday repr:sunday one_indexed:false]"
+    ∷ codes "%1" refused_for Width
+    ∷ [])
+    ∷ under 53 (codes "%5" refused_for Width ∷ [])
+    ∷ under 54 (codes "%6" refused_for Width ∷ [])
+    ∷ under 55 (codes "%7" refused_for Width ∷ [])
+    ∷ under 56 (codes "%8" refused_for Width ∷ [])
+    ∷ under 57 (codes "%9" refused_for Width ∷ [])
+    ∷ []

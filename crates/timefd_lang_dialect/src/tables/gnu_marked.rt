@@ -1,0 +1,166 @@
+//! The rows of widths and other marks of GNU date. `tables/write` writes them.
+
+ghost use Rattle.std.specs.Prelude.{◌≡◌};
+ghost use Rattle.timefd_lang_dialect.specs.Groups.{rows_at};
+ghost use Rattle.timefd_lang_dialect.specs.GnuMarked.{gnu_marked};
+ghost use Rattle.timefd_lang_dialect.specs.Rows.{entries};
+
+use crate::reason::Reason;
+use crate::row::{NotBefore, Range, Row, Verdict, row};
+use crate::tables::strftime::{COLON, PERCENT_SIGN};
+
+/// The rows of widths and other marks of the directives with this byte after the `%`, the longest first.
+#[tactic(auto, unfolding(crate::specs::GnuMarked::gnu_marked))]
+pub fn gnu_marked_rows(byte: u8) -> &'static [Row]
+    ensures { entries result.now ≡ rows_at byte gnu_marked }
+{
+    match byte {
+        b'%' => PERCENT_SIGN,
+        b':' => COLON,
+        b'1' => DIGIT_ONE,
+        b'2' => DIGIT_TWO,
+        b'3' => DIGIT_THREE,
+        b'4' => DIGIT_FOUR,
+        b'5' => DIGIT_FIVE,
+        b'6' => DIGIT_SIX,
+        b'7' => DIGIT_SEVEN,
+        b'8' => DIGIT_EIGHT,
+        b'9' => DIGIT_NINE,
+        b'^' => CARET,
+        b'#' => HASH,
+        _ => &[],
+    }
+}
+
+const DIGIT_ONE: &[Row] = &[
+    row!("%1N" => "[subsecond digits:1]"),
+    row!("%1u" => "[weekday repr:monday]"),
+    row!("%1w" => "[weekday repr:sunday one_indexed:false]"),
+    row!("%1" refused Width),
+];
+
+const DIGIT_TWO: &[Row] = &[
+    row!("%2N" => "[subsecond digits:2]"),
+    row!("%2d" => "[day]"),
+    row!("%2e" => "[day padding:space]"),
+    row!("%2H" => "[hour]"),
+    row!("%2k" => "[hour padding:space]"),
+    row!("%2I" => "[hour repr:12]"),
+    row!("%2l" => "[hour repr:12 padding:space]"),
+    row!("%2m" => "[month]"),
+    row!("%2M" => "[minute]"),
+    row!("%2S" => "[second]"),
+    row!("%2U" => "[week_number repr:sunday]"),
+    row!("%2V" => "[week_number]"),
+    row!("%2W" => "[week_number repr:monday]"),
+    row!("%2y" => "[year repr:last_two]"),
+    row!("%2g" => "[year repr:last_two base:iso_week]"),
+    row!("%2C" => "[year repr:century]"),
+    row!("%2" refused Width),
+];
+
+const DIGIT_THREE: &[Row] = &[
+    row!("%3N" => "[subsecond digits:3]"),
+    row!("%3j" => "[ordinal]"),
+    row!("%3" refused Width),
+];
+
+const DIGIT_FOUR: &[Row] = &[
+    row!("%4N" => "[subsecond digits:4]"),
+    row!("%4Y" => "[year]"),
+    row!("%4G" => "[year base:iso_week]" within YearsFrom1),
+    row!("%4" refused Width),
+];
+
+const DIGIT_FIVE: &[Row] = &[
+    row!("%5N" => "[subsecond digits:5]"),
+    row!("%5" refused Width),
+];
+
+const DIGIT_SIX: &[Row] = &[
+    row!("%6N" => "[subsecond digits:6]"),
+    row!("%6" refused Width),
+];
+
+const DIGIT_SEVEN: &[Row] = &[
+    row!("%7N" => "[subsecond digits:7]"),
+    row!("%7" refused Width),
+];
+
+const DIGIT_EIGHT: &[Row] = &[
+    row!("%8N" => "[subsecond digits:8]"),
+    row!("%8" refused Width),
+];
+
+const DIGIT_NINE: &[Row] = &[
+    row!("%9N" => "[subsecond digits:9]"),
+    row!("%9" refused Width),
+];
+
+const CARET: &[Row] = &[
+    row!("%^a" refused Capitals),
+    row!("%^A" refused Capitals),
+    row!("%^b" refused Capitals),
+    row!("%^B" refused Capitals),
+    row!("%^h" refused Capitals),
+    row!("%^d" => "[day]"),
+    row!("%^e" => "[day padding:space]"),
+    row!("%^H" => "[hour]"),
+    row!("%^k" => "[hour padding:space]"),
+    row!("%^I" => "[hour repr:12]"),
+    row!("%^l" => "[hour repr:12 padding:space]"),
+    row!("%^j" => "[ordinal]"),
+    row!("%^m" => "[month]"),
+    row!("%^M" => "[minute]"),
+    row!("%^S" => "[second]"),
+    row!("%^U" => "[week_number repr:sunday]"),
+    row!("%^V" => "[week_number]"),
+    row!("%^W" => "[week_number repr:monday]"),
+    row!("%^y" => "[year repr:last_two]"),
+    row!("%^g" => "[year repr:last_two base:iso_week]"),
+    row!("%^C" => "[year repr:century]"),
+    row!("%^Y" => "[year]"),
+    row!("%^G" => "[year base:iso_week]" within YearsFrom1),
+    row!("%^u" => "[weekday repr:monday]"),
+    row!("%^w" => "[weekday repr:sunday one_indexed:false]"),
+    row!("%^p" => "[period]"),
+    row!("%^P" => "[period case:lower]"),
+    row!("%^n" => "\n"),
+    row!("%^t" => "\t"),
+    row!("%^s" => "[unix_timestamp]"),
+    row!("%^" refused Flag),
+];
+
+const HASH: &[Row] = &[
+    row!("%#a" refused Capitals),
+    row!("%#A" refused Capitals),
+    row!("%#b" refused Capitals),
+    row!("%#B" refused Capitals),
+    row!("%#h" refused Capitals),
+    row!("%#p" => "[period case:lower]"),
+    row!("%#d" => "[day]"),
+    row!("%#e" => "[day padding:space]"),
+    row!("%#H" => "[hour]"),
+    row!("%#k" => "[hour padding:space]"),
+    row!("%#I" => "[hour repr:12]"),
+    row!("%#l" => "[hour repr:12 padding:space]"),
+    row!("%#j" => "[ordinal]"),
+    row!("%#m" => "[month]"),
+    row!("%#M" => "[minute]"),
+    row!("%#S" => "[second]"),
+    row!("%#U" => "[week_number repr:sunday]"),
+    row!("%#V" => "[week_number]"),
+    row!("%#W" => "[week_number repr:monday]"),
+    row!("%#y" => "[year repr:last_two]"),
+    row!("%#g" => "[year repr:last_two base:iso_week]"),
+    row!("%#C" => "[year repr:century]"),
+    row!("%#Y" => "[year]"),
+    row!("%#G" => "[year base:iso_week]" within YearsFrom1),
+    row!("%#u" => "[weekday repr:monday]"),
+    row!("%#w" => "[weekday repr:sunday one_indexed:false]"),
+    row!("%#P" => "[period case:lower]"),
+    row!("%#n" => "\n"),
+    row!("%#t" => "\t"),
+    row!("%#s" => "[unix_timestamp]"),
+    row!("%#" refused Flag),
+];

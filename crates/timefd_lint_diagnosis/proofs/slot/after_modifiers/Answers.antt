@@ -1,0 +1,10 @@
+use Rattle.std.proofs.Common.{rules}
+use Rattle.timefd_lint_diagnosis.proofs.SlotLemmas.{one_more}
+use Rattle.timefd_lint_diagnosis.proofs.slot.after_modifiers.Goals as goal
+
+pub modifiers-preserved : goal.modifiers-preserved
+modifiers-preserved c = (
+  search rules,
+  one_more c.args.text.now c.modifiers.rest.now c.in-Some.after.now c.in-Some.field-0-0
+      c.modifiers.invariant.1 c.in-Some.ensures.found,
+)

@@ -1,0 +1,22 @@
+//! What is wrong with a text that isn't a format description: its fault, the bytes at fault, a
+//! stable name, and what helps.
+#![tactic(auto)]
+
+mod cure;
+mod diagnosing;
+mod diagnostic;
+mod few;
+mod further;
+mod help;
+pub mod laws;
+pub mod nearest;
+pub mod slot;
+mod span;
+pub mod words;
+
+pub use diagnosing::diagnose;
+pub use diagnostic::{Diagnostic, code_of};
+pub use further::{MOST_FURTHER, further_faults};
+pub use help::{Help, help_against};
+pub use span::Span;
+pub use timefd_lang_fault::{Code, all_are_there, names_differ};

@@ -1,0 +1,12 @@
+use Rattle.std.proofs.Common.{◌++◌, flat_map, sym, ap, ◌∙◌, map-id}
+use Rattle.std.proofs.lemmas.Iterator.{YieldsList-from_chars}
+use Rattle.std.proofs.lemmas.Iterator.Consumers.{YieldsList-end}
+use Rattle.timefd_lint_drawing.specs.Json.{escaped}
+use Rattle.timefd_lint_drawing.proofs.json.push_all_escaped.Goals as goal
+
+pub returns : goal.returns
+returns c =
+    let end = YieldsList-end (YieldsList-from_chars c.args.text.now c.utf8.text cc)
+    c.loop-c.yielded _ c.loop-c.yielded_by _ _ c.in-None.is c.next.ensures.steps in
+    c.loop-c.invariant ∙ ap (λ cs. c.args.out.now.items ++ flat_map escaped cs)
+    (sym (map-id c.loop-c.yielded) ∙ end.0)

@@ -1,0 +1,95 @@
+-- SARIF results.
+use Rattle.std.specs.Prelude.{ℕ, ◌+◌, ◌-◌, ◌/◌, ◌%◌, Bool, true, false, ◌||◌, ◌==◌, [], ◌∷◌, ◌++◌, Option, None, Some, codes, drop, flat_map, nat_eq, nat_lt, option_map, if◌then◌else◌}
+use Rattle.std.specs.List.{starts_with}
+use Rattle.timefd_lang_component.specs.Tree.{Text}
+use Rattle.timefd_lint_drawing.specs.declared.json.Entry.{Entry}
+use Rattle.timefd_lint_drawing.specs.declared.sarif.Fault.{Fault}
+use Rattle.timefd_lint_drawing.specs.Json.{text_field, number_field}
+use Rattle.timefd_lint_drawing.specs.Shown.{is_between}
+
+abbrev pub with_help : Text → Text → Text
+with_help sentence help = sentence ++ (codes "\n" ++ help)
+
+-- Letters, digits and these characters are written as they are in a path.
+abbrev pub is_plain : ℕ → Bool
+is_plain byte = is_between (65, 90) byte || is_between (97, 122) byte || is_between (48, 57) byte || (byte == 45)
+    || (byte == 46) || (byte == 95) || (byte == 126) || (byte == 47)
+
+abbrev pub hex_digit : ℕ → ℕ
+hex_digit n = if nat_lt n 10 then 48 + n else 65 + (n - 10)
+
+-- Any other byte is written as its hexadecimal number after a percent sign.
+abbrev pub uri_byte : ℕ → Text
+uri_byte byte = if is_plain byte then byte ∷ [] else 37 ∷ hex_digit (byte / 16) ∷ hex_digit (byte % 16) ∷ []
+
+abbrev pub encoded : Text → Text
+encoded path = flat_map uri_byte path
+
+-- A path as a URI: an absolute one has the scheme `file`, and any other is relative to the folder that the
+-- program runs in.
+abbrev pub uri : Text → Text
+uri path =
+    if starts_with nat_eq path (codes "/") then codes "file://" ++ encoded path
+    else if starts_with nat_eq path (codes "./") then encoded (drop 2 path)
+    else encoded path
+
+abbrev pub uri_field : Text → Text → Text
+uri_field front path = front ++ uri path
+
+-- The field that only a further fault has.
+abbrev pub further_field : Bool → Text
+further_field true = codes ",\"properties\":{\"further\":true}"
+further_field false = []
+
+-- A fix puts a word in place of the part at fault, which goes from one line and column up to before another.
+abbrev pub fix : Text → ℕ → ℕ → ℕ → ℕ → Text → Text → Text
+fix file line column end_line end_column help word =
+    [] ++ text_field (codes ",\"fixes\":[{\"description\":{\"text\":") help
+    ++ uri_field (codes "},\"artifactChanges\":[{\"artifactLocation\":{\"uri\":\"") file
+    ++ codes "\"},\"replacements\":["
+    ++ number_field (codes "{\"deletedRegion\":{\"startLine\":") line
+    ++ number_field (codes ",\"startColumn\":") column ++ number_field (codes ",\"endLine\":") end_line
+    ++ number_field (codes ",\"endColumn\":") end_column
+    ++ text_field (codes "},\"insertedContent\":{\"text\":") word ++ codes "}}]}]}]"
+
+abbrev pub fixes : Text → ℕ → ℕ → ℕ → ℕ → Text → Option Text → Text
+fixes file line column end_line end_column help None = []
+fixes file line column end_line end_column help (Some word) = fix file line column end_line end_column help word
+
+-- The start of a result, up to the column in which the part at fault begins.
+abbrev pub begun : Text → Text → ℕ → ℕ → Text → Text → Text
+begun code file line column message level =
+    [] ++ text_field (codes ",{\"ruleId\":") code ++ text_field (codes ",\"level\":") level
+    ++ text_field (codes ",\"message\":{\"text\":") message
+    ++ codes "},\"locations\":[{\"physicalLocation\":"
+    ++ uri_field (codes "{\"artifactLocation\":{\"uri\":\"") file
+    ++ number_field (codes "\"},\"region\":{\"startLine\":") line
+    ++ number_field (codes ",\"startColumn\":") column
+
+-- A result for a fault of a text, and one for a whole text or a file.
+abbrev pub result : Bool → Text → Text → ℕ → ℕ → ℕ → ℕ → Text → Text → Option Text → Text
+result further code file line column end_line end_column message help replacement =
+    begun code file line column message (codes "error") ++ number_field (codes ",\"endLine\":") end_line
+    ++ number_field (codes ",\"endColumn\":") end_column ++ codes "}}}]"
+    ++ fixes file line column end_line end_column help replacement ++ further_field further ++ codes "}\n"
+
+abbrev pub note_result : Text → Text → ℕ → ℕ → Text → Text → Text
+note_result code file line column message level =
+    begun code file line column message level ++ codes "}}}]}\n"
+
+abbrev pub begun_of : Entry → Text → Text
+begun_of e level = begun e.code.now e.file.now e.line e.column e.message.now level
+
+abbrev pub fixes_of : Entry → Fault → Text
+fixes_of e f = fixes e.file.now e.line e.column f.end_line f.end_column f.help.now
+    (option_map (λ word. word.now) f.replacement)
+
+abbrev pub fix_of : Entry → Fault → Text → Text
+fix_of e f word = fix e.file.now e.line e.column f.end_line f.end_column f.help.now word
+
+abbrev pub result_of : Entry → Fault → Text
+result_of e f = result f.is_further e.code.now e.file.now e.line e.column f.end_line f.end_column e.message.now
+    f.help.now (option_map (λ word. word.now) f.replacement)
+
+abbrev pub note_result_of : Entry → Text → Text
+note_result_of e level = note_result e.code.now e.file.now e.line e.column e.message.now level

@@ -1,0 +1,218 @@
+//! The lines of a drawing, and the line that editors read.
+
+ghost use Rattle.std.specs.Prelude.{◌≡◌, ◌++◌, flat_map, IfOk, OnOk, string_bytes};
+ghost use Rattle.timefd_lint_drawing.specs.Lines as spec;
+
+use crate::position::Position;
+use crate::shown::{push_safe, safe};
+use std::alloc::{AllocError, Global};
+
+// Room for the numbers of a line, and for what is between its parts.
+const ROOM: usize = 32;
+
+// Begins red.
+fn red(is_colored: bool) -> &'static str
+    ensures { result.now ≡ spec.red is_colored }
+{
+    if is_colored { "\u{1B}[1;31m" } else { "" }
+}
+
+// Begins blue.
+fn blue(is_colored: bool) -> &'static str
+    ensures { result.now ≡ spec.blue is_colored }
+{
+    if is_colored { "\u{1B}[1;36m" } else { "" }
+}
+
+// Ends a colour.
+fn plain(is_colored: bool) -> &'static str
+    ensures { result.now ≡ spec.plain is_colored }
+{
+    if is_colored { "\u{1B}[0m" } else { "" }
+}
+
+// Appends texts, one after another: `write!` takes several times as long.
+fn push_all(out: &mut String, parts: &[&str]) -> Result<(), AllocError>
+    ensures { OnOk result (string_bytes out.new
+        ≡ string_bytes out.old ++ flat_map (λ part. part.now) parts.now) }
+{
+    for part in parts {
+        out.push_str(part)?;
+    }
+    Ok(())
+}
+
+/// The first line: the fault's name, and the sentence.
+pub fn push_error_line(
+    out: &mut String,
+    is_colored: bool,
+    code: &str,
+    sentence: &str,
+) -> Result<(), AllocError>
+    ensures { OnOk result (string_bytes out.new ≡ string_bytes out.old
+        ++ spec.error_line is_colored code.now sentence.now) }
+{
+    if !is_colored {
+        return push_all(out, &["error[", code, "]: ", sentence, "\n"]);
+    }
+    let (red, plain) = (red(is_colored), plain(is_colored));
+    write!(out, "{red}error[{code}]{plain}: {sentence}\n")
+}
+
+/// The line with the position.
+pub fn push_position_line(
+    alloc: Global,
+    out: &mut String,
+    is_colored: bool,
+    margin: &str,
+    file: &str,
+    position: Position,
+) -> Result<(), AllocError>
+    ensures { OnOk result (string_bytes out.new ≡ string_bytes out.old
+        ++ spec.position_line is_colored margin.now file.now position.line position.column) }
+{
+    push_arrow(out, is_colored, margin)?;
+    push_safe(alloc, out, file)?;
+    let Position { line, column } = position;
+    write!(out, ":{line}:{column}\n")
+}
+
+// What comes before the file.
+fn push_arrow(out: &mut String, is_colored: bool, margin: &str) -> Result<(), AllocError>
+    ensures { OnOk result (string_bytes out.new ≡ string_bytes out.old
+        ++ spec.arrow is_colored margin.now) }
+{
+    if !is_colored {
+        return push_all(out, &[margin, "--> "]);
+    }
+    let (blue, plain) = (blue(is_colored), plain(is_colored));
+    write!(out, "{margin}{blue}-->{plain} ")
+}
+
+/// A line with a bar.
+pub fn push_bar_line(out: &mut String, is_colored: bool, margin: &str) -> Result<(), AllocError>
+    ensures { OnOk result (string_bytes out.new ≡ string_bytes out.old
+        ++ spec.bar_line is_colored margin.now) }
+{
+    if !is_colored {
+        return push_all(out, &[margin, " |\n"]);
+    }
+    let (blue, plain) = (blue(is_colored), plain(is_colored));
+    write!(out, "{margin} {blue}|{plain}\n")
+}
+
+/// The line of the text, from its three parts.
+pub fn push_text_line(
+    out: &mut String,
+    is_colored: bool,
+    number: u64,
+    before: &str,
+    at: &str,
+    after: &str,
+) -> Result<(), AllocError>
+    ensures { OnOk result (string_bytes out.new ≡ string_bytes out.old
+        ++ spec.text_line is_colored number before.now at.now after.now) }
+{
+    push_number(out, is_colored, number)?;
+    push_all(out, &[before, at, after, "\n"])
+}
+
+// What comes before the text.
+fn push_number(out: &mut String, is_colored: bool, number: u64) -> Result<(), AllocError>
+    ensures { OnOk result (string_bytes out.new ≡ string_bytes out.old
+        ++ spec.numbered is_colored number) }
+{
+    if !is_colored {
+        return write!(out, "{number} | ");
+    }
+    let (blue, plain) = (blue(is_colored), plain(is_colored));
+    write!(out, "{blue}{number} |{plain} ")
+}
+
+/// A line with a bar, and carets after an indent.
+pub fn push_caret_line(
+    out: &mut String,
+    is_colored: bool,
+    margin: &str,
+    indent: &str,
+    carets: &str,
+) -> Result<(), AllocError>
+    ensures { OnOk result (string_bytes out.new ≡ string_bytes out.old
+        ++ spec.caret_line is_colored margin.now indent.now carets.now) }
+{
+    if !is_colored {
+        return push_all(out, &[margin, " | ", indent, carets, "\n"]);
+    }
+    let (red, blue, plain) = (red(is_colored), blue(is_colored), plain(is_colored));
+    write!(
+        out,
+        "{margin} {blue}|{plain} {indent}{red}{carets}{plain}\n"
+    )
+}
+
+/// The line with the help.
+pub fn push_help_line(
+    out: &mut String,
+    is_colored: bool,
+    margin: &str,
+    help: &str,
+) -> Result<(), AllocError>
+    ensures { OnOk result (string_bytes out.new ≡ string_bytes out.old
+        ++ spec.help_line is_colored margin.now help.now) }
+{
+    if !is_colored {
+        return push_all(out, &[margin, " = help: ", help, "\n"]);
+    }
+    let (blue, plain) = (blue(is_colored), plain(is_colored));
+    write!(out, "{margin} {blue}={plain} help: {help}\n")
+}
+
+/// The line with the help, and for a further fault one that says what it was found without.
+pub fn push_help_lines(
+    out: &mut String,
+    is_further: bool,
+    is_colored: bool,
+    margin: &str,
+    help: &str,
+) -> Result<(), AllocError>
+    ensures { OnOk result (string_bytes out.new ≡ string_bytes out.old
+        ++ spec.help_lines is_further is_colored margin.now help.now) }
+{
+    push_help_line(out, is_colored, margin, help)?;
+    if is_further {
+        return push_note_line(out, is_colored, margin);
+    }
+    Ok(())
+}
+
+fn push_note_line(out: &mut String, is_colored: bool, margin: &str) -> Result<(), AllocError>
+    ensures { OnOk result (string_bytes out.new ≡ string_bytes out.old
+        ++ spec.note_line is_colored margin.now) }
+{
+    let (blue, plain) = (blue(is_colored), plain(is_colored));
+    write!(
+        out,
+        "{margin} {blue}={plain} note: found with the errors before it left out\n"
+    )
+}
+
+/// `FILE:LINE:COLUMN: SENTENCE`, as editors read it.
+pub fn short_line(
+    alloc: Global,
+    file: &str,
+    position: Position,
+    sentence: &str,
+) -> Result<String, AllocError>
+    ensures { IfOk result (λ line. string_bytes line
+        ≡ spec.short_line file.now position.line position.column sentence.now) }
+{
+    let name = safe(alloc, file)?;
+    let Position { line, column } = position;
+    let room = sentence
+        .len()
+        .saturating_add(name.len())
+        .saturating_add(ROOM);
+    let mut out = String::with_capacity(alloc, room)?;
+    write!(out, "{name}:{line}:{column}: {sentence}\n")?;
+    Ok(out)
+}

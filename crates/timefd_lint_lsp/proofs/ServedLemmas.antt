@@ -1,0 +1,76 @@
+-- Frames that are read and answered one after another.
+use Rattle.std.proofs.Common.{◌≡◌, ◌+◌, ◌-◌, ◌^◌, ◌++◌, ◌∷◌, [], inl, inr, ℕ, List, Option, Some, None, length-append, refl, subst, arith}
+use Rattle.std.specs.declared.alloc.Global.{Global}
+use Rattle.std.specs.declared.vec.Vec.{Vec}
+use Rattle.timefd_lint_lsp.specs.Documents.{NoneOpen}
+use Rattle.timefd_lint_lsp.specs.Frames.{IsFrame}
+use Rattle.timefd_lint_lsp.specs.Servers.{first}
+use Rattle.timefd_lint_lsp.specs.Sessions.{AreServed, AreStepped, At, IsAnswered, IsServed, IsStepped, at}
+use Rattle.timefd_lint_lsp.specs.declared.frame.Frame.{Frame}
+use Rattle.timefd_lint_lsp.specs.declared.frame.Frame.TheVariants as got
+use Rattle.timefd_lint_lsp.specs.declared.server.Server.{Server}
+use Rattle.timefd_lint_lsp.specs.declared.server.Settings.{Settings}
+use Rattle.timefd_lint_lsp.specs.declared.session.End.{End}
+use Rattle.timefd_lint_lsp.specs.declared.session.End.TheVariants.{InputEnded}
+
+-- The content of a frame is answered.
+pub on_content : (settings : Settings) (left written left_then written_then : Option (List ℕ)) (before after : Server)
+    (frame : Frame) (content : Vec ℕ Global) (bytes : List ℕ) (end : Option End) → frame ≡ got.Content content
+    → bytes ≡ content.items → IsFrame left left_then frame
+    → IsAnswered settings before after bytes written written_then end
+    → IsStepped settings (at left written before) (at left_then written_then after) end
+on_content settings left written left_then written_then before after frame content bytes end is same read answered =
+    inl (
+      got.Content content,
+      subst (IsFrame left left_then) is read,
+      subst (λ b. IsAnswered settings before after b written written_then end) same answered,
+    )
+
+pub none_served : (settings : Settings) (left written : Option (List ℕ)) (server : Server) → server.phase ≡ first
+    → NoneOpen server.documents → AreServed settings left written (at left written server) 0
+none_served settings left written server new none = record {
+  start = server;
+  fresh = new;
+  none_open = none;
+  turns = [];
+  counted = refl;
+  each = refl;
+}
+
+stepped_more : (settings : Settings) (a b c : At) (turns : List At) → AreStepped settings a turns b
+    → IsStepped settings b c None → AreStepped settings a (turns ++ c ∷ []) c
+stepped_more settings a b c [] each one = (subst (λ x. IsStepped settings x c None) each one, refl)
+stepped_more settings a b c (m ∷ turns) each one = (each.0, stepped_more settings m b c turns each.1 one)
+
+pub one_more_served : (settings : Settings) (left written : Option (List ℕ)) (b c : At) (count : ℕ)
+    → AreServed settings left written b count → IsStepped settings b c None
+    → AreServed settings left written c (count + 1)
+one_more_served settings left written b c count before one = record {
+  start = before.start;
+  fresh = before.fresh;
+  none_open = before.none_open;
+  turns = before.turns ++ c ∷ [];
+  counted = omega (arith, length-append before.turns (c ∷ []), before.counted);
+  each = stepped_more settings (at left written before.start) b c before.turns before.each one;
+}
+
+pub ended : (settings : Settings) (left written left_then written_then : Option (List ℕ)) (b : At) (known : Server)
+    (count : ℕ) (end : End) → AreServed settings left written b count
+    → IsStepped settings b (at left_then written_then known) (Some end)
+    → IsServed settings left written left_then written_then end
+ended settings left written left_then written_then b known count end before one = record {
+  count = count;
+  last = b;
+  served = before;
+  ends = inl (known, one);
+}
+
+pub ended_at_most : (settings : Settings) (left written left_then written_then : Option (List ℕ)) (known : Server)
+    (count : ℕ) → AreServed settings left written (at left_then written_then known) count
+    → count ≡ 2 ^ 64 - 1 → IsServed settings left written left_then written_then InputEnded
+ended_at_most settings left written left_then written_then known count before all = record {
+  count = count;
+  last = at left_then written_then known;
+  served = before;
+  ends = inr (all, refl, refl, refl);
+}

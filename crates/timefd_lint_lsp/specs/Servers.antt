@@ -1,0 +1,289 @@
+-- The server, which takes one message after another.
+use Rattle.std.specs.Prelude.{◌≡◌, ℕ, List, [], Option, Some, None, String, string_bytes, ⊤}
+use Rattle.std.specs.BTreeMap.{BTreeMap, get_by_text}
+use Rattle.std.specs.declared.alloc.Global.{Global}
+use Rattle.std.specs.declared.vec.Vec.{Vec}
+use Rattle.timefd_lint_lsp.specs.Changes.{after_all}
+use Rattle.timefd_lint_lsp.specs.Kinds.{kind_of}
+use Rattle.timefd_lint_lsp.specs.declared.changes.Change.{Change}
+use Rattle.timefd_lint_lsp.specs.declared.documents.Document.{Document}
+use Rattle.timefd_lint_lsp.specs.declared.documents.Kind.{Kind}
+use Rattle.timefd_lint_lsp.specs.Replies.{refusal_of}
+use Rattle.timefd_lint_lsp.specs.declared.envelope.Id.{Id}
+use Rattle.timefd_lint_lsp.specs.declared.message.Message.{Message}
+use Rattle.timefd_lint_lsp.specs.declared.message.Message.TheVariants as messages
+use Rattle.timefd_lint_lsp.specs.declared.message.Notification.{Notification}
+use Rattle.timefd_lint_lsp.specs.declared.message.Notification.TheVariants as reported
+use Rattle.timefd_lint_lsp.specs.declared.message.Request.{Request}
+use Rattle.timefd_lint_lsp.specs.declared.message.Request.TheVariants as asked
+use Rattle.timefd_lint_lsp.specs.declared.reply.Answer.{Answer}
+use Rattle.timefd_lint_lsp.specs.declared.reply.Answer.TheVariants as answers
+use Rattle.timefd_lint_lsp.specs.declared.reply.Refusal.{Refusal}
+use Rattle.timefd_lint_lsp.specs.declared.reply.Refusal.TheVariants as refusals
+use Rattle.timefd_lint_lsp.specs.declared.reply.Reply.TheVariants as replies
+use Rattle.timefd_lint_lsp.specs.declared.editor.action.Action.{Action}
+use Rattle.timefd_lint_lsp.specs.declared.editor.action.Wanted.{Wanted}
+use Rattle.timefd_lint_lsp.specs.declared.editor.completed.Completion.{Completion}
+use Rattle.timefd_lint_lsp.specs.declared.editor.finding.Finding.{Finding}
+use Rattle.timefd_lint_lsp.specs.declared.editor.hovered.Hover.{Hover}
+use Rattle.timefd_lint_lsp.specs.declared.editor.position.Position.{Position}
+use Rattle.timefd_lint_lsp.specs.declared.editor.position.Range.{Range}
+use Rattle.timefd_lint_lsp.specs.Editor.Actions.{AreActionsOf}
+use Rattle.timefd_lint_lsp.specs.Editor.Completions.{IsCompletedAt}
+use Rattle.timefd_lint_lsp.specs.Editor.Findings.{AreFindingsOf}
+use Rattle.timefd_lint_lsp.specs.Editor.Hovers.{IsShownAt}
+use Rattle.timefd_lint_lsp.specs.Editor.Positions.{index_of}
+use Rattle.timefd_lint_sources.specs.declared.reported.Finder.{Finder}
+use Rattle.timefd_lint_sources.specs.declared.reported.Finder.TheVariants as finders
+use Rattle.timefd_lint_sources.specs.declared.reported.Source.{Source}
+use Rattle.timefd_lint_lsp.specs.declared.documents.Kind.TheVariants as kinds
+use Rattle.timefd_lint_lsp.specs.declared.server.Settings.{Settings}
+use Rattle.timefd_lint_lsp.specs.declared.server.Phase.{Phase}
+use Rattle.timefd_lint_lsp.specs.declared.server.Phase.TheVariants.{New, Running, ShutDown}
+use Rattle.timefd_lint_lsp.specs.declared.server.Step.{Step}
+use Rattle.timefd_lint_lsp.specs.declared.server.Step.TheVariants.{Silent, Say, Exit}
+
+abbrev pub first : Phase
+first = New
+
+-- At first only `initialize` is served.
+abbrev pub first_refusal : Request → Option Refusal
+first_refusal asked.Initialize = None
+first_refusal (asked.Hover uri position) = Some refusals.NotInitialized
+first_refusal (asked.Completion uri position) = Some refusals.NotInitialized
+first_refusal (asked.Actions uri range wanted) = Some refusals.NotInitialized
+first_refusal asked.Shutdown = Some refusals.NotInitialized
+first_refusal asked.Unknown = Some refusals.NotInitialized
+first_refusal asked.WrongParams = Some refusals.NotInitialized
+
+-- After `initialize` a second one is refused.
+abbrev pub running_refusal : Request → Option Refusal
+running_refusal asked.Initialize = Some refusals.InvalidRequest
+running_refusal (asked.Hover uri position) = None
+running_refusal (asked.Completion uri position) = None
+running_refusal (asked.Actions uri range wanted) = None
+running_refusal asked.Shutdown = None
+running_refusal asked.Unknown = Some refusals.UnknownMethod
+running_refusal asked.WrongParams = Some refusals.WrongParams
+
+-- why a request is refused, if it is
+abbrev pub refusal : Phase → Request → Option Refusal
+refusal New request = first_refusal request
+refusal Running request = running_refusal request
+refusal ShutDown request = Some refusals.InvalidRequest
+
+abbrev pub first_phase : Phase → Request → Phase
+first_phase phase asked.Initialize = Running
+first_phase phase (asked.Hover uri position) = phase
+first_phase phase (asked.Completion uri position) = phase
+first_phase phase (asked.Actions uri range wanted) = phase
+first_phase phase asked.Shutdown = phase
+first_phase phase asked.Unknown = phase
+first_phase phase asked.WrongParams = phase
+
+abbrev pub running_phase : Phase → Request → Phase
+running_phase phase asked.Initialize = phase
+running_phase phase (asked.Hover uri position) = phase
+running_phase phase (asked.Completion uri position) = phase
+running_phase phase (asked.Actions uri range wanted) = phase
+running_phase phase asked.Shutdown = ShutDown
+running_phase phase asked.Unknown = phase
+running_phase phase asked.WrongParams = phase
+
+abbrev pub phase_after_request : Phase → Request → Phase
+phase_after_request New request = first_phase New request
+phase_after_request Running request = running_phase Running request
+phase_after_request ShutDown request = ShutDown
+
+-- how far the session is after a message
+abbrev pub phase_after : Phase → Message → Phase
+phase_after phase (messages.Request id request) = phase_after_request phase request
+phase_after phase (messages.Notification notification) = phase
+phase_after phase messages.NotJson = phase
+phase_after phase messages.NotMessage = phase
+
+-- the response to a content whose id isn't known
+abbrev pub unanswered : Refusal → Step
+unanswered why = Say (replies.Response None (answers.Refused why))
+
+-- The step is one response, to the request of this id.
+abbrev pub Responds : Id → Option Refusal → Step → Type 0
+Responds id why (Say (replies.Response other answer)) = (other ≡ Some id) × (refusal_of answer ≡ why)
+Responds id why (Say (replies.Findings uri findings)) = ⊥
+Responds id why (Say (replies.Lost uri)) = ⊥
+Responds id why Silent = ⊥
+Responds id why Exit = ⊥
+
+abbrev pub finder_of : Settings → Kind → Finder
+finder_of settings kinds.Rust = finders.Rust
+finder_of settings (kinds.Keys format) = finders.Keys format settings.keys
+
+-- All that is wrong in a document with this text, as `editor` defines it.
+pub record AreWrongIn (settings : Settings) (kind : Kind) (text : List ℕ) (findings : List Finding) : Type 0 where
+  pub source : Source
+  pub finder : source.finder ≡ finder_of settings kind
+  pub whole : source.text.now ≡ text
+  pub all : AreFindingsOf settings.levels source findings
+
+-- The source is the text of an open document.
+pub record IsSourceOf (settings : Settings) (document : Document) (source : Source) : Type 0 where
+  pub finder : source.finder ≡ finder_of settings document.kind
+  pub whole : source.text.now ≡ string_bytes document.text
+
+abbrev pub hover_answer : Option Hover → Answer
+hover_answer None = answers.Nothing
+hover_answer (Some hover) = answers.Hover hover
+
+-- the answer for a position of a document, if it is open
+abbrev pub IsHoverAnswer : Settings → Option Document → Position → Answer → Type 0
+IsHoverAnswer settings None position answer = answer ≡ answers.Nothing
+IsHoverAnswer settings (Some document) position answer = (source : Source) × IsSourceOf settings document source
+    × ((found : Option Hover) × IsShownAt source (index_of source.text.now position) found
+    × (answer ≡ hover_answer found))
+
+abbrev pub completion_answer : Option Completion → Answer
+completion_answer None = answers.Nothing
+completion_answer (Some completion) = answers.Completion completion
+
+-- the words that may be written at a position of a document, if it is open
+abbrev pub IsCompletionAnswer : Settings → Option Document → Position → Answer → Type 0
+IsCompletionAnswer settings None position answer = answer ≡ answers.Nothing
+IsCompletionAnswer settings (Some document) position answer = (source : Source)
+    × IsSourceOf settings document source
+    × ((found : Option Completion) × IsCompletedAt source (index_of source.text.now position) found
+    × (answer ≡ completion_answer found))
+
+-- the answer for a range of a document, if it is open
+abbrev pub IsActionsAnswer : Settings → Option Document → String Global → Range → Wanted → Answer → Type 0
+IsActionsAnswer settings None uri range wanted answer = answer ≡ answers.Nothing
+IsActionsAnswer settings (Some document) uri range wanted answer = (source : Source)
+    × IsSourceOf settings document source
+    × ((actions : Vec Action Global)
+    × AreActionsOf wanted (index_of source.text.now range.start) (index_of source.text.now range.end) source
+    actions.items
+    × (answer ≡ answers.Actions uri actions))
+
+-- The answer to a first request that isn't refused.
+abbrev pub IsFirstAnswer : Request → Answer → Type 0
+IsFirstAnswer asked.Initialize answer = answer ≡ answers.Capabilities
+IsFirstAnswer (asked.Hover uri position) answer = ⊤
+IsFirstAnswer (asked.Completion uri position) answer = ⊤
+IsFirstAnswer (asked.Actions uri range wanted) answer = ⊤
+IsFirstAnswer asked.Shutdown answer = ⊤
+IsFirstAnswer asked.Unknown answer = ⊤
+IsFirstAnswer asked.WrongParams answer = ⊤
+
+abbrev pub IsRunningAnswer : Settings → BTreeMap (String Global) Document → Request → Answer → Type 0
+IsRunningAnswer settings documents asked.Initialize answer = ⊤
+IsRunningAnswer settings documents (asked.Hover uri position) answer =
+    IsHoverAnswer settings (get_by_text documents (string_bytes uri)) position answer
+IsRunningAnswer settings documents (asked.Completion uri position) answer =
+    IsCompletionAnswer settings (get_by_text documents (string_bytes uri)) position answer
+IsRunningAnswer settings documents (asked.Actions uri range wanted) answer =
+    IsActionsAnswer settings (get_by_text documents (string_bytes uri)) uri range wanted answer
+IsRunningAnswer settings documents asked.Shutdown answer = answer ≡ answers.Nothing
+IsRunningAnswer settings documents asked.Unknown answer = ⊤
+IsRunningAnswer settings documents asked.WrongParams answer = ⊤
+
+abbrev pub IsAnswer : Settings → Phase → BTreeMap (String Global) Document → Request → Answer → Type 0
+IsAnswer settings New documents request answer = IsFirstAnswer request answer
+IsAnswer settings Running documents request answer = IsRunningAnswer settings documents request answer
+IsAnswer settings ShutDown documents request answer = ⊤
+
+-- The step has that answer.
+abbrev pub Answers : Settings → Phase → BTreeMap (String Global) Document → Request → Step → Type 0
+Answers settings phase documents request (Say (replies.Response id answer)) =
+    IsAnswer settings phase documents request answer
+Answers settings phase documents request (Say (replies.Findings uri findings)) = ⊥
+Answers settings phase documents request (Say (replies.Lost uri)) = ⊥
+Answers settings phase documents request Silent = ⊥
+Answers settings phase documents request Exit = ⊥
+
+abbrev pub said : String Global → Vec Finding Global → Step
+said uri findings = Say (replies.Findings uri findings)
+
+-- The step reports all that is wrong in the document with this name and text.
+abbrev pub IsSaidOf : Settings → Kind → List ℕ → List ℕ → Step → Type 0
+IsSaidOf settings kind text name (Say (replies.Findings uri findings)) =
+    (string_bytes uri ≡ name) × AreWrongIn settings kind text findings.items
+IsSaidOf settings kind text name (Say (replies.Response other answer)) = ⊥
+IsSaidOf settings kind text name (Say (replies.Lost uri)) = ⊥
+IsSaidOf settings kind text name Silent = ⊥
+IsSaidOf settings kind text name Exit = ⊥
+
+abbrev pub IsSaidIf : Settings → Option Kind → List ℕ → List ℕ → Step → Type 0
+IsSaidIf settings (Some kind) text name step = IsSaidOf settings kind text name step
+IsSaidIf settings None text name step = step ≡ Silent
+
+-- If an opened document is one that is checked, what is wrong in it is reported.
+abbrev pub IsOpened : Settings → List ℕ → List ℕ → List ℕ → Step → Type 0
+IsOpened settings name language text step = IsSaidIf settings (kind_of language name) text name step
+
+-- the step says that a document isn't checked any more
+abbrev pub lost : String Global → Step
+lost uri = Say (replies.Lost uri)
+
+abbrev pub IsLost : List ℕ → Step → Type 0
+IsLost name step = (uri : String Global) × (string_bytes uri ≡ name) × (step ≡ lost uri)
+
+abbrev pub IsSaidAfter : Settings → Kind → Option (List ℕ) → List ℕ → Step → Type 0
+IsSaidAfter settings kind (Some text) name step = IsSaidOf settings kind text name step
+IsSaidAfter settings kind None name step = IsLost name step
+
+abbrev pub IsSaidOfOpen : Settings → Option Document → List Change → List ℕ → Step → Type 0
+IsSaidOfOpen settings (Some document) changes name step =
+    IsSaidAfter settings document.kind (after_all (string_bytes document.text) changes) name step
+IsSaidOfOpen settings None changes name step = step ≡ Silent
+
+-- If an open document changes, what is wrong in it is reported, or that a change can't be made.
+abbrev pub IsChangedOf : Settings → List ℕ → List Change → BTreeMap (String Global) Document → Step → Type 0
+IsChangedOf settings name changes documents step =
+    IsSaidOfOpen settings (get_by_text documents name) changes name step
+
+-- The step withdraws what was reported about the document with this name.
+abbrev pub IsTakenBack : List ℕ → Step → Type 0
+IsTakenBack name (Say (replies.Findings uri findings)) = (string_bytes uri ≡ name) × (findings.items ≡ [])
+IsTakenBack name (Say (replies.Response other answer)) = ⊥
+IsTakenBack name (Say (replies.Lost uri)) = ⊥
+IsTakenBack name Silent = ⊥
+IsTakenBack name Exit = ⊥
+
+abbrev pub IsTakenBackOf : Option Document → List ℕ → Step → Type 0
+IsTakenBackOf (Some document) name step = IsTakenBack name step
+IsTakenBackOf None name step = step ≡ Silent
+
+-- If an open document is closed, what was reported about it is withdrawn. For one that isn't open nothing is
+-- said.
+abbrev pub IsClosed : List ℕ → BTreeMap (String Global) Document → Step → Type 0
+IsClosed name documents step = IsTakenBackOf (get_by_text documents name) name step
+
+-- A notification gets no response, only a report of what is wrong in its document.
+abbrev pub IsHeard : Settings → BTreeMap (String Global) Document → Notification → Step → Type 0
+IsHeard settings documents (reported.Opened uri language text) step =
+    IsOpened settings (string_bytes uri) (string_bytes language) (string_bytes text) step
+IsHeard settings documents (reported.Changed uri changes) step =
+    IsChangedOf settings (string_bytes uri) changes.items documents step
+IsHeard settings documents (reported.Closed uri) step = IsClosed (string_bytes uri) documents step
+IsHeard settings documents reported.Exit step = step ≡ Exit
+IsHeard settings documents reported.Other step = step ≡ Silent
+
+abbrev pub unheard : Notification → Step
+unheard (reported.Opened uri language text) = Silent
+unheard (reported.Changed uri changes) = Silent
+unheard (reported.Closed uri) = Silent
+unheard reported.Exit = Exit
+unheard reported.Other = Silent
+
+abbrev pub IsReported : Settings → Phase → BTreeMap (String Global) Document → Notification → Step → Type 0
+IsReported settings New documents notification step = step ≡ unheard notification
+IsReported settings Running documents notification step = IsHeard settings documents notification step
+IsReported settings ShutDown documents notification step = step ≡ unheard notification
+
+-- A request gets one response, which has its id. A notification gets none.
+abbrev pub IsStep : Settings → Phase → BTreeMap (String Global) Document → Message → Step → Type 0
+IsStep settings phase documents (messages.Request id request) step =
+    Responds id (refusal phase request) step × Answers settings phase documents request step
+IsStep settings phase documents (messages.Notification notification) step =
+    IsReported settings phase documents notification step
+IsStep settings phase documents messages.NotJson step = step ≡ unanswered refusals.NotJson
+IsStep settings phase documents messages.NotMessage step = step ≡ unanswered refusals.InvalidRequest

@@ -1,0 +1,136 @@
+//! All that is wrong in a document.
+
+ghost use Rattle.std.specs.Prelude.{◌≡◌, IfOk, OnOk};
+ghost use Rattle.timefd_lint_lsp.specs.Editor.Each.{Adds, AreOf};
+ghost use Rattle.timefd_lint_lsp.specs.Editor.Findings.{AreFindingsOf, AreOn, AreOnOwn};
+ghost use Rattle.timefd_lint_lsp.specs.Editor.Positions.{IsCounted};
+ghost use Rattle.timefd_lint_sources.specs.Judged.{text_of};
+
+use crate::editor::counter::{counted, none_counted};
+use crate::editor::faults::push_faults;
+use crate::editor::finding::{Finding, Spot};
+use crate::editor::other::push_other;
+use crate::editor::warned::{push_note, push_warnings};
+use std::alloc::{AllocError, Global};
+use std::str;
+use timefd_lang_warnings::Levels;
+use timefd_lint_diagnosis::diagnose;
+use timefd_lint_scan::Description;
+use timefd_lint_sources::{Finder, Source, further_of, judged_in, language_of, other_of};
+use timefd_lint_warnings::found_by;
+
+/// All that is wrong in a source, in order: the first fault of each description that its language refuses,
+/// its further faults, a description that isn't UTF-8, and the warnings that `levels` asks for. Of a format of another
+/// language or library it is the first part that is refused there, or else its traps if warnings are asked for. An `Err`
+/// says that memory ran out.
+pub fn findings(
+    alloc: Global,
+    source: Source<'_>,
+    levels: Option<Levels>,
+) -> Result<Vec<Finding>, AllocError>
+    ensures { IfOk result (λ found. AreFindingsOf levels source.entry found.items) }
+{
+    let descriptions = judged_in(alloc, source)?;
+    let mut found = Vec::new(alloc);
+    push_all(
+        alloc,
+        source.finder,
+        source.text,
+        levels,
+        &descriptions,
+        &mut found,
+    )?;
+    Ok(found)
+}
+
+// Adds what is wrong with these descriptions of a document, one after another.
+#[tactic(auto, using(crate::proofs::EditorLemmas::EachLemmas::at_first, crate::proofs::EditorLemmas::EachLemmas::at_last))]
+fn push_all(
+    alloc: Global,
+    finder: Finder<'_>,
+    text: &str,
+    levels: Option<Levels>,
+    descriptions: &[Description],
+    found: &mut Vec<Finding>,
+) -> Result<(), AllocError>
+    ensures { OnOk result (Adds (AreOf (AreOn levels finder.entry text.now) descriptions.now)
+        found.old.items found.new.items) }
+{
+    let mut counter = none_counted(text);
+    for description in descriptions {
+        counter = counted(text, counter, description.piece.start);
+        let spot = Spot {
+            text,
+            description,
+            counter,
+        };
+        push_on(alloc, finder, spot, levels, found)?;
+    }
+    Ok(())
+}
+
+// Adds what is wrong with a description.
+fn push_on(
+    alloc: Global,
+    finder: Finder<'_>,
+    spot: Spot<'_>,
+    levels: Option<Levels>,
+    found: &mut Vec<Finding>,
+) -> Result<(), AllocError>
+    requires { IsCounted spot.text.now spot.counter }
+    ensures { OnOk result (Adds (AreOn levels finder.entry spot.entry.text.now spot.entry.description.now)
+        found.old.items found.new.items) }
+{
+    match str::from_utf8(spot.description.unescaped.text.as_slice()) {
+        Ok(text) => push_judged(alloc, finder, spot, levels, text, found),
+        Err(_) => push_note(alloc, spot, found),
+    }
+}
+
+// Adds what is wrong with a description that has this text.
+#[tactic(auto, using(crate::proofs::EditorLemmas::FindingLemmas::as_own, crate::proofs::EditorLemmas::FindingLemmas::as_other))]
+fn push_judged(
+    alloc: Global,
+    finder: Finder<'_>,
+    spot: Spot<'_>,
+    levels: Option<Levels>,
+    text: &str,
+    found: &mut Vec<Finding>,
+) -> Result<(), AllocError>
+    requires counted { IsCounted spot.text.now spot.counter }
+    requires text { text.now ≡ text_of spot.description.now }
+    ensures { OnOk result (Adds (AreOn levels finder.entry spot.entry.text.now spot.entry.description.now)
+        found.old.items found.new.items) }
+{
+    let reports_traps = levels.is_some();
+    match other_of(spot.description.dialect) {
+        Some(dialect) => push_other(alloc, finder, spot, reports_traps, dialect, text, found),
+        None => push_own(alloc, spot, levels, text, found),
+    }
+}
+
+// Adds what is wrong with a description of `time` that has this text.
+fn push_own(
+    alloc: Global,
+    spot: Spot<'_>,
+    levels: Option<Levels>,
+    text: &str,
+    found: &mut Vec<Finding>,
+) -> Result<(), AllocError>
+    requires counted { IsCounted spot.text.now spot.counter }
+    requires text { text.now ≡ text_of spot.description.now }
+    ensures { OnOk result (Adds (AreOnOwn levels spot.entry.text.now spot.entry.description.now)
+        found.old.items found.new.items) }
+{
+    let language = language_of(spot.description.dialect);
+    match diagnose(alloc, language, text)? {
+        None => {
+            let warned = found_by(alloc, levels, language, text)?;
+            push_warnings(alloc, spot, warned, found)
+        }
+        Some(diagnostic) => {
+            let further = further_of(alloc, spot.description, text, &diagnostic)?;
+            push_faults(alloc, spot, &diagnostic, &further, found)
+        }
+    }
+}

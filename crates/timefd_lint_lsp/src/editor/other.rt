@@ -1,0 +1,126 @@
+//! What is wrong with a format of another language or library.
+
+ghost use Rattle.std.specs.Prelude.{◌≡◌, IfOk, OnOk, string_bytes};
+ghost use Rattle.timefd_lang_dialect.specs.Reasons as reasons;
+ghost use Rattle.timefd_lang_dialect.specs.TrapWords as trap_words;
+ghost use Rattle.timefd_lint_drawing.specs.Sarif.{with_help as helped};
+ghost use Rattle.timefd_lint_sources.specs.Judged.{text_of};
+ghost use Rattle.timefd_lint_lsp.specs.Editor.Each.{Adds, AreIf, AreOf};
+ghost use Rattle.timefd_lint_lsp.specs.Editor.Others.{AreOnOther, AreTrapsOf, IsRefusal, IsTrap};
+ghost use Rattle.timefd_lint_lsp.specs.Editor.Positions.{IsCounted};
+
+use crate::editor::finding::{Finding, Severity, Spot, push};
+use std::alloc::{AllocError, Global};
+use timefd_lang_dialect::{Dialect, Found, Refusal, traps};
+use timefd_lint_drawing::sarif::with_help;
+use timefd_lint_scan::index_in_source;
+use timefd_lint_sources::{Finder, first_refusal};
+
+/// Adds the first part of a format that is refused where the format stands, or else its traps, if they are asked for. An
+/// `Err` says that memory ran out.
+#[tactic(auto, using(crate::proofs::EditorLemmas::OtherLemmas::has_refusal, crate::proofs::EditorLemmas::OtherLemmas::is_right))]
+pub fn push_other(
+    alloc: Global,
+    finder: Finder<'_>,
+    spot: Spot<'_>,
+    reports_traps: bool,
+    dialect: Dialect,
+    text: &str,
+    found: &mut Vec<Finding>,
+) -> Result<(), AllocError>
+    requires counted { IsCounted spot.text.now spot.counter }
+    requires text { text.now ≡ text_of spot.description.now }
+    ensures { OnOk result (Adds (AreOnOther finder.entry reports_traps spot.entry.text.now
+        spot.entry.description.now dialect) found.old.items found.new.items) }
+{
+    match first_refusal(alloc, finder, dialect, text)? {
+        Some(refusal) => push_refusal(alloc, spot, refusal, found),
+        None => push_trapped(alloc, spot, reports_traps, dialect, text, found),
+    }
+}
+
+// Adds a part that is refused. Where it ends isn't known, so the finding is where it begins.
+fn push_refusal(
+    alloc: Global,
+    spot: Spot<'_>,
+    refusal: Refusal,
+    found: &mut Vec<Finding>,
+) -> Result<(), AllocError>
+    requires { IsCounted spot.text.now spot.counter }
+    ensures { OnOk result (Adds (IsRefusal spot.entry.text.now spot.entry.description.now refusal)
+        found.old.items found.new.items) }
+{
+    let index = index_in_source(spot.description, refusal.index);
+    let (code, message) = (refusal.reason.name(), words_of_refusal(alloc, refusal)?);
+    push(found, spot, index, index, Severity::Error, code, message)
+}
+
+fn words_of_refusal(alloc: Global, refusal: Refusal) -> Result<String, AllocError>
+    ensures { IfOk result (λ words. string_bytes words
+        ≡ helped (reasons.sentence refusal.reason) (reasons.cure refusal.reason)) }
+{
+    with_help(alloc, refusal.reason.sentence(), refusal.reason.cure())
+}
+
+// Adds the traps of a format, if they are asked for.
+#[tactic(auto, using(crate::proofs::EditorLemmas::EachLemmas::unwanted, crate::proofs::EditorLemmas::OtherLemmas::are_wanted))]
+fn push_trapped(
+    alloc: Global,
+    spot: Spot<'_>,
+    reports_traps: bool,
+    dialect: Dialect,
+    text: &str,
+    found: &mut Vec<Finding>,
+) -> Result<(), AllocError>
+    requires counted { IsCounted spot.text.now spot.counter }
+    requires text { text.now ≡ text_of spot.description.now }
+    ensures { OnOk result (Adds (AreIf reports_traps (AreTrapsOf spot.entry.text.now spot.entry.description.now
+        dialect)) found.old.items found.new.items) }
+{
+    if !reports_traps {
+        return Ok(());
+    }
+    let all = traps(alloc, dialect, text)?;
+    push_traps(alloc, spot, &all, found)
+}
+
+#[tactic(auto, using(crate::proofs::EditorLemmas::EachLemmas::at_first, crate::proofs::EditorLemmas::EachLemmas::one_more_at, crate::proofs::EditorLemmas::EachLemmas::at_last))]
+fn push_traps(
+    alloc: Global,
+    spot: Spot<'_>,
+    all: &[Found],
+    found: &mut Vec<Finding>,
+) -> Result<(), AllocError>
+    requires { IsCounted spot.text.now spot.counter }
+    ensures { OnOk result (Adds (AreOf (IsTrap spot.entry.text.now spot.entry.description.now) all.now)
+        found.old.items found.new.items) }
+{
+    for trap in all {
+        push_trap(alloc, spot, *trap, found)?;
+    }
+    Ok(())
+}
+
+// Adds a trap, at its directive.
+fn push_trap(
+    alloc: Global,
+    spot: Spot<'_>,
+    trap: Found,
+    found: &mut Vec<Finding>,
+) -> Result<(), AllocError>
+    requires { IsCounted spot.text.now spot.counter }
+    ensures { OnOk result (Adds (IsTrap spot.entry.text.now spot.entry.description.now trap)
+        found.old.items found.new.items) }
+{
+    let start = index_in_source(spot.description, trap.start);
+    let end = index_in_source(spot.description, trap.end);
+    let (code, message) = (trap.trap.name(), words_of_trap(alloc, trap)?);
+    push(found, spot, start, end, Severity::Warning, code, message)
+}
+
+fn words_of_trap(alloc: Global, trap: Found) -> Result<String, AllocError>
+    ensures { IfOk result (λ words. string_bytes words
+        ≡ helped (trap_words.sentence trap.trap) (trap_words.cure trap.trap)) }
+{
+    with_help(alloc, trap.trap.sentence(), trap.trap.cure())
+}

@@ -1,0 +1,114 @@
+//! The server: it takes one message after another, and says what each leads to.
+
+ghost use Rattle.std.specs.Prelude.{◌≡◌, IfOk, OnOk};
+ghost use Rattle.timefd_lint_lsp.specs.Documents as opening;
+ghost use Rattle.timefd_lint_lsp.specs.Servers as spec;
+
+use crate::answering::answer_to;
+use crate::documents::{Documents, Kind};
+use crate::message::Message;
+use crate::reply::{Answer, Refusal, Reply};
+use crate::reporting::reported;
+use std::alloc::{AllocError, Global};
+use timefd_lang_warnings::Levels;
+use timefd_lint_scan::keys::Key;
+use timefd_lint_sources::{Finder, Source};
+
+/// Which descriptions of a document are checked, and which warnings are reported.
+#[derive(Clone, Copy)]
+pub struct Settings<'a> {
+    /// The keys whose strings are descriptions in files with keys.
+    pub keys: &'a [Key<'a>],
+    /// The level of each warning. `None` if no warning is reported.
+    pub levels: Option<Levels>,
+}
+
+/// How far the session with the editor is.
+#[derive(Clone, Copy, Debug, PartialEq, Eq)]
+pub enum Phase {
+    /// The editor hasn't sent `initialize` yet.
+    New,
+    Running,
+    /// The editor has sent `shutdown`.
+    ShutDown,
+}
+
+/// The state of the server.
+#[derive(Drop)]
+pub struct Server {
+    pub phase: Phase,
+    pub documents: Documents,
+}
+
+/// What a message leads to.
+#[derive(Drop)]
+pub enum Step {
+    Silent,
+    Say(Reply),
+    Exit,
+}
+
+impl Server {
+    /// A server that hasn't taken a message yet.
+    pub fn new(alloc: Global) -> Server
+        ensures phase { result.phase ≡ spec.first }
+        ensures documents { opening.NoneOpen result.documents }
+    {
+        Server {
+            phase: Phase::New,
+            documents: Documents::new(alloc),
+        }
+    }
+}
+
+/// Takes a message, and returns what it leads to. An `Err` says that memory ran out.
+pub fn take(
+    alloc: Global,
+    settings: Settings<'_>,
+    server: &mut Server,
+    message: Message,
+) -> Result<Step, AllocError>
+    ensures step { IfOk result (spec.IsStep settings.entry server.old.phase server.old.documents message) }
+    ensures phase { OnOk result (server.new.phase ≡ spec.phase_after server.old.phase message) }
+    ensures documents { OnOk result (opening.AreAfter server.old.phase message server.old.documents
+        server.new.documents) }
+{
+    match message {
+        Message::Request(id, request) => {
+            let answer = answer_to(alloc, settings, server, request)?;
+            Ok(Step::Say(Reply::Response {
+                id: Some(id),
+                answer,
+            }))
+        }
+        Message::Notification(notification) => { reported(alloc, settings, server, notification) }
+        Message::NotJson => Ok(unanswered(Refusal::NotJson)),
+        Message::NotMessage => Ok(unanswered(Refusal::InvalidRequest)),
+    }
+}
+
+/// The response to a content whose id isn't known.
+pub fn unanswered(refusal: Refusal) -> Step
+    ensures { result ≡ spec.unanswered refusal }
+{
+    Step::Say(Reply::Response {
+        id: None,
+        answer: Answer::Refused(refusal),
+    })
+}
+
+/// A document as a source of descriptions.
+pub fn source_of<'a>(settings: Settings<'a>, uri: &'a str, kind: Kind, text: &'a str) -> Source<'a>
+    ensures text { result.text.now ≡ text.now }
+    ensures finder { result.finder ≡ spec.finder_of settings.entry kind }
+{
+    let finder = match kind {
+        Kind::Rust => Finder::Rust,
+        Kind::Keys(format) => Finder::Keys(format, settings.keys),
+    };
+    Source {
+        file: uri,
+        finder,
+        text,
+    }
+}

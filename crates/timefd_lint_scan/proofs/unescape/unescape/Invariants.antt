@@ -1,0 +1,10 @@
+use Rattle.std.proofs.Common.{length}
+use Rattle.timefd_lint_scan.proofs.UnescapeLemmas.{Left}
+use Rattle.timefd_lint_scan.proofs.unescape.unescape.Given as goal
+
+-- The answer for the rest is the answer for everything.
+abbrev pub invariant-parts : goal.invariant-parts
+invariant-parts l = Left l.kind l.end l.text.items l.positions.items l.rest l.fn.body
+
+abbrev pub decreases-parts : goal.decreases-parts
+decreases-parts l = length l.rest

@@ -1,0 +1,93 @@
+-- Which literals of a source may be descriptions: arguments of known calls, and literals for which a comment
+-- names a language.
+use Rattle.std.specs.Prelude.{ℕ, ◌+◌, Bool, true, false, if◌then◌else◌, List, [], ◌∷◌, ◌++◌, Option, Some, None}
+use Rattle.std.specs.List.{flat_map}
+use Rattle.std.specs.Option.{option_or, option_to_list}
+use Rattle.timefd_lint_scan.specs.declared.alias.Alias.{Alias}
+use Rattle.timefd_lint_scan.specs.declared.calls.Frame.{Frame}
+use Rattle.timefd_lint_scan.specs.declared.candidate.Candidate.{Candidate}
+use Rattle.timefd_lint_scan.specs.declared.dialect.Dialect.{Dialect}
+use Rattle.timefd_lint_scan.specs.declared.marks.Mark.{Mark}
+use Rattle.timefd_lint_scan.specs.declared.piece.Piece.{Piece}
+use Rattle.timefd_lint_scan.specs.declared.known.Items.TheVariants.{Refused}
+use Rattle.timefd_lint_scan.specs.declared.known.Known.{Known}
+use Rattle.timefd_lint_scan.specs.declared.uses.Use.{Use}
+use Rattle.timefd_lint_scan.specs.declared.token.Kind.{Kind}
+use Rattle.timefd_lint_scan.specs.declared.token.Token.{Token}
+use Rattle.timefd_lint_scan.specs.declared.token.Token.TheVariants.{White, Comment, Word, Lifetime, Character, Literal, Sign, Unclosed}
+use Rattle.timefd_lint_scan.specs.declared.version.VersionPosition.TheVariants.{Elsewhere}
+use Rattle.timefd_lint_scan.specs.Aliases.{aliases_in}
+use Rattle.timefd_lint_scan.specs.Arguments.{reported_in}
+use Rattle.timefd_lint_scan.specs.Attributes.{known_by_attribute}
+use Rattle.timefd_lint_scan.specs.Bytes.{Text}
+use Rattle.timefd_lint_scan.specs.Flows.{outermost, known_of}
+use Rattle.timefd_lint_scan.specs.Frames.{innermost, passed}
+use Rattle.timefd_lint_scan.specs.Marks.{marks, still_open, reported_at}
+use Rattle.timefd_lint_scan.specs.Using.{uses_in}
+
+abbrev pub kind_of : Token → Option Kind
+kind_of White = None
+kind_of Comment = None
+kind_of Word = None
+kind_of Lifetime = None
+kind_of Character = None
+kind_of (Literal kind) = Some kind
+kind_of Sign = None
+kind_of Unclosed = None
+
+-- neither white nor a comment
+abbrev pub is_significant : Token → Bool
+is_significant White = false
+is_significant Comment = false
+is_significant Word = true
+is_significant Lifetime = true
+is_significant Character = true
+is_significant (Literal kind) = true
+is_significant Sign = true
+is_significant Unclosed = true
+
+abbrev pub kept : Piece → List Piece
+kept p = if is_significant p.token then p ∷ [] else []
+
+abbrev pub significant : List Piece → List Piece
+significant ps = flat_map kept ps
+
+-- what a comment says about a literal
+abbrev pub by_comment : Option Dialect → Option Known
+by_comment None = None
+by_comment (Some dialect) = Some (record { dialect = dialect; items = Refused; version = Elsewhere; wants_percent = false; call = None })
+
+abbrev pub candidate_from : Piece → Option Kind → Option Known → Option Candidate
+candidate_from p None known = None
+candidate_from p (Some kind) None = None
+candidate_from p (Some kind) (Some known) = Some (record { piece = p; kind = kind; known = known })
+
+-- A comment that names a language decides first, then the bracket that the literal is in, then what its value
+-- is passed to, then its attribute.
+abbrev pub candidate_at : Text → List Piece → ℕ → Piece → Option Frame → Option Dialect → Option Candidate
+candidate_at source ps i p frame dialect =
+    candidate_from p (kind_of p.token)
+    (option_or (option_or (option_or (by_comment dialect) (reported_in source ps i frame)) (known_of source ps i frame))
+    (known_by_attribute source ps i))
+
+-- the candidates among the tokens from an index on, with these open brackets and these comments that name a
+-- language
+abbrev pub candidates_from : Text → List Piece → List Alias → List Use → ℕ → List Piece → List Frame → List Mark
+    → List Candidate
+candidates_from source ps aliases us i [] frames comments = []
+candidates_from source ps aliases us i (p ∷ rest) frames comments =
+    option_to_list (candidate_at source ps i p (innermost (passed source ps aliases us i frames))
+    (reported_at (still_open p.start comments) p.start))
+    ++ candidates_from source ps aliases us (i + 1) rest (passed source ps aliases us i frames)
+    (still_open p.start comments)
+
+abbrev pub candidates_by : Text → List Piece → List Alias → List Use → List Mark → List Candidate
+candidates_by source ps aliases us comments = candidates_from source ps aliases us 0 ps (outermost ∷ []) comments
+
+abbrev pub candidates_in : Text → List Piece → List Mark → List Candidate
+candidates_in source ps comments =
+    candidates_by source ps (aliases_in source ps) (uses_in source ps (aliases_in source ps)) comments
+
+-- the candidates of a source that is cut into these tokens
+abbrev pub candidates : Text → List Piece → List Candidate
+candidates source all = candidates_in source (significant all) (marks source all)

@@ -1,0 +1,67 @@
+-- What is seen in a source: its descriptions, and what can't be checked.
+use Rattle.std.specs.Prelude.{ℕ, ◌≡◌, ◌⊎◌, Bool, true, false, not, ◌&&◌, ◌||◌, ◌==◌, if◌then◌else◌, List, [], ◌∷◌, codes, bytes_eq, length, Option, Some, None}
+use Rattle.std.specs.List.{flat_map}
+use Rattle.timefd_lint_scan.specs.declared.description.Description.{Description}
+use Rattle.timefd_lint_scan.specs.declared.look.Look.{Look}
+use Rattle.timefd_lint_scan.specs.declared.piece.Piece.{Piece}
+use Rattle.timefd_lint_scan.specs.declared.uses.Use.{Use}
+use Rattle.timefd_lint_scan.specs.Aliases.{aliases_in}
+use Rattle.timefd_lint_scan.specs.Bytes.{Text}
+use Rattle.timefd_lint_scan.specs.Candidates.{candidates, significant}
+use Rattle.timefd_lint_scan.specs.Found.{AreDescribed}
+use Rattle.timefd_lint_scan.specs.Marks.{unknown_marks}
+use Rattle.timefd_lint_scan.specs.Names.{HasNoName}
+use Rattle.timefd_lint_scan.specs.Sources.{AreTokens}
+use Rattle.timefd_lint_scan.specs.Using.{uses_in}
+use Rattle.timefd_lint_scan.specs.Words.{text_of}
+
+-- A word is among these tokens.
+abbrev pub has_word : Text → Text → List Piece → Bool
+has_word source word [] = false
+has_word source word (p ∷ ps) = if bytes_eq (text_of source p) word then true else has_word source word ps
+
+abbrev pub is_at : Option ℕ → ℕ → Bool
+is_at None position = false
+is_at (Some at) position = at == position
+
+-- One of these descriptions is used by its name at a position.
+abbrev pub is_taken : ℕ → List Description → Bool
+is_taken position [] = false
+is_taken position (d ∷ ds) = if is_at d.call position then true else is_taken position ds
+
+-- A call is known to take a date format: by its own name, or because the source mentions chrono.
+abbrev pub is_sure : Use → Bool → Bool
+is_sure u has_chrono = not u.known.wants_percent || has_chrono
+
+abbrev pub is_unread : List Description → Bool → Use → Bool
+is_unread ds has_chrono u =
+    is_at u.known.call u.name.start && is_sure u has_chrono && not (is_taken u.name.start ds)
+
+abbrev pub unread : List Description → Bool → Use → List ℕ
+unread ds has_chrono u = if is_unread ds has_chrono u then u.name.start ∷ [] else []
+
+-- where names begin that calls take, and that don't name one of these descriptions
+abbrev pub unread_calls : List Description → Bool → List Use → List ℕ
+unread_calls ds has_chrono us = flat_map (unread ds has_chrono) us
+
+-- such names among the tokens of a source in which these descriptions are found
+abbrev pub calls_in : Text → List Piece → List Description → List ℕ
+calls_in source ps ds =
+    unread_calls ds (has_word source (codes "chrono") ps) (uses_in source ps (aliases_in source ps))
+
+-- What is seen in a source that is cut into these tokens.
+pub record IsSeen (source : Text) (all : List Piece) (look : Look) : Type 0 where
+  pub tokens : AreTokens (length source) source all
+  pub descriptions : AreDescribed source 0 (candidates source all) look.descriptions.items
+  pub calls : look.calls.items ≡ calls_in source (significant all) look.descriptions.items
+  pub comments : look.comments.items ≡ unknown_marks source all
+
+-- Nothing is seen.
+pub record IsBlank (look : Look) : Type 0 where
+  pub descriptions : look.descriptions.items ≡ []
+  pub calls : look.calls.items ≡ []
+  pub comments : look.comments.items ≡ []
+
+-- Nothing is seen in a source that has none of the names that descriptions come with.
+abbrev pub IsLook : Text → Look → Type 0
+IsLook source look = (HasNoName source × IsBlank look) ⊎ ((all : List Piece) × IsSeen source all look)

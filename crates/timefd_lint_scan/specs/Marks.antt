@@ -1,0 +1,110 @@
+-- Comments that name the language of literals: `// timefd: 3`
+use Rattle.std.specs.Prelude.{ℕ, ◌-◌, Bool, true, false, not, ◌&&◌, ◌==◌, nat_eq, nat_le, nat_lt, if◌then◌else◌, List, [], ◌∷◌, bytes_eq, codes, drop, is_none, length, take, Option, Some, None}
+use Rattle.std.specs.List.{flat_map, starts_with}
+use Rattle.std.specs.Option.{option_to_list}
+use Rattle.timefd_lint_scan.specs.declared.dialect.Dialect.{Dialect}
+use Rattle.timefd_lint_scan.specs.declared.marks.Mark.{Mark}
+use Rattle.timefd_lint_scan.specs.declared.piece.Piece.{Piece}
+use Rattle.timefd_lint_scan.specs.declared.token.Token.{Token}
+use Rattle.timefd_lint_scan.specs.declared.token.Token.TheVariants.{White, Comment, Word, Lifetime, Character, Literal, Sign, Unclosed}
+use Rattle.timefd_lint_scan.specs.After.{after_run}
+use Rattle.timefd_lint_scan.specs.Bytes.{Text, is_white, is_word}
+use Rattle.timefd_lint_scan.specs.Dialects.{dialect_named}
+use Rattle.timefd_lint_scan.specs.Lines.{line_start, next_line_end}
+use Rattle.timefd_lint_scan.specs.Literals.{cut}
+
+-- the text without this front; none if it begins differently
+abbrev pub after : Text → Text → Option Text
+after text front = if starts_with nat_eq text front then Some (drop (length front) text) else None
+
+-- the front of a text, up to this rest
+abbrev pub in_front : Text → Text → Text
+in_front text rest = take (length text - length rest) text
+
+-- the language that a text names if it is one word, with only white bytes after it
+abbrev pub word_dialect : Text → Option Dialect
+word_dialect text =
+    if length (after_run is_white (after_run is_word text)) == 0 then
+    dialect_named (in_front text (after_run is_word text))
+    else None
+
+abbrev pub mark_reported : Option Text → Option Dialect
+mark_reported None = None
+mark_reported (Some text) = word_dialect (after_run is_white text)
+
+abbrev pub line_reported : Option Text → Option Dialect
+line_reported None = None
+line_reported (Some text) = mark_reported (after (after_run is_white text) (codes "timefd:"))
+
+abbrev pub comment_dialect : Option Text → Option Dialect
+comment_dialect None = None
+comment_dialect (Some text) = line_reported (after text (codes "//"))
+
+-- The text after `timefd:` neither names a language nor silences a warning.
+abbrev pub is_unknown : Text → Bool
+is_unknown text =
+    is_none (word_dialect text) && not (bytes_eq (in_front text (after_run is_word text)) (codes "allow"))
+
+abbrev pub mark_names_none : Option Text → Bool
+mark_names_none None = false
+mark_names_none (Some text) = is_unknown (after_run is_white text)
+
+abbrev pub line_names_none : Option Text → Bool
+line_names_none None = false
+line_names_none (Some text) = mark_names_none (after (after_run is_white text) (codes "timefd:"))
+
+-- a comment that should name a language, but doesn't
+abbrev pub names_none : Option Text → Bool
+names_none None = false
+names_none (Some text) = line_names_none (after text (codes "//"))
+
+-- Only white bytes precede a position in its line.
+abbrev pub is_alone : Text → ℕ → Bool
+is_alone source at =
+    length (after_run is_white (take (at - line_start source at) (drop (line_start source at) source))) == 0
+
+-- A comment applies to the literals before it in its line, or to those of the next line if nothing else is
+-- in its own.
+abbrev pub mark_of : Text → Piece → Option Dialect → Option Mark
+mark_of source p None = None
+mark_of source p (Some dialect) =
+    if is_alone source p.start then
+    Some (record { from = p.end; to = next_line_end source p.end; dialect = dialect })
+    else Some (record { from = line_start source p.start; to = p.start; dialect = dialect })
+
+abbrev pub is_comment : Token → Bool
+is_comment White = false
+is_comment Comment = true
+is_comment Word = false
+is_comment Lifetime = false
+is_comment Character = false
+is_comment (Literal kind) = false
+is_comment Sign = false
+is_comment Unclosed = false
+
+abbrev pub mark_at : Text → Piece → Option Mark
+mark_at source p = if is_comment p.token then mark_of source p (comment_dialect (cut source p)) else None
+
+abbrev pub is_unknown_mark : Text → Piece → Bool
+is_unknown_mark source p = is_comment p.token && names_none (cut source p)
+
+abbrev pub unknown_mark : Text → Piece → List ℕ
+unknown_mark source p = if is_unknown_mark source p then p.start ∷ [] else []
+
+-- where comments begin that should name a language, but don't, in order
+abbrev pub unknown_marks : Text → List Piece → List ℕ
+unknown_marks source ps = flat_map (unknown_mark source) ps
+
+-- the comments that name a language, in order
+abbrev pub marks : Text → List Piece → List Mark
+marks source ps = flat_map (λ p. option_to_list (mark_at source p)) ps
+
+-- the marks from the first one on that ends after this position
+abbrev pub still_open : ℕ → List Mark → List Mark
+still_open position [] = []
+still_open position (m ∷ ms) = if nat_lt position m.to then m ∷ ms else still_open position ms
+
+-- the language that the first of these marks names for a position
+abbrev pub reported_at : List Mark → ℕ → Option Dialect
+reported_at [] position = None
+reported_at (m ∷ ms) position = if nat_le m.from position && nat_lt position m.to then Some m.dialect else None

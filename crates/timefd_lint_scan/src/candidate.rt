@@ -1,0 +1,117 @@
+//! Literals that may be descriptions, because of a comment or of where they are.
+
+ghost use Rattle.std.specs.Prelude.{◌≡◌, ◌++◌, IfOk, OnOk};
+ghost use Rattle.timefd_lint_scan.specs.Candidates as spec;
+
+use crate::attribute::known_by_attribute;
+use crate::calls::Frame;
+use crate::dialect::Dialect;
+use crate::flow::known_of;
+use crate::known::{Items, Known, reported_in};
+use crate::piece::Piece;
+use crate::token::{Kind, Token};
+use crate::version::VersionPosition;
+use std::alloc::{AllocError, Global};
+
+/// A literal that is a description if its text can be one.
+#[derive(Clone, Copy)]
+pub struct Candidate {
+    /// The literal.
+    pub piece: Piece,
+    /// How it is written.
+    pub kind: Kind,
+    /// What is known about it.
+    pub known: Known,
+}
+
+fn kind_of(token: Token) -> Option<Kind>
+    ensures { result ≡ spec.kind_of token }
+{
+    match token {
+        Token::Literal(kind) => Some(kind),
+        Token::White
+        | Token::Comment
+        | Token::Word
+        | Token::Lifetime
+        | Token::Character
+        | Token::Sign
+        | Token::Unclosed => None,
+    }
+}
+
+/// Whether a token is neither white nor a comment.
+fn is_significant(token: Token) -> bool
+    ensures { result ≡ spec.is_significant token }
+{
+    match token {
+        Token::White | Token::Comment => false,
+        Token::Word
+        | Token::Lifetime
+        | Token::Character
+        | Token::Literal(_)
+        | Token::Sign
+        | Token::Unclosed => true,
+    }
+}
+
+fn keep(kept: &mut Vec<Piece>, piece: Piece) -> Result<(), AllocError>
+    ensures { OnOk result (kept.new.items ≡ kept.old.items ++ spec.kept piece) }
+{
+    if is_significant(piece.token) {
+        kept.push(piece)?;
+    }
+    Ok(())
+}
+
+/// The tokens that are neither white nor comments.
+pub fn significant(alloc: Global, pieces: &[Piece]) -> Result<Vec<Piece>, AllocError>
+    ensures { IfOk result (λ kept. kept.items ≡ spec.significant pieces.now) }
+{
+    let mut kept = Vec::new(alloc);
+    for piece in pieces {
+        keep(&mut kept, *piece)?;
+    }
+    Ok(kept)
+}
+
+fn by_comment(dialect: Option<Dialect>) -> Option<Known>
+    ensures { result ≡ spec.by_comment dialect }
+{
+    match dialect {
+        Some(dialect) => Some(Known {
+            dialect,
+            items: Items::Refused,
+            version: VersionPosition::Elsewhere,
+            wants_percent: false,
+            call: None,
+        }),
+        None => None,
+    }
+}
+
+fn candidate_from(piece: Piece, kind: Option<Kind>, known: Option<Known>) -> Option<Candidate>
+    ensures { result ≡ spec.candidate_from piece kind known }
+{
+    match (kind, known) {
+        (Some(kind), Some(known)) => Some(Candidate { piece, kind, known }),
+        (Some(_), None) | (None, _) => None,
+    }
+}
+
+/// The candidate at a token. A comment that names a language decides first, then the bracket that the token
+/// is in, then what its value is passed to, then its attribute.
+pub fn candidate_at(
+    source: &[u8],
+    pieces: &[Piece],
+    index: usize,
+    piece: Piece,
+    frame: Option<Frame>,
+    dialect: Option<Dialect>,
+) -> Option<Candidate>
+    ensures { result ≡ spec.candidate_at source.now pieces.now index piece frame dialect }
+{
+    let known = by_comment(dialect).or(reported_in(source, pieces, index, frame));
+    let known = known.or(known_of(source, pieces, index, frame));
+    let known = known.or(known_by_attribute(source, pieces, index));
+    candidate_from(piece, kind_of(piece.token), known)
+}

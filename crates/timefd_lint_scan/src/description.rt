@@ -1,0 +1,148 @@
+//! The descriptions in a source.
+
+ghost use Rattle.std.specs.Prelude.{◌≡◌, ◌++◌, IfOk, OnOk, Some};
+ghost use Rattle.std.specs.Option.{option_to_list};
+ghost use Rattle.timefd_lint_scan.specs.Candidates.{candidates_by};
+ghost use Rattle.timefd_lint_scan.specs.Escapes.{placed};
+ghost use Rattle.timefd_lint_scan.specs.Found.{AreDescribed, IsAnyDescribed, IsDescribed, IsOfText, begun_after, end_after};
+
+use crate::alias::Alias;
+use crate::between::is_between;
+use crate::candidate::{Candidate, candidate_at};
+use crate::dates::is_of_dates;
+use crate::dialect::Dialect;
+use crate::flow::outermost;
+use crate::frames::{innermost, pass};
+use crate::known::Items;
+use crate::literal::literal_text;
+use crate::marks::{Mark, reported_at, still_open};
+use crate::piece::Piece;
+use crate::token::Kind;
+use crate::unescape::Unescaped;
+use crate::uses::Use;
+use crate::version::{VersionPosition, first_position, tested};
+use std::alloc::{AllocError, Global};
+
+/// A description that is a string literal of a source.
+#[derive(Drop)]
+pub struct Description {
+    /// The literal.
+    pub piece: Piece,
+    /// How it is written.
+    pub kind: Kind,
+    /// The language.
+    pub dialect: Dialect,
+    /// What it may hold.
+    pub items: Items,
+    /// Where the source says the version.
+    pub version: VersionPosition,
+    /// Where the name that a call takes instead of it begins, as a byte index; `None` if the literal is in
+    /// the call itself.
+    pub call: Option<usize>,
+    /// The text that it denotes, and where that is in the source.
+    pub unescaped: Unescaped,
+}
+
+/// The description of a literal that denotes this text; `None` if a date format is wanted and this isn't one.
+fn of_text(source: &str, candidate: Candidate, unescaped: Unescaped) -> Option<Description>
+    ensures { IsOfText source.now candidate (Some (placed unescaped)) result }
+{
+    let Candidate { piece, kind, known } = candidate;
+    if known.wants_percent && !is_of_dates(&unescaped.text) {
+        return None;
+    }
+    if !is_between(source, piece, kind, &unescaped) {
+        return None;
+    }
+    Some(Description {
+        piece,
+        kind,
+        dialect: known.dialect,
+        items: known.items,
+        version: tested(source, piece, known.dialect, known.version),
+        call: known.call,
+        unescaped,
+    })
+}
+
+/// A literal as a description; `None` if an escape is invalid.
+fn described(
+    alloc: Global,
+    source: &str,
+    candidate: Candidate,
+) -> Result<Option<Description>, AllocError>
+    ensures { IfOk result (IsDescribed source.now candidate) }
+{
+    match literal_text(alloc, source, candidate.piece, candidate.kind)? {
+        Some(unescaped) => Ok(of_text(source, candidate, unescaped)),
+        None => Ok(None),
+    }
+}
+
+fn described_any(
+    alloc: Global,
+    source: &str,
+    candidate: Option<Candidate>,
+) -> Result<Option<Description>, AllocError>
+    ensures { IfOk result (IsAnyDescribed source.now candidate) }
+{
+    match candidate {
+        Some(candidate) => described(alloc, source, candidate),
+        None => Ok(None),
+    }
+}
+
+/// Adds a description if it begins after the others, which end at `end`. Returns where all of them end then.
+/// All descriptions that are found begin after the others; the test makes sure. An `Err` says that memory ran
+/// out.
+pub fn push_any(
+    descriptions: &mut Vec<Description>,
+    found: Option<Description>,
+    end: usize,
+) -> Result<usize, AllocError>
+    ensures pushed { OnOk result (descriptions.new.items
+        ≡ descriptions.old.items ++ option_to_list (begun_after end found)) }
+    ensures end { IfOk result (λ next. next ≡ end_after end (begun_after end found)) }
+{
+    match found {
+        Some(description) => {
+            let next = description.piece.end;
+            if first_position(description.version, description.piece.start) < end {
+                return Ok(end);
+            }
+            descriptions.push(description)?;
+            Ok(next)
+        }
+        None => Ok(end),
+    }
+}
+
+/// The descriptions among these tokens, with these aliases, uses of names, and comments that name a language.
+/// An `Err` says that memory ran out.
+pub fn described_by(
+    alloc: Global,
+    source: &str,
+    pieces: &[Piece],
+    aliases: &[Alias],
+    uses: &[Use],
+    marks: &[Mark],
+) -> Result<Vec<Description>, AllocError>
+    ensures { IfOk result (λ found. AreDescribed source.now 0
+        (candidates_by source.now pieces.now aliases.now uses.now marks.now) found.items) }
+{
+    let mut frames = Vec::new(alloc);
+    frames.push(outermost())?;
+    let mut descriptions = Vec::new(alloc);
+    let mut comments = marks;
+    let mut end = 0;
+    for (index, piece) in pieces.iter().enumerate() {
+        pass(&mut frames, source.as_bytes(), pieces, aliases, uses, index)?;
+        comments = still_open(comments, piece.start);
+        let dialect = reported_at(comments, piece.start);
+        let frame = innermost(&frames);
+        let candidate = candidate_at(source.as_bytes(), pieces, index, *piece, frame, dialect);
+        let found = described_any(alloc, source, candidate)?;
+        end = push_any(&mut descriptions, found, end)?;
+    }
+    Ok(descriptions)
+}

@@ -1,0 +1,117 @@
+//! The brackets that are open at a token, the innermost one last.
+
+ghost use Rattle.std.specs.Prelude.{◌≡◌, OnOk};
+ghost use Rattle.timefd_lint_scan.specs.Frames as spec;
+
+use crate::alias::Alias;
+use crate::calls::{Argument, Frame};
+use crate::dialect::is;
+use crate::flow::{entered, opened, settled};
+use crate::piece::Piece;
+use crate::uses::Use;
+use crate::word::{is_closing, is_opening, text_after, text_at};
+use std::alloc::AllocError;
+
+/// The innermost bracket.
+pub fn innermost(frames: &[Frame]) -> Option<Frame>
+    ensures { result ≡ spec.innermost frames.now }
+{
+    frames.last().copied()
+}
+
+// Closes the innermost bracket.
+fn close(frames: &mut Vec<Frame>) -> Option<Frame>
+    ensures rest { frames.new.items ≡ spec.but_last frames.old.items }
+    ensures closed { result ≡ spec.innermost frames.old.items }
+{
+    let closed = innermost(frames);
+    frames.pop();
+    closed
+}
+
+fn next_argument(argument: Argument) -> Argument
+    ensures { result ≡ spec.next_argument argument }
+{
+    match argument {
+        Argument::First => Argument::Second,
+        Argument::Second | Argument::Later => Argument::Later,
+    }
+}
+
+fn with_comma(frame: Frame) -> Frame
+    ensures { result ≡ spec.with_comma frame }
+{
+    let argument = next_argument(frame.argument);
+    settled(Frame { argument, ..frame })
+}
+
+/// Whether another statement, arm or argument begins after a closing token: after a block that no `else`
+/// follows.
+fn is_end(source: &[u8], pieces: &[Piece], index: usize) -> bool
+    ensures { result ≡ spec.is_end source.now pieces.now index }
+{
+    is(text_at(source, pieces, index), "}") && !is(text_after(source, pieces, index, 1), "else")
+}
+
+/// The innermost bracket after a token that doesn't open one.
+fn after_token(source: &[u8], pieces: &[Piece], uses: &[Use], index: usize, frame: Frame) -> Frame
+    ensures { result ≡ spec.after_token source.now pieces.now uses.now index frame }
+{
+    let text = text_at(source, pieces, index);
+    if is(text, ",") {
+        with_comma(frame)
+    } else if is_closing(text) {
+        if is_end(source, pieces, index) {
+            settled(frame)
+        } else {
+            frame
+        }
+    } else {
+        entered(source, pieces, uses, index, frame)
+    }
+}
+
+// Replaces the innermost bracket by what it is after a token.
+fn replace(
+    frames: &mut Vec<Frame>,
+    source: &[u8],
+    pieces: &[Piece],
+    uses: &[Use],
+    index: usize,
+) -> Result<(), AllocError>
+    ensures { OnOk result (frames.new.items
+        ≡ spec.replaced source.now pieces.now uses.now index frames.old.items) }
+{
+    match close(frames) {
+        Some(frame) => {
+            frames.push(after_token(source, pieces, uses, index, frame))?;
+            Ok(())
+        }
+        None => Ok(()),
+    }
+}
+
+/// Opens or closes a bracket, counts a comma, or notes where the next value goes, with these aliases and uses
+/// of names.
+pub fn pass(
+    frames: &mut Vec<Frame>,
+    source: &[u8],
+    pieces: &[Piece],
+    aliases: &[Alias],
+    uses: &[Use],
+    index: usize,
+) -> Result<(), AllocError>
+    ensures { OnOk result (frames.new.items
+        ≡ spec.passed source.now pieces.now aliases.now uses.now index frames.old.items) }
+{
+    let text = text_at(source, pieces, index);
+    if is_opening(text) {
+        let outer = innermost(frames);
+        frames.push(opened(source, pieces, aliases, index, outer))?;
+        return Ok(());
+    }
+    if is_closing(text) {
+        close(frames);
+    }
+    replace(frames, source, pieces, uses, index)
+}

@@ -1,0 +1,107 @@
+//! Parts of a string: plain bytes, and escapes.
+
+ghost use Rattle.std.specs.Prelude.{◌≡◌, ◌≤◌, length, MatchOption, ⊤};
+ghost use Rattle.timefd_lint_scan.specs.Keys.Escapes as spec;
+ghost use Rattle.timefd_lint_scan.specs.Escapes.{parted, parted_any};
+
+use crate::class::is_blank;
+use crate::keys::bytes::begins_space;
+use crate::keys::letter::{digit_count, letter};
+use crate::keys::scalar::numeric;
+use crate::keys::style::Style;
+use crate::part::{Part, Stands, char_part};
+
+// The control character after the letters of ASCII.
+const DELETE: u8 = b'\x7f';
+
+fn escape_by(style: Style, byte: u8, after: &[u8], letter: Option<char>) -> Option<Part<'_>>
+    ensures part { parted_any result ≡ spec.escape_by style byte after.now letter }
+    ensures within { MatchOption result ⊤ (λ part. length part.rest.now ≤ length after.now) }
+{
+    match letter {
+        Some(c) => char_part(after, Some(c)),
+        None => numeric(style, digit_count(style, byte), after),
+    }
+}
+
+fn escape(style: Style, text: &[u8]) -> Option<Part<'_>>
+    ensures part { parted_any result ≡ spec.escape style text.now }
+    ensures within { MatchOption result ⊤ (λ part. length part.rest.now ≤ length text.now) }
+{
+    match text {
+        [] => None,
+        [byte, after @ ..] => escape_by(style, *byte, after, letter(style, *byte)),
+    }
+}
+
+fn itself(byte: u8, rest: &[u8]) -> Part<'_>
+    ensures part { parted result ≡ spec.itself byte rest.now }
+    ensures within { length result.rest.now ≤ length rest.now }
+{
+    Part {
+        stands: Stands::Byte(byte),
+        rest,
+    }
+}
+
+fn is_refused(style: Style, byte: u8) -> bool
+    ensures { result ≡ spec.is_refused style byte }
+{
+    match style {
+        Style::Json => byte < b' ',
+        Style::Basic | Style::Literal => byte < b' ' && byte != b'\t' || byte == DELETE,
+        Style::Double | Style::Single | Style::Plain => byte < b' ' && byte != b'\t',
+    }
+}
+
+fn second_apostrophe(text: &[u8]) -> Option<Part<'_>>
+    ensures part { parted_any result ≡ spec.second_apostrophe text.now }
+    ensures within { MatchOption result ⊤ (λ part. length part.rest.now ≤ length text.now) }
+{
+    match text {
+        [b'\'', after @ ..] => Some(itself(b'\'', after)),
+        _ => None,
+    }
+}
+
+fn breaks_plain(byte: u8, after: &[u8]) -> bool
+    ensures { result ≡ spec.breaks_plain byte after.now }
+{
+    (byte == b':' || is_blank(byte)) && begins_space(after)
+}
+
+fn escaped_or(style: Style, byte: u8, after: &[u8]) -> Option<Part<'_>>
+    ensures part { parted_any result ≡ spec.escaped_or style byte after.now }
+    ensures within { MatchOption result ⊤ (λ part. length part.rest.now ≤ length after.now) }
+{
+    if byte == b'\\' {
+        escape(style, after)
+    } else {
+        Some(itself(byte, after))
+    }
+}
+
+fn part_by(style: Style, byte: u8, after: &[u8]) -> Option<Part<'_>>
+    ensures part { parted_any result ≡ spec.part_by style byte after.now }
+    ensures within { MatchOption result ⊤ (λ part. length part.rest.now ≤ length after.now) }
+{
+    match style {
+        Style::Json | Style::Basic | Style::Double => escaped_or(style, byte, after),
+        Style::Literal => Some(itself(byte, after)),
+        Style::Single if byte == b'\'' => second_apostrophe(after),
+        Style::Plain if breaks_plain(byte, after) => None,
+        Style::Single | Style::Plain => Some(itself(byte, after)),
+    }
+}
+
+/// The part of a string that begins with this byte; `None` if the format doesn't allow it.
+pub fn part_of(style: Style, byte: u8, after: &[u8]) -> Option<Part<'_>>
+    ensures part { parted_any result ≡ spec.part_of style byte after.now }
+    ensures within { MatchOption result ⊤ (λ part. length part.rest.now ≤ length after.now) }
+{
+    if is_refused(style, byte) {
+        None
+    } else {
+        part_by(style, byte, after)
+    }
+}

@@ -1,0 +1,174 @@
+//! What is seen in a source: its descriptions, and what can't be checked.
+
+ghost use Rattle.std.specs.Prelude.{◌≡◌, ◌++◌, IfOk, OnOk};
+ghost use Rattle.timefd_lint_scan.specs.Candidates.{candidates_in};
+ghost use Rattle.timefd_lint_scan.specs.Found.{AllStandIn, AreDescribed, AreDescriptionsOf, AreInOrder};
+ghost use Rattle.timefd_lint_scan.specs.Looks.{IsLook, IsSeen};
+ghost use Rattle.timefd_lint_scan.specs.Looks as spec;
+
+use crate::alias::aliases_of;
+use crate::candidate::significant;
+use crate::description::{Description, described_by};
+use crate::dialect::is;
+use crate::marks::{Mark, marks_of, unknown_marks};
+use crate::names::may_describe;
+use crate::piece::{Piece, pieces_of};
+use crate::uses::Use;
+use crate::using::uses_of;
+use crate::word::text_of;
+use std::alloc::{AllocError, Global};
+
+/// What is seen in a source.
+#[derive(Drop)]
+pub struct Look {
+    /// The descriptions, in order; they don't overlap.
+    pub descriptions: Vec<Description>,
+    /// Where names begin that known calls take instead of a literal, and for which no text is found in the
+    /// source. Byte indices.
+    pub calls: Vec<usize>,
+    /// Where comments begin that should name a language, but don't. Byte indices.
+    pub comments: Vec<usize>,
+}
+
+/// What is seen among tokens.
+#[derive(Drop)]
+struct Seen {
+    descriptions: Vec<Description>,
+    calls: Vec<usize>,
+}
+
+/// Whether a word is among these tokens.
+fn has_word(source: &[u8], pieces: &[Piece], word: &str) -> bool
+    ensures { result ≡ spec.has_word source.now word.now pieces.now }
+{
+    let mut rest = pieces;
+    'tokens: while let [piece, after @ ..] = rest {
+        if is(text_of(source, *piece), word) {
+            return true;
+        }
+        rest = after;
+    }
+    false
+}
+
+/// Whether one of these descriptions is used by its name at a position.
+fn is_taken(descriptions: &[Description], position: usize) -> bool
+    ensures { result ≡ spec.is_taken position descriptions.now }
+{
+    let mut rest = descriptions;
+    'descriptions: while let [description, after @ ..] = rest {
+        if description.call == Some(position) {
+            return true;
+        }
+        rest = after;
+    }
+    false
+}
+
+/// Whether a call is known to take a date format: by its own name, or because the source mentions chrono.
+fn is_sure(used: Use, has_chrono: bool) -> bool
+    ensures { result ≡ spec.is_sure used has_chrono }
+{
+    !used.known.wants_percent || has_chrono
+}
+
+fn is_unread(used: Use, descriptions: &[Description], has_chrono: bool) -> bool
+    ensures { result ≡ spec.is_unread descriptions.now has_chrono used }
+{
+    let position = used.name.start;
+    used.known.call == Some(position)
+        && is_sure(used, has_chrono)
+        && !is_taken(descriptions, position)
+}
+
+fn push_unread(
+    calls: &mut Vec<usize>,
+    used: Use,
+    descriptions: &[Description],
+    has_chrono: bool,
+) -> Result<(), AllocError>
+    ensures { OnOk result (calls.new.items
+        ≡ calls.old.items ++ spec.unread descriptions.now has_chrono used) }
+{
+    if is_unread(used, descriptions, has_chrono) {
+        calls.push(used.name.start)?;
+    }
+    Ok(())
+}
+
+/// Where names begin that calls take, and that don't name one of these descriptions.
+fn unread_calls(
+    alloc: Global,
+    uses: &[Use],
+    descriptions: &[Description],
+    has_chrono: bool,
+) -> Result<Vec<usize>, AllocError>
+    ensures { IfOk result (λ calls. calls.items ≡ spec.unread_calls descriptions.now has_chrono uses.now) }
+{
+    let mut calls = Vec::new(alloc);
+    for used in uses {
+        push_unread(&mut calls, *used, descriptions, has_chrono)?;
+    }
+    Ok(calls)
+}
+
+/// What is seen among these tokens, with these comments that name a language.
+fn seen_in(
+    alloc: Global,
+    source: &str,
+    pieces: &[Piece],
+    marks: &[Mark],
+) -> Result<Seen, AllocError>
+    ensures described { IfOk result (λ seen. AreDescribed source.now 0
+        (candidates_in source.now pieces.now marks.now) seen.descriptions.items) }
+    ensures calls { IfOk result (λ seen. seen.calls.items
+        ≡ spec.calls_in source.now pieces.now seen.descriptions.items) }
+{
+    let bytes = source.as_bytes();
+    let aliases = aliases_of(alloc, bytes, pieces)?;
+    let uses = uses_of(alloc, bytes, pieces, &aliases)?;
+    let descriptions = described_by(alloc, source, pieces, &aliases, &uses, marks)?;
+    let has_chrono = has_word(bytes, pieces, "chrono");
+    let calls = unread_calls(alloc, &uses, &descriptions, has_chrono)?;
+    Ok(Seen {
+        descriptions,
+        calls,
+    })
+}
+
+/// Looks for descriptions in a source. An `Err` says that memory ran out.
+pub fn looked_at(alloc: Global, source: &str) -> Result<Look, AllocError>
+    ensures { IfOk result (IsLook source.now) }
+{
+    if !may_describe(source.as_bytes()) {
+        return Ok(Look {
+            descriptions: Vec::new(alloc),
+            calls: Vec::new(alloc),
+            comments: Vec::new(alloc),
+        });
+    }
+    let all = pieces_of(alloc, source)?;
+    let marks = marks_of(alloc, source.as_bytes(), &all)?;
+    let comments = unknown_marks(alloc, source.as_bytes(), &all)?;
+    let pieces = significant(alloc, &all)?;
+    let Seen {
+        descriptions,
+        calls,
+    } = seen_in(alloc, source, &pieces, &marks)?;
+    Ok(Look {
+        descriptions,
+        calls,
+        comments,
+    })
+}
+
+/// The descriptions in a source, in order: arguments of known calls, what such a call gets by a name of the
+/// same file, and literals for which a comment names a language. An `Err` says that memory ran out.
+pub fn descriptions_of(alloc: Global, source: &str) -> Result<Vec<Description>, AllocError>
+    ensures all { IfOk result (λ found. AreDescriptionsOf source.now found.items) }
+    ensures stand { IfOk result (λ found. AllStandIn source.now found.items) }
+    ensures in_order { IfOk result (λ found. AreInOrder 0 found.items) }
+{
+    let seen = looked_at(alloc, source)?;
+    Ok(seen.descriptions)
+}

@@ -1,0 +1,126 @@
+//! Whether a source can have descriptions at all: some known word is near every description.
+
+ghost use Rattle.std.specs.Prelude.{◌≡◌, ◌⊎◌, codes, false};
+ghost use Rattle.timefd_lint_scan.specs.Names.{HasNoCallOfChrono, HasNoCallOfJiff, HasNoMacro, HasNoName, HasNoParser, HasNoPercent, HasNoPercentEscape, HasNoReaderOfChrono, Lacks};
+
+use memchr::{memchr, memmem};
+
+fn has(source: &[u8], word: &str) -> bool
+    ensures { result ≡ false → Lacks source.now word.now }
+{
+    match memmem::find(source, word.as_bytes()) {
+        Some(_) => true,
+        None => false,
+    }
+}
+
+// A percent sign, or an escape that denotes one.
+fn has_percent(source: &[u8]) -> bool
+    ensures { result ≡ false → HasNoPercent source.now }
+{
+    match memchr(b'%', source) {
+        Some(_) => true,
+        None => has_percent_escape(source),
+    }
+}
+
+fn has_percent_escape(source: &[u8]) -> bool
+    ensures { result ≡ false → HasNoPercentEscape source.now }
+{
+    if has(source, "\\x25") {
+        return true;
+    }
+    has(source, "\\u{25}")
+}
+
+// A format string of chrono in a call of `format` has a `%`.
+fn has_format(source: &[u8]) -> bool
+    ensures { result ≡ false → HasNoPercent source.now ⊎ Lacks source.now (codes "format") }
+{
+    if has_percent(source) {
+        has(source, "format")
+    } else {
+        false
+    }
+}
+
+// The macro of `time`, its attribute, and the word of a comment.
+fn has_macro_or_comment(source: &[u8]) -> bool
+    ensures { result ≡ false → HasNoMacro source.now }
+{
+    if has(source, "format_description") {
+        return true;
+    }
+    if has(source, "#[time(") {
+        return true;
+    }
+    has(source, "timefd")
+}
+
+fn has_parser(source: &[u8]) -> bool
+    ensures { result ≡ false → HasNoParser source.now }
+{
+    if has(source, "parse_borrowed") {
+        return true;
+    }
+    if has(source, "parse_owned") {
+        return true;
+    }
+    has(source, "parse_strftime_")
+}
+
+fn has_reader_of_chrono(source: &[u8]) -> bool
+    ensures { result ≡ false → HasNoReaderOfChrono source.now }
+{
+    if has(source, "parse_from_str") {
+        return true;
+    }
+    if has(source, "datetime_from_str") {
+        return true;
+    }
+    has(source, "parse_and_remainder")
+}
+
+fn has_call_of_chrono(source: &[u8]) -> bool
+    ensures { result ≡ false → HasNoCallOfChrono source.now }
+{
+    if has_reader_of_chrono(source) {
+        return true;
+    }
+    if has(source, "StrftimeItems") {
+        return true;
+    }
+    if has(source, "ChronoLocal") {
+        return true;
+    }
+    if has(source, "ChronoUtc") {
+        return true;
+    }
+    has_format(source)
+}
+
+fn has_call_of_jiff(source: &[u8]) -> bool
+    ensures { result ≡ false → HasNoCallOfJiff source.now }
+{
+    if has(source, "strftime") {
+        return true;
+    }
+    if has(source, "strptime") {
+        return true;
+    }
+    if has(source, "strtime") {
+        return true;
+    }
+    has(source, "BrokenDownTime")
+}
+
+/// Whether a source has one of the names without which none of its literals is a description. Most sources
+/// have none, and needn't be cut into tokens.
+pub fn may_describe(source: &[u8]) -> bool
+    ensures { result ≡ false → HasNoName source.now }
+{
+    has_macro_or_comment(source)
+        || has_parser(source)
+        || has_call_of_chrono(source)
+        || has_call_of_jiff(source)
+}

@@ -1,0 +1,113 @@
+//! Names that are used instead of descriptions, and what their use says about the text that they denote.
+
+ghost use Rattle.std.specs.Prelude.{◌≡◌};
+ghost use Rattle.timefd_lint_scan.specs.Uses as spec;
+
+use crate::alias::after_first;
+use crate::dialect::is;
+use crate::known::Known;
+use crate::piece::Piece;
+use crate::scope::{reaches, stays_open};
+use crate::shadow::{is_declared_before, is_named};
+use crate::word::{position_at, text_at, text_before, text_of, tokens_after};
+
+/// How a name is used.
+#[derive(Clone, Copy)]
+pub enum Way {
+    /// Its value is used.
+    Value,
+    /// It is called.
+    Call,
+}
+
+/// A name that is used instead of a description: a constant, a variable, or a function that is called.
+#[derive(Clone, Copy)]
+pub struct Use {
+    /// The name.
+    pub name: Piece,
+    /// How it is used.
+    pub way: Way,
+    /// What is known about the text that it denotes.
+    pub known: Known,
+}
+
+/// Whether a position is after the first of these tokens, in the block that they begin in, and the name
+/// isn't declared again before it.
+fn is_seen(source: &[u8], name: &[u8], pieces: &[Piece], position: usize) -> bool
+    ensures { result ≡ spec.is_seen source.now name.now pieces.now position }
+{
+    match pieces {
+        [first, ..] => {
+            first.start <= position
+                && stays_open(source, pieces, position)
+                && !is_declared_before(source, name, name, pieces, position)
+        }
+        [] => false,
+    }
+}
+
+/// Whether no other item or variable of a source has the name that this token declares.
+fn is_only(source: &[u8], pieces: &[Piece], declared: usize) -> bool
+    ensures { result ≡ spec.is_only source.now pieces.now declared }
+{
+    let name = text_at(source, pieces, declared);
+    let after = tokens_after(pieces, declared);
+    !is_named(source, name, &[], pieces, position_at(pieces, declared))
+        && !is_named(source, name, name, after, source.len())
+}
+
+/// Whether a name used at a position is the one that a token declares: with `let` up to the end of its
+/// block, with `for` in the loop's block, and otherwise in the block of its item.
+fn is_meant(source: &[u8], pieces: &[Piece], declared: usize, position: usize) -> bool
+    ensures { result ≡ spec.is_meant source.now pieces.now declared position }
+{
+    let before = text_before(source, pieces, declared, 1);
+    let name = text_at(source, pieces, declared);
+    let after = tokens_after(pieces, declared);
+    if is(before, "let") {
+        is_seen(source, name, after, position)
+    } else if is(before, "for") {
+        is_seen(source, name, after_first(source, after, "{"), position)
+    } else {
+        reaches(source, pieces, declared, position) && is_only(source, pieces, declared)
+    }
+}
+
+/// Whether the use fits the declaration: a function is called, and anything else isn't.
+fn is_alike(way: Way, is_function: bool) -> bool
+    ensures { result ≡ spec.is_alike way is_function }
+{
+    match way {
+        Way::Value => !is_function,
+        Way::Call => is_function,
+    }
+}
+
+/// Whether this is a use of what a token declares.
+fn is_use_of(source: &[u8], pieces: &[Piece], declared: usize, used: Use) -> bool
+    ensures { result ≡ spec.is_use_of source.now pieces.now declared used }
+{
+    let is_function = is(text_before(source, pieces, declared, 1), "fn");
+    text_of(source, used.name) == text_at(source, pieces, declared)
+        && is_alike(used.way, is_function)
+        && is_meant(source, pieces, declared, used.name.start)
+}
+
+/// What the first use says about the name that a token declares.
+pub fn known_by_name(
+    source: &[u8],
+    pieces: &[Piece],
+    uses: &[Use],
+    declared: usize,
+) -> Option<Known>
+    ensures { result ≡ spec.known_by_name source.now pieces.now declared uses.now }
+{
+    let mut rest = uses;
+    'uses: while let [first, after @ ..] = rest {
+        if is_use_of(source, pieces, declared, *first) {
+            return Some(first.known);
+        }
+        rest = after;
+    }
+    None
+}

@@ -1,0 +1,95 @@
+//! Whether a token is a whole value of what is around it: of an argument, a block, an arm, an array.
+
+ghost use Rattle.std.specs.Prelude.{◌≡◌};
+ghost use Rattle.timefd_lint_scan.specs.Values as spec;
+
+use crate::dialect::is;
+use crate::piece::Piece;
+use crate::word::{is_closing, is_opening, text_after, text_before};
+
+/// Whether an equals sign after this token is part of a comparison or of an operator.
+pub fn is_operator(text: &[u8]) -> bool
+    ensures { result ≡ spec.is_operator text.now }
+{
+    is(text, "=")
+        || is(text, "!")
+        || is(text, "<")
+        || is(text, ">")
+        || is(text, "+")
+        || is(text, "|")
+}
+
+/// Whether a value may begin at a token: an opening bracket, a comma, an arrow, an equals sign, `in`, or the
+/// end of a statement precedes it.
+fn begins_value(source: &[u8], pieces: &[Piece], index: usize) -> bool
+    ensures { result ≡ spec.begins_value source.now pieces.now index }
+{
+    let before = text_before(source, pieces, index, 1);
+    let farther = text_before(source, pieces, index, 2);
+    is_opening(before)
+        || is(before, ",")
+        || is(before, ";")
+        || is(before, "}")
+        || is(before, "in")
+        || (is(before, ">") && is(farther, "="))
+        || (is(before, "=") && !is_operator(farther))
+}
+
+/// Whether a method passes a text on as it is.
+fn hands_on(method: &[u8]) -> bool
+    ensures { result ≡ spec.hands_on method.now }
+{
+    is(method, "as_ref")
+        || is(method, "as_str")
+        || is(method, "into")
+        || is(method, "to_string")
+        || is(method, "to_owned")
+        || is(method, "clone")
+        || is(method, "iter")
+        || is(method, "into_iter")
+}
+
+fn ends(text: &[u8]) -> bool
+    ensures { result ≡ spec.ends text.now }
+{
+    is_closing(text) || is(text, ",") || is(text, ";")
+}
+
+/// Whether a value may end with a token, or with a method that passes it on.
+pub fn ends_value(source: &[u8], pieces: &[Piece], index: usize) -> bool
+    ensures { result ≡ spec.ends_value source.now pieces.now index }
+{
+    let after = text_after(source, pieces, index, 1);
+    ends(after)
+        || (is(after, ".")
+            && hands_on(text_after(source, pieces, index, 2))
+            && is(text_after(source, pieces, index, 3), "(")
+            && is(text_after(source, pieces, index, 4), ")")
+            && ends(text_after(source, pieces, index, 5)))
+}
+
+/// The index of a value's first token: the `&` or `*` before it, if there is one.
+fn borrowed_at(source: &[u8], pieces: &[Piece], index: usize) -> usize
+    ensures { result ≡ spec.borrowed_at source.now pieces.now index }
+{
+    let before = text_before(source, pieces, index, 1);
+    if is(before, "&") || is(before, "*") {
+        index.saturating_sub(1)
+    } else {
+        index
+    }
+}
+
+/// Whether a value begins at a token, with or without `&` or `*`.
+pub fn is_begun(source: &[u8], pieces: &[Piece], index: usize) -> bool
+    ensures { result ≡ spec.is_begun source.now pieces.now index }
+{
+    begins_value(source, pieces, borrowed_at(source, pieces, index))
+}
+
+/// Whether a token is a whole value.
+pub fn is_value(source: &[u8], pieces: &[Piece], index: usize) -> bool
+    ensures { result ≡ spec.is_value source.now pieces.now index }
+{
+    is_begun(source, pieces, index) && ends_value(source, pieces, index)
+}

@@ -1,5 +1,0 @@
-use Rattle.timefd_lsp.proofs.EditorLemmas.PositionLemmas.{round_trip}
-use Rattle.timefd_lsp.proofs.editor.laws.round_trip.Goals as goal
-
-pub returns : goal.returns
-returns c = round_trip

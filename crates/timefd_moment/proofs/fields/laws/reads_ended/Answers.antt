@@ -1,5 +1,0 @@
-use Rattle.timefd_moment.proofs.FieldsLemmas.EndedLemmas.{reads_ended}
-use Rattle.timefd_moment.proofs.fields.laws.reads_ended.Goals as goal
-
-pub returns : goal.returns
-returns c = reads_ended

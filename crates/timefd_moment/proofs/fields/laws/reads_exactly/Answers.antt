@@ -1,5 +1,0 @@
-use Rattle.timefd_moment.proofs.FieldsLemmas.RelationLemmas as lemmas
-use Rattle.timefd_moment.proofs.fields.laws.reads_exactly.Goals as goal
-
-pub returns : goal.returns
-returns c = lemmas.reads_exactly

@@ -1,5 +1,0 @@
-use Rattle.timefd_moment.proofs.FieldsLemmas.EndedLemmas.{reads_signed}
-use Rattle.timefd_moment.proofs.fields.laws.reads_signed.Goals as goal
-
-pub returns : goal.returns
-returns c = reads_signed

@@ -1,5 +1,0 @@
-use Rattle.timefd_moment.proofs.ReadingLemmas.LawLemmas.{one_date}
-use Rattle.timefd_moment.proofs.reading.laws.one_date.Goals as goal
-
-pub returns : goal.returns
-returns c = one_date

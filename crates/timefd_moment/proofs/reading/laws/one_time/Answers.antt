@@ -1,5 +1,0 @@
-use Rattle.timefd_moment.proofs.ReadingLemmas.LawLemmas.{one_time}
-use Rattle.timefd_moment.proofs.reading.laws.one_time.Goals as goal
-
-pub returns : goal.returns
-returns c = one_time

@@ -1,7 +1,0 @@
-use Rattle.timefd_moment.proofs.ReadingLemmas.ValueLemmas.{stamped_moment}
-use Rattle.timefd_moment.proofs.reading.moments.moment.Goals as goal
-
-pub returns-in-Ok : goal.returns-in-Ok
-returns-in-Ok c =
-    stamped_moment c.args.fields.now c.instant_read.result c.in-Some.unix c.in-Ok.stamped c.instant_read.ensures
-    c.in-Some.is c.in-Ok.ensures

@@ -1,5 +1,0 @@
-use Rattle.timefd_moment.proofs.ReadingLemmas.StampLawLemmas.{instant_back}
-use Rattle.timefd_moment.proofs.reading.stamp_laws.instant_back.Goals as goal
-
-pub returns : goal.returns
-returns c = instant_back

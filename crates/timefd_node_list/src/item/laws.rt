@@ -1,8 +1,0 @@
-//! The laws of the definitions.
-
-ghost use Rattle.timefd_node_list.specs.Item.Laws.{TreeEquality};
-
-/// Two items are equal exactly if their trees are.
-pub fn tree_equality()
-    ensures { TreeEquality }
-{}

@@ -1,5 +1,0 @@
-use Rattle.timefd_sources.proofs.GrammarLemmas.{read_as_literals}
-use Rattle.timefd_sources.proofs.laws.read_as_literals.Goals as goal
-
-pub returns : goal.returns
-returns c = read_as_literals

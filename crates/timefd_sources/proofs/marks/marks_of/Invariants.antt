@@ -1,7 +1,0 @@
-use Rattle.std.specs.Option.{option_to_list}
-use Rattle.timefd_sources.specs.Marks as spec
-use Rattle.timefd_sources.proofs.EachLemmas.{AreSoFar}
-use Rattle.timefd_sources.proofs.marks.marks_of.Given as goal
-
-abbrev pub invariant-loop-piece : goal.invariant-loop-piece
-invariant-loop-piece l = AreSoFar (λ p. option_to_list (spec.mark_at l.source p)) l.pieces l.piece-index l.marks.items

@@ -1,9 +1,0 @@
-use Rattle.std.proofs.Common.{◌≡◌, ◌++◌, drop}
-use Rattle.timefd_sources.specs.Escapes.{all_at}
-use Rattle.timefd_sources.proofs.part.push_bytes.Given as goal
-
-abbrev pub invariant-loop-byte : goal.invariant-loop-byte
-invariant-loop-byte l = record {
-  text : l.text.items ++ drop l.byte-index l.bytes ≡ l.fn.text.items ++ l.bytes;
-  positions : l.positions.items ++ all_at l.position (drop l.byte-index l.bytes) ≡ l.fn.positions.items ++ all_at l.position l.bytes;
-}

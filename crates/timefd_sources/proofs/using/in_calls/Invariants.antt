@@ -1,5 +1,0 @@
-use Rattle.timefd_sources.proofs.UsingLemmas.{AreSoFar}
-use Rattle.timefd_sources.proofs.using.in_calls.Given as goal
-
-abbrev pub invariant-loop-index : goal.invariant-loop-index
-invariant-loop-index l = AreSoFar l.source l.pieces l.aliases l.index l.frames.items l.uses.items

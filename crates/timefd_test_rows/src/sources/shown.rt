@@ -1,0 +1,46 @@
+//! Descriptions and texts, as the answers have them.
+
+use std::alloc::{AllocError, Global};
+use timefd_lint_scan::{Description, Dialect};
+
+fn dialect_mark(dialect: Dialect) -> &'static str {
+    match dialect {
+        Dialect::One => "1",
+        Dialect::Two => "2",
+        Dialect::Three => "3",
+        Dialect::Strftime => "strftime",
+        Dialect::Python => "python",
+        Dialect::C => "c",
+        Dialect::Gnu => "gnu",
+        Dialect::Chrono => "chrono",
+        Dialect::Jiff => "jiff",
+        Dialect::Ruby => "ruby",
+        Dialect::Java => "java",
+        Dialect::Go => "go",
+        Dialect::Moment => "moment",
+    }
+}
+
+fn push_description(shown: &mut String, description: &Description) -> Result<(), AllocError> {
+    shown.push_str(dialect_mark(description.dialect))?;
+    shown.push_str(" ")?;
+    shown.push_str(str::from_utf8(&description.unescaped.text).unwrap_or("?"))?;
+    shown.push_str("|")
+}
+
+/// The descriptions, each as its language and its text, between bars.
+pub fn all_shown(alloc: Global, descriptions: &[Description]) -> Result<String, AllocError> {
+    let mut shown = String::new(alloc);
+    for description in descriptions {
+        push_description(&mut shown, description)?;
+    }
+    Ok(shown)
+}
+
+/// The bytes as text if they are UTF-8, and as numbers otherwise.
+pub fn text_of(alloc: Global, bytes: &[u8]) -> Result<String, AllocError> {
+    match str::from_utf8(bytes) {
+        Ok(text) => String::from_str(alloc, text),
+        Err(_) => format!(in alloc; "{bytes:?}"),
+    }
+}

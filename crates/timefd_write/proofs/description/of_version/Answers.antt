@@ -1,9 +1,0 @@
-use Rattle.std.proofs.Common.{subst}
-use Rattle.timefd_fault.specs.Reported.{MemoryAlone}
-use Rattle.timefd_write.proofs.description.of_version.Goals as goal
-
--- a text that spells a description has no fault
-pub unreachable-requires : goal.unreachable-requires
-unreachable-requires c =
-    subst MemoryAlone c.in-Err-Invalid.field-0-is
-    (c.in-Err-Invalid.ensures.spelled c.requires.0 c.requires.1)

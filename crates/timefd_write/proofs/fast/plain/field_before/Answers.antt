@@ -1,9 +1,0 @@
-use Rattle.std.proofs.Common.{refl, rules}
-use Rattle.timefd_write.proofs.FieldLemmas.{slice_to_end}
-use Rattle.timefd_write.proofs.PlainLemmas.{first_field}
-use Rattle.timefd_write.proofs.fast.plain.field_before.Goals as goal
-
-pub returns : goal.returns
-returns c =
-    first_field c.args.row.now _ _ c.args.at c.requires.first (search rules) refl
-    (slice_to_end c.args.row.now _)

@@ -1,9 +1,0 @@
-use Rattle.timefd_write.specs.PlainCells.{IsAhead}
-use Rattle.timefd_write.proofs.fast.plain_cell.plain_cell.Given as goal
-
--- The field that is looked for is one of those that are left.
-abbrev pub invariant-fields : goal.invariant-fields
-invariant-fields l = IsAhead l.content l.fn.count l.text l.left
-
-abbrev pub decreases-fields : goal.decreases-fields
-decreases-fields l = l.left

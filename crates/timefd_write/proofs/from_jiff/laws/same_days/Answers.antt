@@ -1,5 +1,0 @@
-use Rattle.timefd_write.proofs.JiffLemmas.DayLemmas as days
-use Rattle.timefd_write.proofs.from_jiff.laws.same_days.Goals as goal
-
-pub returns : goal.returns
-returns c = days.same_days
