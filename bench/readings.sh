@@ -1,6 +1,6 @@
 #!/bin/sh
 # Prints what Debian's `time` 0.3.9 (librust-time-dev) reads of texts: for each the description, the text and the answer. Then it checks
-# whether each of these answers is in the rows of `timefd_rows`, which say where this library differs. It fetches
+# whether each of these answers is in the rows of `timefd_test_rows`, which say where this library differs. It fetches
 # nothing.
 set -eu
 cd "$(dirname "$0")/readings"

@@ -10,7 +10,7 @@ built() {
     echo "$file"
 }
 timefd=$(built timefd timefd)
-timefd_format=$(built timefd_format timefd_write)
+timefd_format=$(built timefd_format timefd_format)
 timefd_lint=$(built timefd_lint timefd_lint)
 [ -x "$timefd" ] && [ -x "$timefd_format" ] && [ -x "$timefd_lint" ] || exit 1
 

@@ -10,7 +10,7 @@ mkdir "$elsewhere/bindings/rust"
 (cd "$top/bindings/rust" && tar -c --exclude=./target --exclude=./features .) | tar -x -C "$elsewhere/bindings/rust"
 cp "$top"/examples/timefd*.h "$elsewhere/examples"
 cp "$top/LICENSE-MIT" "$top/LICENSE-APACHE" "$top/CHANGELOG.md" "$elsewhere"
-for file in timefd/out/timefd.o timefd_lint/out/timefd_lint.o timefd_write/out/timefd_write.o; do
+for file in timefd/out/timefd.o timefd_lint/out/timefd_lint.o timefd_format/out/timefd_format.o; do
     mkdir -p "$elsewhere/crates/${file%/*}"
     cp "$top/crates/$file" "$elsewhere/crates/$file"
 done

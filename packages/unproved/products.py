@@ -25,8 +25,8 @@ HEADER = crates.TOP / "examples/timefd.h"
 # Those over it, which call nothing but what it declares.
 MORE_HEADERS = tuple(crates.TOP / f"examples/timefd_{it}.h" for it in ("names", "text", "time"))
 # The programs that users call otherwise than their crates.
-CALLED = {"timefd_write": "timefd_format"}
-USED = ("timefd", "timefd_lint", "timefd_write")
+CALLED = {"timefd_format": "timefd_format"}
+USED = ("timefd", "timefd_lint", "timefd_format")
 LIBRARY = "timefd_c"
 # The page's library, which tests call on this machine and as WebAssembly.
 WEB = "timefd_web"
