@@ -10,9 +10,9 @@ use crate::kind::Kind;
 use crate::reply::reply_to;
 use bstr::ByteVec;
 use std::alloc::{AllocError, Global};
-use timefd_parse::NESTING_LIMIT;
 use timefd_bin_streams::transfer::{ReadError, read_all, write_all};
 use timefd_bin_streams::{Failed, Sink, Source};
+use timefd_parse::NESTING_LIMIT;
 
 /// Reads a text of this kind to the reader's end, and writes the line that answers it.
 pub fn run<R: Source, W: Sink>(alloc: Global, kind: Kind, reader: &mut R, writer: &mut W) -> RunEnd

@@ -7,12 +7,12 @@ ghost use Rattle.timefd_lang_warnings.specs.Parts.{parts};
 ghost use Rattle.timefd_format.specs.Descriptions.{IsDescribed, IsReading, IsSpelled};
 
 use std::alloc::{AllocError, Global};
+use timefd_lang_warnings::Description;
 use timefd_lint_diagnosis::{Diagnostic, diagnose};
 use timefd_parse::{
     BorrowedOutput, DescriptionVersion, Language, ParseError, StrftimeTables, parse_borrowed,
     parse_strftime_borrowed,
 };
-use timefd_lang_warnings::Description;
 
 /// What reading a text as a description comes to.
 #[derive(Drop)]

@@ -11,7 +11,9 @@ ghost use Rattle.timefd_format.specs.Sources.{AreLeavesIn};
 
 use crate::source::{Source, SourceKind};
 use std::str;
-use timefd_date_moment::fields::{NO_FIELDS, ReadError, Reason, fill_item_fields, fill_leaf_fields};
+use timefd_date_moment::fields::{
+    NO_FIELDS, ReadError, Reason, fill_item_fields, fill_leaf_fields,
+};
 use timefd_lang_node_list::Leaf;
 use timefd_lang_node_list::item::BorrowedFormatItem;
 use timefd_parse::BorrowedOutput;

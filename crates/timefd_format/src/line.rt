@@ -10,11 +10,11 @@ ghost use Rattle.timefd_date_format.specs.Answers.{AreBytes};
 use crate::frame::send;
 use crate::outcome::RunError;
 use std::alloc::{AllocError, Global};
+use timefd_bin_streams::Sink;
 use timefd_date_format::{
     FormatError, TextError, Unshown, append_leaves, append_literal, format, format_items,
     write_description, write_items, write_leaves,
 };
-use timefd_bin_streams::Sink;
 use timefd_date_moment::Moment;
 use timefd_lang_node_list::Leaf;
 use timefd_parse::BorrowedOutput;

@@ -14,8 +14,8 @@ pub use format_description_v3::opaque::{NotOpaque, OpaqueCause};
 pub use most_bytes::{item_bytes, items_bytes};
 pub use timefd_lang_component::Component;
 pub use timefd_lang_fault::InvalidFormatDescription;
-pub use timefd_modifier as modifier;
 pub use timefd_lang_node_list::item::{
     BorrowedFormatItem, DifferentVariant, FormatItem, StaticFormatDescription,
 };
 pub use timefd_lang_node_list::{InTurn, Members, Shape, View, Walk};
+pub use timefd_modifier as modifier;

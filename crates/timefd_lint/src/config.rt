@@ -9,11 +9,11 @@ use crate::rewriting::rewriting_of;
 use std::alloc::{AllocError, Global};
 use std::io::ErrorKind;
 use std::{env, str};
+use timefd_lang_warnings::Levels;
 use timefd_lint_drawing::shown::safe;
 use timefd_lint_files::{
     Excluded, Nearest, Reason, WalkError, first_upwards, folders_above, front_below,
 };
-use timefd_lang_warnings::Levels;
 use timefd_lint_options::Settings;
 use timefd_lint_options::config::{Config, ConfigError, OwnedKey, config_of};
 use toml::de;

@@ -23,12 +23,12 @@ use crate::value_notes::{limits_of_values, unwritable};
 use std::alloc::{AllocError, Global};
 use std::io::BufReader;
 use std::str;
-use timefd_lint_sources::rewriting::{
-    Change, Outcome, count_refused, count_rewritten, rewrite_found,
-};
 use timefd_bin_streams::{BufferedSource, FromBufReader, Sink};
 use timefd_lint_rewrite::{Counts, LineChange, rewrite_lines};
 use timefd_lint_scan::keys::descriptions_by;
+use timefd_lint_sources::rewriting::{
+    Change, Outcome, count_refused, count_rewritten, rewrite_found,
+};
 use timefd_lint_sources::{Finder, Source};
 
 /// What is counted in a file: lines or descriptions.

@@ -68,12 +68,12 @@ use std::io::{BufWriter, IsTerminal, Write};
 use std::process::ExitCode;
 use summary::summary;
 use tally::Tally;
+use timefd_bin_streams::{Sink, ToWriter, WordsError, all_words, borrowed};
 use timefd_lint_files::{Excluded, WalkError, expanded};
 use timefd_lint_options::config::{OwnedKey, same_keys, with_keys, with_levels};
 use timefd_lint_options::{
     Asked, OptionError, Settings, is_log, keys_of, lines_conflict, options_of, ordered,
 };
-use timefd_bin_streams::{Sink, ToWriter, WordsError, all_words, borrowed};
 use timefd_lint_scan::keys::Key;
 
 // Writes a text to the standard output, and returns the status.

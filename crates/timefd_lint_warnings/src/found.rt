@@ -11,11 +11,11 @@ ghost use Rattle.timefd_lang_node_list.specs.Leaves.{leaves_in};
 ghost use Rattle.timefd_lint_warnings.specs.Found as spec;
 
 use std::alloc::{AllocError, Global};
+use timefd_lang_warnings::{Description, Level, Levels, Style};
 use timefd_parse::{
     BorrowedOutput, DescriptionVersion, Language, NESTING_LIMIT, StrftimeTables,
     parse_all_borrowed, parse_strftime_all_borrowed,
 };
-use timefd_lang_warnings::{Description, Level, Levels, Style};
 
 /// The levels of the warnings that a text has, if its language accepts it; every other warning is
 /// allowed. An `Err` says that memory ran out.

@@ -172,8 +172,10 @@ keys_from k (m ∷ ms) are word index e =
     (keys_from (k + length (modifier_text m)) ms are.1 word index)
   where
     by : (t : Bool) → equal word m.key ≡ t
-        → elim t as (λ _. Option ℕ) [ true ↦ Some (k + length m.white)
-        | false ↦ first_position word (placed_from (k + length (modifier_text m)) ms) ] ≡ Some index
+        → elim t as (λ _. Option ℕ) [
+          | true ↦ Some (k + length m.white)
+          | false ↦ first_position word (placed_from (k + length (modifier_text m)) ms)
+        ] ≡ Some index
         → (first_position word (placed_from (k + length (modifier_text m)) ms) ≡ Some index
         → (before after : Text) × OneOrMore is_key_byte word
         × (modifiers_text ms ≡ before ++ (word ++ colon ∷ after))

@@ -39,7 +39,9 @@ pub use parsing::{BorrowedOutput, NESTING_LIMIT, parse, parse_borrowed, parse_bo
 pub use piece::Piece;
 pub use read::next_piece;
 pub use timefd_items::{BorrowedFormatItem, FormatDescriptionV3, InvalidFormatDescription};
-pub use timefd_lang_fault::{BorrowedFault, BorrowedParseError, Excerpt, FaultKind, ParseError, Rule};
+pub use timefd_lang_fault::{
+    BorrowedFault, BorrowedParseError, Excerpt, FaultKind, ParseError, Rule,
+};
 pub use timefd_language::strftime::{
     StrftimeTables, count_strftime, parse_strftime_all_borrowed, parse_strftime_borrowed,
 };

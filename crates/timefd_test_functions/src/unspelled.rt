@@ -4,8 +4,8 @@ use super::printed::AMPLE;
 use super::trees::{opaque, two};
 use std::alloc::Global;
 use std::process::Abort;
-use timefd_lang_convert::printing::{PrintError, Unspelled, print_v3};
 use timefd_items::FormatDescriptionV3Inner;
+use timefd_lang_convert::printing::{PrintError, Unspelled, print_v3};
 
 fn literal<'a>(text: &'a str) -> FormatDescriptionV3Inner<'a> {
     FormatDescriptionV3Inner::BorrowedLiteral(text)

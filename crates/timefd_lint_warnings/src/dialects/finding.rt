@@ -13,7 +13,9 @@ use timefd_lint_drawing::github::{Command, annotation};
 use timefd_lint_drawing::json::{Entry, push_number, push_text};
 use timefd_lint_drawing::sarif::{note_result, with_help};
 use timefd_lint_drawing::shown::safe;
-use timefd_lint_drawing::{Counter, Format, Origin, Position, Style, char_position_from, position_from};
+use timefd_lint_drawing::{
+    Counter, Format, Origin, Position, Style, char_position_from, position_from,
+};
 
 /// What is found in a part of a text.
 #[derive(Clone, Copy)]

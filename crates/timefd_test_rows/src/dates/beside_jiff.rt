@@ -8,10 +8,10 @@ use crate::fault::RowFault;
 use crate::language::fault_of;
 use std::alloc::Global;
 use timefd_date_format::format_items;
-use timefd_items::BorrowedFormatItem;
 use timefd_date_moment::Moment;
 use timefd_date_moment::fields::Fields;
 use timefd_date_moment::reading::{date, offset, time};
+use timefd_items::BorrowedFormatItem;
 use timefd_parse::{Language, StrftimeTables, parse_strftime_borrowed};
 
 /// What is asked of both.

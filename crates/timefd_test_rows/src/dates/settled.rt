@@ -4,10 +4,10 @@ use super::answers::Answers;
 use crate::fault::RowFault;
 use crate::language::{fault_of, language_of};
 use std::alloc::Global;
+use timefd_lang_warnings::settled::{are_settled, is_settled};
 use timefd_parse::{
     BorrowedOutput, Language, StrftimeTables, parse_borrowed, parse_strftime_borrowed,
 };
-use timefd_lang_warnings::settled::{are_settled, is_settled};
 
 /// The answer to `settled LANGUAGES DESCRIPTION`.
 pub fn answer(alloc: Global, fields: &[&str]) -> Result<String, RowFault> {

@@ -6,11 +6,11 @@ use crate::component::component_alone;
 use crate::fault::RowFault;
 use crate::language::{fault_of, language_of};
 use std::alloc::Global;
-use timefd_lang_component::Component;
 use timefd_date_format::{
     FormatError, Lack, Unshown, format, write_component, write_description, write_items,
 };
 use timefd_date_moment::Moment;
+use timefd_lang_component::Component;
 use timefd_parse::{
     BorrowedOutput, DescriptionVersion, FormatDescriptionV3, Language, StrftimeTables, parse,
     parse_borrowed, parse_strftime_borrowed,

@@ -5,10 +5,10 @@ use crate::fields::{three, two};
 use crate::language::language_of;
 use crate::sources::shown::text_of;
 use std::alloc::Global;
+use timefd_lint_rewrite::{Fixes, fixed};
 use timefd_lint_sources::rewriting::{
     Change, NewSource, count_refused, count_rewritten, rewrite_source,
 };
-use timefd_lint_rewrite::{Fixes, fixed};
 use timefd_parse::{DescriptionVersion, ParseError};
 
 fn fixes_of(word: &str) -> Result<Fixes, RowFault> {

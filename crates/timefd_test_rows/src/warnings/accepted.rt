@@ -4,10 +4,10 @@ use crate::fault::RowFault;
 use crate::fields::one;
 use crate::language::{fault_of, version_of};
 use std::alloc::Global;
+use timefd_lang_warnings::{Description, Style, Warning, read_elsewhere, warns};
 use timefd_parse::{
     BorrowedOutput, DescriptionVersion, StrftimeTables, parse_borrowed, parse_strftime_borrowed,
 };
-use timefd_lang_warnings::{Description, Style, Warning, read_elsewhere, warns};
 
 /// The languages that texts are read in.
 #[derive(Clone, Copy)]

@@ -4,13 +4,13 @@ use crate::fault::RowFault;
 use crate::fields::{one, three, two};
 use crate::sources::text_of;
 use std::alloc::{AllocError, Global};
-use timefd_lint_sources::{Finder, Source};
+use timefd_bin_streams::{FromReader, ToWriter};
+use timefd_lang_warnings::{Level, Levels};
 use timefd_lint_lsp::editor::{
     Action, Finding, Position, Range, Wanted, actions, findings, hover, index_of, position_of,
 };
-use timefd_bin_streams::{FromReader, ToWriter};
-use timefd_lang_warnings::{Level, Levels};
 use timefd_lint_lsp::{Settings, serve};
+use timefd_lint_sources::{Finder, Source};
 
 fn number(field: &str) -> Result<usize, RowFault> {
     match field.parse::<usize>() {
