@@ -175,7 +175,8 @@ fn each_number_is_that_of_the_header() {
 }
 
 /// The table of the linter's names.
-const CODES: &str = concat!(env!("CARGO_MANIFEST_DIR"), "/../../crates/timefd_lang_fault/src/code.rt");
+const CODES: &str =
+    concat!(env!("CARGO_MANIFEST_DIR"), "/../../crates/timefd_lang_fault/src/code.rt");
 
 #[test]
 fn each_fault_has_the_name_of_the_linter() {
