@@ -1,8 +1,13 @@
 //! What a run does.
 
-ghost use Rattle.std.specs.Prelude.{◌≡◌, length, max, if◌then◌else◌, Some, None};
+ghost use Rattle.std.specs.Prelude.{◌≡◌, length, max, if◌then◌else◌, is_none, Some, None};
+ghost use Rattle.timefd_lint.specs.Rewriting.{rewriting_of};
 
+<<<<<<< ours
 use timefd_lang_warnings::Levels;
+=======
+use crate::rewriting::rewriting_of;
+>>>>>>> theirs
 use timefd_lint_drawing::Style;
 use timefd_lint_options::{Settings, Wording};
 use timefd_lint_scan::keys::Key;
@@ -52,6 +57,7 @@ pub fn run_options<'a>(
     ensures explains { result.reporting.explains ≡ settings.entry.explains }
     ensures levels { result.reporting.levels ≡ (if settings.entry.warns then Some settings.entry.levels
         else None) }
+    ensures allows { result.reporting.allows ≡ is_none (rewriting_of settings.entry) }
     ensures keys { result.keys.now ≡ keys.now }
     ensures files { result.files.now ≡ files.now }
 {
@@ -64,6 +70,7 @@ pub fn run_options<'a>(
             },
             explains: settings.explains,
             levels: reported_levels(settings),
+            allows: rewriting_of(settings).is_none(),
         },
         comment: settings.comment,
         is_whole: settings.is_whole,

@@ -5,15 +5,19 @@ ghost use Rattle.timefd_lint_drawing.specs.Counted.{IsCounted};
 ghost use Rattle.timefd_lint_sources.specs.declared.reported.End.TheVariants as ends;
 ghost use Rattle.timefd_lint_sources.specs.Judged.{text_of};
 ghost use Rattle.timefd_lint_sources.specs.Judged as judging;
-ghost use Rattle.timefd_lint_sources.specs.Reported.{IsReported, drawing_of, note_of};
-ghost use Rattle.timefd_lint_sources.specs.Reported as spec;
+ghost use Rattle.timefd_lint_sources.specs.Reported.{IsReported};
+ghost use Rattle.timefd_lint_sources.specs.Whole.{IsReportedWhole, drawing_of, note_of};
+ghost use Rattle.timefd_lint_sources.specs.Whole as spec;
 
 use crate::accepted::accepted;
+use crate::allowances::Allowance;
+use crate::allowed::is_covered;
 use crate::at_call::call_note;
 use crate::further::further_of;
 use crate::language::{language_of, other_of};
 use crate::other::report_other;
 use crate::position::FIRST_LINE;
+use crate::remainder::report_left;
 use std::alloc::{AllocError, Global};
 use std::str;
 use timefd_lang_warnings::Levels;
@@ -31,6 +35,8 @@ pub struct Reporting {
     pub explains: bool,
     /// The level of each warning; `None` if warnings aren't looked for.
     pub levels: Option<Levels>,
+    /// Whether comments allow errors and warnings.
+    pub allows: bool,
 }
 
 /// How the descriptions in a source are found.
@@ -51,6 +57,19 @@ pub struct Source<'a> {
     pub finder: Finder<'a>,
     /// The whole text.
     pub text: &'a str,
+    /// What its comments allow.
+    pub allowances: &'a [Allowance],
+}
+
+/// What is left of what is wrong with a description, if a comment is about it.
+#[derive(Clone, Copy)]
+pub struct Left {
+    /// Whether an error is left, or a denied warning.
+    pub is_refused: bool,
+    /// How many other warnings are left.
+    pub warnings: u64,
+    /// How many errors and warnings are allowed. They aren't reported.
+    pub allowed: u64,
 }
 
 /// The outcome of a description.
@@ -66,6 +85,8 @@ pub enum End {
     Refused,
     /// It isn't UTF-8.
     NotText,
+    /// A comment is about it, and this is left of what is wrong with it.
+    Allowed(Left),
     /// A call takes a name instead of a literal, and no text is found for the name.
     UnreadCall,
     /// A value of a key isn't looked at.
@@ -81,9 +102,8 @@ pub struct Reported {
     pub message: Vec<u8>,
 }
 
-/// Checks a description of a source, and reports what is wrong with it at its position in the source. `from`
-/// says how far lines are counted. An `Err` says that memory ran out.
-#[tactic(auto, using(crate::proofs::ReportedLemmas::no_text))]
+/// Checks a description of a source, and reports what is wrong with it at its position in the source, without what a
+/// comment allows. `from` says how far lines are counted. An `Err` says that memory ran out.
 pub fn report(
     alloc: Global,
     reporting: Reporting,
@@ -95,14 +115,34 @@ pub fn report(
     ensures { IfOk result (λ reported. IsReported reporting source.entry description.now
         reported.end reported.message.items) }
 {
+    if is_covered(reporting, source, description) {
+        report_left(alloc, reporting, source, from, description)
+    } else {
+        report_whole(alloc, reporting, source, from, description)
+    }
+}
+
+// Reports all that is wrong with a description.
+#[tactic(auto, using(crate::proofs::ReportedLemmas::no_text))]
+fn report_whole(
+    alloc: Global,
+    reporting: Reporting,
+    source: Source<'_>,
+    from: Counter,
+    description: &Description,
+) -> Result<Reported, AllocError>
+    requires { IsCounted 1 source.text.now from }
+    ensures { IfOk result (λ reported. IsReportedWhole reporting source.entry description.now
+        reported.end reported.message.items) }
+{
     match str::from_utf8(description.unescaped.text.as_slice()) {
         Ok(text) => judged(alloc, reporting, source, from, description, text),
         Err(_) => not_text(alloc, reporting.style, source, from, description),
     }
 }
 
-// A note on a description that isn't UTF-8.
-fn not_text(
+/// A note on a description that isn't UTF-8. An `Err` says that memory ran out.
+pub fn not_text(
     alloc: Global,
     style: Style,
     source: Source<'_>,
@@ -138,7 +178,7 @@ fn judged(
 ) -> Result<Reported, AllocError>
     requires counted { IsCounted 1 source.text.now from }
     requires text { text.now ≡ text_of description.now }
-    ensures { IfOk result (λ reported. IsReported reporting source.entry description.now
+    ensures { IfOk result (λ reported. IsReportedWhole reporting source.entry description.now
         reported.end reported.message.items) }
 {
     match other_of(description.dialect) {
@@ -162,7 +202,7 @@ fn own_judged(
     requires counted { IsCounted 1 source.text.now from }
     requires own { judging.other_of description.now.dialect ≡ None }
     requires text { text.now ≡ text_of description.now }
-    ensures { IfOk result (λ reported. IsReported reporting source.entry description.now
+    ensures { IfOk result (λ reported. IsReportedWhole reporting source.entry description.now
         reported.end reported.message.items) }
 {
     let language = language_of(description.dialect);
@@ -214,8 +254,8 @@ fn refused(
     })
 }
 
-// These diagnostics with their spans in the source.
-fn all_placed_in(
+/// These diagnostics with their spans in the source. An `Err` says that memory ran out.
+pub fn all_placed_in(
     alloc: Global,
     description: &Description,
     diagnostics: Vec<Diagnostic>,

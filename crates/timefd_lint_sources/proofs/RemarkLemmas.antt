@@ -1,0 +1,71 @@
+-- The remarks on what comments allow, one after another.
+use Rattle.std.proofs.Common.{◌≡◌, true, false, List, [], ◌∷◌, ◌++◌, Option, append_assoc, append-nil, inl, inr, refl, sym, ap, subst, ◌∙◌, length}
+use Rattle.std.specs.Prelude.{option_map}
+use Rattle.timefd_lang_component.specs.Tree.{Text}
+use Rattle.timefd_lint_diagnosis.specs.Nearest.{IsNearest}
+use Rattle.timefd_lint_sources.specs.declared.allowances.comment.Allowance.{Allowance}
+use Rattle.timefd_lint_sources.specs.declared.remark.NoCode.{NoCode}
+use Rattle.timefd_lint_sources.specs.declared.remark.Remark.{Remark}
+use Rattle.timefd_lint_sources.specs.declared.remark.Remark.TheVariants.{Code}
+use Rattle.timefd_lint_sources.specs.declared.reported.Source.{Source}
+use Rattle.timefd_lint_sources.specs.CodeNames.{is_among}
+use Rattle.timefd_lint_sources.specs.Remarks.{AddsAll, AddsCode, AddsCodes, word_in}
+
+-- A code has no remark, and anything else has one.
+pub is_code : (source word : Text) (words : List Text) (a : Allowance) (old : List Remark)
+    → word ≡ word_in source a.start a.end → is_among words word ≡ true → AddsCode source words a old old
+is_code source word words a old same is =
+    ([], inl (subst (λ w. is_among words w ≡ true) same is, refl), sym (append-nil old))
+
+pub no_code : (source word : Text) (words : List Text) (a : Allowance) (at : NoCode) (old new : List Remark)
+    → word ≡ word_in source a.start a.end → is_among words word ≡ false → at.at ≡ a.at → at.start ≡ a.start
+    → at.end ≡ a.end → IsNearest words word (option_map (λ w. w.now) at.nearest) → new ≡ old ++ Code at ∷ []
+    → AddsCode source words a old new
+no_code source word words a at old new same none place start end near pushed = (
+  Code at ∷ [],
+  inr (
+    at,
+    record {
+      no_code = subst (λ w. is_among words w ≡ false) same none;
+      at = place;
+      start = start;
+      end = end;
+      nearest = subst (λ w. IsNearest words w (option_map (λ n. n.now) at.nearest)) same near;
+    },
+    refl,
+  ),
+  pushed,
+)
+
+-- With the remarks on what is left, they are all.
+pub record IsUpTo (source : Text) (words : List Text) (all left : List Allowance) (before now : List Remark)
+    : Type 0 where
+  pub others : (after : List Remark) → AddsAll source words left now after → AddsAll source words all before after
+
+pub at_first : (source : Text) (words : List Text) (all : List Allowance) (before : List Remark)
+    → IsUpTo source words all all before before
+at_first source words all before = record { others = λ after adds. adds }
+
+pub one_more : (source : Text) (words : List Text) (all left rest : List Allowance) (a : Allowance)
+    (before now next : List Remark) → left ≡ a ∷ rest → IsUpTo source words all left before now
+    → AddsCode source words a now next → IsUpTo source words all rest before next
+one_more source words all left rest a before now next split so_far (one, on, pushed) =
+    let here : IsUpTo source words all (a ∷ rest) before now =
+    subst (λ l. IsUpTo source words all l before now) split so_far in
+    record {
+      others = λ after (more, are, is). here.others after (
+        one ++ more,
+        (one, more, on, are, refl),
+        is ∙ ap (λ r. r ++ more) pushed ∙ append_assoc now one more,
+      );
+    }
+
+pub at_last : (source : Text) (words : List Text) (all left : List Allowance) (before now : List Remark)
+    → left ≡ [] → IsUpTo source words all left before now → AddsAll source words all before now
+at_last source words all left before now none so_far =
+    (subst (λ l. IsUpTo source words all l before now) none so_far).others now ([], refl, sym (append-nil now))
+
+-- Without comments there are no remarks on them.
+pub none_allowed : (s : Source) (old : List Remark) → s.allowances.now ≡ [] → AddsCodes s old old
+none_allowed s old none =
+    subst (λ l. AddsAll s.text.now _ l old old) (sym none) ([], refl, sym (append-nil old))
