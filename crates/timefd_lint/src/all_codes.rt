@@ -7,15 +7,9 @@ ghost use Rattle.timefd_lint.specs.NoCodes as spec;
 use crate::error_code::ErrorCode;
 use crate::other_rules::own_traps;
 use std::alloc::{AllocError, Global};
-<<<<<<< ours
-use timefd_lang_dialect::{Reason, Trap};
-=======
-use timefd_lint_diagnosis::Code;
-use timefd_lint_sources::{Coded, push_codes};
-use timefd_lint_warnings::dialects::all_reasons;
->>>>>>> theirs
 use timefd_lang_warnings::Warning;
 use timefd_lint_diagnosis::Code;
+use timefd_lint_sources::{Coded, push_codes};
 use timefd_lint_warnings::dialects::all_reasons;
 
 impl Coded for ErrorCode {

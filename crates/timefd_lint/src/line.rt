@@ -23,12 +23,8 @@ use timefd_lint_diagnosis::{Diagnostic, MOST_FURTHER, diagnose, further_faults};
 use timefd_lint_drawing::{Origin, Style, drawn_all, note};
 use timefd_lint_explain::explained;
 use timefd_lint_options::Wording;
-<<<<<<< ours
 use timefd_lint_rewrite::is_passed_over;
-use timefd_lint_sources::Reporting;
-=======
 use timefd_lint_sources::{Left, Reporting};
->>>>>>> theirs
 use timefd_lint_warnings::dialects::{Judged, Judgement, judge};
 use timefd_lint_warnings::{found_in, messages};
 use timefd_parse::Language;

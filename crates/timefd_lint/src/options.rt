@@ -3,11 +3,8 @@
 ghost use Rattle.std.specs.Prelude.{◌≡◌, length, max, if◌then◌else◌, is_none, Some, None};
 ghost use Rattle.timefd_lint.specs.Rewriting.{rewriting_of};
 
-<<<<<<< ours
-use timefd_lang_warnings::Levels;
-=======
 use crate::rewriting::rewriting_of;
->>>>>>> theirs
+use timefd_lang_warnings::Levels;
 use timefd_lint_drawing::Style;
 use timefd_lint_options::{Settings, Wording};
 use timefd_lint_scan::keys::Key;

@@ -15,12 +15,8 @@ use std::alloc::Global;
 use std::str;
 use timefd_bin_streams::{BufferedError, BufferedSource, Sink};
 use timefd_lint_drawing::{Origin, note};
-<<<<<<< ours
-=======
-use timefd_lint_sources::allowances::allowances_in;
-use timefd_lint_sources::{End, Finder, Source};
->>>>>>> theirs
 use timefd_lint_scan::keys::format_named;
+use timefd_lint_sources::allowances::allowances_in;
 use timefd_lint_sources::{End, Finder, Source};
 
 /// Whether a file with this name is read as a source of Rust.

@@ -8,11 +8,11 @@ use crate::allowances::Allowance;
 use crate::cut::between;
 use crate::reported::{Reporting, Source};
 use std::alloc::{AllocError, Global};
-use timefd_lint_diagnosis::{Diagnostic, code_of};
 use timefd_lang_dialect::Found;
+use timefd_lang_warnings::{Level, Levels, Warning};
+use timefd_lint_diagnosis::{Diagnostic, code_of};
 use timefd_lint_scan::Description;
 use timefd_lint_scan::dialect::is;
-use timefd_lang_warnings::{Level, Levels, Warning};
 
 fn covers(allowance: Allowance, at: usize) -> bool
     ensures { result ≡ found.covers allowance at }

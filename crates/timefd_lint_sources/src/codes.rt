@@ -5,11 +5,11 @@ ghost use Rattle.timefd_lint_diagnosis.specs.Words.{texts};
 ghost use Rattle.timefd_lint_sources.specs.CodeNames as spec;
 
 use std::alloc::{AllocError, Global};
+use timefd_lang_dialect::{Reason, Trap};
+use timefd_lang_warnings::Warning;
 use timefd_lint_diagnosis::Code;
 use timefd_lint_diagnosis::nearest::nearest;
-use timefd_lang_dialect::{Reason, Trap};
 use timefd_lint_warnings::dialects::{all_reasons, all_traps};
-use timefd_lang_warnings::Warning;
 
 /// What has a code.
 pub trait Coded {

@@ -22,13 +22,13 @@ use crate::reported::{End, Left, Reported, Reporting, Source, all_placed_in, not
 use crate::search::first_refusal;
 use std::alloc::{AllocError, Global};
 use std::str;
-use timefd_lint_diagnosis::{Diagnostic, diagnose};
 use timefd_lang_dialect::{Dialect, Refusal, traps};
+use timefd_lang_warnings::{Level, Levels};
+use timefd_lint_diagnosis::{Diagnostic, diagnose};
 use timefd_lint_drawing::{Counter, Origin, Style, drawn_all_from};
+use timefd_lint_scan::Description;
 use timefd_lint_warnings::found_by;
 use timefd_parse::Language;
-use timefd_lint_scan::Description;
-use timefd_lang_warnings::{Level, Levels};
 
 /// Checks a description of a source that a comment is about, and reports what is wrong with it, without what a comment
 /// allows. `from` says how far lines are counted. An `Err` says that memory ran out.

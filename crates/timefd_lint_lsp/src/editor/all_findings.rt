@@ -15,15 +15,11 @@ use std::alloc::{AllocError, Global};
 use std::str;
 use timefd_lang_warnings::Levels;
 use timefd_lint_diagnosis::diagnose;
-<<<<<<< ours
 use timefd_lint_scan::Description;
-use timefd_lint_sources::{Finder, Source, further_of, judged_in, language_of, other_of};
-=======
 use timefd_lint_sources::allowances::allowances_in;
 use timefd_lint_sources::{
     Finder, Source, further_of, is_allowed, judged_in, language_of, other_of,
 };
->>>>>>> theirs
 use timefd_lint_warnings::found_by;
 
 /// All that is wrong in a source, in order: the first fault of each description that its language refuses,

@@ -1,11 +1,6 @@
 use Rattle.std.proofs.Common.{◌≡◌, ◌++◌, length, map}
-<<<<<<< ours
-use Rattle.timefd_lint.proofs.all_codes.push_codes.Given as goal
-use Rattle.timefd_lint_diagnosis.specs.Words.{texts}
-=======
 use Rattle.timefd_lint_diagnosis.specs.Words.{texts}
 use Rattle.timefd_lint_sources.proofs.codes.push_codes.Given as goal
->>>>>>> theirs
 
 -- The codes that are left follow.
 abbrev pub invariant-codes : goal.invariant-codes
