@@ -7,7 +7,7 @@ mod JudgedLemmas
 mod ReportedLemmas
 mod ReportLemmas
 pub mod FinderLemmas
-mod RemarkLemmas
+mod NoCodeLemmas
 mod RemainderLemmas
 mod SeenLemmas
 pub mod PlacedLemmas

@@ -1,5 +1,5 @@
 -- What is reported of a description that a comment is about.
-use Rattle.std.proofs.Common.{◌≡◌, ◌+◌, true, false, Bool, Option, None, Some, List, [], ◌∷◌, ◌++◌, Result, Ok, Err, inl, inr, flat_map, length, map, refl, sym, subst, ap, ◌∙◌}
+use Rattle.std.proofs.Common.{ℕ, ◌≡◌, ◌+◌, true, false, Bool, Option, None, Some, List, [], ◌∷◌, ◌++◌, Result, Ok, Err, inl, inr, flat_map, length, map, refl, sym, subst, ap, ◌∙◌}
 use Rattle.std.specs.Prelude.{IfOk, IfSome, IsUtf8, is_some}
 use Rattle.timefd_lang_component.specs.Tree.{Text, Tree}
 use Rattle.timefd_lint_diagnosis.specs.declared.diagnostic.Diagnostic.{Diagnostic}
@@ -18,10 +18,11 @@ use Rattle.timefd_lint_scan.specs.declared.description.Description.{Description}
 use Rattle.timefd_lint_warnings.specs.Found.{found_by}
 use Rattle.timefd_lint_sources.specs.declared.reported.End.{End}
 use Rattle.timefd_lint_sources.specs.declared.reported.End.TheVariants.{Allowed}
+use Rattle.timefd_lint_sources.specs.declared.left.Left.{Left}
 use Rattle.timefd_lint_sources.specs.declared.reported.Source.{Source}
 use Rattle.timefd_lint_sources.specs.declared.reported.Reporting.{Reporting}
 use Rattle.timefd_lint_sources.specs.declared.reported.Reported.{Reported}
-use Rattle.timefd_lint_sources.specs.Allowed.{left_of_traps, traps_left}
+use Rattle.timefd_lint_sources.specs.Allowed.{left_of_traps, traps_left, unless_trap}
 use Rattle.timefd_lint_sources.specs.Judged.{AreDiagnosedOf, language_in, other_of, text_of, reported_further}
 use Rattle.timefd_lint_sources.specs.Others.{trap_in}
 use Rattle.timefd_lint_sources.specs.Search.{IsRefusedFirst, IsRight, IsSearched}
@@ -130,3 +131,22 @@ pub not_asked_for : (reports : Bool) (style : Style) (s : Source) (d : Descripti
     → AreTrapsLeft reports style s d dialect text end message
 not_asked_for reports style s d dialect text end message off none =
     subst (λ b. AreTrapsLeft b style s d dialect text end message) (sym off) none
+
+pub asked_for : (reports : Bool) (style : Style) (s : Source) (d : Description) (dialect : Dialect) (text : Text)
+    (found given left reported : List Found) (n m : ℕ) (l : Left) (start message : Text) → reports ≡ true
+    → AreTraps dialect text found → given ≡ found → left ≡ flat_map (unless_trap s d) given → reported ≡ left
+    → n ≡ length found → m ≡ length left → l ≡ left_of_traps n m → start ≡ []
+    → message ≡ start ++ flat_map (trap_in style s d) reported
+    → AreTrapsLeft reports style s d dialect text (Allowed l) message
+asked_for reports style s d dialect text found given left reported n m l start message on are same those all counted
+    few is none told =
+    let here : left ≡ traps_left s d found = those ∙ ap (λ x. flat_map (unless_trap s d) x) same in
+    subst (λ b. AreTrapsLeft b style s d dialect text (Allowed l) message) (sym on) (
+      found,
+      are,
+      ap (λ x. Allowed x)
+          (is ∙ (ap (λ k. left_of_traps k m) counted ∙ ap (λ k. left_of_traps (length found) k) (few ∙ ap length here))),
+      told
+          ∙ (ap (λ x. x ++ flat_map (trap_in style s d) reported) none
+          ∙ ap (λ x. flat_map (trap_in style s d) x) (all ∙ here)),
+    )

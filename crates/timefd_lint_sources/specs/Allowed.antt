@@ -12,7 +12,7 @@ use Rattle.timefd_lang_warnings.specs.declared.levels.Levels.{Levels}
 use Rattle.timefd_lang_warnings.specs.declared.warning.Warning.{Warning}
 use Rattle.timefd_lang_warnings.specs.Codes.{all, name_of}
 use Rattle.timefd_lang_warnings.specs.Levels.{count, with_level}
-use Rattle.timefd_lint_sources.specs.declared.reported.Left.{Left}
+use Rattle.timefd_lint_sources.specs.declared.left.Left.{Left}
 use Rattle.timefd_lint_sources.specs.declared.reported.Reporting.{Reporting}
 use Rattle.timefd_lint_sources.specs.declared.reported.Source.{Source}
 use Rattle.timefd_lint_sources.specs.Allowances.Found.{any_allows, any_covers}

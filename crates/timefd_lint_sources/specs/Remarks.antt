@@ -14,7 +14,7 @@ use Rattle.timefd_lint_scan.specs.declared.look.Look.{Look}
 use Rattle.timefd_lint_scan.specs.Looks.{IsLook}
 use Rattle.timefd_lint_sources.specs.declared.remark.Remark.{Remark}
 use Rattle.timefd_lint_sources.specs.declared.remark.Remark.TheVariants.{Call, Code, Language, Value}
-use Rattle.timefd_lint_sources.specs.declared.remark.NoCode.{NoCode}
+use Rattle.timefd_lint_sources.specs.declared.no_code.NoCode.{NoCode}
 use Rattle.timefd_lint_sources.specs.declared.allowances.comment.Allowance.{Allowance}
 use Rattle.timefd_lint_sources.specs.CodeNames.{description_codes, is_among}
 use Rattle.timefd_lint_sources.specs.declared.reported.End.{End}

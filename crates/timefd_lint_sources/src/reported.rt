@@ -1,13 +1,12 @@
 //! What the linter reports about one description.
 
-ghost use Rattle.std.specs.Prelude.{◌≡◌, IfOk, None, map};
+ghost use Rattle.std.specs.Prelude.{◌≡◌, IfOk, None};
 ghost use Rattle.timefd_lint_drawing.specs.Counted.{IsCounted};
 ghost use Rattle.timefd_lint_sources.specs.declared.reported.End.TheVariants as ends;
 ghost use Rattle.timefd_lint_sources.specs.Judged.{text_of};
 ghost use Rattle.timefd_lint_sources.specs.Judged as judging;
 ghost use Rattle.timefd_lint_sources.specs.Reported.{IsReported};
 ghost use Rattle.timefd_lint_sources.specs.Whole.{IsReportedWhole, drawing_of, note_of};
-ghost use Rattle.timefd_lint_sources.specs.Whole as spec;
 
 use crate::accepted::accepted;
 use crate::allowances::Allowance;
@@ -15,16 +14,18 @@ use crate::allowed::is_covered;
 use crate::at_call::call_note;
 use crate::further::further_of;
 use crate::language::{language_of, other_of};
+use crate::left::Left;
 use crate::other::report_other;
+use crate::placed::{all_placed_in, placed_in};
 use crate::position::FIRST_LINE;
 use crate::remainder::report_left;
 use std::alloc::{AllocError, Global};
 use std::str;
 use timefd_lang_warnings::Levels;
-use timefd_lint_diagnosis::{Diagnostic, Span, diagnose};
+use timefd_lint_diagnosis::{Diagnostic, diagnose};
 use timefd_lint_drawing::{Counter, Origin, Style, counted, drawn_all_from, note};
+use timefd_lint_scan::Description;
 use timefd_lint_scan::keys::{Format, Key};
-use timefd_lint_scan::{Description, index_in_source};
 
 /// How to report on descriptions.
 #[derive(Clone, Copy)]
@@ -59,17 +60,6 @@ pub struct Source<'a> {
     pub text: &'a str,
     /// What its comments allow.
     pub allowances: &'a [Allowance],
-}
-
-/// What is left of what is wrong with a description, if a comment is about it.
-#[derive(Clone, Copy)]
-pub struct Left {
-    /// Whether an error is left, or a denied warning.
-    pub is_refused: bool,
-    /// How many other warnings are left.
-    pub warnings: u64,
-    /// How many errors and warnings are allowed. They aren't reported.
-    pub allowed: u64,
 }
 
 /// The outcome of a description.
@@ -252,32 +242,4 @@ fn refused(
         end: End::Refused,
         message,
     })
-}
-
-/// These diagnostics with their spans in the source. An `Err` says that memory ran out.
-pub fn all_placed_in(
-    alloc: Global,
-    description: &Description,
-    diagnostics: Vec<Diagnostic>,
-) -> Result<Vec<Diagnostic>, AllocError>
-    ensures { IfOk result (λ placed. placed.items
-        ≡ map (spec.placed_in description.now) diagnostics.items) }
-{
-    let mut placed = Vec::new(alloc);
-    for diagnostic in diagnostics {
-        placed.push(placed_in(description, diagnostic))?;
-    }
-    Ok(placed)
-}
-
-// A diagnostic of a description, with its span in the source.
-fn placed_in(description: &Description, diagnostic: Diagnostic) -> Diagnostic
-    ensures { result ≡ spec.placed_in description.now diagnostic }
-{
-    let mut placed = diagnostic;
-    placed.span = Span {
-        start: index_in_source(description, placed.span.start),
-        end: index_in_source(description, placed.span.end),
-    };
-    placed
 }

@@ -8,8 +8,9 @@ ghost use Rattle.timefd_lint_sources.specs.Reported.{AddsReported, AreSeen, AreS
 ghost use Rattle.timefd_lint_scan.specs.Found.{AreInOrder};
 
 use crate::judged::judged_all;
+use crate::no_code::push_no_codes;
 use crate::position::FIRST_LINE;
-use crate::remark::{Remark, push_no_codes, push_remarks, remarks_on, remarks_on_values};
+use crate::remark::{Remark, push_remarks, remarks_on, remarks_on_values};
 use crate::reported::{End, Finder, Reported, Reporting, Source, report};
 use std::alloc::{AllocError, Global};
 use timefd_lint_drawing::{Counter, counted, none_counted};

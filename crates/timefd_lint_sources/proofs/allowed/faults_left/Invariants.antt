@@ -4,4 +4,4 @@ use Rattle.timefd_lint_sources.proofs.allowed.faults_left.Given as goal
 
 abbrev pub invariant-loop-diagnostic : goal.invariant-loop-diagnostic
 invariant-loop-diagnostic l =
-    l.left.items ≡ spec.faults_left l.source l.description l.first l.yielded
+    l.left.items ≡ spec.faults_left l.source l.description l.fn.first l.yielded

@@ -6,7 +6,7 @@ use Rattle.timefd_lint_sources.proofs.allowed.levels_left.Given as goal
 abbrev pub invariant-warnings : goal.invariant-warnings
 invariant-warnings l =
     spec.levels_left_of l.source l.description l.left l.warnings
-    ≡ spec.levels_left l.source l.description l.found
+    ≡ spec.levels_left l.source l.description l.fn.found
 
 abbrev pub decreases-warnings : goal.decreases-warnings
 decreases-warnings l = length l.warnings

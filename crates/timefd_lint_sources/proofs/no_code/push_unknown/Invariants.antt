@@ -1,7 +1,7 @@
 use Rattle.std.proofs.Common.{length}
 use Rattle.timefd_lint_diagnosis.specs.Words.{texts}
-use Rattle.timefd_lint_sources.proofs.RemarkLemmas.{IsUpTo}
-use Rattle.timefd_lint_sources.proofs.remark.push_unknown.Given as goal
+use Rattle.timefd_lint_sources.proofs.NoCodeLemmas.{IsUpTo}
+use Rattle.timefd_lint_sources.proofs.no_code.push_unknown.Given as goal
 
 -- The remarks on the rest are those that are missing.
 abbrev pub invariant-comments : goal.invariant-comments
