@@ -15,6 +15,7 @@ use Rattle.timefd_language.specs.Grammar.{nesting_limit}
 use Rattle.timefd_language.specs.declared.language.Language.{Language}
 use Rattle.timefd_parse.specs.Language.{SpellsIn, FaultIn}
 use Rattle.timefd_lint_scan.specs.declared.description.Description.{Description}
+use Rattle.timefd_lang_warnings.specs.declared.levels.Levels.{Levels}
 use Rattle.timefd_lint_warnings.specs.Found.{found_by}
 use Rattle.timefd_lint_sources.specs.declared.reported.End.{End}
 use Rattle.timefd_lint_sources.specs.declared.reported.End.TheVariants.{Allowed}
@@ -53,6 +54,15 @@ as_other reporting s d dialect text (Ok t) other utf8 same left = inl (
   subst (λ o. IsLeftAs o reporting s d t.end t.message.items) (sym other) left,
 )
 as_other reporting s d dialect text (Err e) other utf8 same left = tt
+
+-- The warnings are those that the definition gives.
+pub with_found : {E : Type 0} (reporting : Reporting) (s : Source) (d : Description) (found given : Levels)
+    (done : Result Reported E) → found ≡ given
+    → IfOk done (λ t. AreWarningsLeft reporting s d found t.end t.message.items)
+    → IfOk done (λ t. AreWarningsLeft reporting s d given t.end t.message.items)
+with_found reporting s d found given (Ok t) is left =
+    subst (λ f. AreWarningsLeft reporting s d f t.end t.message.items) is left
+with_found reporting s d found given (Err e) is left = tt
 
 -- The text is the description's, and it spells a list.
 pub with_list : {E : Type 0} (reporting : Reporting) (s : Source) (d : Description) (language : Language)
