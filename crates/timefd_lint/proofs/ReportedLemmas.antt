@@ -17,7 +17,7 @@ use Rattle.timefd_lint_drawing.specs.declared.draw.Style.{Style}
 use Rattle.timefd_lint_drawing.specs.declared.position.Origin.{Origin}
 use Rattle.timefd_lint_options.specs.declared.wording.Wording.{Wording}
 use Rattle.timefd_lint.specs.declared.line.TextEnd.{TextEnd}
-use Rattle.timefd_lint.specs.declared.line.TextEnd.TheVariants.{PassedOver, Accepted, Converted, Refused, NotText, Failed, UnreadCall, UnreadValue}
+use Rattle.timefd_lint.specs.declared.line.TextEnd.TheVariants.{PassedOver, Accepted, Converted, Refused, NotText, Allowed, Failed, UnreadCall, UnreadValue}
 use Rattle.timefd_lint_sources.specs.declared.reported.Reporting.{Reporting}
 use Rattle.timefd_lint.specs.declared.tally.Tally.{Tally}
 use Rattle.timefd_lang_warnings.specs.declared.levels.Level.TheVariants.{Warned}
@@ -30,7 +30,7 @@ use Rattle.timefd_lint.specs.Lines.{IsEndOf, IsLineEnd}
 use Rattle.timefd_lint.specs.Failures.{note_of, unread}
 use Rattle.timefd_lint.specs.declared.failure.Failure.{Failure}
 use Rattle.timefd_lint.specs.Marks.{Notes, has_mark}
-use Rattle.timefd_lint.specs.Reported.{Says, SaysUnread, SaysOf, IsUnreadIfFailed, AreMarked, Reported, is_description, is_refused, is_not_text, is_failed, is_unread_call, is_unread_value, warnings_in, warnings_of, IsEndIn, IsReportOn, IsPosition, ArePlaced, position, one_if, count, tally_of_one, tally_of, text_in, both, messages, lines_in, lines_of, IsReadUp, AreCountedOut, IsRun, IsRunOver, IsRunOfAll, IsRunOn, IsNext}
+use Rattle.timefd_lint.specs.Reported.{Says, SaysUnread, SaysOf, IsUnreadIfFailed, AreMarked, Reported, is_description, is_refused, is_not_text, is_failed, is_unread_call, is_unread_value, warnings_in, warnings_of, allowed_in, allowed_of, IsEndIn, IsReportOn, IsPosition, ArePlaced, position, one_if, count, tally_of_one, tally_of, text_in, both, messages, lines_in, lines_of, IsReadUp, AreCountedOut, IsRun, IsRunOver, IsRunOfAll, IsRunOn, IsNext}
 
 -- A note, and the message after it.
 pub notes_and_says : (is_marked : Bool) (language : Wording) (reporting : Reporting) (origin : Origin)
@@ -100,6 +100,7 @@ never_failed language reporting text (Accepted found) ended fails = false≢true
 never_failed language reporting text (Converted traps) ended fails = false≢true fails
 never_failed language reporting text Refused ended fails = false≢true fails
 never_failed language reporting text NotText ended fails = false≢true fails
+never_failed language reporting text (Allowed left) ended fails = ended
 never_failed language reporting text Failed ended fails = ended
 never_failed language reporting text UnreadCall ended fails = ended
 never_failed language reporting text UnreadValue ended fails = ended
@@ -111,6 +112,7 @@ line_never_failed language comment reporting line (Accepted found) ended fails =
 line_never_failed language comment reporting line (Converted traps) ended fails = false≢true fails
 line_never_failed language comment reporting line Refused ended fails = false≢true fails
 line_never_failed language comment reporting line NotText ended fails = false≢true fails
+line_never_failed language comment reporting line (Allowed left) ended fails = ended
 line_never_failed language comment reporting line Failed ended fails = ended
 line_never_failed language comment reporting line UnreadCall ended fails = ended
 line_never_failed language comment reporting line UnreadValue ended fails = ended
@@ -132,9 +134,21 @@ few_warnings (Accepted found) =
 few_warnings (Converted traps) = omega arith
 few_warnings Refused = refl
 few_warnings NotText = refl
+few_warnings (Allowed left) = omega arith
 few_warnings Failed = refl
 few_warnings UnreadCall = refl
 few_warnings UnreadValue = refl
+
+few_allowed : (end : TextEnd) → u64_saturate (allowed_in end + 0) ≡ allowed_in end
+few_allowed PassedOver = refl
+few_allowed (Accepted found) = refl
+few_allowed (Converted traps) = refl
+few_allowed Refused = refl
+few_allowed NotText = refl
+few_allowed (Allowed left) = omega arith
+few_allowed Failed = refl
+few_allowed UnreadCall = refl
+few_allowed UnreadValue = refl
 
 pub tally_one : (t : Reported) → tally_of (t ∷ []) ≡ tally_of_one t.end
 tally_one t =
@@ -144,6 +158,7 @@ tally_one t =
       few_warnings t.end,
       one_alone (is_unread_call t.end),
       one_alone (is_unread_value t.end),
+      few_allowed t.end,
       or_false (is_not_text t.end),
       or_false (is_failed t.end),
     ) refl
@@ -184,6 +199,10 @@ warnings_both : (xs ys : List Reported) → warnings_of (xs ++ ys) ≡ warnings_
 warnings_both [] ys = omega arith
 warnings_both (x ∷ xs) ys = omega (arith, warnings_both xs ys)
 
+allowed_both : (xs ys : List Reported) → allowed_of (xs ++ ys) ≡ allowed_of xs + allowed_of ys
+allowed_both [] ys = omega arith
+allowed_both (x ∷ xs) ys = omega (arith, allowed_both xs ys)
+
 sum_both : (a b : ℕ) → u64_saturate (u64_saturate a + u64_saturate b) ≡ u64_saturate (a + b)
 sum_both a b = omega arith
 
@@ -199,11 +218,13 @@ tally_both xs ys =
           (count (λ (t : Reported). is_unread_call t.end) ys),
       sum_both (count (λ (t : Reported). is_unread_value t.end) xs)
           (count (λ (t : Reported). is_unread_value t.end) ys),
+      sum_both (allowed_of xs) (allowed_of ys),
       count_both (λ (t : Reported). is_description t.end) xs ys,
       count_both (λ (t : Reported). is_refused t.end) xs ys,
       warnings_both xs ys,
       count_both (λ (t : Reported). is_unread_call t.end) xs ys,
       count_both (λ (t : Reported). is_unread_value t.end) xs ys,
+      allowed_both xs ys,
       list_any-append (λ (t : Reported). is_not_text t.end) xs ys,
       list_any-append (λ (t : Reported). is_failed t.end) xs ys,
     ) refl

@@ -18,9 +18,11 @@ use Rattle.timefd_lint_sources.specs.declared.reported.End.{End}
 use Rattle.timefd_lint_sources.specs.declared.reported.Finder.{Finder}
 use Rattle.timefd_lint_sources.specs.declared.reported.Source.{Source}
 use Rattle.timefd_lint_sources.specs.declared.reported.Reporting.{Reporting}
+use Rattle.timefd_lint_sources.specs.Allowances.Found.{AreAllowances}
 use Rattle.timefd_lint_sources.specs.Judged.{text_of}
 use Rattle.timefd_lint_sources.specs.Items.{AreJudgedAs}
-use Rattle.timefd_lint_sources.specs.Reported.{AllFound, AreSeen, AreReported, IsFound, IsJudgedFound, IsSourceReported, no_text_note, origin_of}
+use Rattle.timefd_lint_sources.specs.Reported.{AllFound, AreSeen, AreReported, IsFound, IsJudgedFound, IsSourceReported}
+use Rattle.timefd_lint_sources.specs.Whole.{no_text_note, origin_of}
 use Rattle.timefd_lint.specs.declared.line.RunError.{RunError}
 use Rattle.timefd_lint.specs.declared.line.TextEnd.{TextEnd}
 use Rattle.timefd_lint.specs.declared.line.TextEnd.TheVariants.{NotText, Failed}
@@ -51,15 +53,17 @@ all_found all i tally none so_far = sym (ap (λ l. tally_from tally l) (drop_all
 
 -- What is written about a source.
 pub reported_source : (reporting : Reporting) (s : Source) (r : Report) (before after : Option Text)
-    (message : Text) (ends : List End) (tally : Tally) → IsSourceReported reporting s r
+    (message : Text) (ends : List End) (tally : Tally)
+    → AreAllowances s.finder s.text.now s.allowances.now → IsSourceReported reporting s r
     → message ≡ r.message.items → Appends before after message → ends ≡ r.ends.items
     → tally ≡ tally_of_ends ends
     → IsReported s.finder reporting s.file.now s.text.now before after tally
-reported_source reporting s r before after message ends tally reported same written same_ends found = (
+reported_source reporting s r before after message ends tally allowed reported same written same_ends found = (
   s,
   refl,
   refl,
   refl,
+  allowed,
   (
     r,
     reported,
@@ -134,15 +138,15 @@ judged_found s (d ∷ ds) judged stand (one, others, is, are, whole) =
 -- Each remark is reported.
 remarked : (is_whole : Bool) (language : Wording) (comment : Option (Bor Text)) (reporting : Reporting)
     (s : Source) (ds : List Description) (all front left : List Remark) → AreSeen s ds all
-    → all ≡ front ++ left
+    → AreAllowances s.finder s.text.now s.allowances.now → all ≡ front ++ left
     → AreLiterals is_whole language comment reporting (ends_of left) (messages_of reporting.style s left)
-remarked is_whole language comment reporting s ds all front [] seen is = record {
+remarked is_whole language comment reporting s ds all front [] seen allowed is = record {
   reported = [];
   each = All-nil (IsReportedOfAny is_whole language comment reporting);
   said = refl;
   found = λ others. sym (ap tally_of (append-nil others));
 }
-remarked is_whole language comment reporting s ds all front (r ∷ left) seen is =
+remarked is_whole language comment reporting s ds all front (r ∷ left) seen allowed is =
     let t : Reported = record {
       line = [];
       origin = position s.file 1;
@@ -151,13 +155,14 @@ remarked is_whole language comment reporting s ds all front (r ∷ left) seen is
       message = message_of reporting.style s r;
     } in
     let more : AreLiterals is_whole language comment reporting (ends_of left) (messages_of reporting.style s left) =
-    remarked is_whole language comment reporting s ds all (front ++ r ∷ []) left seen
+    remarked is_whole language comment reporting s ds all (front ++ r ∷ []) left seen allowed
     (is ∙ sym (append_assoc front (r ∷ []) left)) in
     let is_remark : IsOfRemark reporting t = record {
       source = s;
       found = ds;
       remarks = all;
       seen = seen;
+      allowed = allowed;
       front = front;
       remark = r;
       rest = left;
@@ -180,18 +185,19 @@ remarked is_whole language comment reporting s ds all front (r ∷ left) seen is
 -- Adds the reports on literals before these.
 literals : (is_whole : Bool) (language : Wording) (comment : Option (Bor Text)) (reporting : Reporting)
     (s : Source) (ds : List Description) (ends more_ends : List End) (message more_message : Text)
+    → AreAllowances s.finder s.text.now s.allowances.now
     → All (IsJudgedFound s) ds → AreReported reporting s ds ends message
     → AreLiterals is_whole language comment reporting more_ends more_message
     → AreLiterals is_whole language comment reporting (ends ++ more_ends) (message ++ more_message)
-literals is_whole language comment reporting s [] [] more_ends message more_message stand are after = record {
+literals is_whole language comment reporting s [] [] more_ends message more_message allowed stand are after = record {
   reported = after.reported;
   each = after.each;
   said = ap (λ m. m ++ more_message) are ∙ after.said;
   found = after.found;
 }
-literals is_whole language comment reporting s [] (e ∷ ends) more_ends message more_message stand are after = absurd are
-literals is_whole language comment reporting s (d ∷ ds) [] more_ends message more_message stand are after = absurd are
-literals is_whole language comment reporting s (d ∷ ds) (e ∷ ends) more_ends message more_message stand
+literals is_whole language comment reporting s [] (e ∷ ends) more_ends message more_message allowed stand are after = absurd are
+literals is_whole language comment reporting s (d ∷ ds) [] more_ends message more_message allowed stand are after = absurd are
+literals is_whole language comment reporting s (d ∷ ds) (e ∷ ends) more_ends message more_message allowed stand
     (one, rest, reported, others, is) after =
     let t : Reported = record {
       line = text_of d;
@@ -201,13 +207,14 @@ literals is_whole language comment reporting s (d ∷ ds) (e ∷ ends) more_ends
       message = one;
     } in
     let more : AreLiterals is_whole language comment reporting (ends ++ more_ends) (rest ++ more_message) =
-    literals is_whole language comment reporting s ds ends more_ends rest more_message
+    literals is_whole language comment reporting s ds ends more_ends rest more_message allowed
     (All-tail (IsJudgedFound s) d ds stand) others after in
     let is_literal : IsOfLiteral reporting t = record {
       source = s;
       description = d;
       came = e;
       stands = All-head (IsJudgedFound s) d ds stand;
+      allowed = allowed;
       reported = reported;
       line = refl;
       origin = refl;
@@ -242,14 +249,14 @@ pub of_source : (is_whole : Bool) (language : Wording) (comment : Option (Bor Te
     → IsRunOfSource finder reporting name bytes rest has_failed before after tally
     → IsRunOfAny is_whole language comment reporting before after tally
 of_source is_whole language comment reporting finder name bytes rest before after has_failed tally
-    (inl (source, all, read, inl (utf8, (s, f, by, t, (r, reported, written, found))))) =
+    (inl (source, all, read, inl (utf8, (s, f, by, t, allowed, (r, reported, written, found))))) =
     let on_remarks : AreLiterals is_whole language comment reporting (ends_of reported.remarks)
     (messages_of reporting.style s reported.remarks) =
-    remarked is_whole language comment reporting s reported.found reported.remarks [] reported.remarks reported.seen refl in
+    remarked is_whole language comment reporting s reported.found reported.remarks [] reported.remarks reported.seen allowed refl in
     let are : AreLiterals is_whole language comment reporting (reported.ends ++ ends_of reported.remarks)
     (reported.message ++ messages_of reporting.style s reported.remarks) =
     literals is_whole language comment reporting s reported.descriptions reported.ends (ends_of reported.remarks) reported.message
-    (messages_of reporting.style s reported.remarks)
+    (messages_of reporting.style s reported.remarks) allowed
     (judged_found s reported.found reported.descriptions reported.seen.stand reported.judged) reported.reported on_remarks in
     record {
       reported = are.reported;

@@ -16,7 +16,7 @@ use Rattle.timefd_lint_diagnosis.specs.Further.{AreFurther, most_further, withou
 use Rattle.timefd_lint_drawing.specs.declared.position.Origin.{Origin}
 use Rattle.timefd_lint_drawing.specs.Drawing.{drawn_all}
 use Rattle.timefd_lint_sources.specs.declared.reported.Reporting.{Reporting}
-use Rattle.timefd_lint_sources.specs.Reported.{no_text_note}
+use Rattle.timefd_lint_sources.specs.Whole.{no_text_note}
 use Rattle.timefd_lint.specs.declared.line.RunError.{RunError}
 use Rattle.timefd_lint.specs.declared.line.TextEnd.{TextEnd}
 use Rattle.timefd_lint.specs.declared.line.TextEnd.TheVariants.{Refused, NotText}

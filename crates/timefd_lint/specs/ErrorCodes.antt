@@ -5,7 +5,7 @@ use Rattle.timefd_lang_fault.specs.declared.code.Code.{Code}
 use Rattle.timefd_lang_fault.specs.declared.code.Code.TheVariants as faults
 use Rattle.timefd_lang_fault.specs.Codes as of_faults
 use Rattle.timefd_lint.specs.declared.error_code.ErrorCode.{ErrorCode}
-use Rattle.timefd_lint.specs.declared.error_code.ErrorCode.TheVariants.{Fault, NotText, Unreadable, Unwritable, ByteOrderMark, UnknownLanguage}
+use Rattle.timefd_lint.specs.declared.error_code.ErrorCode.TheVariants.{Fault, NotText, Unreadable, Unwritable, ByteOrderMark, UnknownLanguage, UnknownCode}
 
 abbrev pub name_of : ErrorCode → Text
 name_of (Fault code) = of_faults.name_of code
@@ -14,6 +14,7 @@ name_of Unreadable = codes "unreadable"
 name_of Unwritable = codes "unwritable"
 name_of ByteOrderMark = codes "byte-order-mark"
 name_of UnknownLanguage = codes "unknown-language"
+name_of UnknownCode = codes "unknown-code"
 
 -- the code of the fault with this name
 abbrev pub fault_named : Text → Option Code
@@ -51,6 +52,7 @@ named name =
     else if bytes_eq name (codes "unwritable") then Some Unwritable
     else if bytes_eq name (codes "byte-order-mark") then Some ByteOrderMark
     else if bytes_eq name (codes "unknown-language") then Some UnknownLanguage
+    else if bytes_eq name (codes "unknown-code") then Some UnknownCode
     else of_fault (fault_named name)
 
 -- Each name of an error is read back as its code.

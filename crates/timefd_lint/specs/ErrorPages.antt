@@ -4,7 +4,7 @@ use Rattle.timefd_lang_component.specs.Tree.{Text}
 use Rattle.timefd_lang_fault.specs.declared.code.Code.{Code}
 use Rattle.timefd_lang_fault.specs.declared.code.Code.TheVariants as faults
 use Rattle.timefd_lint.specs.declared.error_code.ErrorCode.{ErrorCode}
-use Rattle.timefd_lint.specs.declared.error_code.ErrorCode.TheVariants.{Fault, NotText, Unreadable, Unwritable, ByteOrderMark, UnknownLanguage}
+use Rattle.timefd_lint.specs.declared.error_code.ErrorCode.TheVariants.{Fault, NotText, Unreadable, Unwritable, ByteOrderMark, UnknownLanguage, UnknownCode}
 
 abbrev pub fault_summary : Code → Text
 fault_summary faults.UnclosedBracket = codes "a bracket that isn't closed"
@@ -35,6 +35,7 @@ summary Unreadable = codes "a file that can't be read"
 summary Unwritable = codes "a file that can't be replaced"
 summary ByteOrderMark = codes "a byte-order mark before the first line"
 summary UnknownLanguage = codes "a comment that names no language"
+summary UnknownCode = codes "a comment that allows what is no error or warning"
 
 abbrev pub fault_explanation : Code → Text
 fault_explanation faults.UnclosedBracket =
@@ -103,3 +104,6 @@ explanation ByteOrderMark =
 explanation UnknownLanguage =
     codes
     "`// timefd: strftme` names no language, and checks nothing. Write one of 1, 2, 3, strftime, python, c, gnu, chrono, jiff, ruby, java, go and moment."
+explanation UnknownCode =
+    codes
+    "`// timefd: allow unknwn-name` names no error and no warning of a format, and allows nothing. Write the codes that reports show, with commas or spaces between them."

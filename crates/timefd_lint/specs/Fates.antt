@@ -86,6 +86,7 @@ left_in found = record {
   warnings = 0;
   unread_calls = 0;
   unread_values = 0;
+  allowed = 0;
   not_text = false;
   failed = false;
   is_left = not (length (string_bytes found.by_hand) == 0);

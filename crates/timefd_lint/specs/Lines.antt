@@ -16,7 +16,7 @@ use Rattle.timefd_lint_sources.specs.declared.reported.Reporting.{Reporting}
 use Rattle.timefd_lint_warnings.specs.Found.{found_by}
 use Rattle.timefd_lang_warnings.specs.declared.levels.Levels.{Levels}
 use Rattle.timefd_lint.specs.declared.line.TextEnd.{TextEnd}
-use Rattle.timefd_lint.specs.declared.line.TextEnd.TheVariants.{PassedOver, Accepted, Converted, Refused, NotText, Failed, UnreadCall, UnreadValue}
+use Rattle.timefd_lint.specs.declared.line.TextEnd.TheVariants.{PassedOver, Accepted, Converted, Refused, NotText, Allowed, Failed, UnreadCall, UnreadValue}
 
 -- a text of a language of `time` spells a list, with the list's warnings
 abbrev pub IsAcceptedBy : Wording → Reporting → Text → Levels → Type 0
@@ -41,6 +41,7 @@ IsEndOf language reporting text (Accepted found) = IsUtf8 text × IsAcceptedBy l
 IsEndOf language reporting text (Converted traps) = IsUtf8 text × IsConvertedBy language text
 IsEndOf language reporting text Refused = IsUtf8 text × IsRefusedBy language text
 IsEndOf language reporting text NotText = ¬ IsUtf8 text
+IsEndOf language reporting text (Allowed left) = ⊥
 IsEndOf language reporting text Failed = ⊥
 IsEndOf language reporting text UnreadCall = ⊥
 IsEndOf language reporting text UnreadValue = ⊥
@@ -56,6 +57,7 @@ IsLineEnd language comment reporting line Refused = IsFalse (is_passed_over comm
     × IsEndOf language reporting line Refused
 IsLineEnd language comment reporting line NotText = IsFalse (is_passed_over comment line)
     × IsEndOf language reporting line NotText
+IsLineEnd language comment reporting line (Allowed left) = ⊥
 IsLineEnd language comment reporting line Failed = ⊥
 IsLineEnd language comment reporting line UnreadCall = ⊥
 IsLineEnd language comment reporting line UnreadValue = ⊥

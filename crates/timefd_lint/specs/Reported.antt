@@ -13,7 +13,7 @@ use Rattle.timefd_lint_diagnosis.specs.declared.diagnostic.Diagnostic.{Diagnosti
 use Rattle.timefd_lint_diagnosis.specs.Further.{AreDiagnosed}
 use Rattle.timefd_lint.specs.declared.failure.Failure.{Failure}
 use Rattle.timefd_lint.specs.declared.line.TextEnd.{TextEnd}
-use Rattle.timefd_lint.specs.declared.line.TextEnd.TheVariants.{PassedOver, Accepted, Converted, Refused, NotText, Failed, UnreadCall, UnreadValue}
+use Rattle.timefd_lint.specs.declared.line.TextEnd.TheVariants.{PassedOver, Accepted, Converted, Refused, NotText, Allowed, Failed, UnreadCall, UnreadValue}
 use Rattle.timefd_lint.specs.declared.tally.Tally.{Tally}
 use Rattle.timefd_lint_drawing.specs.declared.draw.Style.{Style}
 use Rattle.timefd_lint_drawing.specs.declared.position.Origin.{Origin}
@@ -24,7 +24,7 @@ use Rattle.timefd_lang_warnings.specs.declared.levels.Levels.{Levels}
 use Rattle.timefd_lang_warnings.specs.Levels.{count as warning_count}
 use Rattle.timefd_lint_warnings.specs.Messages.{messages as warning_messages}
 use Rattle.timefd_lint_sources.specs.declared.reported.Reporting.{Reporting}
-use Rattle.timefd_lint_sources.specs.Reported.{no_text_note}
+use Rattle.timefd_lint_sources.specs.Whole.{no_text_note}
 use Rattle.timefd_lint_rewrite.specs.Lines.{AreLinesOf, IsNextLine, without_newline}
 use Rattle.timefd_lint.specs.Failures.{IsUnreadNote, note_of}
 use Rattle.timefd_lint.specs.Lines.{IsEndOf, IsLineEnd}
@@ -84,6 +84,7 @@ IsMessageOn language reporting origin text Refused message =
     IsMessageOnRefused language reporting.style origin text message
 IsMessageOn language reporting origin text NotText message =
     message ≡ no_text_note reporting.style origin
+IsMessageOn language reporting origin text (Allowed left) message = ⊥
 IsMessageOn language reporting origin text Failed message =
     IsFailureNote reporting.style origin.file message
 IsMessageOn language reporting origin text UnreadCall message = ⊥
@@ -132,6 +133,7 @@ is_description (Accepted found) = true
 is_description (Converted traps) = true
 is_description Refused = true
 is_description NotText = true
+is_description (Allowed left) = true
 is_description Failed = false
 is_description UnreadCall = false
 is_description UnreadValue = false
@@ -146,6 +148,7 @@ is_refused (Accepted found) = is_denied found
 is_refused (Converted traps) = false
 is_refused Refused = true
 is_refused NotText = false
+is_refused (Allowed left) = left.is_refused
 is_refused Failed = false
 is_refused UnreadCall = false
 is_refused UnreadValue = false
@@ -156,6 +159,7 @@ is_not_text (Accepted found) = false
 is_not_text (Converted traps) = false
 is_not_text Refused = false
 is_not_text NotText = true
+is_not_text (Allowed left) = false
 is_not_text Failed = false
 is_not_text UnreadCall = false
 is_not_text UnreadValue = false
@@ -166,6 +170,7 @@ is_failed (Accepted found) = false
 is_failed (Converted traps) = false
 is_failed Refused = false
 is_failed NotText = false
+is_failed (Allowed left) = false
 is_failed Failed = true
 is_failed UnreadCall = false
 is_failed UnreadValue = false
@@ -177,6 +182,7 @@ is_unread_call (Accepted found) = false
 is_unread_call (Converted traps) = false
 is_unread_call Refused = false
 is_unread_call NotText = false
+is_unread_call (Allowed left) = false
 is_unread_call Failed = false
 is_unread_call UnreadCall = true
 is_unread_call UnreadValue = false
@@ -188,6 +194,7 @@ is_unread_value (Accepted found) = false
 is_unread_value (Converted traps) = false
 is_unread_value Refused = false
 is_unread_value NotText = false
+is_unread_value (Allowed left) = false
 is_unread_value Failed = false
 is_unread_value UnreadCall = false
 is_unread_value UnreadValue = true
@@ -199,9 +206,22 @@ warnings_in (Accepted found) = warning_count Warned found
 warnings_in (Converted traps) = u64_saturate traps
 warnings_in Refused = 0
 warnings_in NotText = 0
+warnings_in (Allowed left) = u64_saturate left.warnings
 warnings_in Failed = 0
 warnings_in UnreadCall = 0
 warnings_in UnreadValue = 0
+
+-- how many errors and warnings comments allow
+abbrev pub allowed_in : TextEnd → ℕ
+allowed_in PassedOver = 0
+allowed_in (Accepted found) = 0
+allowed_in (Converted traps) = 0
+allowed_in Refused = 0
+allowed_in NotText = 0
+allowed_in (Allowed left) = u64_saturate left.allowed
+allowed_in Failed = 0
+allowed_in UnreadCall = 0
+allowed_in UnreadValue = 0
 
 -- the text in these bytes: all of a whole file, or what comes before a line's newline
 abbrev pub text_in : Bool → Text → Text
@@ -239,6 +259,10 @@ abbrev pub warnings_of : List Reported → ℕ
 warnings_of [] = 0
 warnings_of (t ∷ reported) = warnings_in t.end + warnings_of reported
 
+abbrev pub allowed_of : List Reported → ℕ
+allowed_of [] = 0
+allowed_of (t ∷ reported) = allowed_in t.end + allowed_of reported
+
 -- the tally of one text
 abbrev pub tally_of_one : TextEnd → Tally
 tally_of_one end = record {
@@ -247,6 +271,7 @@ tally_of_one end = record {
   warnings = warnings_in end;
   unread_calls = one_if (is_unread_call end);
   unread_values = one_if (is_unread_value end);
+  allowed = allowed_in end;
   not_text = is_not_text end;
   failed = is_failed end;
   is_left = false;
@@ -260,6 +285,7 @@ tally_of reported = record {
   warnings = u64_saturate (warnings_of reported);
   unread_calls = u64_saturate (count (λ t. is_unread_call t.end) reported);
   unread_values = u64_saturate (count (λ t. is_unread_value t.end) reported);
+  allowed = u64_saturate (allowed_of reported);
   not_text = list_any (λ t. is_not_text t.end) reported;
   failed = list_any (λ t. is_failed t.end) reported;
   is_left = false;
@@ -274,6 +300,7 @@ both a b =
       warnings = u64_saturate (a.warnings + b.warnings);
       unread_calls = u64_saturate (a.unread_calls + b.unread_calls);
       unread_values = u64_saturate (a.unread_values + b.unread_values);
+      allowed = u64_saturate (a.allowed + b.allowed);
       not_text = a.not_text || b.not_text;
       failed = a.failed || b.failed;
       is_left = a.is_left || b.is_left;

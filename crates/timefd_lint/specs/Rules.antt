@@ -6,7 +6,7 @@ use Rattle.timefd_lang_fault.specs.Codes as faults
 use Rattle.timefd_lint_drawing.specs.Json.{quoted}
 use Rattle.timefd_lint_lsp.specs.Editor.Each.{AreOf}
 use Rattle.timefd_lint.specs.declared.error_code.ErrorCode.{ErrorCode}
-use Rattle.timefd_lint.specs.declared.error_code.ErrorCode.TheVariants.{Fault, NotText, Unreadable, Unwritable, ByteOrderMark, UnknownLanguage}
+use Rattle.timefd_lint.specs.declared.error_code.ErrorCode.TheVariants.{Fault, NotText, Unreadable, Unwritable, ByteOrderMark, UnknownLanguage, UnknownCode}
 use Rattle.timefd_lint.specs.ErrorCodes.{name_of}
 use Rattle.timefd_lang_dialect.specs.declared.reason.Reason.{Reason}
 use Rattle.timefd_lang_dialect.specs.declared.trap.Trap.{Trap}
@@ -46,7 +46,7 @@ IsWarningRule w text =
 
 -- the errors that aren't faults of a description
 abbrev pub others : List ErrorCode
-others = NotText ∷ Unreadable ∷ Unwritable ∷ ByteOrderMark ∷ UnknownLanguage ∷ []
+others = NotText ∷ Unreadable ∷ Unwritable ∷ ByteOrderMark ∷ UnknownLanguage ∷ UnknownCode ∷ []
 
 abbrev pub IsReasonRule : Reason → Text → Type 0
 IsReasonRule r text = text ≡ rule (reasons.name r) (codes "error") (reasons.sentence r) (reasons.cure r)

@@ -17,11 +17,13 @@ use Rattle.timefd_lint_sources.specs.declared.reported.Finder.{Finder}
 use Rattle.timefd_lint_sources.specs.declared.reported.Finder.TheVariants.{Rust, Keys}
 use Rattle.timefd_lint_sources.specs.declared.reported.Source.{Source}
 use Rattle.timefd_lint_sources.specs.declared.reported.Reporting.{Reporting}
+use Rattle.timefd_lint_sources.specs.Allowances.Found.{AreAllowances}
 use Rattle.timefd_lint_sources.specs.Judged.{text_of}
-use Rattle.timefd_lint_sources.specs.Reported.{AreSeen, IsJudgedFound, IsSourceReported, no_text_note, origin_of}
+use Rattle.timefd_lint_sources.specs.Reported.{AreSeen, IsJudgedFound, IsSourceReported}
+use Rattle.timefd_lint_sources.specs.Whole.{no_text_note, origin_of}
 use Rattle.timefd_lint_sources.specs.Reported as literal
 use Rattle.timefd_lint.specs.declared.line.TextEnd.{TextEnd}
-use Rattle.timefd_lint.specs.declared.line.TextEnd.TheVariants.{PassedOver, Accepted, Converted, Refused, NotText, Failed, UnreadCall, UnreadValue}
+use Rattle.timefd_lint.specs.declared.line.TextEnd.TheVariants.{PassedOver, Accepted, Converted, Refused, NotText, Allowed, Failed, UnreadCall, UnreadValue}
 use Rattle.timefd_lint.specs.declared.options.Options.{Options}
 use Rattle.timefd_lint.specs.declared.tally.Tally.{Tally}
 use Rattle.timefd_lint.specs.Reported.{IsReadUp, IsRun, IsReportOn, SaysUnread, Reported, both, messages, position, tally_of, tally_of_one}
@@ -58,6 +60,7 @@ text_end (sources.Accepted found) = Accepted found
 text_end (sources.Converted traps) = Converted traps
 text_end sources.Refused = Refused
 text_end sources.NotText = NotText
+text_end (sources.Allowed left) = Allowed left
 text_end sources.UnreadCall = UnreadCall
 text_end sources.UnreadValue = UnreadValue
 
@@ -73,6 +76,7 @@ tally_of_ends ends = tally_from (tally_of []) ends
 abbrev pub IsReported : Finder → Reporting → Text → Text → Option Text → Option Text → Tally → Type 0
 IsReported finder reporting name bytes before after tally =
     (s : Source) × (s.file.now ≡ name) × (s.finder ≡ finder) × (s.text.now ≡ bytes)
+    × AreAllowances s.finder s.text.now s.allowances.now
     × ((r : Report) × IsSourceReported reporting s r
     × Appends before after r.message.items × (tally ≡ tally_of_ends r.ends.items))
 
@@ -105,6 +109,7 @@ pub record IsOfLiteral (reporting : Reporting) (t : Reported) : Type 0 where
   pub description : Description
   pub came : End
   pub stands : IsJudgedFound source description
+  pub allowed : AreAllowances source.finder source.text.now source.allowances.now
   pub reported : literal.IsReported reporting source description came t.message
   pub line : t.line ≡ text_of description
   pub origin : t.origin ≡ origin_of source description
@@ -124,6 +129,7 @@ pub record IsOfRemark (reporting : Reporting) (t : Reported) : Type 0 where
   pub found : List Description
   pub remarks : List Remark
   pub seen : AreSeen source found remarks
+  pub allowed : AreAllowances source.finder source.text.now source.allowances.now
   pub front : List Remark
   pub remark : Remark
   pub rest : List Remark

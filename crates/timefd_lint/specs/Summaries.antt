@@ -68,7 +68,16 @@ with_values line unread =
 abbrev pub with_unread_values : Text → ℕ → Text
 with_unread_values line unread = if nat_eq unread 0 then line else with_values line unread
 
+-- as `.., 2 files; 2 allowed by comments`
+abbrev pub with_allowed : Text → ℕ → Text
+with_allowed line allowed = line ++ (codes "; " ++ (decimal allowed ++ codes " allowed by comments"))
+
+-- with what comments allow, if they allow anything
+abbrev pub with_any_allowed : Text → ℕ → Text
+with_any_allowed line allowed = if nat_eq allowed 0 then line else with_allowed line allowed
+
 abbrev pub summary : Bool → Tally → ℕ → Text
 summary warns tally file_count =
-    with_unread_values (with_unread_calls (counted warns tally file_count) tally.unread_calls)
-    tally.unread_values
+    with_any_allowed
+    (with_unread_values (with_unread_calls (counted warns tally file_count) tally.unread_calls) tally.unread_values)
+    tally.allowed

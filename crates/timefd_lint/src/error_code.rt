@@ -21,6 +21,8 @@ pub enum ErrorCode {
     ByteOrderMark,
     /// A comment should name a language, and names none.
     UnknownLanguage,
+    /// A comment should name the code of an error or a warning, and names none.
+    UnknownCode,
 }
 
 impl ErrorCode {
@@ -35,6 +37,7 @@ impl ErrorCode {
             ErrorCode::Unwritable => "unwritable",
             ErrorCode::ByteOrderMark => "byte-order-mark",
             ErrorCode::UnknownLanguage => "unknown-language",
+            ErrorCode::UnknownCode => "unknown-code",
         }
     }
 
@@ -48,6 +51,7 @@ impl ErrorCode {
             ErrorCode::Unwritable,
             ErrorCode::ByteOrderMark,
             ErrorCode::UnknownLanguage,
+            ErrorCode::UnknownCode,
         ]
     }
 
@@ -61,6 +65,7 @@ impl ErrorCode {
             "unwritable" => Some(ErrorCode::Unwritable),
             "byte-order-mark" => Some(ErrorCode::ByteOrderMark),
             "unknown-language" => Some(ErrorCode::UnknownLanguage),
+            "unknown-code" => Some(ErrorCode::UnknownCode),
             _ => match fault_named(name) {
                 Some(code) => Some(ErrorCode::Fault(code)),
                 None => None,

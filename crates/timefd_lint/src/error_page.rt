@@ -17,6 +17,7 @@ pub fn summary(code: ErrorCode) -> &'static str
         ErrorCode::Unwritable => "a file that can't be replaced",
         ErrorCode::ByteOrderMark => "a byte-order mark before the first line",
         ErrorCode::UnknownLanguage => "a comment that names no language",
+        ErrorCode::UnknownCode => "a comment that allows what is no error or warning",
     }
 }
 
@@ -64,6 +65,9 @@ pub fn explanation(code: ErrorCode) -> &'static str
         }
         ErrorCode::UnknownLanguage => {
             "`// timefd: strftme` names no language, and checks nothing. Write one of 1, 2, 3, strftime, python, c, gnu, chrono, jiff, ruby, java, go and moment."
+        }
+        ErrorCode::UnknownCode => {
+            "`// timefd: allow unknwn-name` names no error and no warning of a format, and allows nothing. Write the codes that reports show, with commas or spaces between them."
         }
     }
 }

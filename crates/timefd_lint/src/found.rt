@@ -123,6 +123,7 @@ pub fn source_looked_at<W: Sink>(
                 file: name,
                 finder: finder_of(options, name),
                 text,
+                allowances: &[],
             };
             let new = rewrite_found(alloc, change, source)?;
             Ok(Found {

@@ -6,7 +6,7 @@ ghost use Rattle.timefd_lang_component.specs.Tree.{Tree};
 ghost use Rattle.timefd_lint_drawing.specs.Drawing as drawing;
 ghost use Rattle.timefd_language.specs.Grammar.{nesting_limit};
 ghost use Rattle.timefd_parse.specs.Language.{SpellsIn};
-ghost use Rattle.timefd_lint_sources.specs.Reported.{no_text_note};
+ghost use Rattle.timefd_lint_sources.specs.Whole.{no_text_note};
 ghost use Rattle.timefd_lint.specs.declared.line.TextEnd.TheVariants as ends;
 ghost use Rattle.timefd_lint.specs.Causes.{IsCausedBy};
 ghost use Rattle.timefd_lint.specs.Lines.{IsEndOf, IsLineEnd, end_by};
@@ -24,7 +24,7 @@ use timefd_lint_drawing::{Origin, Style, drawn_all, note};
 use timefd_lint_explain::explained;
 use timefd_lint_options::Wording;
 use timefd_lint_rewrite::is_passed_over;
-use timefd_lint_sources::Reporting;
+use timefd_lint_sources::{Left, Reporting};
 use timefd_lint_warnings::dialects::{Judged, Judgement, judge};
 use timefd_lint_warnings::{found_in, messages};
 use timefd_parse::Language;
@@ -62,6 +62,8 @@ pub enum TextEnd {
     Refused,
     /// Not UTF-8. A note was written.
     NotText,
+    /// A description of a source that a comment is about, and what is left of what is wrong with it.
+    Allowed(Left),
     /// No text: a file can't be read or can't be written back. A note was written.
     Failed,
     /// No text: a call has a name instead of a literal, and no text is found for the name.

@@ -1,7 +1,9 @@
 //! What a run does.
 
-ghost use Rattle.std.specs.Prelude.{◌≡◌, length, max, if◌then◌else◌, Some, None};
+ghost use Rattle.std.specs.Prelude.{◌≡◌, length, max, if◌then◌else◌, is_none, Some, None};
+ghost use Rattle.timefd_lint.specs.Rewriting.{rewriting_of};
 
+use crate::rewriting::rewriting_of;
 use timefd_lang_warnings::Levels;
 use timefd_lint_drawing::Style;
 use timefd_lint_options::{Settings, Wording};
@@ -52,6 +54,7 @@ pub fn run_options<'a>(
     ensures explains { result.reporting.explains ≡ settings.entry.explains }
     ensures levels { result.reporting.levels ≡ (if settings.entry.warns then Some settings.entry.levels
         else None) }
+    ensures allows { result.reporting.allows ≡ is_none (rewriting_of settings.entry) }
     ensures keys { result.keys.now ≡ keys.now }
     ensures files { result.files.now ≡ files.now }
 {
@@ -64,6 +67,7 @@ pub fn run_options<'a>(
             },
             explains: settings.explains,
             levels: reported_levels(settings),
+            allows: rewriting_of(settings).is_none(),
         },
         comment: settings.comment,
         is_whole: settings.is_whole,

@@ -4,6 +4,7 @@ ghost use Rattle.std.specs.Prelude.{◌≡◌, IfErr, IfOk, IsTrue, OnOk};
 ghost use Rattle.std.specs.List.{list_all};
 ghost use Rattle.timefd_lint.specs.Causes.{IsCausedBy};
 ghost use Rattle.timefd_lint.specs.Sources.{IsNotText, IsReported, IsRunOfSource, IsSaid};
+ghost use Rattle.timefd_lint_sources.specs.Allowances.Found.{AreAllowances};
 ghost use Rattle.timefd_lint.specs.Sources as spec;
 
 use crate::line::{RunError, TextEnd, write};
@@ -15,6 +16,7 @@ use std::str;
 use timefd_bin_streams::{BufferedError, BufferedSource, Sink};
 use timefd_lint_drawing::{Origin, note};
 use timefd_lint_scan::keys::format_named;
+use timefd_lint_sources::allowances::allowances_in;
 use timefd_lint_sources::{End, Finder, Source};
 
 /// Whether a file with this name is read as a source of Rust.
@@ -99,10 +101,13 @@ fn lint_bytes<W: Sink>(
 {
     match str::from_utf8(bytes) {
         Ok(text) => {
+            let finder = finder_of(options, name);
+            let allowances = allowances_in(alloc, finder, text)?;
             let source = Source {
                 file: name,
-                finder: finder_of(options, name),
+                finder,
                 text,
+                allowances: &allowances,
             };
             lint_text(alloc, options, source, writer)
         }
@@ -118,6 +123,7 @@ fn lint_text<W: Sink>(
     source: Source<'_>,
     writer: &mut W,
 ) -> Result<Tally, RunError>
+    requires allowed { AreAllowances source.entry.finder source.entry.text.now source.entry.allowances.now }
     ensures reported { IfOk result (IsReported source.entry.finder options.entry.reporting source.entry.file.now
         source.entry.text.now (W.contents writer.old) (W.contents writer.new)) }
     ensures unwritten { IfErr result (IsCausedBy (W.has_failed writer.new)) }
@@ -175,6 +181,7 @@ fn text_end(end: End) -> TextEnd
         End::Converted(traps) => TextEnd::Converted(traps),
         End::Refused => TextEnd::Refused,
         End::NotText => TextEnd::NotText,
+        End::Allowed(left) => TextEnd::Allowed(left),
         End::UnreadCall => TextEnd::UnreadCall,
         End::UnreadValue => TextEnd::UnreadValue,
     }

@@ -7,9 +7,9 @@ use crate::tally::Tally;
 use std::alloc::{AllocError, Global};
 
 /// The summary, as `8 descriptions, 6 refused, 1 warning, 2 files; 3 calls with a name in place of a text; 2
-/// values of keys not looked at`. It counts the checked descriptions, those that were refused, the reported
-/// warnings (if warnings are on), the files, the calls that weren't checked, and the values of keys that
-/// weren't looked at. An `Err` says that memory ran out.
+/// values of keys not looked at; 1 allowed by comments`. It counts the checked descriptions, those that were refused,
+/// the reported warnings (if warnings are on), the files, the calls that weren't checked, the values of keys that weren't
+/// looked at, and the errors and warnings that comments allow. An `Err` says that memory ran out.
 pub fn summary(
     alloc: Global,
     warns: bool,
@@ -24,7 +24,23 @@ pub fn summary(
         without_warnings(alloc, tally, file_count)?
     };
     let line = with_unread_calls(alloc, counted, tally.unread_calls)?;
-    with_unread_values(alloc, line, tally.unread_values)
+    let line = with_unread_values(alloc, line, tally.unread_values)?;
+    with_any_allowed(alloc, line, tally.allowed)
+}
+
+fn with_any_allowed(alloc: Global, counted: String, allowed: u64) -> Result<String, AllocError>
+    ensures { IfOk result (λ line. string_bytes line ≡ spec.with_any_allowed (string_bytes counted) allowed) }
+{
+    if allowed == 0 {
+        return Ok(counted);
+    }
+    with_allowed(alloc, &counted, allowed)
+}
+
+fn with_allowed(alloc: Global, counted: &str, allowed: u64) -> Result<String, AllocError>
+    ensures { IfOk result (λ line. string_bytes line ≡ spec.with_allowed counted.now allowed) }
+{
+    format!(in alloc; "{counted}; {allowed} allowed by comments")
 }
 
 fn with_unread_calls(alloc: Global, counted: String, calls: u64) -> Result<String, AllocError>

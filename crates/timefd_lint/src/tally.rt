@@ -19,6 +19,8 @@ pub struct Tally {
     pub unread_calls: u64,
     /// How many values of keys aren't looked at.
     pub unread_values: u64,
+    /// How many errors and warnings comments allow.
+    pub allowed: u64,
     /// A line wasn't UTF-8.
     pub not_text: bool,
     /// A file was not read to its end, or not written back.
@@ -38,6 +40,7 @@ impl Tally {
             warnings: 0,
             unread_calls: 0,
             unread_values: 0,
+            allowed: 0,
             not_text: false,
             failed: false,
             is_left: false,
@@ -54,6 +57,7 @@ impl Tally {
             warnings: warnings_in(end),
             unread_calls: u64::from(is_unread_call(end)),
             unread_values: u64::from(is_unread_value(end)),
+            allowed: allowed_in(end),
             not_text: matches!(end, TextEnd::NotText),
             failed: matches!(end, TextEnd::Failed),
             is_left: false,
@@ -70,6 +74,7 @@ impl Tally {
             warnings: self.warnings.saturating_add(other.warnings),
             unread_calls: self.unread_calls.saturating_add(other.unread_calls),
             unread_values: self.unread_values.saturating_add(other.unread_values),
+            allowed: self.allowed.saturating_add(other.allowed),
             not_text: self.not_text || other.not_text,
             failed: self.failed || other.failed,
             is_left: self.is_left || other.is_left,
@@ -99,7 +104,11 @@ fn is_description(end: TextEnd) -> bool
     ensures { result ≡ spec.is_description end }
 {
     match end {
-        TextEnd::Accepted(_) | TextEnd::Converted(_) | TextEnd::Refused | TextEnd::NotText => true,
+        TextEnd::Accepted(_)
+        | TextEnd::Converted(_)
+        | TextEnd::Refused
+        | TextEnd::NotText
+        | TextEnd::Allowed(_) => true,
         TextEnd::PassedOver | TextEnd::Failed | TextEnd::UnreadCall | TextEnd::UnreadValue => false,
     }
 }
@@ -115,6 +124,7 @@ fn is_unread_call(end: TextEnd) -> bool
         | TextEnd::Converted(_)
         | TextEnd::Refused
         | TextEnd::NotText
+        | TextEnd::Allowed(_)
         | TextEnd::Failed
         | TextEnd::UnreadValue => false,
     }
@@ -131,6 +141,7 @@ fn is_unread_value(end: TextEnd) -> bool
         | TextEnd::Converted(_)
         | TextEnd::Refused
         | TextEnd::NotText
+        | TextEnd::Allowed(_)
         | TextEnd::Failed
         | TextEnd::UnreadCall => false,
     }
@@ -143,6 +154,7 @@ fn is_refused(end: TextEnd) -> bool
     match end {
         TextEnd::Accepted(found) => found.count(Level::Denied) > 0,
         TextEnd::Refused => true,
+        TextEnd::Allowed(left) => left.is_refused,
         TextEnd::PassedOver
         | TextEnd::Converted(_)
         | TextEnd::NotText
@@ -159,7 +171,25 @@ fn warnings_in(end: TextEnd) -> u64
     match end {
         TextEnd::Accepted(found) => found.count(Level::Warned),
         TextEnd::Converted(traps) => traps,
+        TextEnd::Allowed(left) => left.warnings,
         TextEnd::PassedOver
+        | TextEnd::Refused
+        | TextEnd::NotText
+        | TextEnd::Failed
+        | TextEnd::UnreadCall
+        | TextEnd::UnreadValue => 0,
+    }
+}
+
+// How many of its errors and warnings a comment allows.
+fn allowed_in(end: TextEnd) -> u64
+    ensures { result ≡ spec.allowed_in end }
+{
+    match end {
+        TextEnd::Allowed(left) => left.allowed,
+        TextEnd::PassedOver
+        | TextEnd::Accepted(_)
+        | TextEnd::Converted(_)
         | TextEnd::Refused
         | TextEnd::NotText
         | TextEnd::Failed

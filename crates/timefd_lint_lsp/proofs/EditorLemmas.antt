@@ -6,6 +6,7 @@ pub mod CursorLemmas
 pub mod EachLemmas
 pub mod WarningLemmas
 pub mod FindingLemmas
+pub mod LeftLemmas
 pub mod EditLemmas
 pub mod ActionLemmas
 pub mod FixLemmas

@@ -110,5 +110,6 @@ pub fn source_of<'a>(settings: Settings<'a>, uri: &'a str, kind: Kind, text: &'a
         file: uri,
         finder,
         text,
+        allowances: &[],
     }
 }

@@ -1,3 +1,4 @@
+pub mod CodeLemmas
 mod ItemLemmas
 mod OpeningLemmas
 mod SearchLemmas
@@ -6,6 +7,8 @@ mod JudgedLemmas
 mod ReportedLemmas
 mod ReportLemmas
 pub mod FinderLemmas
+mod NoCodeLemmas
+mod RemainderLemmas
 mod SeenLemmas
 pub mod PlacedLemmas
 pub mod RewritingLemmas

@@ -32,7 +32,7 @@ use Rattle.timefd_lint_sources.specs.declared.reported.Reported.{Reported}
 use Rattle.timefd_lint_warnings.specs.Found.{found_by}
 use Rattle.timefd_lint_sources.specs.Judged.{is_passed_over, language_in, other_of, text_of, reported_further, unless_item}
 use Rattle.timefd_lint_sources.specs.Others.{IsOtherJudged}
-use Rattle.timefd_lint_sources.specs.Reported.{IsMessageOn, IsOwnReported, IsReported, IsReportedAs, drawing_of, note_of, origin_of, literal_of}
+use Rattle.timefd_lint_sources.specs.Whole.{IsTreeAndWarnings, literal_of, IsMessageOn, IsOwnReported, IsReportedAs, drawing_of, note_of, origin_of, IsReportedWhole}
 
 -- A description of `time` isn't passed over.
 is_own : (dialect : Dialect) (text : Text) → other_of dialect ≡ None → is_passed_over dialect text ≡ false
@@ -52,14 +52,14 @@ is_own Moment text is = cc
 
 -- It is reported as what it is.
 as_own : (reporting : Reporting) (s : Source) (d : Description) (end : End) (message : Text)
-    → other_of d.dialect ≡ None → IsOwnReported reporting s d end message → IsReported reporting s d end message
+    → other_of d.dialect ≡ None → IsOwnReported reporting s d end message → IsReportedWhole reporting s d end message
 as_own reporting s d end message own reported =
     subst (λ o. IsReportedAs o reporting s d end message) (sym own) reported
 
 pub as_other : {E : Type 0} (reporting : Reporting) (s : Source) (d : Description) (dialect : Other) (text : Text)
     (done : Result Reported E) → other_of d.dialect ≡ Some dialect → IsUtf8 text → text ≡ text_of d
     → IfOk done (λ t. IsOtherJudged reporting s d dialect t.end t.message.items)
-    → IfOk done (λ t. IsReported reporting s d t.end t.message.items)
+    → IfOk done (λ t. IsReportedWhole reporting s d t.end t.message.items)
 as_other reporting s d dialect text (Ok t) other utf8 same judged =
     subst (λ o. IsReportedAs o reporting s d t.end t.message.items) (sym other)
     (inl (subst IsUtf8 same utf8, judged))
@@ -67,7 +67,7 @@ as_other reporting s d dialect text (Err e) other utf8 same judged = tt
 
 pub no_text : (reporting : Reporting) (s : Source) (d : Description) (end : End) (message : Text)
     → ¬ IsUtf8 (text_of d) → end ≡ NotText → message ≡ note_of reporting.style s d
-    → IsReported reporting s d end message
+    → IsReportedWhole reporting s d end message
 no_text reporting s d end message not is reported = by (other_of d.dialect) refl
   where
     by : (o : Option Other) → other_of d.dialect ≡ o → IsReportedAs o reporting s d end message
@@ -85,7 +85,7 @@ pub with_fault : (reporting : Reporting) (s : Source) (d : Description) (text : 
     → ((found : List Diagnostic) × AreFurther most_further (language_in d) (without (language_in d) text (fault_of g.fault)) found
     × (further ≡ reported_further d.items found))
     → end ≡ Refused → message ≡ drawing_of reporting.style s d g further
-    → IsReported reporting s d end message
+    → IsReportedWhole reporting s d end message
 with_fault reporting s d text g further end message own utf8 same faulty diagnosed (found, others, those) is reported =
     as_own reporting s d end message own (subst (λ e. IsOwnReported reporting s d e message) (sym is)
     (record {
@@ -125,7 +125,7 @@ pub with_faults : {E : Type 0} (reporting : Reporting) (s : Source) (d : Descrip
     × (further ≡ reported_further d.items more))
     → IfOk reported (λ t. t.end ≡ Refused)
     → IfOk reported (λ t. t.message.items ≡ drawing_of reporting.style s d g further)
-    → IfOk reported (λ t. IsReported reporting s d t.end t.message.items)
+    → IfOk reported (λ t. IsReportedWhole reporting s d t.end t.message.items)
 with_faults reporting s d language text found g further (Ok t) named own utf8 same is faulty diagnosed others ended drawn =
     with_fault reporting s d text g further t.end t.message.items own utf8 same
     (subst (λ l. FaultIn l nesting_limit text (fault_of g.fault)) named
@@ -140,7 +140,7 @@ pub with_list : (reporting : Reporting) (s : Source) (d : Description) (text : T
     (end : End) (message : Text) → other_of d.dialect ≡ None → IsUtf8 text
     → text ≡ text_of d → SpellsIn (language_in d) nesting_limit text list
     → end ≡ Accepted (found_by reporting.levels (language_in d) list)
-    → IsMessageOn reporting s d end message → IsReported reporting s d end message
+    → IsMessageOn reporting s d end message → IsReportedWhole reporting s d end message
 with_list reporting s d text list end message own utf8 same spelled is reported =
     as_own reporting s d end message own (subst (λ e. IsOwnReported reporting s d e message) (sym is)
     (record {
@@ -160,7 +160,7 @@ pub tree_and_warnings : (reporting : Reporting) (s : Source) (d : Description) (
     → IsExplainedIf reporting.explains language s.file.now line text tree → language ≡ language_in d → text ≡ text_of d
     → span ≡ literal_of d → line ≡ line_number 1 s.text.now d.piece.start → col ≡ reported_column reporting.style.format s.text.now d.piece.start
     → reported ≡ messages_at reporting.style (record { file = s.file; line = line }) s.text.now span text col found
-    → message ≡ tree ++ reported → IsMessageOn reporting s d (Accepted found) message
+    → message ≡ tree ++ reported → IsTreeAndWarnings reporting s d found message
 tree_and_warnings reporting s d found language text tree reported message span line col asked named same spanned at_line at_column are is = (
   tree,
   subst (λ l. IsExplainedIf reporting.explains l s.file.now (line_number 1 s.text.now d.piece.start) (text_of d) tree)

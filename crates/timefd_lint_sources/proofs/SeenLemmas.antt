@@ -17,8 +17,8 @@ use Rattle.timefd_lint_sources.specs.declared.reported.Finder.TheVariants.{Rust,
 use Rattle.timefd_lint_sources.specs.declared.reported.Source.{Source}
 use Rattle.timefd_lint_sources.specs.declared.reported.Reporting.{Reporting}
 use Rattle.timefd_lint_sources.specs.Items.{AreJudgedAs}
-use Rattle.timefd_lint_sources.specs.Remarks.{AreRemarksBy, AreSeenIn, AreValuesSeen, ends_of, messages_of, on_values, remarks_on}
-use Rattle.timefd_lint_sources.specs.Reported.{AreAllBy, AreSeen, AreReported, IsFoundBy, IsSourceReported}
+use Rattle.timefd_lint_sources.specs.Remarks.{AddsCodes, AreRemarksBy, AreSeenIn, AreValuesSeen, ends_of, messages_of, on_values, remarks_on}
+use Rattle.timefd_lint_sources.specs.Reported.{AreAllBy, AreSeen, AreSeenFirst, AreReported, IsFoundBy, IsSourceReported}
 use Rattle.timefd_lint_sources.proofs.FinderLemmas.{all_by_keys, all_by_rust, by_keys, by_rust}
 
 pub of_look : (source : Text) (look : Look) (calls comments : List ℕ) (remarks : List Remark) → IsLook source look
@@ -38,7 +38,7 @@ of_values format source names ds unread positions remarks values same remarked =
     record { unread = unread; values = values; remarked = remarked ∙ ap on_values same }
 
 pub of_rust : (s : Source) (source : Text) (ds : List Description) (remarks : List Remark) → s.finder ≡ Rust
-    → source ≡ s.text.now → AreSeenIn source ds remarks → AreSeen s ds remarks
+    → source ≡ s.text.now → AreSeenIn source ds remarks → AreSeenFirst s ds remarks
 of_rust s source ds remarks is same seen =
     let here : AreSeenIn s.text.now ds remarks = subst (λ t. AreSeenIn t ds remarks) same seen in record {
       all = all_by_rust s ds is
@@ -50,12 +50,21 @@ of_rust s source ds remarks is same seen =
 
 pub of_keys : (s : Source) (format : Format) (keys : Bor (List Key)) (ds : List Description) (remarks : List Remark)
     → s.finder ≡ Keys format keys → AreValuesSeen format s.text.now keys.now ds remarks
-    → keyed.AllValues format s.text.now keys.now ds → AreInOrder 0 ds → AreSeen s ds remarks
+    → keyed.AllValues format s.text.now keys.now ds → AreInOrder 0 ds → AreSeenFirst s ds remarks
 of_keys s format keys ds remarks is seen values in_order = record {
   all = all_by_keys s format keys ds is (seen.unread, seen.values);
   stand = by_keys s format keys ds is values;
   in_order = in_order;
   remarked = subst (λ f. AreRemarksBy f s.text.now ds remarks) (sym is) seen;
+}
+
+pub with_codes : (s : Source) (ds : List Description) (seen remarks : List Remark) → AreSeenFirst s ds seen
+    → AddsCodes s seen remarks → AreSeen s ds remarks
+with_codes s ds seen remarks first more = record {
+  all = first.all;
+  stand = first.stand;
+  in_order = first.in_order;
+  remarked = (seen, first.remarked, more);
 }
 
 pub source_reported : (reporting : Reporting) (s : Source) (found judged : List Description) (remarks : List Remark)

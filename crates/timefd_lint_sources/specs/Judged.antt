@@ -22,7 +22,7 @@ use Rattle.timefd_lang_warnings.specs.declared.levels.Levels.{Levels}
 use Rattle.timefd_lint_warnings.specs.Found.{found_by}
 use Rattle.timefd_lint_sources.specs.declared.reported.End.{End}
 use Rattle.timefd_lint_sources.specs.Items.{is_of_item}
-use Rattle.timefd_lint_sources.specs.declared.reported.End.TheVariants.{PassedOver, Accepted, Converted, Refused, NotText, UnreadCall, UnreadValue}
+use Rattle.timefd_lint_sources.specs.declared.reported.End.TheVariants.{PassedOver, Accepted, Converted, Refused, NotText, Allowed, UnreadCall, UnreadValue}
 
 -- the other language or library whose formats these are; none if they are of `time`
 abbrev pub other_of : Dialect → Option other.Dialect
@@ -106,6 +106,7 @@ IsJudged levels language text (Converted count) = ⊥
 IsJudged levels language text Refused = IsUtf8 text
     × ((f : Fault) × FaultIn language nesting_limit text f)
 IsJudged levels language text NotText = ¬ IsUtf8 text
+IsJudged levels language text (Allowed left) = ⊥
 IsJudged levels language text UnreadCall = ⊥
 IsJudged levels language text UnreadValue = ⊥
 
@@ -119,5 +120,6 @@ IsEndOf levels d Refused = IsFalse (is_passed_over d.dialect (text_of d))
     × IsJudged levels (language_in d) (text_of d) Refused
 IsEndOf levels d NotText = IsFalse (is_passed_over d.dialect (text_of d))
     × IsJudged levels (language_in d) (text_of d) NotText
+IsEndOf levels d (Allowed left) = ⊥
 IsEndOf levels d UnreadCall = ⊥
 IsEndOf levels d UnreadValue = ⊥

@@ -4,6 +4,11 @@ pub mod Calls
 pub mod Refusing
 pub mod Search
 pub mod Others
+pub mod Allowances
+pub mod Allowed
+pub mod CodeNames
 pub mod Remarks
+pub mod Whole
+pub mod Remainder
 pub mod Reported
 pub mod Rewriting

@@ -12,7 +12,7 @@ use Rattle.timefd_lint_warnings.specs.Dialects.Judging.{refusal_drawn, trap_draw
 use Rattle.timefd_lint_scan.specs.declared.description.Description.{Description}
 use Rattle.timefd_lint_scan.specs.Found.{index_in_source}
 use Rattle.timefd_lint_sources.specs.declared.reported.End.{End}
-use Rattle.timefd_lint_sources.specs.declared.reported.End.TheVariants.{PassedOver, Accepted, Converted, Refused, NotText, UnreadCall, UnreadValue}
+use Rattle.timefd_lint_sources.specs.declared.reported.End.TheVariants.{PassedOver, Accepted, Converted, Refused, NotText, Allowed, UnreadCall, UnreadValue}
 use Rattle.timefd_lint_sources.specs.declared.reported.Reporting.{Reporting}
 use Rattle.timefd_lint_sources.specs.declared.reported.Source.{Source}
 use Rattle.timefd_lint_sources.specs.Calls.{call_note}
@@ -52,6 +52,7 @@ IsTrappedIn reports style s d dialect text (Converted count) message =
     AreTrapsIn reports style s d dialect text count message
 IsTrappedIn reports style s d dialect text Refused message = ⊥
 IsTrappedIn reports style s d dialect text NotText message = ⊥
+IsTrappedIn reports style s d dialect text (Allowed left) message = ⊥
 IsTrappedIn reports style s d dialect text UnreadCall message = ⊥
 IsTrappedIn reports style s d dialect text UnreadValue message = ⊥
 
@@ -70,5 +71,6 @@ IsOtherJudged reporting s d dialect (Converted count) message = IsRight s.finder
 IsOtherJudged reporting s d dialect Refused message =
     IsRefusalIn reporting.style s d dialect (text_of d) message
 IsOtherJudged reporting s d dialect NotText message = ⊥
+IsOtherJudged reporting s d dialect (Allowed left) message = ⊥
 IsOtherJudged reporting s d dialect UnreadCall message = ⊥
 IsOtherJudged reporting s d dialect UnreadValue message = ⊥

@@ -1,9 +1,11 @@
 -- What the linter reports about a source besides its descriptions.
-use Rattle.std.specs.Prelude.{ℕ, ◌≡◌, List, [], ◌∷◌, ◌++◌, codes}
+use Rattle.std.specs.Prelude.{ℕ, ◌≡◌, ◌⊎◌, ◌-◌, true, false, List, [], ◌∷◌, ◌++◌, codes, Option, None, Some, option_map}
 use Rattle.timefd_lang_component.specs.Tree.{Text}
 use Rattle.timefd_lint_drawing.specs.declared.draw.Style.{Style}
 use Rattle.timefd_lint_drawing.specs.Drawing.{note}
-use Rattle.timefd_lint_drawing.specs.Positions.{line_number}
+use Rattle.timefd_lint_diagnosis.specs.Nearest.{IsNearest}
+use Rattle.timefd_lint_drawing.specs.Positions.{after, front, line_number}
+use Rattle.timefd_lint_drawing.specs.Shown.{cut_end, most_of_a_word, safe}
 use Rattle.timefd_lint_scan.specs.declared.keys.format.Format.{Format}
 use Rattle.timefd_lint_scan.specs.declared.keys.key.Key.{Key}
 use Rattle.timefd_lint_scan.specs.Keys.Found.{AreValues}
@@ -11,7 +13,10 @@ use Rattle.timefd_lint_scan.specs.declared.description.Description.{Description}
 use Rattle.timefd_lint_scan.specs.declared.look.Look.{Look}
 use Rattle.timefd_lint_scan.specs.Looks.{IsLook}
 use Rattle.timefd_lint_sources.specs.declared.remark.Remark.{Remark}
-use Rattle.timefd_lint_sources.specs.declared.remark.Remark.TheVariants.{Call, Language, Value}
+use Rattle.timefd_lint_sources.specs.declared.remark.Remark.TheVariants.{Call, Code, Language, Value}
+use Rattle.timefd_lint_sources.specs.declared.no_code.NoCode.{NoCode}
+use Rattle.timefd_lint_sources.specs.declared.allowances.comment.Allowance.{Allowance}
+use Rattle.timefd_lint_sources.specs.CodeNames.{description_codes, is_among}
 use Rattle.timefd_lint_sources.specs.declared.reported.End.{End}
 use Rattle.timefd_lint_sources.specs.declared.reported.End.TheVariants.{Refused, UnreadCall, UnreadValue}
 use Rattle.timefd_lint_sources.specs.declared.reported.Finder.{Finder}
@@ -23,6 +28,7 @@ abbrev pub end_of : Remark → End
 end_of (Call at) = UnreadCall
 end_of (Value at) = UnreadValue
 end_of (Language at) = Refused
+end_of (Code word) = Refused
 
 abbrev pub one_end : Remark → List End
 one_end remark = end_of remark ∷ []
@@ -37,11 +43,33 @@ language_note style s at =
     note style (record { file = s.file; line = line_number 1 s.text.now at }) (codes "unknown-language")
     (codes "this comment names no language: there are 1, 2, 3, strftime, python, c, gnu, chrono, jiff, ruby, java, go and moment")
 
+-- the bytes of a text from one index to another
+abbrev pub word_in : Text → ℕ → ℕ → Text
+word_in text start end = front (end - start) (after start text)
+
+-- Only so much of a word is shown, and no hidden character.
+abbrev pub word_shown : Text → Text
+word_shown word = safe (cut_end most_of_a_word word)
+
+abbrev pub code_sentence : Text → Option Text → Text
+code_sentence word (Some code) =
+    codes "there is no error or warning `" ++ (word_shown word
+    ++ (codes "` to allow; the nearest is `" ++ (code ++ codes "`")))
+code_sentence word None =
+    codes "there is no error or warning `" ++ (word_shown word ++ codes "` to allow")
+
+-- The note is on the line where the comment begins.
+abbrev pub code_note : Style → Source → NoCode → Text
+code_note style s word =
+    note style (record { file = s.file; line = line_number 1 s.text.now word.at }) (codes "unknown-code")
+    (code_sentence (word_in s.text.now word.start word.end) (option_map (λ w. w.now) word.nearest))
+
 -- A call or a value is counted, and nothing more is reported about it.
 abbrev pub message_of : Style → Source → Remark → Text
 message_of style s (Call at) = []
 message_of style s (Value at) = []
 message_of style s (Language at) = language_note style s at
+message_of style s (Code word) = code_note style s word
 
 abbrev pub messages_of : Style → Source → List Remark → Text
 messages_of style s [] = []
@@ -82,3 +110,39 @@ AreRemarksBy (Keys format names) source ds remarks = AreValuesSeen format source
 
 abbrev pub AreRemarks : Source → List Description → List Remark → Type 0
 AreRemarks s ds remarks = AreRemarksBy s.finder s.text.now ds remarks
+
+-- The word that a comment allows is no code, and this is the nearest one.
+pub record IsNoCode (source : Text) (words : List Text) (a : Allowance) (word : NoCode) : Type 0 where
+  pub no_code : is_among words (word_in source a.start a.end) ≡ false
+  pub at : word.at ≡ a.at
+  pub start : word.start ≡ a.start
+  pub end : word.end ≡ a.end
+  pub nearest : IsNearest words (word_in source a.start a.end) (option_map (λ w. w.now) word.nearest)
+
+-- The remark on what a comment allows, if that isn't one of these codes.
+abbrev pub AreOnCode : Text → List Text → Allowance → List Remark → Type 0
+AreOnCode source words a remarks =
+    ((is_among words (word_in source a.start a.end) ≡ true) × (remarks ≡ []))
+    ⊎ ((word : NoCode) × IsNoCode source words a word × (remarks ≡ Code word ∷ []))
+
+-- The remarks on all that comments allow, in order.
+abbrev pub AreOnCodes : Text → List Text → List Allowance → List Remark → Type 0
+AreOnCodes source words [] remarks = remarks ≡ []
+AreOnCodes source words (a ∷ all) remarks = (one : List Remark) × (rest : List Remark)
+    × AreOnCode source words a one × AreOnCodes source words all rest × (remarks ≡ one ++ rest)
+
+abbrev pub AddsCode : Text → List Text → Allowance → List Remark → List Remark → Type 0
+AddsCode source words a old new =
+    (one : List Remark) × AreOnCode source words a one × (new ≡ old ++ one)
+
+abbrev pub AddsAll : Text → List Text → List Allowance → List Remark → List Remark → Type 0
+AddsAll source words all old new =
+    (more : List Remark) × AreOnCodes source words all more × (new ≡ old ++ more)
+
+-- The remarks on the words that comments allow follow.
+abbrev pub AddsCodes : Source → List Remark → List Remark → Type 0
+AddsCodes s old new = AddsAll s.text.now description_codes s.allowances.now old new
+
+-- All remarks: on what else is seen, and on the words that comments allow.
+abbrev pub AreAllRemarks : Source → List Description → List Remark → Type 0
+AreAllRemarks s ds remarks = (seen : List Remark) × AreRemarks s ds seen × AddsCodes s seen remarks

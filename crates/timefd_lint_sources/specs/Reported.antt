@@ -1,116 +1,30 @@
 -- What the linter reports about the descriptions of a source.
 use Rattle.std.specs.List.{All}
-use Rattle.std.specs.Prelude.{ℕ, ◌≡◌, ◌⊎◌, List, [], ◌∷◌, ◌++◌, codes, map, IsUtf8, Option, Some, None}
+use Rattle.std.specs.Prelude.{Bool, true, false, ◌≡◌, List, [], ◌∷◌, ◌++◌}
 use Rattle.timefd_lang_component.specs.Tree.{Text}
-use Rattle.timefd_lint_diagnosis.specs.declared.diagnostic.Diagnostic.{Diagnostic}
-use Rattle.timefd_lang_dialect.specs.declared.dialect.Dialect.{Dialect}
-use Rattle.timefd_lint_diagnosis.specs.declared.span.Span.{Span}
-use Rattle.timefd_lint_drawing.specs.declared.draw.Style.{Style}
-use Rattle.timefd_lint_drawing.specs.declared.position.Origin.{Origin}
-use Rattle.timefd_lint_drawing.specs.Drawing.{drawn_all, note}
-use Rattle.timefd_lint_drawing.specs.Positions.{reported_column, line_number}
-use Rattle.timefd_lint_explain.specs.Lines.{IsExplainedIf}
 use Rattle.timefd_lint_scan.specs.declared.description.Description.{Description}
 use Rattle.timefd_lint_scan.specs.Keys.Found as keys
-use Rattle.timefd_lint_scan.specs.Found.{AreDescriptionsOf, AreInOrder, StandsIn, index_in_source}
-use Rattle.timefd_lang_warnings.specs.declared.levels.Levels.{Levels}
-use Rattle.timefd_lint_warnings.specs.Messages.{messages_at}
+use Rattle.timefd_lint_scan.specs.Found.{AreDescriptionsOf, AreInOrder, StandsIn}
 use Rattle.timefd_lint_sources.specs.declared.remark.Remark.{Remark}
 use Rattle.timefd_lint_sources.specs.declared.source.Report.{Report}
 use Rattle.timefd_lint_sources.specs.declared.reported.End.{End}
-use Rattle.timefd_lint_sources.specs.declared.reported.End.TheVariants.{PassedOver, Accepted, Converted, Refused, NotText, UnreadCall, UnreadValue}
 use Rattle.timefd_lint_sources.specs.declared.reported.Finder.{Finder}
 use Rattle.timefd_lint_sources.specs.declared.reported.Finder.TheVariants.{Rust, Keys}
 use Rattle.timefd_lint_sources.specs.declared.reported.Source.{Source}
 use Rattle.timefd_lint_sources.specs.declared.reported.Reporting.{Reporting}
-use Rattle.timefd_lint_sources.specs.Calls.{call_note}
 use Rattle.timefd_lint_sources.specs.Items.{AreJudgedAs, IsJudgedAs}
-use Rattle.timefd_lint_sources.specs.Judged.{AreDiagnosedOf, IsEndOf, language_in, other_of, text_of}
-use Rattle.timefd_lint_sources.specs.Others.{IsOtherJudged}
-use Rattle.timefd_lint_sources.specs.Remarks.{AreRemarks, ends_of, messages_of}
+use Rattle.timefd_lint_sources.specs.Remarks.{AreAllRemarks, AreRemarks, ends_of, messages_of}
+use Rattle.timefd_lint_sources.specs.Allowed.{is_covered}
+use Rattle.timefd_lint_sources.specs.Remainder.{IsReportedLeft}
+use Rattle.timefd_lint_sources.specs.Whole.{IsReportedWhole}
 
--- Where a source begins, and the line where the literal of a description begins.
-abbrev pub whole_origin : Source → Origin
-whole_origin s = record { file = s.file; line = 1 }
+abbrev pub IsReportedIf : Bool → Reporting → Source → Description → End → Text → Type 0
+IsReportedIf false reporting s d end message = IsReportedWhole reporting s d end message
+IsReportedIf true reporting s d end message = IsReportedLeft reporting s d end message
 
-abbrev pub origin_of : Source → Description → Origin
-origin_of s d = record { file = s.file; line = line_number 1 s.text.now d.piece.start }
-
--- the column of the literal, as the output format counts it
-abbrev pub column_of : Style → Source → Description → ℕ
-column_of style s d = reported_column style.format s.text.now d.piece.start
-
--- A diagnostic of a description, with its span in the source.
-abbrev pub placed_in : Description → Diagnostic → Diagnostic
-placed_in d g = record {
-  fault = g.fault;
-  code = g.code;
-  span = record { start = index_in_source d g.span.start; end = index_in_source d g.span.end };
-  help = g.help;
-  named = g.named;
-}
-
--- The tree of a description, byte for byte, if it is asked for; otherwise nothing.
-abbrev pub IsTreeOf : Reporting → Source → Description → Text → Type 0
-IsTreeOf reporting s d tree =
-    IsExplainedIf reporting.explains (language_in d) s.file.now (origin_of s d).line (text_of d) tree
-
--- the bytes of a description's literal
-abbrev pub literal_of : Description → Span
-literal_of d = record { start = d.piece.start; end = d.piece.end }
-
--- The report on an accepted description is its tree, if that is asked for, and then each warning that it has
--- and that is reported, at its literal, in the order of their codes.
-abbrev pub IsTreeAndWarnings : Reporting → Source → Description → Levels → Text → Type 0
-IsTreeAndWarnings reporting s d found message = (tree : Text) × IsTreeOf reporting s d tree
-    × (message ≡ tree ++ messages_at reporting.style (origin_of s d) s.text.now (literal_of d) (text_of d)
-    (column_of reporting.style s d) found)
-
--- The report on a refused description is the drawing of its first fault, the drawings of the further ones,
--- each at its position in the source, and a note at a call that takes it by name.
-abbrev pub drawing_of : Style → Source → Description → Diagnostic → List Diagnostic → Text
-drawing_of style s d g further =
-    drawn_all style (whole_origin s) s.text.now (placed_in d g) (map (placed_in d) further) ++ call_note style s d
-
-abbrev pub IsDrawing : Style → Source → Description → Text → Type 0
-IsDrawing style s d message = (g : Diagnostic) × (further : List Diagnostic)
-    × AreDiagnosedOf d g further × (message ≡ drawing_of style s d g further)
-
--- The report on a description that isn't UTF-8 is a note on the line of its literal.
-abbrev pub no_text_note : Style → Origin → Text
-no_text_note style origin = note style origin (codes "not-text") (codes "the bytes aren't UTF-8")
-
-abbrev pub note_of : Style → Source → Description → Text
-note_of style s d = no_text_note style (origin_of s d)
-
-abbrev pub IsMessageOn : Reporting → Source → Description → End → Text → Type 0
-IsMessageOn reporting s d PassedOver message = message ≡ []
-IsMessageOn reporting s d (Accepted found) message = IsTreeAndWarnings reporting s d found message
-IsMessageOn reporting s d (Converted count) message = ⊥
-IsMessageOn reporting s d Refused message = IsDrawing reporting.style s d message
-IsMessageOn reporting s d NotText message = message ≡ note_of reporting.style s d
-IsMessageOn reporting s d UnreadCall message = ⊥
-IsMessageOn reporting s d UnreadValue message = ⊥
-
--- the outcome of a description of `time`, and the message on it
-pub record IsOwnReported (reporting : Reporting) (s : Source) (d : Description) (came : End) (said : Text)
-    : Type 0 where
-  pub end : IsEndOf reporting.levels d came
-  pub message : IsMessageOn reporting s d came said
-
--- A format of another language or library is judged by its table, if it is UTF-8.
-abbrev pub IsOtherReported : Reporting → Source → Description → Dialect → End → Text → Type 0
-IsOtherReported reporting s d dialect end message =
-    (IsUtf8 (text_of d) × IsOtherJudged reporting s d dialect end message)
-    ⊎ ((¬ IsUtf8 (text_of d)) × (end ≡ NotText) × (message ≡ note_of reporting.style s d))
-
-abbrev pub IsReportedAs : Option Dialect → Reporting → Source → Description → End → Text → Type 0
-IsReportedAs None reporting s d end message = IsOwnReported reporting s d end message
-IsReportedAs (Some dialect) reporting s d end message = IsOtherReported reporting s d dialect end message
-
--- A description is judged in its language, or as a format of another language or library.
+-- All that is wrong with a description is reported, or, if a comment is about it, all that the comment doesn't allow.
 abbrev pub IsReported : Reporting → Source → Description → End → Text → Type 0
-IsReported reporting s d end message = IsReportedAs (other_of d.dialect) reporting s d end message
+IsReported reporting s d end message = IsReportedIf (is_covered reporting s d) reporting s d end message
 
 -- The outcome of one more description, and the messages on it, come after those of the others.
 abbrev pub AddsReported : Reporting → Source → Description → List End → Text → List End → Text → Type 0
@@ -157,12 +71,19 @@ pub record AreJudgedIn (s : Source) (ds : List Description) : Type 0 where
   pub judged : AreJudgedAs found ds
 
 -- These are the descriptions that are found in a source, one after another, and the remarks on what else is
--- seen.
-pub record AreSeen (s : Source) (ds : List Description) (remarks : List Remark) : Type 0 where
+-- seen, but for those on the words that comments allow.
+pub record AreSeenFirst (s : Source) (ds : List Description) (remarks : List Remark) : Type 0 where
   pub all : AreAllOf s ds
   pub stand : AllFound s ds
   pub in_order : AreInOrder 0 ds
   pub remarked : AreRemarks s ds remarks
+
+-- The same with all remarks.
+pub record AreSeen (s : Source) (ds : List Description) (remarks : List Remark) : Type 0 where
+  pub all : AreAllOf s ds
+  pub stand : AllFound s ds
+  pub in_order : AreInOrder 0 ds
+  pub remarked : AreAllRemarks s ds remarks
 
 -- The report covers each description as it is checked, and then each remark.
 pub record IsSourceReported (reporting : Reporting) (s : Source) (r : Report) : Type 0 where

@@ -9,7 +9,7 @@ ghost use Rattle.timefd_lint_sources.specs.declared.reported.End.TheVariants as 
 ghost use Rattle.timefd_lint_warnings.specs.Found.{found_by};
 ghost use Rattle.timefd_lint_explain.specs.Lines.{IsExplainedIf};
 ghost use Rattle.timefd_lint_sources.specs.Judged.{language_in, text_of};
-ghost use Rattle.timefd_lint_sources.specs.Reported.{IsMessageOn};
+ghost use Rattle.timefd_lint_sources.specs.Whole.{IsMessageOn, IsTreeAndWarnings};
 
 use crate::position::reported_position_of;
 use crate::reported::{End, Reported, Reporting, Source};
@@ -69,13 +69,47 @@ fn explained_and_warned(
     ensures message { IfOk result (λ reported. IsMessageOn reporting source.entry description.now
         reported.end reported.message.items) }
 {
+    let found = found_by(alloc, reporting.levels, language, text)?;
+    let message = tree_and_warnings(
+        alloc,
+        reporting,
+        source,
+        from,
+        description,
+        language,
+        text,
+        found,
+    )?;
+    Ok(Reported {
+        end: End::Accepted(found),
+        message,
+    })
+}
+
+/// The tree of an accepted description, if it is asked for, and a message on each of these warnings. An `Err` says that
+/// memory ran out.
+pub fn tree_and_warnings(
+    alloc: Global,
+    reporting: Reporting,
+    source: Source<'_>,
+    from: Counter,
+    description: &Description,
+    language: Language,
+    text: &str,
+    found: Levels,
+) -> Result<Vec<u8>, AllocError>
+    requires language { language ≡ language_in description.now }
+    requires text { text.now ≡ text_of description.now }
+    requires counted { IsCounted 1 source.text.now from }
+    ensures { IfOk result (λ message. IsTreeAndWarnings reporting source.entry description.now
+        found message.items) }
+{
     let format = reporting.style.format;
     let position = reported_position_of(alloc, format, source.text, from, description.piece.start)?;
     let origin = Origin {
         file: source.file,
         line: position.line,
     };
-    let found = found_by(alloc, reporting.levels, language, text)?;
     let mut message = tree_of(alloc, reporting.explains, language, origin, text)?;
     let span = Span {
         start: description.piece.start,
@@ -92,10 +126,7 @@ fn explained_and_warned(
         found,
     )?;
     message.extend_from_slice(&reported)?;
-    Ok(Reported {
-        end: End::Accepted(found),
-        message,
-    })
+    Ok(message)
 }
 
 // The tree of an accepted description, if it is asked for.

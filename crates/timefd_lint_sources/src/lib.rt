@@ -3,26 +3,39 @@
 #![tactic(auto)]
 
 mod accepted;
+mod allowed;
 mod at_call;
+mod codes;
+mod cut;
 mod further;
 mod item;
 mod judged;
 mod language;
+mod left;
+mod no_code;
 mod opening;
 mod other;
+mod placed;
 mod position;
 mod refusing;
+mod remainder;
 mod remark;
 mod reported;
 mod search;
 mod source;
 
+// Comments that allow errors and warnings.
+pub mod allowances;
+
 // Sources with mended or converted descriptions.
 pub mod rewriting;
 
+pub use allowed::is_allowed;
+pub use codes::{Coded, push_codes};
 pub use further::further_of;
 pub use judged::holds_item;
 pub use language::{is_passed_over, language_of, other_of};
+pub use left::Left;
 pub use opening::is_of_item;
 pub use position::FIRST_LINE;
 pub use remark::Remark;

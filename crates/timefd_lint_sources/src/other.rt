@@ -40,8 +40,9 @@ pub fn report_other(
     }
 }
 
-// The message on the part that is refused, and a note at a call that takes the format by name.
-fn refused(
+/// The message on the part that is refused, and a note at a call that takes the format by name. An `Err` says that
+/// memory ran out.
+pub fn refused(
     alloc: Global,
     style: Style,
     source: Source<'_>,
@@ -109,8 +110,8 @@ fn trapped(
     })
 }
 
-// Appends a message on each trap.
-fn push_traps(
+/// Appends a message on each trap. An `Err` says that memory ran out.
+pub fn push_traps(
     alloc: Global,
     style: Style,
     source: Source<'_>,

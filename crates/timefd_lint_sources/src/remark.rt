@@ -1,8 +1,9 @@
 //! What the linter reports about a source besides its descriptions.
 
-ghost use Rattle.std.specs.Prelude.{◌≡◌, ◌++◌, IfOk, OnOk, flat_map, map};
+ghost use Rattle.std.specs.Prelude.{◌≡◌, ◌++◌, IfOk, OnOk};
 ghost use Rattle.timefd_lint_sources.specs.Remarks as spec;
 
+use crate::no_code::{NoCode, code_note};
 use crate::position::FIRST_LINE;
 use crate::reported::{End, Source};
 use std::alloc::{AllocError, Global};
@@ -17,6 +18,8 @@ pub enum Remark {
     Value(usize),
     /// The comment at this byte index should name a language, but doesn't.
     Language(usize),
+    /// A comment allows what isn't the code of an error or a warning.
+    Code(NoCode),
 }
 
 /// The code of a fault in a comment.
@@ -32,7 +35,7 @@ pub fn end_of(remark: Remark) -> End
     match remark {
         Remark::Call(_) => End::UnreadCall,
         Remark::Value(_) => End::UnreadValue,
-        Remark::Language(_) => End::Refused,
+        Remark::Language(_) | Remark::Code(_) => End::Refused,
     }
 }
 
@@ -47,6 +50,7 @@ fn message_of(
     match remark {
         Remark::Call(_) | Remark::Value(_) => Ok(Vec::new(alloc)),
         Remark::Language(at) => language_note(alloc, style, source, at),
+        Remark::Code(word) => code_note(alloc, style, source, word),
     }
 }
 

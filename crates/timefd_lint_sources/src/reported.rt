@@ -1,26 +1,31 @@
 //! What the linter reports about one description.
 
-ghost use Rattle.std.specs.Prelude.{◌≡◌, IfOk, None, map};
+ghost use Rattle.std.specs.Prelude.{◌≡◌, IfOk, None};
 ghost use Rattle.timefd_lint_drawing.specs.Counted.{IsCounted};
 ghost use Rattle.timefd_lint_sources.specs.declared.reported.End.TheVariants as ends;
 ghost use Rattle.timefd_lint_sources.specs.Judged.{text_of};
 ghost use Rattle.timefd_lint_sources.specs.Judged as judging;
-ghost use Rattle.timefd_lint_sources.specs.Reported.{IsReported, drawing_of, note_of};
-ghost use Rattle.timefd_lint_sources.specs.Reported as spec;
+ghost use Rattle.timefd_lint_sources.specs.Reported.{IsReported};
+ghost use Rattle.timefd_lint_sources.specs.Whole.{IsReportedWhole, drawing_of, note_of};
 
 use crate::accepted::accepted;
+use crate::allowances::Allowance;
+use crate::allowed::is_covered;
 use crate::at_call::call_note;
 use crate::further::further_of;
 use crate::language::{language_of, other_of};
+use crate::left::Left;
 use crate::other::report_other;
+use crate::placed::{all_placed_in, placed_in};
 use crate::position::FIRST_LINE;
+use crate::remainder::report_left;
 use std::alloc::{AllocError, Global};
 use std::str;
 use timefd_lang_warnings::Levels;
-use timefd_lint_diagnosis::{Diagnostic, Span, diagnose};
+use timefd_lint_diagnosis::{Diagnostic, diagnose};
 use timefd_lint_drawing::{Counter, Origin, Style, counted, drawn_all_from, note};
+use timefd_lint_scan::Description;
 use timefd_lint_scan::keys::{Format, Key};
-use timefd_lint_scan::{Description, index_in_source};
 
 /// How to report on descriptions.
 #[derive(Clone, Copy)]
@@ -31,6 +36,8 @@ pub struct Reporting {
     pub explains: bool,
     /// The level of each warning; `None` if warnings aren't looked for.
     pub levels: Option<Levels>,
+    /// Whether comments allow errors and warnings.
+    pub allows: bool,
 }
 
 /// How the descriptions in a source are found.
@@ -51,6 +58,8 @@ pub struct Source<'a> {
     pub finder: Finder<'a>,
     /// The whole text.
     pub text: &'a str,
+    /// What its comments allow.
+    pub allowances: &'a [Allowance],
 }
 
 /// The outcome of a description.
@@ -66,6 +75,8 @@ pub enum End {
     Refused,
     /// It isn't UTF-8.
     NotText,
+    /// A comment is about it, and this is left of what is wrong with it.
+    Allowed(Left),
     /// A call takes a name instead of a literal, and no text is found for the name.
     UnreadCall,
     /// A value of a key isn't looked at.
@@ -81,9 +92,8 @@ pub struct Reported {
     pub message: Vec<u8>,
 }
 
-/// Checks a description of a source, and reports what is wrong with it at its position in the source. `from`
-/// says how far lines are counted. An `Err` says that memory ran out.
-#[tactic(auto, using(crate::proofs::ReportedLemmas::no_text))]
+/// Checks a description of a source, and reports what is wrong with it at its position in the source, without what a
+/// comment allows. `from` says how far lines are counted. An `Err` says that memory ran out.
 pub fn report(
     alloc: Global,
     reporting: Reporting,
@@ -95,14 +105,34 @@ pub fn report(
     ensures { IfOk result (λ reported. IsReported reporting source.entry description.now
         reported.end reported.message.items) }
 {
+    if is_covered(reporting, source, description) {
+        report_left(alloc, reporting, source, from, description)
+    } else {
+        report_whole(alloc, reporting, source, from, description)
+    }
+}
+
+// Reports all that is wrong with a description.
+#[tactic(auto, using(crate::proofs::ReportedLemmas::no_text))]
+fn report_whole(
+    alloc: Global,
+    reporting: Reporting,
+    source: Source<'_>,
+    from: Counter,
+    description: &Description,
+) -> Result<Reported, AllocError>
+    requires { IsCounted 1 source.text.now from }
+    ensures { IfOk result (λ reported. IsReportedWhole reporting source.entry description.now
+        reported.end reported.message.items) }
+{
     match str::from_utf8(description.unescaped.text.as_slice()) {
         Ok(text) => judged(alloc, reporting, source, from, description, text),
         Err(_) => not_text(alloc, reporting.style, source, from, description),
     }
 }
 
-// A note on a description that isn't UTF-8.
-fn not_text(
+/// A note on a description that isn't UTF-8. An `Err` says that memory ran out.
+pub fn not_text(
     alloc: Global,
     style: Style,
     source: Source<'_>,
@@ -138,7 +168,7 @@ fn judged(
 ) -> Result<Reported, AllocError>
     requires counted { IsCounted 1 source.text.now from }
     requires text { text.now ≡ text_of description.now }
-    ensures { IfOk result (λ reported. IsReported reporting source.entry description.now
+    ensures { IfOk result (λ reported. IsReportedWhole reporting source.entry description.now
         reported.end reported.message.items) }
 {
     match other_of(description.dialect) {
@@ -162,7 +192,7 @@ fn own_judged(
     requires counted { IsCounted 1 source.text.now from }
     requires own { judging.other_of description.now.dialect ≡ None }
     requires text { text.now ≡ text_of description.now }
-    ensures { IfOk result (λ reported. IsReported reporting source.entry description.now
+    ensures { IfOk result (λ reported. IsReportedWhole reporting source.entry description.now
         reported.end reported.message.items) }
 {
     let language = language_of(description.dialect);
@@ -212,32 +242,4 @@ fn refused(
         end: End::Refused,
         message,
     })
-}
-
-// These diagnostics with their spans in the source.
-fn all_placed_in(
-    alloc: Global,
-    description: &Description,
-    diagnostics: Vec<Diagnostic>,
-) -> Result<Vec<Diagnostic>, AllocError>
-    ensures { IfOk result (λ placed. placed.items
-        ≡ map (spec.placed_in description.now) diagnostics.items) }
-{
-    let mut placed = Vec::new(alloc);
-    for diagnostic in diagnostics {
-        placed.push(placed_in(description, diagnostic))?;
-    }
-    Ok(placed)
-}
-
-// A diagnostic of a description, with its span in the source.
-fn placed_in(description: &Description, diagnostic: Diagnostic) -> Diagnostic
-    ensures { result ≡ spec.placed_in description.now diagnostic }
-{
-    let mut placed = diagnostic;
-    placed.span = Span {
-        start: index_in_source(description, placed.span.start),
-        end: index_in_source(description, placed.span.end),
-    };
-    placed
 }

@@ -2,9 +2,9 @@
 
 ghost use Rattle.std.specs.Prelude.{◌≡◌, ◌<◌, IfOk, IfSome, None, length};
 ghost use Rattle.timefd_lang_dialect.specs.Reading.{RefusedAt};
-ghost use Rattle.timefd_lint_drawing.specs.Positions.{after};
 ghost use Rattle.timefd_lint_sources.specs.Search as spec;
 
+use crate::cut::after_index;
 use crate::refusing::is_refused;
 use crate::reported::Finder;
 use std::alloc::{AllocError, Global};
@@ -66,14 +66,4 @@ fn after_sign(text: &str, index: usize) -> &str
     ensures shorter { length result.now < length text.now }
 {
     after_index(after_index(text, index), 1)
-}
-
-// What follows the bytes in front of an index. Nothing, if that is inside of a character.
-fn after_index(text: &str, index: usize) -> &str
-    ensures { result.now ≡ after index text.now }
-{
-    match text.split_at_checked(index) {
-        Some((_, rest)) => rest,
-        None => "",
-    }
 }

@@ -4,10 +4,11 @@ ghost use Rattle.std.specs.Prelude.{IfOk, OnOk};
 ghost use Rattle.timefd_lint_drawing.specs.Counted.{IsCounted};
 ghost use Rattle.timefd_lint_scan.specs.Keys.Found.{AllValues};
 ghost use Rattle.timefd_lint_sources.specs.Remarks.{AreSeenIn, AreValuesSeen};
-ghost use Rattle.timefd_lint_sources.specs.Reported.{AddsReported, AreSeen, AllFound, AreAllOf, AreJudgedIn, AreReported, IsSourceReported};
+ghost use Rattle.timefd_lint_sources.specs.Reported.{AddsReported, AreSeen, AreSeenFirst, AllFound, AreAllOf, AreJudgedIn, AreReported, IsSourceReported};
 ghost use Rattle.timefd_lint_scan.specs.Found.{AreInOrder};
 
 use crate::judged::judged_all;
+use crate::no_code::push_no_codes;
 use crate::position::FIRST_LINE;
 use crate::remark::{Remark, push_remarks, remarks_on, remarks_on_values};
 use crate::reported::{End, Finder, Reported, Reporting, Source, report};
@@ -63,9 +64,25 @@ struct Seen {
 }
 
 // What is seen in a source.
-#[tactic(auto, using(crate::proofs::SeenLemmas::of_rust, crate::proofs::SeenLemmas::of_keys))]
+#[tactic(auto, using(crate::proofs::SeenLemmas::with_codes))]
 fn seen_in(alloc: Global, source: Source<'_>) -> Result<Seen, AllocError>
     ensures { IfOk result (λ seen. AreSeen source.entry seen.descriptions.items seen.remarks.items) }
+{
+    let Seen {
+        descriptions,
+        mut remarks,
+    } = seen_first(alloc, source)?;
+    push_no_codes(alloc, &mut remarks, source)?;
+    Ok(Seen {
+        descriptions,
+        remarks,
+    })
+}
+
+// What is seen in a source, but for the words that comments allow.
+#[tactic(auto, using(crate::proofs::SeenLemmas::of_rust, crate::proofs::SeenLemmas::of_keys))]
+fn seen_first(alloc: Global, source: Source<'_>) -> Result<Seen, AllocError>
+    ensures { IfOk result (λ seen. AreSeenFirst source.entry seen.descriptions.items seen.remarks.items) }
 {
     match source.finder {
         Finder::Rust => Ok(seen_in_rust(alloc, source.text)?),

@@ -1,5 +1,5 @@
 -- All that is wrong in a document.
-use Rattle.std.specs.Prelude.{◌≡◌, ◌⊎◌, Bool, true, false, List, [], ◌++◌, Option, Some, None, IsUtf8, is_some}
+use Rattle.std.specs.Prelude.{◌≡◌, ◌⊎◌, Bool, true, false, List, [], ◌++◌, Option, Some, None, IsUtf8, is_some, ◌∷◌, flat_map, if◌then◌else◌}
 use Rattle.timefd_lang_component.specs.Tree.{Text}
 use Rattle.timefd_lint_diagnosis.specs.declared.diagnostic.Diagnostic.{Diagnostic}
 use Rattle.timefd_lang_dialect.specs.declared.dialect.Dialect as other
@@ -14,9 +14,11 @@ use Rattle.timefd_lint_lsp.specs.Editor.Finding.{AreWarnings, IsNote, IsOne}
 use Rattle.timefd_lint_lsp.specs.Editor.Others.{AreOnOther}
 use Rattle.timefd_lang_fault.specs.Faults.{fault_of}
 use Rattle.timefd_lint_sources.specs.declared.reported.End.{End}
-use Rattle.timefd_lint_sources.specs.declared.reported.End.TheVariants.{PassedOver, Accepted, Converted, Refused, NotText, UnreadCall, UnreadValue}
+use Rattle.timefd_lint_sources.specs.declared.reported.End.TheVariants.{PassedOver, Accepted, Converted, Refused, NotText, Allowed, UnreadCall, UnreadValue}
 use Rattle.timefd_lint_sources.specs.declared.reported.Finder.{Finder}
 use Rattle.timefd_lint_sources.specs.declared.reported.Source.{Source}
+use Rattle.timefd_lint_sources.specs.Allowances.Found.{AreAllowances}
+use Rattle.timefd_lint_sources.specs.Allowed.{is_allowed}
 use Rattle.timefd_lint_sources.specs.Judged.{AreDiagnosedOf, IsJudged, language_in, other_of, text_of}
 use Rattle.timefd_lint_sources.specs.Reported.{AreJudgedIn}
 use Rattle.timefd_lint_scan.specs.declared.description.Description.{Description}
@@ -46,6 +48,7 @@ AreBy text d (Converted count) found = ⊥
 AreBy text d Refused found = (g : Diagnostic) × (further : List Diagnostic)
     × AreDiagnosedOf d g further × AreFaults text d g further found
 AreBy text d NotText found = IsNote text d found
+AreBy text d (Allowed left) found = ⊥
 AreBy text d UnreadCall found = ⊥
 AreBy text d UnreadValue found = ⊥
 
@@ -64,8 +67,25 @@ AreOnIn (Some dialect) levels finder text d found =
 abbrev pub AreOn : Option Levels → Finder → Text → Description → List Finding → Type 0
 AreOn levels finder text d found = AreOnIn (other_of d.dialect) levels finder text d found
 
--- All that is wrong with the descriptions in a source, one after another.
-pub record AreFindingsOf (levels : Option Levels) (s : Source) (found : List Finding) : Type 0 where
+-- a finding, unless a comment allows its code
+abbrev pub unless_allowed : Source → Description → Finding → List Finding
+unless_allowed s d f = if is_allowed s d f.code.now then [] else f ∷ []
+
+-- What is wrong with a description and isn't allowed.
+abbrev pub AreLeftOn : Option Levels → Source → Description → List Finding → Type 0
+AreLeftOn levels s d found = (all : List Finding) × AreOn levels s.finder s.text.now d all
+    × (found ≡ flat_map (unless_allowed s d) all)
+
+-- All that is wrong with the descriptions in a source and that its comments don't allow, one after another.
+pub record AreFindingsLeft (levels : Option Levels) (s : Source) (found : List Finding) : Type 0 where
   pub descriptions : List Description
   pub judged : AreJudgedIn s descriptions
-  pub reported : AreOf (AreOn levels s.finder s.text.now) descriptions found
+  pub reported : AreOf (AreLeftOn levels s) descriptions found
+
+-- The comments are those of the source itself.
+pub record AreFindingsOf (levels : Option Levels) (s : Source) (found : List Finding) : Type 0 where
+  pub source : Source
+  pub finder : source.finder ≡ s.finder
+  pub text : source.text.now ≡ s.text.now
+  pub allowed : AreAllowances source.finder source.text.now source.allowances.now
+  pub left : AreFindingsLeft levels source found

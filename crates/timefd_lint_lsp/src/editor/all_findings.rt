@@ -1,8 +1,8 @@
 //! All that is wrong in a document.
 
-ghost use Rattle.std.specs.Prelude.{◌≡◌, IfOk, OnOk};
+ghost use Rattle.std.specs.Prelude.{◌≡◌, ◌++◌, IfOk, OnOk, flat_map};
 ghost use Rattle.timefd_lint_lsp.specs.Editor.Each.{Adds, AreOf};
-ghost use Rattle.timefd_lint_lsp.specs.Editor.Findings.{AreFindingsOf, AreOn, AreOnOwn};
+ghost use Rattle.timefd_lint_lsp.specs.Editor.Findings.{AreFindingsLeft, AreFindingsOf, AreLeftOn, AreOn, AreOnOwn, unless_allowed};
 ghost use Rattle.timefd_lint_lsp.specs.Editor.Positions.{IsCounted};
 ghost use Rattle.timefd_lint_sources.specs.Judged.{text_of};
 
@@ -16,13 +16,17 @@ use std::str;
 use timefd_lang_warnings::Levels;
 use timefd_lint_diagnosis::diagnose;
 use timefd_lint_scan::Description;
-use timefd_lint_sources::{Finder, Source, further_of, judged_in, language_of, other_of};
+use timefd_lint_sources::allowances::allowances_in;
+use timefd_lint_sources::{
+    Finder, Source, further_of, is_allowed, judged_in, language_of, other_of,
+};
 use timefd_lint_warnings::found_by;
 
 /// All that is wrong in a source, in order: the first fault of each description that its language refuses,
 /// its further faults, a description that isn't UTF-8, and the warnings that `levels` asks for. Of a format of another
-/// language or library it is the first part that is refused there, or else its traps if warnings are asked for. An `Err`
-/// says that memory ran out.
+/// language or library it is the first part that is refused there, or else its traps if warnings are asked for. What the
+/// comments of the source allow is left out. An `Err` says that memory ran out.
+#[tactic(auto, using(crate::proofs::EditorLemmas::LeftLemmas::of_source))]
 pub fn findings(
     alloc: Global,
     source: Source<'_>,
@@ -30,16 +34,27 @@ pub fn findings(
 ) -> Result<Vec<Finding>, AllocError>
     ensures { IfOk result (λ found. AreFindingsOf levels source.entry found.items) }
 {
+    let allowances = allowances_in(alloc, source.finder, source.text)?;
+    let source = Source {
+        file: source.file,
+        finder: source.finder,
+        text: source.text,
+        allowances: &allowances,
+    };
+    findings_left(alloc, source, levels)
+}
+
+// All that is wrong in a source and that its comments don't allow.
+fn findings_left(
+    alloc: Global,
+    source: Source<'_>,
+    levels: Option<Levels>,
+) -> Result<Vec<Finding>, AllocError>
+    ensures { IfOk result (λ found. AreFindingsLeft levels source.entry found.items) }
+{
     let descriptions = judged_in(alloc, source)?;
     let mut found = Vec::new(alloc);
-    push_all(
-        alloc,
-        source.finder,
-        source.text,
-        levels,
-        &descriptions,
-        &mut found,
-    )?;
+    push_all(alloc, source, levels, &descriptions, &mut found)?;
     Ok(found)
 }
 
@@ -47,15 +62,15 @@ pub fn findings(
 #[tactic(auto, using(crate::proofs::EditorLemmas::EachLemmas::at_first, crate::proofs::EditorLemmas::EachLemmas::at_last))]
 fn push_all(
     alloc: Global,
-    finder: Finder<'_>,
-    text: &str,
+    source: Source<'_>,
     levels: Option<Levels>,
     descriptions: &[Description],
     found: &mut Vec<Finding>,
 ) -> Result<(), AllocError>
-    ensures { OnOk result (Adds (AreOf (AreOn levels finder.entry text.now) descriptions.now)
+    ensures { OnOk result (Adds (AreOf (AreLeftOn levels source.entry) descriptions.now)
         found.old.items found.new.items) }
 {
+    let text = source.text;
     let mut counter = none_counted(text);
     for description in descriptions {
         counter = counted(text, counter, description.piece.start);
@@ -64,7 +79,57 @@ fn push_all(
             description,
             counter,
         };
-        push_on(alloc, finder, spot, levels, found)?;
+        push_left(alloc, source, spot, levels, found)?;
+    }
+    Ok(())
+}
+
+// Adds what is wrong with a description and isn't allowed.
+#[tactic(auto, using(crate::proofs::EditorLemmas::LeftLemmas::adds_left))]
+fn push_left(
+    alloc: Global,
+    source: Source<'_>,
+    spot: Spot<'_>,
+    levels: Option<Levels>,
+    found: &mut Vec<Finding>,
+) -> Result<(), AllocError>
+    requires counted { IsCounted spot.text.now spot.counter }
+    requires text { spot.text.now ≡ source.text.now }
+    ensures { OnOk result (Adds (AreLeftOn levels source.entry spot.entry.description.now)
+        found.old.items found.new.items) }
+{
+    let mut all = Vec::new(alloc);
+    push_on(alloc, source.finder, spot, levels, &mut all)?;
+    push_unallowed(source, spot.description, all, found)
+}
+
+// Adds these findings on a description, but for those that are allowed.
+fn push_unallowed(
+    source: Source<'_>,
+    description: &Description,
+    all: Vec<Finding>,
+    found: &mut Vec<Finding>,
+) -> Result<(), AllocError>
+    ensures { OnOk result (found.new.items
+        ≡ found.old.items ++ flat_map (unless_allowed source.entry description.now) all.items) }
+{
+    for finding in all {
+        push_unless_allowed(source, description, finding, found)?;
+    }
+    Ok(())
+}
+
+fn push_unless_allowed(
+    source: Source<'_>,
+    description: &Description,
+    finding: Finding,
+    found: &mut Vec<Finding>,
+) -> Result<(), AllocError>
+    ensures { OnOk result (found.new.items
+        ≡ found.old.items ++ unless_allowed source.entry description.now finding) }
+{
+    if !is_allowed(source, description, finding.code) {
+        found.push(finding)?;
     }
     Ok(())
 }

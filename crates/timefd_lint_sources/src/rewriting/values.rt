@@ -1,8 +1,9 @@
 //! All values of keys in a file, rewritten.
 
-ghost use Rattle.std.specs.Prelude.{◌≡◌, ◌-◌, ◌++◌, IfOk, OnOk, drop, take};
+ghost use Rattle.std.specs.Prelude.{IfOk};
 ghost use Rattle.timefd_lint_sources.specs.Rewriting.Values as spec;
 
+use crate::cut::{after, between};
 use crate::rewriting::change::Change;
 use crate::rewriting::outcome::Outcome;
 use crate::rewriting::source::NewSource;
@@ -85,19 +86,4 @@ fn push_rewritten(
             Ok(string_end(format, source, value.piece.start, value.piece.end))
         }
     }
-}
-
-// The bytes of a text from an index on.
-fn after(text: &[u8], at: usize) -> &[u8]
-    ensures { result.now ≡ drop at text.now }
-{
-    text.get(at..).unwrap_or(&[])
-}
-
-// The bytes of a text from one index to another.
-fn between(text: &[u8], from: usize, to: usize) -> &[u8]
-    ensures { result.now ≡ take (to - from) (drop from text.now) }
-{
-    let rest = after(text, from);
-    rest.get(..to.saturating_sub(from)).unwrap_or(rest)
 }

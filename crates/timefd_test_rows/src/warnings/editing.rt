@@ -42,6 +42,7 @@ fn rust(text: &str) -> Source<'_> {
         file: "",
         finder: Finder::Rust,
         text,
+        allowances: &[],
     }
 }
 

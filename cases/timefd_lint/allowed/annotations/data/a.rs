@@ -1,0 +1,6 @@
+use time::macros::format_description;
+
+fn f() {
+    let a = format_description!("[yaer]"); // timefd: allow unknown-name
+    let b = format_description!("[yaer]"); // timefd: allow unknwn-name
+}

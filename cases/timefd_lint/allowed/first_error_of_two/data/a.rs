@@ -1,0 +1,6 @@
+use time::macros::format_description;
+
+fn f() {
+    // timefd: allow unknown-name
+    let a = format_description!("[yaer][]");
+}

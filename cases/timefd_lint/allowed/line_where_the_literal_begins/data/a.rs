@@ -1,0 +1,10 @@
+use time::macros::format_description;
+
+fn f() {
+    let a = format_description!(
+        "[yaer]", // timefd: allow unknown-name
+    );
+    let b = format_description!( // timefd: allow unknown-name
+        "[yaer]",
+    );
+}

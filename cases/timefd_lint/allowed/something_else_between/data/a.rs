@@ -1,0 +1,10 @@
+use time::macros::format_description;
+
+fn f() {
+    // timefd: allow unknown-name
+    
+    let a = format_description!("[yaer]");
+    // timefd: allow unknown-name
+    // a day
+    let b = format_description!("[yaer]");
+}

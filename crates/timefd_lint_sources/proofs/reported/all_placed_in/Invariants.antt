@@ -1,6 +1,0 @@
-use Rattle.std.proofs.Common.{◌≡◌, map}
-use Rattle.timefd_lint_sources.specs.Reported.{placed_in}
-use Rattle.timefd_lint_sources.proofs.reported.all_placed_in.Given as goal
-
-abbrev pub invariant-loop-diagnostic : goal.invariant-loop-diagnostic
-invariant-loop-diagnostic l = l.placed.items ≡ map (placed_in l.description) l.yielded

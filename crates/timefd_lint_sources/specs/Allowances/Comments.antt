@@ -1,0 +1,97 @@
+-- What a comment allows: `// timefd: allow unknown-name`, or with `#`.
+use Rattle.std.specs.Prelude.{ℕ, ◌-◌, Bool, true, false, not, ◌&&◌, ◌||◌, ◌==◌, nat_lt, if◌then◌else◌, List, [], ◌∷◌, ◌++◌, bytes_eq, codes, drop, is_some, length, min, take, Option, Some, None}
+use Rattle.timefd_lint_scan.specs.After.{after_run}
+use Rattle.timefd_lint_scan.specs.Bytes.{Text, is_blank, is_white, is_word, class_test, line_feed}
+use Rattle.timefd_lint_scan.specs.declared.class.Class.TheVariants.{Line}
+use Rattle.timefd_lint_scan.specs.Lines.{line_start}
+use Rattle.timefd_lint_scan.specs.Marks.{after, in_front}
+use Rattle.timefd_lint_sources.specs.declared.allowances.comment.Allowance.{Allowance}
+use Rattle.timefd_lint_sources.specs.declared.allowances.comment.Reach.{Reach}
+use Rattle.timefd_lint_sources.specs.declared.allowances.comment.Sign.{Sign}
+use Rattle.timefd_lint_sources.specs.declared.allowances.comment.Sign.TheVariants.{Slashes, Hash}
+
+-- the bytes of a text from one index to another
+abbrev pub between : Text → ℕ → ℕ → Text
+between text from to = take (to - from) (drop from text)
+
+-- after what begins a comment
+abbrev pub after_sign : Sign → Text → Option Text
+after_sign Slashes text = after text (codes "//")
+after_sign Hash text = after text (codes "#")
+
+abbrev pub after_mark_in : Option Text → Option Text
+after_mark_in None = None
+after_mark_in (Some text) = after (after_run is_blank text) (codes "timefd:")
+
+-- What follows `timefd:` in the comment that a text begins with; none if that is another comment, or none.
+abbrev pub after_mark : Sign → Text → Option Text
+after_mark sign text = after_mark_in (after_sign sign text)
+
+-- A line has only a comment with `timefd:`.
+abbrev pub is_mark_line : Sign → Text → Bool
+is_mark_line sign text = is_some (after_mark sign (after_run is_blank text))
+
+abbrev pub after_allow : Text → Option Text
+after_allow text =
+    if bytes_eq (in_front text (after_run is_word text)) (codes "allow") then Some (after_run is_word text)
+    else None
+
+abbrev pub allowing : Option Text → Option Text
+allowing None = None
+allowing (Some text) = after_allow (after_run is_blank text)
+
+-- the text after `allow` in a comment
+abbrev pub allowed_words : Sign → Text → Option Text
+allowed_words sign comment = allowing (after_mark sign comment)
+
+-- Codes are separated by white bytes and commas.
+abbrev pub is_separator : ℕ → Bool
+is_separator b = is_white b || (b == 44)
+
+-- a word from one index of the source to another, if it isn't empty
+abbrev pub one_word : Reach → ℕ → ℕ → List Allowance
+one_word r start end =
+    if nat_lt start end then (record { at = r.at; from = r.from; to = r.to; start = start; end = end }) ∷ [] else []
+
+-- The words of a text that ends at an index of the source: the first one begins where `word` does, and `rest` is
+-- what is left of the text.
+abbrev pub words : Reach → ℕ → Text → Text → List Allowance
+words r end word [] = one_word r (end - length word) end
+words r end word (b ∷ rest) =
+    if is_separator b then one_word r (end - length word) (end - length (b ∷ rest)) ++ words r end rest rest
+    else words r end word rest
+
+-- The first line after a comment at whose end the text begins that doesn't only have such a comment; from its start to
+-- the end of the source.
+abbrev pub covered : Sign → Text → Text
+covered sign [] = []
+covered sign (b ∷ rest) =
+    if (b == line_feed) && not (is_mark_line sign rest) then rest else covered sign rest
+
+-- where the line of a position begins
+abbrev pub line_begin : Text → ℕ → ℕ
+line_begin source at = line_start source (min at (length source))
+
+-- Only white bytes precede a position in its line.
+abbrev pub is_alone : Text → ℕ → Bool
+is_alone source at = length (after_run is_white (between source (line_begin source at) at)) == 0
+
+-- A comment alone in its line reaches the next line that has something else, any other one its own line up to itself.
+abbrev pub reach_of : Sign → Text → ℕ → ℕ → Reach
+reach_of sign source at end =
+    if is_alone source at then
+    record {
+      at = at;
+      from = length source - length (covered sign (drop end source));
+      to = length source - length (after_run (class_test Line) (covered sign (drop end source)));
+    }
+    else record { at = at; from = line_begin source at; to = at }
+
+abbrev pub in_words : Reach → ℕ → Option Text → List Allowance
+in_words r end None = []
+in_words r end (Some text) = words r end text text
+
+-- what the comment in the bytes `at..end` of a source allows
+abbrev pub in_comment : Sign → Text → ℕ → ℕ → List Allowance
+in_comment sign source at end =
+    in_words (reach_of sign source at end) end (allowed_words sign (between source at end))

@@ -1,0 +1,9 @@
+//! What comments allow: errors and warnings of the descriptions in a line aren't reported then.
+
+mod comment;
+mod found;
+mod keyed;
+mod rust;
+
+pub use comment::Allowance;
+pub use found::allowances_in;
