@@ -123,7 +123,7 @@ fn lint_text<W: Sink>(
     source: Source<'_>,
     writer: &mut W,
 ) -> Result<Tally, RunError>
-    requires allowed { AreAllowances source.entry.finder source.entry.text.now source.entry.allowances.now }
+    requires allowed { AreAllowances source.finder source.text.now source.allowances.now }
     ensures reported { IfOk result (IsReported source.entry.finder options.entry.reporting source.entry.file.now
         source.entry.text.now (W.contents writer.old) (W.contents writer.new)) }
     ensures unwritten { IfErr result (IsCausedBy (W.has_failed writer.new)) }
