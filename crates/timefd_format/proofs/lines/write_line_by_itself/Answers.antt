@@ -1,12 +1,8 @@
 use Rattle.std.proofs.Common.{ap, ◌∙◌}
-<<<<<<< ours
-=======
 use Rattle.timefd_lint_rewrite.specs.Lines.{without_newline}
 use Rattle.timefd_format.proofs.LineReportLemmas.{line_reported}
->>>>>>> theirs
 use Rattle.timefd_format.proofs.TakenLemmas.{line_looked}
 use Rattle.timefd_format.proofs.lines.write_line_by_itself.Goals as goal
-use Rattle.timefd_lint_rewrite.specs.Lines.{without_newline}
 
 pub returns-in_ok-one-in-Line-clause-next : goal.returns-in_ok-one-in-Line-clause-next
 returns-in_ok-one-in-Line-clause-next g c =

@@ -1,12 +1,8 @@
 use Rattle.std.proofs.Common.{rules}
-<<<<<<< ours
-=======
 use Rattle.timefd_lint_diagnosis.specs.Words.{texts}
 use Rattle.timefd_format.proofs.LineReportLemmas.{word_more}
->>>>>>> theirs
 use Rattle.timefd_format.proofs.RunLemmas.{both_read, goes_on, split_texts}
 use Rattle.timefd_format.proofs.words.write_words.Goals as goal
-use Rattle.timefd_lint_diagnosis.specs.Words.{texts}
 
 pub words-preserved : goal.words-preserved
 words-preserved g c = record {

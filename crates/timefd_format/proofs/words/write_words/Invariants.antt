@@ -1,12 +1,8 @@
 use Rattle.std.proofs.Common.{◌≡◌, false, length}
-<<<<<<< ours
-=======
 use Rattle.timefd_lint_diagnosis.specs.Words.{texts}
 use Rattle.timefd_format.proofs.LineReportLemmas.{CompletesWords}
->>>>>>> theirs
 use Rattle.timefd_format.proofs.RunLemmas.{Completes}
 use Rattle.timefd_format.proofs.words.write_words.Given as goal
-use Rattle.timefd_lint_diagnosis.specs.Words.{texts}
 
 -- The words that were taken are written and reported. No read failed.
 abbrev pub invariant-words : goal.invariant-words
