@@ -70,7 +70,7 @@ abbrev pub ReportsOutcome : Source → Option ℕ → Text → Outcome → Optio
 ReportsOutcome source number word outcome before after had_failed failed = (report : Text)
     × IsReportOn source number word outcome report × Gets report before after had_failed failed
 
--- The same of a word whose moment was looked at.
+-- The same of a word that names or shows a moment: a message if a component can't show it, and else nothing.
 abbrev pub ReportsMoment : Text → Outcome → Option Text → Option Text → Bool → Bool → Type 0
 ReportsMoment word (came.Written m) before after had_failed failed = Gets [] before after had_failed failed
 ReportsMoment word (came.Unshown m u) before after had_failed failed =

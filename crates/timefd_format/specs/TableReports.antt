@@ -48,12 +48,13 @@ abbrev pub IsFieldReport : Option Text → Source → BorrowedOutput → ℕ →
 IsFieldReport None source o number report = report ≡ for_people false (no_field_message number)
 IsFieldReport (Some field) source o number report = IsReportOf source o (Some number) (text_of field) report
 
--- Nothing is reported of an empty line.
+-- The same of a record whose quotes are closed, by whether it is an empty line: nothing is reported of one.
 abbrev pub IsWholeReport : Bool → Source → BorrowedOutput → ℕ → ℕ → Text → Text → Type 0
 IsWholeReport true source o n number row report = report ≡ []
 IsWholeReport false source o n number row report =
     IsFieldReport (field_after n (fields (without_newline row))) source o number report
 
+-- The same of any record, by whether its quotes stay open, which is what the message says then.
 abbrev pub IsReportBy : Bool → Source → BorrowedOutput → ℕ → ℕ → Text → Text → Type 0
 IsReportBy true source o n number row report = report ≡ for_people false (open_message number)
 IsReportBy false source o n number row report =

@@ -30,7 +30,6 @@ use timefd_parse::BorrowedOutput;
 ///
 /// `Err(RunError::Refused)` says that there is no moment, and that `--else` asks for the end of the run.
 /// Other errors say that memory ran out or that the output failed.
-#[tactic(auto, using(crate::proofs::LineReportLemmas::word_reported))]
 pub fn tally_one<W: Sink, E: Sink>(
     alloc: Global,
     source: &Source<'_>,
@@ -69,7 +68,7 @@ pub fn tally_one<W: Sink, E: Sink>(
 
 // Writes the moment that a text names or shows, or reports why there is none.
 #[inline(always)]
-#[tactic(auto, using(crate::proofs::LineReportLemmas::moment_reported, crate::proofs::LineReportLemmas::unread_reported))]
+#[tactic(auto, using(crate::proofs::LineReportLemmas::unread_reported))]
 fn write_one<W: Sink, E: Sink>(
     alloc: Global,
     source: &Source<'_>,

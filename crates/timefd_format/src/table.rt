@@ -209,7 +209,7 @@ fn write_records<R: BufferedSource, W: Sink, E: Sink>(
 
 /// Writes a record, and returns what it adds to the tally. `row` is the record with its newline, `text` is room for
 /// the text of its field.
-#[tactic(auto, using(crate::proofs::TableLemmas::of_cell, crate::proofs::TableReportLemmas::empty_reported, crate::proofs::TableReportLemmas::no_field_reported))]
+#[tactic(auto, using(crate::proofs::TableLemmas::of_cell, crate::proofs::TableReportLemmas::empty_reported))]
 pub fn tally_record<W: Sink, E: Sink>(
     alloc: Global,
     source: &Source<'_>,
