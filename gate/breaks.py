@@ -19,9 +19,9 @@ TOP = pathlib.Path(__file__).resolve().parent.parent
 CRATES = TOP / "crates"
 CODE = re.compile(r"`([^`]+)`")
 # The crates of tests.
-TESTS = re.compile(r"_(tests|rows)$")
+TESTS = re.compile(r"_test_(dialects|functions|rows)$")
 # Tests, callers and laws in crates; outside of them pages, stored texts, tests, and files where a word means something else.
-APART = re.compile(r"_tests/|/tests\b|timefd_test_uses/|timefd_test_rows/|specs/(Examples|Laws)\.")
+APART = re.compile(r"timefd_test_(functions|rows|uses)/|/tests\b|specs/(Examples|Laws)\.")
 STORED = re.compile(r"^(crates|docs|cases)/|\.(md|png|svg|txt|human|json|tree|edit)$|tests?[/_.]|^web/(wide.c|browser.py)|^gate/(map|breaks.py)$")
 Variant = collections.namedtuple("Variant", "enum file word")
 

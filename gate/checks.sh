@@ -3,15 +3,15 @@
 # counts checks.
 # shellcheck shell=sh disable=SC2034
 
-# built NAME CRATE: where a program is
+# built NAME: where a program is
 built() {
-    if [ -z "${TIMEFD_PROGRAMS-}" ]; then file=$PWD/crates/$2/out/$2; else file=$(cd "$OLDPWD" && realpath -m "$TIMEFD_PROGRAMS")/$1; fi
+    if [ -z "${TIMEFD_PROGRAMS-}" ]; then file=$PWD/crates/$1/out/$1; else file=$(cd "$OLDPWD" && realpath -m "$TIMEFD_PROGRAMS")/$1; fi
     [ -x "$file" ] || echo "$0: build the programs, or set TIMEFD_PROGRAMS to their folder: no $file" >&2
     echo "$file"
 }
-timefd=$(built timefd timefd)
-timefd_format=$(built timefd_format timefd_format)
-timefd_lint=$(built timefd_lint timefd_lint)
+timefd=$(built timefd)
+timefd_format=$(built timefd_format)
+timefd_lint=$(built timefd_lint)
 [ -x "$timefd" ] && [ -x "$timefd_format" ] && [ -x "$timefd_lint" ] || exit 1
 
 room=$(mktemp -d)

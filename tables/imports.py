@@ -14,10 +14,10 @@ def imported(file, components):
 
 
 def imported_in_lines():
-    """The same in lines of at most 140 letters."""
+    """The same in lines of at most 145 letters."""
     lines, names = [], []
     for it in MODERN:
-        if len(f"{VARIANTS}{{{', '.join([*names, it.variant])}}}") > 140:
+        if len(f"{VARIANTS}{{{', '.join([*names, it.variant])}}}") > 145:
             lines.append(names)
             names = []
         names.append(it.variant)
@@ -45,18 +45,18 @@ def types(file, after, before, rows):
 
 TABLES = [
     *(imported(file, ALL) for file in (
-        "component/specs/ComponentEquality", "component/specs/Bracket/Words", "language/proofs/ShortWords",
+        "lang_component/specs/ComponentEquality", "lang_component/specs/Bracket/Words", "language/proofs/ShortWords",
         "c_nodes/proofs/ComponentLemmas", "lift/proofs/ComponentHeads",
     )),
     *(imported(file, MODERN) for file in ("c_nodes/specs/Encoding", "c_nodes/specs/Decoding")),
     *(imported(file, TEXTS) for file in (
-        "component/specs/Reserved", "component/specs/Texts", "format/specs/Fields", "moment/specs/Fields/Rules",
-        "warnings/specs/Settling/Bounds", "warnings/specs/Settling/Settled", "warnings/specs/Fields", "warnings/specs/Widths",
+        "lang_component/specs/Reserved", "lang_component/specs/Texts", "date_format/specs/Fields", "date_moment/specs/Fields/Rules",
+        "lang_warnings/specs/Settling/Bounds", "lang_warnings/specs/Settling/Settled", "lang_warnings/specs/Fields", "lang_warnings/specs/Widths",
     )),
-    *(imported(file, TEXTS + DEPRECATED) for file in ("format/proofs/TextLemmas", "format/proofs/Utf8Lemmas")),
-    imported("component/proofs/Greatest", [it for it in TEXTS if it.shows != "Nothing"]),
-    imported("format/specs/Sentences", NAMED + DEPRECATED),
-    imported("explain/proofs/SampleLemmas", ENDS + DEPRECATED),
+    *(imported(file, TEXTS + DEPRECATED) for file in ("date_format/proofs/TextLemmas", "date_format/proofs/Utf8Lemmas")),
+    imported("lang_component/proofs/Greatest", [it for it in TEXTS if it.shows != "Nothing"]),
+    imported("date_format/specs/Sentences", NAMED + DEPRECATED),
+    imported("lint_explain/proofs/SampleLemmas", ENDS + DEPRECATED),
     imported("language/specs/Names", [it for it in NAMES if it.variant in {of.variant for of in ALL}]),
     Table("crates/timefd_items/specs/Meaning.antt", Run(VARIANTS), imported_in_lines, "imports of variants"),
     types("c_nodes/specs/Numbers", "use Rattle.std", f"{TYPES}.declared.enums", sorted_types),

@@ -4,8 +4,9 @@
     docs/pictures/crates.py            writes the file beside this script, and the sentence with the counts
     docs/pictures/crates.py --check    fails if one of them would change
 
-A line leads from a crate to one that it stands on, but for those that it also reaches by another. Dark boxes are programs and the
-crates that people call; the others are parts that the prover or the gate wants apart.
+A line leads from a crate to one that it stands on, but for those that it also reaches by another. Each area, the word in front of the
+first `_`, has a colour. Dark boxes are programs and the crates that people call; the others are parts that the prover or the gate wants
+apart.
 """
 import pathlib
 import re
@@ -14,12 +15,22 @@ import sys
 HERE = pathlib.Path(__file__).resolve().parent
 TOP = HERE.parent.parent
 PEOPLE = set(
-    "timefd lint write c web parse items description format moment convert lift laws uses dialect".split()
+    "timefd lint format c web parse items description date_format date_moment lang_convert lift laws test_uses lang_dialect".split()
 )
+# The colours of each area, of boxes for people and of others; "" are the crates without an area.
+AREAS = {
+    "": ("#1f5fa8", "#e6eff9"),
+    "lang": ("#256b36", "#e3f3e6"),
+    "date": ("#7d5200", "#f9efd8"),
+    "lint": ("#9c2f2f", "#fae6e6"),
+    "c": ("#5f3a94", "#eee7f7"),
+    "bin": ("#4a4a4a", "#eeeeee"),
+    "test": ("#00606a", "#e0f2f3"),
+}
 PAGE = TOP / "docs/proof/ARCHITECTURE.md"
 PREFIX, WIDE, ROW, HIGH, GAP, CHAR, PAD = "timefd_", 800, 62, 26, 16, 8, 20
 STYLE = (
-    "rect{fill:#fff;stroke:#333;stroke-width:1.2}.people{fill:#1f5fa8}.page{stroke:none}line{stroke:#9aa5b1;stroke-width:1.2}"
+    "rect{fill:#fff;stroke:#333;stroke-width:1.2}.page{stroke:none}line{stroke:#9aa5b1;stroke-width:1.2}"
     "text{font:13px sans-serif;fill:#111;text-anchor:middle}.of{fill:#fff}"
 )
 
@@ -36,6 +47,12 @@ def crates():
 
 def short(name):
     return name.removeprefix(PREFIX)
+
+
+def area(name):
+    """The area of a crate by its short name."""
+    first, under, _ = name.partition("_")
+    return first if first in AREAS and (under or first == "c") else ""
 
 
 def reach(below, name, known):
@@ -99,8 +116,10 @@ def drawn():
             (x, y), (to_x, to_y) = at[name], at[it]
             out.append(f'<line x1="{x:.0f}" y1="{y + HIGH / 2:.0f}" x2="{to_x:.0f}" y2="{to_y - HIGH / 2:.0f}"/>')
     for name, (x, y) in sorted(at.items()):
-        box, words = ("people", "of") if name in PEOPLE else ("part", "in")
-        out.append(f'<rect class="{box}" x="{x - size[name] / 2:.0f}" y="{y - HIGH / 2:.0f}" width="{size[name]}" height="{HIGH}" rx="4"/>')
+        dark, light = AREAS[area(name)]
+        fill, words = (dark, "of") if name in PEOPLE else (light, "in")
+        place = f'x="{x - size[name] / 2:.0f}" y="{y - HIGH / 2:.0f}" width="{size[name]}" height="{HIGH}" rx="4"'
+        out.append(f'<rect style="fill:{fill}" {place}/>')
         out.append(f'<text class="{words}" x="{x:.0f}" y="{y + 5:.0f}">{name}</text>')
     return "\n".join(out + ["</svg>", ""])
 

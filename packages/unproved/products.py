@@ -24,8 +24,7 @@ HERE = pathlib.Path(__file__).resolve().parent
 HEADER = crates.TOP / "examples/timefd.h"
 # Those over it, which call nothing but what it declares.
 MORE_HEADERS = tuple(crates.TOP / f"examples/timefd_{it}.h" for it in ("names", "text", "time"))
-# The programs that users call otherwise than their crates.
-CALLED = {"timefd_format": "timefd_format"}
+# The programs that users call; others are tests.
 USED = ("timefd", "timefd_lint", "timefd_format")
 LIBRARY = "timefd_c"
 # The page's library, which tests call on this machine and as WebAssembly.
@@ -61,7 +60,7 @@ class Product(typing.NamedTuple):
 
 def chosen(with_tests):
     """The products that users take, and with those that tests alone run, which stand in a folder of their own."""
-    programs = [Product(it, (CALLED.get(it, it),)) for it in USED]
+    programs = [Product(it, (it,)) for it in USED]
     if with_tests:
         programs += [Product(it, (f"tests/{it}",)) for it in crates.programs() if it not in USED]
         programs.append(Product(WEB, WEB_FILES))

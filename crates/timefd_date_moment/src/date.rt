@@ -25,6 +25,7 @@ impl Date {
     ghost use Rattle.timefd_date_moment.specs.Weekdays.{days_after_monday};
 
     /// The date of these numbers. An `Err` names the first one that is out of range.
+    #[inline(always)]
     pub fn from_calendar_date(year: i32, month: u8, day: u8) -> Result<Date, ComponentRange>
         ensures found { IfOk result (λ d. (d.years ≡ counted year) × (d.month ≡ month)
             × (d.day ≡ day)) }

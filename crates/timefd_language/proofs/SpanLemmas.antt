@@ -1,11 +1,11 @@
 -- Which bytes of a text are at fault.
 use Rattle.std.proofs.Common.{◌≡◌, ℕ, zero, suc, ◌+◌, ◌-◌, ◌*◌, ◌<◌, ◌≤◌, Bool, true, List, [], ◌∷◌, ◌++◌, length, drop, min, refl, sym, ap, ◌∙◌, subst, arith, append_assoc, length-append}
-use Rattle.std.specs.Prelude.{chars, cond, nat_lt}
-use Rattle.std.specs.Str.{chars_after, continuation_len, lead_bits}
+use Rattle.std.specs.Prelude.{chars}
+use Rattle.std.specs.Str.{IsAscii}
 use Rattle.std.specs.List.{list_all, prefix_len}
 use Rattle.std.proofs.lemmas.Bool.{and_parts}
-use Rattle.std.proofs.lemmas.Bool.Decides.{nat_tests}
-use Rattle.std.proofs.lemmas.Str.{len_utf8_ascii}
+use Rattle.std.proofs.lemmas.Str.{IsUtf8-from_ascii, chars-IsAscii, chars-append, chars-nil, len_utf8_ascii}
+use Rattle.std.proofs.lemmas.Str.Ascii.{IsAscii-cons, IsAscii-nil}
 use Rattle.std.proofs.Math.Seq.{drop-append_seam}
 use Rattle.timefd_lang_component.specs.Tree.{Text}
 use Rattle.timefd_lang_fault.specs.Faults.{Kind}
@@ -15,7 +15,7 @@ use Rattle.timefd_lang_fault.specs.declared.read_error.Fault as code_fault
 use Rattle.timefd_lang_fault.specs.declared.borrowed_fault.BorrowedFault.{BorrowedFault}
 use Rattle.timefd_language.specs.Bytes.{is_word_byte, is_key_byte, ZeroOrMore, StopsBefore}
 use Rattle.timefd_language.specs.declared.language.Language.{Language}
-use Rattle.timefd_language.specs.Spans.{one_character, whole_word, whole_key, this_many, modifier_extent, version_extent, extent_of, first_len, measured, IsSpanned, SpansIn, SpansVersion}
+use Rattle.timefd_language.specs.Spans.{Extent, one_character, whole_word, whole_key, this_many, modifier_extent, version_extent, extent_of, first_len, measured, IsSpanned, SpansIn, SpansVersion}
 
 -- A text within another.
 
@@ -32,20 +32,16 @@ spans_after extent whole front text f e s = record {
 
 -- The first character.
 
-after_len : (n c : ℕ) (rest : Text) → n ≡ 0 → c < 128 → first_len (chars_after n c rest) ≡ 1
-after_len zero c [] e ascii = len_utf8_ascii c ascii
-after_len zero c (b ∷ rest) e ascii = len_utf8_ascii c ascii
-after_len (suc n) c rest e ascii = absurd (omega (arith, e))
-
 pub ascii_len : (b : ℕ) (rest : Text) → b < 128 → first_len (chars (b ∷ rest)) ≡ 1
-unfolding chars
 ascii_len b rest ascii =
-    let low : nat_lt b 128 ≡ true = grind (arith, nat_tests) in
-    let none : continuation_len b ≡ 0 =
-    ap (λ t. cond t 0 (cond (nat_lt b 224) 1 (cond (nat_lt b 240) 2 3))) low in
-    let bits : lead_bits b ≡ b =
-    ap (λ t. cond t b (cond (nat_lt b 224) (b - 192) (cond (nat_lt b 240) (b - 224) (b - 240)))) low in
-    after_len (continuation_len b) (lead_bits b) rest none (subst (λ c. c < 128) (sym bits) ascii)
+    let is : IsAscii (b ∷ []) = IsAscii-cons b [] ascii IsAscii-nil in
+    let apart : chars (b ∷ rest) ≡ b ∷ chars rest =
+    chars-append (b ∷ []) rest (IsUtf8-from_ascii (b ∷ []) is)
+    ∙ ap (λ l. l ++ chars rest) (chars-IsAscii (b ∷ []) is) in
+    ap first_len apart ∙ len_utf8_ascii b ascii
+
+pub no_len : first_len (chars []) ≡ 0
+no_len = ap first_len chars-nil
 
 -- Runs.
 

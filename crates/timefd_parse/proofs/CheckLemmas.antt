@@ -164,10 +164,10 @@ module _ (strict : Bool) (name : Option Name) (total : ℕ) (m : code.Modifier) 
   looked_up o e = ap (λ t. key_in strict t (keys_of name)) is.key ∙ e
 
   -- a key that isn't known
-  pub at_unknown : (o : Option code_key.Key)
+  pub at_unknown : (len : ℕ) (o : Option code_key.Key)
       → option_map key_for o ≡ key_in strict m.key.now (keys_of name) → o ≡ None
-      → Refused (record { rule = broken.InvalidModifier m.key; remaining = m.key_remaining })
-  at_unknown o known e =
+      → Refused (record { rule = broken.InvalidModifier m.key; remaining = m.key_remaining; len = len })
+  at_unknown len o known e =
       let none : key_in strict p.key (keys_of name) ≡ None =
       looked_up None (sym known ∙ ap (option_map key_for) e) in (
         fault (invalid_modifier p.key) p.key_index,
@@ -182,12 +182,12 @@ module _ (strict : Bool) (name : Option Name) (total : ℕ) (m : code.Modifier) 
   found o key known e = looked_up (Some (key_for key)) (sym known ∙ ap (option_map key_for) e)
 
   -- a key that was there before
-  pub at_again : (o : Option code_key.Key) (key : code_key.Key) (spelling : Bor (List ℕ))
+  pub at_again : (len : ℕ) (o : Option code_key.Key) (key : code_key.Key) (spelling : Bor (List ℕ))
       → option_map key_for o ≡ key_in strict m.key.now (keys_of name) → o ≡ Some key
       → strict ≡ true → is_some (first_position (key_for key).key ps) ≡ true
       → spelling.now ≡ (key_for key).key
-      → Refused (record { rule = broken.DuplicateModifier spelling; remaining = m.key_remaining })
-  at_again o key spelling known e exact there spelled = (
+      → Refused (record { rule = broken.DuplicateModifier spelling; remaining = m.key_remaining; len = len })
+  at_again len o key spelling known e exact there spelled = (
     fault (duplicate_modifier (key_for key).key) p.key_index,
     subst (λ k. bad_modifier strict k ps p ≡ Some
         (fault (duplicate_modifier (key_for key).key) p.key_index)) (sym (found o key known e))
@@ -218,12 +218,12 @@ module _ (strict : Bool) (name : Option Name) (total : ℕ) (m : code.Modifier) 
       (ap (setting_in strict (key_for key).values) is.value ∙ sym valued)))
 
   -- a bad value
-  pub at_bad_value : (o : Option code_key.Key) (key : code_key.Key) (v : Option Setting)
+  pub at_bad_value : (len : ℕ) (o : Option code_key.Key) (key : code_key.Key) (v : Option Setting)
       → option_map key_for o ≡ key_in strict m.key.now (keys_of name) → o ≡ Some key
       → (strict ≡ true → is_some (first_position (key_for key).key ps) ≡ false)
       → v ≡ setting_in strict (key_for key).values m.value.now → v ≡ None
-      → Refused (record { rule = broken.InvalidModifier m.value; remaining = m.value_remaining })
-  at_bad_value o key v known e new valued none = (
+      → Refused (record { rule = broken.InvalidModifier m.value; remaining = m.value_remaining; len = len })
+  at_bad_value len o key v known e new valued none = (
     fault (invalid_modifier p.value) p.value_index,
     checked o key v known e new valued ∙
         ap (λ w. refuse (not (is_some w)) (invalid_modifier p.value) p.value_index) none,

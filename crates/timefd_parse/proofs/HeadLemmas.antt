@@ -121,13 +121,13 @@ modifiers_step strict name start rest white after word after_word c c' item befo
 
 -- a text without a name where one is needed
 pub nameless_fault : (v : DescriptionVersion) (limit n : ℕ) (inside white named name after : Text)
-    (remaining : ℕ)
+    (remaining len : ℕ)
     → BeginsNoEscape v inside → IsCut is_white inside white named
     → IsCut is_word_byte named name after → length name ≡ 0
     → remaining + name_wanted_index white ≡ length inside + 1
     → IsFaultAt v limit n (left ∷ inside)
-    (record { rule = broken.MissingName; remaining = remaining })
-nameless_fault v limit n inside white named name after remaining none_escaped w u none position = (
+    (record { rule = broken.MissingName; remaining = remaining; len = len })
+nameless_fault v limit n inside white named name after remaining len none_escaped w u none position = (
   nameless white named,
   (
     w.passes,

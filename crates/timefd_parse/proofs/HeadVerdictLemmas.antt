@@ -69,33 +69,27 @@ exactly strict c ps exact = ap (λ b. if b then combined (refusals c) ps else No
 
 -- the refusals from one on decide
 pub refused_here : (total : ℕ) (positions : Positions) (ps : List Placed) (r : code_refusal.Refusal)
-    (rest : List Refusal) (remaining : ℕ) (spelling : Bor (List ℕ)) (all : Option Fault)
+    (rest : List Refusal) (remaining len : ℕ) (spelling : Bor (List ℕ)) (all : Option Fault)
     → ShowsPositions total positions ps
     → position positions r.key ≡ Some remaining → spelling.now ≡ (key_for r.key).key
     → all ≡ combined (refusal_for r ∷ rest) ps
     → ShowsFault total
-    (Some (record {
-      rule = broken.RefusedModifier spelling r.context;
-      remaining =
-          remaining;
-    })) all
-refused_here total positions ps r rest remaining spelling all shows at spelled e =
+    (Some (record { rule = broken.RefusedModifier spelling r.context; remaining = remaining; len = len }))
+    all
+refused_here total positions ps r rest remaining len spelling all shows at spelled e =
     by (first_position (key_for r.key).key ps) refl
     (subst (λ o. ShowsPosition total o (first_position (key_for r.key).key ps)) at (shows r.key))
   where
     by : (o : Option ℕ) → first_position (key_for r.key).key ps ≡ o
         → ShowsPosition total (Some remaining) o
         → ShowsFault total
-        (Some (record {
-          rule = broken.RefusedModifier spelling r.context;
-          remaining =
-              remaining;
-        })) all
+        (Some (record { rule = broken.RefusedModifier spelling r.context; remaining = remaining; len = len }))
+        all
     by None f is = absurd is
     by (Some i) f is =
         let g : Fault = fault (invalid_combination (key_for r.key).key r.context.now) i in
         subst (ShowsFault total (Some
-        (record { rule = broken.RefusedModifier spelling r.context; remaining = remaining })))
+        (record { rule = broken.RefusedModifier spelling r.context; remaining = remaining; len = len })))
         (sym (e ∙ ap (λ x. x or combined rest ps) (misplaced_at (refusal_for r) ps ∙
         ap (option_map (λ j. fault (invalid_combination (key_for r.key).key r.context.now) j))
         f)))
@@ -139,11 +133,11 @@ module _ (strict : Bool) (total : ℕ) (head : code_head.Head) (modifiers : code
       (none_shown total _ _ checks.fault none)
       ∙ ap (made strict h) (ap (row_for n).component (sym (checks.settings none)) ∙ e)
 
-  pub component_missing : (key : Bor (List ℕ)) → modifiers.fault ≡ None
+  pub component_missing : (key : Bor (List ℕ)) (len : ℕ) → modifiers.fault ≡ None
       → (row_for n).component modifiers.settings ≡ Err (missing_modifier key.now)
       → JudgedFault total (component_verdict strict h (Some (row_for n)))
-      (record { rule = broken.MissingModifier key; remaining = head.remaining })
-  component_missing key none e = (
+      (record { rule = broken.MissingModifier key; remaining = head.remaining; len = len })
+  component_missing key len none e = (
     fault (missing_modifier key.now) (name_index h),
     good none _ e,
     record { kind = refl; position = shows.position },
@@ -238,11 +232,11 @@ decided strict total head modifiers h name by shows is same = λ parts position.
     (ap (by_name strict h parts position) is ∙ same parts position)
 
 pub refused_name : (strict : Bool) (total : ℕ) (head : code_head.Head)
-    (modifiers : code_modifiers.Modifiers) (h : Head) → ShowsHead strict total head modifiers h
+    (modifiers : code_modifiers.Modifiers) (h : Head) (len : ℕ) → ShowsHead strict total head modifiers h
     → head.name ≡ None
     → IsVerdict strict total h (nests head.name) (verdicts.Refused
-    (record { rule = broken.UnknownName head.word; remaining = head.remaining }))
-refused_name strict total head modifiers h shows none = (
+    (record { rule = broken.UnknownName head.word; remaining = head.remaining; len = len }))
+refused_name strict total head modifiers h len shows none = (
   fault (invalid_name h.name) (name_index h),
   record { kind = ap invalid_name shows.word; position = shows.position },
   decided strict total head modifiers h None _ shows none (λ parts position. refl),

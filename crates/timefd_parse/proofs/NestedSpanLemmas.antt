@@ -73,7 +73,7 @@ module _ {v : DescriptionVersion} {limit n : ℕ} {inside : Text} {judged : Judg
       → rest ≡ left ∷ text → HasByteAt (left ∷ inside) remaining
   first_at text before opening =
       by b.before.list b.before.first
-      (b.before.shows 0 (length (b.begins.white ++ b.after)) refl)
+      (b.before.shows 0 (length (b.begins.white ++ b.after)) (omega arith))
     where
       by : (l : Nested) → IsFirst judged.spaced remaining l b.before.white rest
           → ShowsDescriptions (length (b.begins.white ++ b.after)) judged.spaced remaining read

@@ -211,7 +211,7 @@ module _ (strict : Bool) (text : Text) (head : code_head.Head) (modifiers : code
       let whole : text ≡ ((left ∷ h.white ++ h.name) ++ there.0) ++ (word ++ colon ∷
       (there.1 ++ (head.white.now ++ rest))) =
       begins.whole ∙ ap (λ t. ((left ∷ h.white ++ h.name) ++ t) ++ head.white.now ++ rest) there.3
-      ∙ simp append_assoc in
+      ∙ simp append_assoc (ap (λ t. left ∷ t) (append_assoc h.white h.name _)) in
       record {
         before = (left ∷ h.white ++ h.name) ++ there.0;
         rest = there.1 ++ (head.white.now ++ rest);

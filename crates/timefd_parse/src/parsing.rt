@@ -12,8 +12,7 @@ ghost use Rattle.timefd_language.specs.Grammar.{Spells, nesting_limit};
 ghost use Rattle.timefd_language.specs.Broken.{FaultOf};
 ghost use Rattle.timefd_lang_fault.specs.Placed.{HasPlacedFault};
 ghost use Rattle.timefd_parse.specs.Answers.{IsOutput, IsAssigned, ReservesAtMost, HasStrings};
-ghost use Rattle.timefd_lang_fault.specs.Reported.{IsFaultOrMemory, MemoryAlone, Tells};
-ghost use Rattle.timefd_lang_fault.specs.ReadErrors.{IsFault, MemoryOr};
+ghost use Rattle.timefd_lang_fault.specs.Reported.{IsFaultOrMemory, MemoryAlone};
 ghost use Rattle.timefd_language.specs.Strings.{AreItems};
 
 use crate::borrowing::{parse_all_borrowed, parse_items};

@@ -29,6 +29,7 @@ fn leading_digits(text: &[u8], most: usize) -> (u128, usize)
 }
 
 /// The digit at a position.
+#[inline(always)]
 #[tactic(auto, using(crate::proofs::FieldsLemmas::DigitLemmas::digit_found, crate::proofs::FieldsLemmas::DigitLemmas::digit_lacks, crate::proofs::FieldsLemmas::DigitLemmas::digit_ends))]
 fn digit_at(text: &[u8], at: usize) -> Option<u8>
     ensures { IsDigitAt text.now at result }
@@ -45,23 +46,31 @@ fn digit_at(text: &[u8], at: usize) -> Option<u8>
 }
 
 /// The value of the two digits at the start.
+#[inline(always)]
 #[tactic(auto, using(crate::proofs::FieldsLemmas::DigitLemmas::two_found))]
 pub(crate) fn two_digits(text: &[u8]) -> Option<u16>
     ensures value { IfSome result (λ number. spec.digits 2 2 text.now ≡ Some (number, 2)) }
     ensures within { IfSome result (λ number. 2 ≤ length text.now) }
 {
+    if text.len() < 2 {
+        return None;
+    }
     let tens = digit_at(text, 0)? as u16;
     let ones = digit_at(text, 1)? as u16;
     Some(tens * 10 + ones)
 }
 
 /// The value of the four digits at the start.
+#[inline(always)]
 #[tactic(auto, using(crate::proofs::FieldsLemmas::DigitLemmas::four_found, crate::proofs::FieldsLemmas::DigitLemmas::digit_unsigned))]
 pub(crate) fn four_digits(text: &[u8]) -> Option<u16>
     ensures value { IfSome result (λ number. spec.digits 4 4 text.now ≡ Some (number, 4)) }
     ensures within { IfSome result (λ number. 4 ≤ length text.now) }
     ensures unsigned { IfSome result (λ number. spec.sign_in text.now ≡ None) }
 {
+    if text.len() < 4 {
+        return None;
+    }
     let thousands = digit_at(text, 0)? as u16;
     let hundreds = digit_at(text, 1)? as u16;
     let tens = digit_at(text, 2)? as u16;

@@ -226,14 +226,43 @@ fn take_literal(literal: &[u8], text: &[u8], numbers: Numbers) -> Option<(usize,
 fn take_component(component: Component, text: &[u8], numbers: Numbers) -> Option<(usize, Numbers)>
     ensures { TakesNumber (input (rules.rule_of (modern component)) text.now) text.now numbers result }
 {
+    // An arm for each field, so that no field is looked up again.
     match rule_of(component) {
         Rule::Number {
-            field,
+            field: Count::Month,
             padding: Padding::Zero,
             width: 2,
             lowest,
             highest,
-        } => take_two(field, lowest, highest, text, numbers),
+        } => take_two(Count::Month, lowest, highest, text, numbers),
+        Rule::Number {
+            field: Count::Day,
+            padding: Padding::Zero,
+            width: 2,
+            lowest,
+            highest,
+        } => take_two(Count::Day, lowest, highest, text, numbers),
+        Rule::Number {
+            field: Count::Hour,
+            padding: Padding::Zero,
+            width: 2,
+            lowest,
+            highest,
+        } => take_two(Count::Hour, lowest, highest, text, numbers),
+        Rule::Number {
+            field: Count::Minute,
+            padding: Padding::Zero,
+            width: 2,
+            lowest,
+            highest,
+        } => take_two(Count::Minute, lowest, highest, text, numbers),
+        Rule::Number {
+            field: Count::Second,
+            padding: Padding::Zero,
+            width: 2,
+            lowest,
+            highest,
+        } => take_two(Count::Second, lowest, highest, text, numbers),
         Rule::Signed {
             field: Amount::Year,
             is_mandatory: false,

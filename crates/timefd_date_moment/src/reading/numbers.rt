@@ -50,7 +50,7 @@ fn date_shown(numbers: Numbers) -> Option<Option<Date>>
 fn date_of(year: u16, month: u16, day: u16) -> Option<Date>
     ensures { IfSome result (λ date. (date.years ≡ year + 1000000) × (date.month ≡ month) × (date.day ≡ day)) }
 {
-    if year > 9_999 || month > 12 || day > 31 {
+    if month > 12 || day > 31 {
         return None;
     }
     match Date::from_calendar_date(year as i32, month as u8, day as u8) {

@@ -36,7 +36,7 @@ use Rattle.timefd_lang_fault.specs.Words.{expected_escape}
 use Rattle.timefd_language.specs.Cut.{IsCut}
 use Rattle.timefd_language.specs.declared.language.Language.TheVariants as languages
 use Rattle.timefd_language.specs.Spans.{HasSpan, IsSpanned, SpansStrftime, first_len, strftime_extent}
-use Rattle.timefd_language.proofs.SpanLemmas.{spanned, spans_after, spans_byte, spans_character}
+use Rattle.timefd_language.proofs.SpanLemmas.{no_len, spanned, spans_after, spans_byte, spans_character}
 use Rattle.timefd_language.specs.Directives.StrftimeReading.{MayFollow, BeginsWithFlag, BeginsWithPiece, Leads, LeadsTo, HasItems, IsStrftimeFaultAt, IsStrftimeFaultIn, IsRestOf}
 use Rattle.timefd_lang_fault.specs.RuleKinds.{rule_kind}
 use Rattle.timefd_lang_fault.specs.ReadErrors.{IsFault, MemoryOr}
@@ -125,13 +125,12 @@ directive_unknown after rest padding bad h some none kind position len within =
 cut_short_spans : (f : Flag) (bad : code_fault.Fault)
     → cut_index f + bad.remaining ≡ 1 + length (flag_text f) → bad.len ≡ bad.remaining
     → SpansStrftime (percent ∷ flag_text f) bad
-unfolding chars
 cut_short_spans unflagged bad at len =
     spans_byte strftime_extent (percent ∷ []) [] percent [] bad refl (lit< tt) refl
     (omega (arith, at)) (omega (arith, at, len))
 cut_short_spans (flagged b) bad at len =
     spans_character strftime_extent (percent ∷ b ∷ []) (percent ∷ b ∷ []) [] bad refl refl
-    (omega (arith, at)) (omega (arith, at, len)) (omega (arith, at, len))
+    (omega (arith, at)) (omega (arith, at, len, no_len)) (omega (arith, at, len))
 
 pub directive_cut_short : (after rest : Text) (padding : Option Padding) (bad : code_fault.Fault)
     → BeginsWithFlag after padding rest → rest ≡ []

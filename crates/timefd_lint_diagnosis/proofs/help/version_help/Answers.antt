@@ -7,6 +7,6 @@ use Rattle.timefd_lint_diagnosis.proofs.help.version_help.Goals as goal
 
 pub returns-in-None : goal.returns-in-None
 returns-in-None c =
-    subst (λ (k : Rule). spec.IsVersionHelp c.args.version c.args.text.now c.args.fault.index
+    subst (λ (k : Rule). spec.IsVersionHelp c.args.version c.args.text.now c.args.fault.start
     (rule_kind k) (Advice c.advice.result))
     (sym c.in-InvalidModifier.is) (c.in-None.ensures, c.advice.ensures)

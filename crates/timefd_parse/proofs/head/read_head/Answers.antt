@@ -26,7 +26,7 @@ returns-then-is_empty-clause-head c = λ v limit n none.
         name_wanted_some c.cut.result.0.now (false-eqb _ 0 w.if-is_empty-2.ensures),
       )
     ] in
-    nameless_fault v limit n _ _ _ _ _ _ none c.cut.ensures.parts c.cut-2.ensures.parts
+    nameless_fault v limit n _ _ _ _ _ _ _ none c.cut.ensures.parts c.cut-2.ensures.parts
     (eqb-true _ 0 (sym c.if-is_empty.ensures)) position
 
 pub modifiers-init : goal.modifiers-init

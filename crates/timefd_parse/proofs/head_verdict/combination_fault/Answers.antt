@@ -15,8 +15,8 @@ refusals-init c = λ total ps shows. ap (λ r. combined r ps) (sym c.refusals-re
 
 pub returns-in-Some-clause-fault : goal.returns-in-Some-clause-fault
 returns-in-Some-clause-fault c = λ total ps shows.
-    refused_here total _ ps _ _ _ _ _ (shows (sym c.if-not-is_strict.ensures))
-    (sym c.of.ensures ∙ c.in-Some.is) c.spelling.ensures
+    refused_here total _ ps _ _ _ _ _ _ (shows (sym c.if-not-is_strict.ensures))
+    (sym c.of.ensures ∙ c.in-Some.is) c.spelling-key.ensures
     (exactly _ _ ps (sym c.if-not-is_strict.ensures) ∙
     c.refusals.invariant total ps (shows (sym c.if-not-is_strict.ensures))
     ∙ ap (λ l. combined (map refusal_for l) ps)
@@ -44,4 +44,4 @@ returns-clause-fault c = λ total ps shows.
 pub returns-in-Some-clause-span : goal.returns-in-Some-clause-span
 returns-in-Some-clause-span c = λ text ps shows have.
     refused_spans text _ ps _ _ _ _ _ (shows (sym c.if-not-is_strict.ensures)) c.of.ensures c.in-Some.is
-    c.spelling.ensures have refl refl refl
+    c.spelling-key.ensures have refl refl refl

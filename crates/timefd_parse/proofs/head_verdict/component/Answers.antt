@@ -12,7 +12,7 @@ returns-in-Some-clause-tree c = λ total h shows named. component_bad _ total _ 
 
 pub returns-in_default-component_of-clause-tree : goal.returns-in_default-component_of-clause-tree
 returns-in_default-component_of-clause-tree c =
-    λ total h shows named. component_missing _ total _ _ h _ shows named _ c.in_default.is
+    λ total h shows named. component_missing _ total _ _ h _ shows named _ _ c.in_default.is
     c.in_default-component_of.ensures
 
 pub returns-in-Some-combination_fault-clause-tree : goal.returns-in-Some-combination_fault-clause-tree

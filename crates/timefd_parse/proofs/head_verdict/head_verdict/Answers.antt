@@ -5,7 +5,7 @@ use Rattle.timefd_parse.proofs.HeadVerdictLemmas.{refused_name, refused_first}
 use Rattle.timefd_parse.proofs.head_verdict.head_verdict.Goals as goal
 
 pub returns-in_default-clause-verdict : goal.returns-in_default-clause-verdict
-returns-in_default-clause-verdict c = λ total h shows. refused_name _ total _ _ h shows c.in_default.is
+returns-in_default-clause-verdict c = λ total h shows. refused_name _ total _ _ h _ shows c.in_default.is
 
 pub returns-in-Some-fault-2-clause-verdict : goal.returns-in-Some-fault-2-clause-verdict
 returns-in-Some-fault-2-clause-verdict c = λ total h shows.

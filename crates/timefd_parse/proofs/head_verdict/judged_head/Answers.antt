@@ -29,3 +29,6 @@ pub returns-clause-span : goal.returns-clause-span
 returns-clause-span c =
     let e = c.in_ok-head.ensures.head in
     c.head_verdict.ensures.span (left ∷ c.args.inside.now) _ e.0.0 e.0.1 c.in_ok-head.ensures.fault
+
+pub returns-in-Some-clause-span : goal.returns-in-Some-clause-span
+returns-in-Some-clause-span c = c.in-Some.ensures.span (left ∷ c.args.inside.now)
