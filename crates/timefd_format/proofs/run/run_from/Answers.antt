@@ -21,5 +21,5 @@ returns-in_ok-tally-in-Description g c = record {
       (g.E.Sink.has_failed c.args.errors.now) (g.E.Sink.has_failed c.report_warnings.new.errors)
       (g.E.Sink.has_failed c.write_all.new.errors) c.in_ok-diagnostic.field-0 c.in-Description.description
       c.warned_by-warned.result c.in_ok-tally-in-Description.tally c.in-Description.is c.in_ok-diagnostic.ensures
-      c.in_ok-report_warnings.ensures.gets c.in_ok-tally-in-Description.ensures.reports;
+      c.in_ok-report_warnings-in-Description.ensures.gets c.in_ok-tally-in-Description.ensures.reports;
 }

@@ -31,5 +31,5 @@ returns-in_ok-replace_record-in-None-clause-reports g c =
     (g.E.Sink.has_failed c.args.errors.now) (g.E.Sink.has_failed c.report.new.errors) c.requires.closed
     (has_some c.args.row.now c.without_newline.result.now c.is_empty.result c.is_empty.ensures
     c.if-is_empty.false c.without_newline.ensures)
-    (c.cell_after.ensures.none c.in-None.is) (c.as_bytes.ensures.value ∙ c.in_ok-message.ensures)
-    c.in_ok-report.ensures.gets
+    (c.cell_after.ensures.none c.in-None.is) (c.as_bytes.ensures.value ∙ c.in_ok-message-in-None.ensures)
+    c.in_ok-report-in-None.ensures.gets
