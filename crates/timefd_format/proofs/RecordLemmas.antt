@@ -132,6 +132,10 @@ IsKnown (Some xs) (Some ys) row q = (record_from Start xs ≡ row ++ record_from
 pub IsSoFar : Option Text → Option Text → Text → Quoting → Type 0
 IsSoFar old left row q = (q ≡ after_all Start row) × IsKnown old left row q
 
+pub known_so_far : (old left : Option Text) (row : Text) (q : Quoting) → IsSoFar old left row q → IsKnown old left row q
+unfolding IsSoFar
+known_so_far old left row q so_far = so_far.1
+
 pub starts : (old : Option Text) → IsSoFar old old [] Start
 unfolding IsSoFar
 starts None = (refl, tt)

@@ -44,7 +44,7 @@ no_field zero [] is = refl
 no_field zero (b ∷ bs) is = absurd cc
 no_field (suc n) field is = absurd cc
 
-filled_by : (content field : Text) (n : ℕ) → (field ≡ [] → ⊥) → field_after n (fields content) ≡ Some field
+pub filled_by : (content field : Text) (n : ℕ) → (field ≡ [] → ⊥) → field_after n (fields content) ≡ Some field
     → is_empty content ≡ false
 filled_by [] field n some is = absurd (some (no_field n field is))
 filled_by (b ∷ bs) field n some is = refl

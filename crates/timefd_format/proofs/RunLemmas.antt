@@ -65,6 +65,11 @@ pub both_read : (a b sum : Tally) → sum ≡ both a b → a.has_failed ≡ fals
 both_read a b sum is first second =
     ap (λ t. t.has_failed) is ∙ (ap (λ f. f || b.has_failed) first ∙ second)
 
+-- A read failed in the second part.
+pub failed_after : (a failing sum : Tally) → failing ≡ at_end true → sum ≡ both a failing → sum.has_failed ≡ true
+failed_after a failing sum failing_is is =
+    ap (λ t. t.has_failed) is ∙ (ap (λ t. a.has_failed || t.has_failed) failing_is ∙ or_true a.has_failed)
+
 -- Running the rest after what is done runs all.
 abbrev pub Completes : Otherwise → Source → BorrowedOutput → List Text → List Text → Option Text
     → Option Text → Tally → Type 0
@@ -91,7 +96,7 @@ goes_on otherwise source o words rest after word before between next tally one s
     (subst (λ ws. Runs false otherwise source o ws between end (both (tally_of outcome) more)) (sym split)
     (outcome, next, more, is, runs, refl)))
 
-none_left : (words : List (Bor Text)) → length words < 1 → words ≡ []
+pub none_left : (words : List (Bor Text)) → length words < 1 → words ≡ []
 none_left [] short = refl
 none_left (word ∷ words) short = absurd (omega (arith, short))
 

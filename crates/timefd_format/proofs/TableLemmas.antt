@@ -32,7 +32,7 @@ unfolding Completes
 starts otherwise source o n bytes before tally none failed after more runs =
     subst (λ t. RunsRecordsOn failed otherwise source o n bytes before after (both t more)) (sym none) runs
 
-more_records : (bytes rest : Option Text) (row : Text) (records : List Text) (failed : Bool)
+pub more_records : (bytes rest : Option Text) (row : Text) (records : List Text) (failed : Bool)
     → IsNextRecord bytes row rest → AreRecordsOf rest records failed
     → AreRecordsOf bytes (row ∷ records) failed
 more_records None rest row records failed next are = tt
@@ -58,11 +58,11 @@ record_more otherwise source o n bytes left rest row before between next tally o
       (one, next, more, is, runs.2, refl),
     ))
 
-no_record_left : (left : Option Text) → IsAtEnd left → AreRecordsOf left [] false
+pub no_record_left : (left : Option Text) → IsAtEnd left → AreRecordsOf left [] false
 no_record_left None end = tt
 no_record_left (Some xs) end = end
 
-no_record_read : (left : Option Text) → AreRecordsOf left [] true
+pub no_record_read : (left : Option Text) → AreRecordsOf left [] true
 no_record_read None = tt
 no_record_read (Some xs) = (xs, refl)
 

@@ -36,7 +36,7 @@ first_through y = ap (λ b. cond b (10 ∷ []) (10 ∷ take_through 10 y)) (eq-e
 first_dropped : (y : Text) → drop_through 10 (10 ∷ y) ≡ y
 first_dropped y = ap (λ b. cond b y (drop_through 10 y)) (eq-eqb 10 10 refl)
 
-next_line : (left rest : Option Text) (line : Text) → IsWholeLine line → Consumes left rest line
+pub next_line : (left rest : Option Text) (line : Text) → IsWholeLine line → Consumes left rest line
     → IsNextLine left line rest
 next_line None rest line whole consumed = tt
 next_line (Some x) None line whole consumed = absurd consumed

@@ -24,6 +24,9 @@ pub mod Tables
 pub mod PlainCells
 pub mod RecordBatches
 pub mod Warned
+pub mod LineReports
+pub mod TableReports
+pub mod RunReports
 pub mod Runs
 pub mod Converted
 pub mod ToRead

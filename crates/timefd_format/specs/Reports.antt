@@ -1,5 +1,5 @@
 -- What people see of the messages of a run.
-use Rattle.std.specs.Prelude.{Bool, true, false, Option, ◌++◌, chars, codes, IsTrue}
+use Rattle.std.specs.Prelude.{Bool, true, false, Option, ◌++◌, chars, codes, IsFalse, IsTrue}
 use Rattle.std.specs.Io.KnownBytes.{Appends}
 use denote.Ref.{Bor}
 use Rattle.timefd_lang_component.specs.Tree.{Text}
@@ -16,6 +16,11 @@ abbrev pub ReachesPeople : Bool → Text → Option Text → Option Text → Boo
 ReachesPeople colored message before after failed Seen =
     Appends before after (for_people colored message) × AllSeen colored (chars (for_people colored message))
 ReachesPeople colored message before after failed Failed = IsTrue failed
+
+-- A stream that had failed has still failed, and one that hasn't failed has got this text, and nothing else.
+abbrev pub Gets : Text → Option Text → Option Text → Bool → Bool → Type 0
+Gets text before after had_failed failed =
+    (IsTrue had_failed → IsTrue failed) × (IsFalse failed → Appends before after text)
 
 -- a sentence in a line of its own, after the name of the program
 abbrev pub line_of : Text → Text

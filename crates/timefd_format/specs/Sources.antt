@@ -1,5 +1,5 @@
 -- What the words of a run are, and the moments that they name or show.
-use Rattle.std.specs.Prelude.{◌≡◌, List, Option, Some, None, Result, ⊤}
+use Rattle.std.specs.Prelude.{◌≡◌, Bool, List, Option, Some, None, Result, ⊤}
 use denote.Ref.{Bor}
 use Rattle.jiff_tz.specs.declared.timezone.TimeZone.{TimeZone}
 use Rattle.timefd_lang_component.specs.Tree.{Text}
@@ -71,3 +71,8 @@ IsTextOf source leaves = IsTextOfKind source.kind leaves
 abbrev pub AreLeavesIn : Source → Option (Bor (List Leaf)) → Type 0
 AreLeavesIn source None = ⊤
 AreLeavesIn source (Some leaves) = IsTextOf source leaves.now
+
+-- Nothing is reported where there is a source.
+abbrev pub IsSilentOn : Option Text → Option Text → Bool → Bool → Option Source → Type 0
+IsSilentOn before after had_failed failed None = ⊤
+IsSilentOn before after had_failed failed (Some source) = (after ≡ before) × (failed ≡ had_failed)

@@ -1,7 +1,8 @@
 //! One text that should be a moment, and what becomes of it.
 
-ghost use Rattle.std.specs.Prelude.{◌≡◌, false, IfErr, IfOk};
+ghost use Rattle.std.specs.Prelude.{◌≡◌, false, IfErr, IfOk, OnOk};
 ghost use Rattle.timefd_format.specs.Frames.{EndsOnlyAsAsked, IsFailure};
+ghost use Rattle.timefd_format.specs.LineReports.{ReportsMoment, ReportsOutcome, ReportsWord};
 ghost use Rattle.timefd_format.specs.ReadBack.{AreLeavesOf};
 ghost use Rattle.timefd_format.specs.Sources.{AreLeavesIn};
 ghost use Rattle.timefd_format.specs.Written.{IsOne, IsOneOfMoment, IsSent, IsTallyOf, written_of};
@@ -46,6 +47,8 @@ pub fn tally_one<W: Sink, E: Sink>(
     ensures one { IfOk result (IsTallyOf otherwise source.now description.now entry.entry.frame entry.entry.text.now
         (W.contents output.old) (W.contents output.new)) }
     ensures read { IfOk result (λ tally. tally.has_failed ≡ false) }
+    ensures reports { OnOk result (ReportsWord source.now description.now entry.entry.line entry.entry.text.now
+        (E.contents errors.old) (E.contents errors.new) (E.has_failed errors.old) (E.has_failed errors.new)) }
     ensures ends { IfErr result (EndsOnlyAsAsked otherwise (W.has_failed output.new)) }
 {
     let outcome = write_one(
@@ -65,6 +68,7 @@ pub fn tally_one<W: Sink, E: Sink>(
 
 // Writes the moment that a text names or shows, or reports why there is none.
 #[inline(always)]
+#[tactic(auto, using(crate::proofs::LineReportLemmas::unread_reported))]
 fn write_one<W: Sink, E: Sink>(
     alloc: Global,
     source: &Source<'_>,
@@ -81,6 +85,8 @@ fn write_one<W: Sink, E: Sink>(
     requires written { AreLeavesOf description.now leaves }
     ensures one { IfOk result (IsOne otherwise source.now description.now entry.entry.frame entry.entry.text.now
         (W.contents output.old) (W.contents output.new)) }
+    ensures reports { IfOk result (λ outcome. ReportsOutcome source.now entry.entry.line entry.entry.text.now outcome
+        (E.contents errors.old) (E.contents errors.new) (E.has_failed errors.old) (E.has_failed errors.new)) }
     ensures ends { IfErr result (EndsOnlyAsAsked otherwise (W.has_failed output.new)) }
 {
     let Ok(text) = str::from_utf8(entry.text) else {
@@ -111,6 +117,7 @@ fn write_one<W: Sink, E: Sink>(
 }
 
 // Writes the moment of a text, or reports which component can't show it.
+#[tactic(auto, using(crate::proofs::LineReportLemmas::nothing_reported, crate::proofs::LineReportLemmas::unshown_reported))]
 fn write_moment<W: Sink, E: Sink>(
     alloc: Global,
     moment: Moment,
@@ -126,6 +133,8 @@ fn write_moment<W: Sink, E: Sink>(
     requires { AreLeavesOf description.now leaves }
     ensures one { IfOk result (IsOneOfMoment otherwise entry.entry.frame entry.entry.text.now moment description.now
         (W.contents output.old) (W.contents output.new)) }
+    ensures reports { IfOk result (λ outcome. ReportsMoment text.now outcome
+        (E.contents errors.old) (E.contents errors.new) (E.has_failed errors.old) (E.has_failed errors.new)) }
     ensures ends { IfErr result (EndsOnlyAsAsked otherwise (W.has_failed output.new)) }
 {
     match write_in(

@@ -4,6 +4,7 @@ ghost use Rattle.std.specs.Prelude.{◌≡◌, IfErr, IfOk, length};
 ghost use Rattle.timefd_format.specs.Batches.{IsNext};
 ghost use Rattle.timefd_format.specs.Failures.{IsSourceAfterLine, IsSourceAfterNext, IsUnreadOnlyIf};
 ghost use Rattle.timefd_format.specs.Frames.{EndsOnlyAsAsked};
+ghost use Rattle.timefd_format.specs.LineReports.{ReportsLines, ReportsNext};
 ghost use Rattle.timefd_format.specs.ReadBack.{AreLeavesOf};
 ghost use Rattle.timefd_format.specs.Sources.{AreLeavesIn};
 ghost use Rattle.timefd_format.specs.Written as spec;
@@ -118,6 +119,9 @@ pub fn write_lines<R: BufferedSource, W: Sink, E: Sink>(
     ensures runs { IfOk result (RunsOver otherwise source.now description.now (R.remaining reader.old)
         (W.contents output.old) (W.contents output.new)) }
     ensures unread { IfOk result (IsUnreadOnlyIf (R.has_failed reader.new)) }
+    ensures reports { IfOk result (λ tally. ReportsLines source.now description.now tally.has_failed
+        (R.remaining reader.old) (E.contents errors.old) (E.contents errors.new) (E.has_failed errors.old)
+        (E.has_failed errors.new)) }
     ensures ends { IfErr result (EndsOnlyAsAsked otherwise (W.has_failed output.new)) }
 {
     let read = source_leaves(alloc, source)?;
@@ -136,7 +140,7 @@ pub fn write_lines<R: BufferedSource, W: Sink, E: Sink>(
 }
 
 // Writes those lines by the leaves of both descriptions, if they have some.
-#[tactic(auto, using(crate::proofs::RunLemmas::lines_start, crate::proofs::TakenLemmas::batch_more, crate::proofs::TakenLemmas::next_more, crate::proofs::TakenLemmas::next_ends, crate::proofs::TakenLemmas::next_fails))]
+#[tactic(auto, using(crate::proofs::RunLemmas::lines_start, crate::proofs::LineReportLemmas::starts, crate::proofs::TakenLemmas::batch_more, crate::proofs::TakenLemmas::next_more, crate::proofs::TakenLemmas::next_ends, crate::proofs::TakenLemmas::next_fails))]
 fn write_by<R: BufferedSource, W: Sink, E: Sink>(
     alloc: Global,
     source: &Source<'_>,
@@ -153,6 +157,9 @@ fn write_by<R: BufferedSource, W: Sink, E: Sink>(
     ensures runs { IfOk result (RunsOver otherwise source.now description.now (R.remaining reader.old)
         (W.contents output.old) (W.contents output.new)) }
     ensures unread { IfOk result (IsUnreadOnlyIf (R.has_failed reader.new)) }
+    ensures reports { IfOk result (λ tally. ReportsLines source.now description.now tally.has_failed
+        (R.remaining reader.old) (E.contents errors.old) (E.contents errors.new) (E.has_failed errors.old)
+        (E.has_failed errors.new)) }
     ensures ends { IfErr result (EndsOnlyAsAsked otherwise (W.has_failed output.new)) }
 {
     let mut tally = Tally::at_end(false);
@@ -202,7 +209,7 @@ pub enum Next {
 
 // Writes the next lines in a batch. If that can't be done with the first of them, which has this number, it is
 // looked at by itself.
-#[tactic(auto, using(crate::proofs::TakenLemmas::lines_next, crate::proofs::TakenLemmas::end_next, crate::proofs::TakenLemmas::failed_next, crate::proofs::TakenLemmas::nothing_next, crate::proofs::TakenLemmas::source_after))]
+#[tactic(auto, using(crate::proofs::TakenLemmas::lines_next, crate::proofs::TakenLemmas::end_next, crate::proofs::TakenLemmas::failed_next, crate::proofs::TakenLemmas::nothing_next, crate::proofs::TakenLemmas::source_after, crate::proofs::LineReportLemmas::batch_reported, crate::proofs::LineReportLemmas::after_nothing, crate::proofs::LineReportLemmas::end_reported, crate::proofs::LineReportLemmas::failure_reported))]
 fn write_next<R: BufferedSource, W: Sink, E: Sink>(
     alloc: Global,
     source: &Source<'_>,
@@ -224,6 +231,9 @@ fn write_next<R: BufferedSource, W: Sink, E: Sink>(
         (R.remaining reader.new) (W.contents output.old) (W.contents output.new)) }
     ensures source { IfOk result (IsSourceAfterNext (R.calls_left reader.old) (R.calls_left reader.new)
         (R.has_failed reader.new)) }
+    ensures reports { IfOk result (ReportsNext source.now description.now line (R.remaining reader.old)
+        (R.remaining reader.new) (E.contents errors.old) (E.contents errors.new) (E.has_failed errors.old)
+        (E.has_failed errors.new)) }
     ensures ends { IfErr result (EndsOnlyAsAsked otherwise (W.has_failed output.new)) }
 {
     match take_batch(
@@ -256,7 +266,7 @@ fn write_next<R: BufferedSource, W: Sink, E: Sink>(
 }
 
 // Reads one more line, which has this number, and writes the moment that it names or shows.
-#[tactic(auto, using(crate::proofs::TakenLemmas::line_looked, crate::proofs::TakenLemmas::no_line_looked))]
+#[tactic(auto, using(crate::proofs::TakenLemmas::line_looked, crate::proofs::TakenLemmas::no_line_looked, crate::proofs::LineReportLemmas::line_reported, crate::proofs::LineReportLemmas::no_line_reported, crate::proofs::LineReportLemmas::failure_reported))]
 fn write_line_by_itself<R: BufferedSource, W: Sink, E: Sink>(
     alloc: Global,
     source: &Source<'_>,
@@ -277,6 +287,9 @@ fn write_line_by_itself<R: BufferedSource, W: Sink, E: Sink>(
         (R.remaining reader.new) (W.contents output.old) (W.contents output.new)) }
     ensures source { IfOk result (IsSourceAfterNext (R.calls_left reader.old) (R.calls_left reader.new)
         (R.has_failed reader.new)) }
+    ensures reports { IfOk result (ReportsNext source.now description.now line (R.remaining reader.old)
+        (R.remaining reader.new) (E.contents errors.old) (E.contents errors.new) (E.has_failed errors.old)
+        (E.has_failed errors.new)) }
     ensures ends { IfErr result (EndsOnlyAsAsked otherwise (W.has_failed output.new)) }
 {
     match read_line(reader, bytes)? {

@@ -6,6 +6,7 @@ ghost use Rattle.timefd_format.specs.Frames.{EndsOnlyAsAsked};
 ghost use Rattle.timefd_format.specs.ReadBack.{AreLeavesOf};
 ghost use Rattle.timefd_format.specs.RecordBatches.{IsNextRecords};
 ghost use Rattle.timefd_format.specs.Sources.{AreLeavesIn};
+ghost use Rattle.timefd_format.specs.TableReports.{ReportsNextRecords};
 
 use crate::fast::take::Taken;
 use crate::fast::take_records::take_records;
@@ -34,7 +35,7 @@ pub enum NextRecords {
 
 /// Writes the next records in a batch. If that can't be done with the first of them, which begins in the line
 /// with this number, it is looked at by itself.
-#[tactic(auto, using(crate::proofs::RecordTakenLemmas::batch_next, crate::proofs::RecordTakenLemmas::end_next, crate::proofs::RecordTakenLemmas::failed_next, crate::proofs::RecordTakenLemmas::nothing_next, crate::proofs::RecordTakenLemmas::source_after))]
+#[tactic(auto, using(crate::proofs::RecordTakenLemmas::batch_next, crate::proofs::RecordTakenLemmas::end_next, crate::proofs::RecordTakenLemmas::failed_next, crate::proofs::RecordTakenLemmas::nothing_next, crate::proofs::RecordTakenLemmas::source_after, crate::proofs::TableReportLemmas::batch_reported, crate::proofs::TableReportLemmas::after_nothing, crate::proofs::TableReportLemmas::end_reported, crate::proofs::TableReportLemmas::failure_reported))]
 pub fn write_next_records<R: BufferedSource, W: Sink, E: Sink>(
     alloc: Global,
     source: &Source<'_>,
@@ -58,6 +59,9 @@ pub fn write_next_records<R: BufferedSource, W: Sink, E: Sink>(
         (R.remaining reader.old) (R.remaining reader.new) (W.contents output.old) (W.contents output.new)) }
     ensures source { IfOk result (IsSourceAfterRecords (R.calls_left reader.old) (R.calls_left reader.new)
         (R.has_failed reader.new)) }
+    ensures reports { IfOk result (ReportsNextRecords source.now description.now count line (R.remaining reader.old)
+        (R.remaining reader.new) (E.contents errors.old) (E.contents errors.new) (E.has_failed errors.old)
+        (E.has_failed errors.new)) }
     ensures ends { IfErr result (EndsOnlyAsAsked otherwise (W.has_failed output.new)) }
 {
     match take_records(
@@ -93,7 +97,7 @@ pub fn write_next_records<R: BufferedSource, W: Sink, E: Sink>(
 }
 
 // Reads one more record, which begins in the line with this number, and writes it.
-#[tactic(auto, using(crate::proofs::RecordTakenLemmas::record_looked, crate::proofs::RecordTakenLemmas::open_looked, crate::proofs::RecordTakenLemmas::no_record_looked, crate::proofs::RecordTakenLemmas::source_after_record, crate::proofs::RecordTakenLemmas::source_after_open, crate::proofs::RecordTakenLemmas::source_failed))]
+#[tactic(auto, using(crate::proofs::RecordTakenLemmas::record_looked, crate::proofs::RecordTakenLemmas::open_looked, crate::proofs::RecordTakenLemmas::no_record_looked, crate::proofs::RecordTakenLemmas::source_after_record, crate::proofs::RecordTakenLemmas::source_after_open, crate::proofs::RecordTakenLemmas::source_failed, crate::proofs::TableReportLemmas::record_reported, crate::proofs::TableReportLemmas::open_reported, crate::proofs::TableReportLemmas::no_record_reported, crate::proofs::TableReportLemmas::failure_reported))]
 fn write_record_by_itself<R: BufferedSource, W: Sink, E: Sink>(
     alloc: Global,
     source: &Source<'_>,
@@ -116,6 +120,9 @@ fn write_record_by_itself<R: BufferedSource, W: Sink, E: Sink>(
         (R.remaining reader.old) (R.remaining reader.new) (W.contents output.old) (W.contents output.new)) }
     ensures source { IfOk result (IsSourceAfterRecords (R.calls_left reader.old) (R.calls_left reader.new)
         (R.has_failed reader.new)) }
+    ensures reports { IfOk result (ReportsNextRecords source.now description.now count line (R.remaining reader.old)
+        (R.remaining reader.new) (E.contents errors.old) (E.contents errors.new) (E.has_failed errors.old)
+        (E.has_failed errors.new)) }
     ensures ends { IfErr result (EndsOnlyAsAsked otherwise (W.has_failed output.new)) }
 {
     match read_record(reader, row)? {

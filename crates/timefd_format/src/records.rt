@@ -4,6 +4,7 @@ ghost use Rattle.std.specs.Prelude.{◌≡◌, IfErr, IfOk};
 ghost use Rattle.timefd_format.specs.Failures.{IsSourceAfterRecord};
 ghost use Rattle.timefd_format.specs.Records as spec;
 ghost use Rattle.timefd_format.specs.Records.{IsRecordRead};
+ghost use Rattle.timefd_format.specs.TableReports.{CountsLines};
 
 use crate::lines::{LineRead, read_more};
 use crate::outcome::RunError;
@@ -24,13 +25,14 @@ pub enum RecordRead {
 }
 
 /// Replaces these bytes with one more record, with its newline. An `Err` says that memory ran out.
-#[tactic(auto, using(crate::proofs::RecordLemmas::starts, crate::proofs::RecordLemmas::line_more, crate::proofs::RecordLemmas::row_done, crate::proofs::RecordLemmas::row_ended, crate::proofs::RecordLemmas::end_counted, crate::proofs::RecordLemmas::line_counted))]
+#[tactic(auto, using(crate::proofs::RecordLemmas::starts, crate::proofs::RecordLemmas::line_more, crate::proofs::RecordLemmas::row_done, crate::proofs::RecordLemmas::row_ended, crate::proofs::RecordLemmas::end_counted, crate::proofs::RecordLemmas::line_counted, crate::proofs::RecordCountLemmas::none_counted, crate::proofs::RecordCountLemmas::row_counted, crate::proofs::RecordCountLemmas::rest_counted))]
 pub fn read_record<R: BufferedSource>(
     reader: &mut R,
     row: &mut Vec<u8>,
 ) -> Result<RecordRead, RunError>
     ensures read { IfOk result (IsRecordRead (R.remaining reader.old) (R.remaining reader.new)
         row.new.items) }
+    ensures lines { IfOk result (CountsLines (R.remaining reader.old) row.new.items (R.remaining reader.new)) }
     ensures source { IfOk result (IsSourceAfterRecord (R.calls_left reader.old) (R.calls_left reader.new)
         (R.has_failed reader.new)) }
     ensures memory { IfErr result (λ error. error ≡ RunError.Memory) }

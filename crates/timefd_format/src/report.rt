@@ -26,8 +26,10 @@ pub fn report<E: Sink>(
     errors: &mut E,
     message: &[u8],
 ) -> Result<Reported, AllocError>
-    ensures { IfOk result (spec.ReachesPeople false message.now (E.contents errors.old)
+    ensures seen { IfOk result (spec.ReachesPeople false message.now (E.contents errors.old)
         (E.contents errors.new) (E.has_failed errors.new)) }
+    ensures gets { OnOk result (spec.Gets (for_people false message.now) (E.contents errors.old)
+        (E.contents errors.new) (E.has_failed errors.old) (E.has_failed errors.new)) }
 {
     report_drawn(alloc, false, errors, message)
 }
@@ -48,14 +50,17 @@ pub fn report_sentence<E: Sink>(
 
 /// Shows people a message as it is drawn, with its colours if `is_colored` is true. An `Err` says that memory
 /// ran out.
+#[tactic(auto, using(crate::proofs::ReportLemmas::gets_all, crate::proofs::ReportLemmas::gets_no_more))]
 pub fn report_drawn<E: Sink>(
     alloc: Global,
     is_colored: bool,
     errors: &mut E,
     message: &[u8],
 ) -> Result<Reported, AllocError>
-    ensures { IfOk result (spec.ReachesPeople is_colored message.now (E.contents errors.old)
+    ensures seen { IfOk result (spec.ReachesPeople is_colored message.now (E.contents errors.old)
         (E.contents errors.new) (E.has_failed errors.new)) }
+    ensures gets { OnOk result (spec.Gets (for_people is_colored message.now) (E.contents errors.old)
+        (E.contents errors.new) (E.has_failed errors.old) (E.has_failed errors.new)) }
 {
     let shown = shown_to_people(alloc, is_colored, message)?;
     match errors.put_all(&shown) {

@@ -4,6 +4,7 @@ ghost use Rattle.std.specs.Prelude.{IfErr, IfOk};
 ghost use Rattle.timefd_lint_diagnosis.specs.Words.{texts};
 ghost use Rattle.timefd_format.specs.Failures.{IsUnreadEndOnlyIf, IsUnreadOnlyIf};
 ghost use Rattle.timefd_format.specs.Frames.{EndsOnlyAsAsked};
+ghost use Rattle.timefd_format.specs.RunReports.{ReportsInput, ReportsMoments, ReportsRun, ReportsRunFrom};
 ghost use Rattle.timefd_format.specs.Runs.{IsInputRun, IsRun, IsRunFrom, IsRunOf};
 
 use crate::column::Column;
@@ -47,6 +48,9 @@ pub fn run<I: BufferedSource, W: Sink, E: Sink>(
     ensures run { IfOk result (IsRun column.entry otherwise clocks.entry manner.is_quiet languages read.entry description.now
         (texts words.now) (I.remaining input.old) (W.contents output.old)
         (W.contents output.new)) }
+    ensures reports { IfOk result (ReportsRun column.entry clocks.entry manner.is_colored languages read.entry
+        description.entry (texts words.now) (I.remaining input.old) (E.contents errors.old) (E.contents errors.new)
+        (E.has_failed errors.old) (E.has_failed errors.new)) }
 {
     let tables = StrftimeTables::new();
     match source_of(
@@ -96,6 +100,9 @@ fn run_from<I: BufferedSource, W: Sink, E: Sink>(
     ensures run { IfOk result (IsRunFrom column.entry otherwise source.now manner.is_quiet languages description.now
         (texts words.now) (I.remaining input.old) (W.contents output.old)
         (W.contents output.new)) }
+    ensures reports { IfOk result (ReportsRunFrom column.entry source.now manner.is_colored languages read_by.entry
+        description.entry (texts words.now) (I.remaining input.old) (E.contents errors.old) (E.contents errors.new)
+        (E.has_failed errors.old) (E.has_failed errors.new)) }
 {
     let tables = StrftimeTables::new();
     let texts = Texts {
@@ -149,6 +156,9 @@ fn write_all<I: BufferedSource, W: Sink, E: Sink>(
     ensures unread { IfOk result (IsUnreadOnlyIf (I.has_failed input.new)) }
     ensures run { IfOk result (IsRunOf column.entry otherwise source.now description.now (texts words.now) (I.remaining input.old)
         (W.contents output.old) (W.contents output.new)) }
+    ensures reports { IfOk result (ReportsMoments column.entry source.now description.now (texts words.now)
+        (I.remaining input.old) (E.contents errors.old) (E.contents errors.new) (E.has_failed errors.old)
+        (E.has_failed errors.new)) }
 {
     if words.is_empty() {
         write_input(
@@ -181,6 +191,8 @@ fn write_input<I: BufferedSource, W: Sink, E: Sink>(
     ensures run { IfOk result (IsInputRun column.entry otherwise source.now description.now (I.remaining input.old)
         (W.contents output.old) (W.contents output.new)) }
     ensures ends { IfErr result (EndsOnlyAsAsked otherwise (W.has_failed output.new)) }
+    ensures reports { IfOk result (ReportsInput column.entry source.now description.now (I.remaining input.old)
+        (E.contents errors.old) (E.contents errors.new) (E.has_failed errors.old) (E.has_failed errors.new)) }
 {
     match column {
         Some(column) => write_table(

@@ -2,7 +2,7 @@
 
 ghost use Rattle.std.specs.Prelude.{◌≡◌, IfErr, IfOk, IfSome};
 ghost use Rattle.timefd_format.specs.ReadBack.{now};
-ghost use Rattle.timefd_format.specs.Sources.{AreLeavesIn, IsFoundIn, IsMomentIn, IsOnClockIn, IsSourceOf, IsTextOf};
+ghost use Rattle.timefd_format.specs.Sources.{AreLeavesIn, IsFoundIn, IsMomentIn, IsOnClockIn, IsSilentOn, IsSourceOf, IsTextOf};
 
 use crate::description::{Reading, read};
 use crate::moment::{MomentError, moment_named};
@@ -58,6 +58,8 @@ pub fn source_of<'a, E: Sink>(
     errors: &mut E,
 ) -> Result<Option<Source<'a>>, RunError>
     ensures source { IfOk result (IsSourceOf clocks.entry language description.entry) }
+    ensures reports { IfOk result (IsSilentOn (E.contents errors.old) (E.contents errors.new)
+        (E.has_failed errors.old) (E.has_failed errors.new)) }
     ensures memory { IfErr result (λ error. error ≡ RunError.Memory) }
 {
     let Some(text) = description else {

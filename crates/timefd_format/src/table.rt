@@ -1,11 +1,15 @@
 //! A table of comma-separated values, with one column rewritten.
 
 ghost use Rattle.std.specs.Prelude.{◌≡◌, false, IfErr, IfOk, OnOk};
+ghost use Rattle.timefd_lint_drawing.specs.People.{for_people};
 ghost use Rattle.timefd_format.specs.Failures.{IsUnreadOnlyIf};
 ghost use Rattle.timefd_format.specs.Frames.{EndsOnlyAsAsked};
+ghost use Rattle.timefd_format.specs.Messages.{open_message};
 ghost use Rattle.timefd_format.specs.ReadBack.{AreLeavesOf};
 ghost use Rattle.timefd_format.specs.Records.{is_open};
 ghost use Rattle.timefd_format.specs.Sources.{AreLeavesIn};
+ghost use Rattle.timefd_format.specs.Reports.{Gets};
+ghost use Rattle.timefd_format.specs.TableReports.{ReportsNamed, ReportsRecord, ReportsRecords, ReportsTable};
 ghost use Rattle.timefd_format.specs.Tallies.{refused};
 ghost use Rattle.timefd_format.specs.Tables.{IsNamedTable, IsRecord, IsTable, ReplacesRecord, RunsRecordsOver};
 
@@ -47,6 +51,9 @@ pub fn write_table<R: BufferedSource, W: Sink, E: Sink>(
     ensures table { IfOk result (IsTable otherwise source.now description.now column.entry
         (R.remaining reader.old) (W.contents output.old) (W.contents output.new)) }
     ensures unread { IfOk result (IsUnreadOnlyIf (R.has_failed reader.new)) }
+    ensures reports { IfOk result (λ tally. ReportsTable source.now description.now column.entry tally.has_failed
+        (R.remaining reader.old) (E.contents errors.old) (E.contents errors.new) (E.has_failed errors.old)
+        (E.has_failed errors.new)) }
     ensures ends { IfErr result (EndsOnlyAsAsked otherwise (W.has_failed output.new)) }
 {
     let read = source_leaves(alloc, source)?;
@@ -81,6 +88,7 @@ pub fn write_table<R: BufferedSource, W: Sink, E: Sink>(
 }
 
 // Writes the table by the column that the first record gives this name.
+#[tactic(auto, using(crate::proofs::TableReportLemmas::no_header_reported, crate::proofs::TableReportLemmas::header_unread, crate::proofs::TableReportLemmas::unnamed_reported, crate::proofs::TableReportLemmas::named_reported))]
 fn write_named<R: BufferedSource, W: Sink, E: Sink>(
     alloc: Global,
     source: &Source<'_>,
@@ -98,6 +106,9 @@ fn write_named<R: BufferedSource, W: Sink, E: Sink>(
     ensures table { IfOk result (IsNamedTable otherwise source.now description.now name.now
         (R.remaining reader.old) (W.contents output.old) (W.contents output.new)) }
     ensures unread { IfOk result (IsUnreadOnlyIf (R.has_failed reader.new)) }
+    ensures reports { IfOk result (λ tally. ReportsNamed source.now description.now name.now tally.has_failed
+        (R.remaining reader.old) (E.contents errors.old) (E.contents errors.new) (E.has_failed errors.old)
+        (E.has_failed errors.new)) }
     ensures ends { IfErr result (EndsOnlyAsAsked otherwise (W.has_failed output.new)) }
 {
     let mut header = Vec::new(alloc);
@@ -137,7 +148,7 @@ fn write_named<R: BufferedSource, W: Sink, E: Sink>(
 }
 
 // Writes the records from a line on. The field to replace is the one after `count` others.
-#[tactic(auto, using(crate::proofs::TableLemmas::starts, crate::proofs::TableLemmas::records_fail, crate::proofs::RecordTakenLemmas::batch_more, crate::proofs::RecordTakenLemmas::next_more, crate::proofs::RecordTakenLemmas::next_ends, crate::proofs::RecordTakenLemmas::next_fails))]
+#[tactic(auto, using(crate::proofs::TableLemmas::starts, crate::proofs::TableReportLemmas::starts, crate::proofs::TableLemmas::records_fail, crate::proofs::RecordTakenLemmas::batch_more, crate::proofs::RecordTakenLemmas::next_more, crate::proofs::RecordTakenLemmas::next_ends, crate::proofs::RecordTakenLemmas::next_fails))]
 fn write_records<R: BufferedSource, W: Sink, E: Sink>(
     alloc: Global,
     source: &Source<'_>,
@@ -156,6 +167,9 @@ fn write_records<R: BufferedSource, W: Sink, E: Sink>(
     ensures runs { IfOk result (RunsRecordsOver otherwise source.now description.now count
         (R.remaining reader.old) (W.contents output.old) (W.contents output.new)) }
     ensures unread { IfOk result (IsUnreadOnlyIf (R.has_failed reader.new)) }
+    ensures reports { IfOk result (λ tally. ReportsRecords source.now description.now count first_line tally.has_failed
+        (R.remaining reader.old) (E.contents errors.old) (E.contents errors.new) (E.has_failed errors.old)
+        (E.has_failed errors.new)) }
     ensures ends { IfErr result (EndsOnlyAsAsked otherwise (W.has_failed output.new)) }
 {
     let mut tally = Tally::at_end(false);
@@ -195,7 +209,7 @@ fn write_records<R: BufferedSource, W: Sink, E: Sink>(
 
 /// Writes a record, and returns what it adds to the tally. `row` is the record with its newline, `text` is room for
 /// the text of its field.
-#[tactic(auto, using(crate::proofs::TableLemmas::of_cell))]
+#[tactic(auto, using(crate::proofs::TableLemmas::of_cell, crate::proofs::TableReportLemmas::empty_reported))]
 pub fn tally_record<W: Sink, E: Sink>(
     alloc: Global,
     source: &Source<'_>,
@@ -217,6 +231,8 @@ pub fn tally_record<W: Sink, E: Sink>(
     ensures one { IfOk result (IsRecord otherwise source.now description.now count row.now
         (W.contents output.old) (W.contents output.new)) }
     ensures read { IfOk result (λ tally. tally.has_failed ≡ false) }
+    ensures reports { OnOk result (ReportsRecord source.now description.now count line row.now
+        (E.contents errors.old) (E.contents errors.new) (E.has_failed errors.old) (E.has_failed errors.new)) }
     ensures ends { IfErr result (EndsOnlyAsAsked otherwise (W.has_failed output.new)) }
 {
     if without_newline(row).is_empty() {
@@ -264,6 +280,8 @@ pub fn tally_open<W: Sink, E: Sink>(
     ensures replaced { OnOk result (ReplacesRecord otherwise row.now (W.contents output.old)
         (W.contents output.new)) }
     ensures tally { IfOk result (λ tally. tally ≡ refused) }
+    ensures reports { OnOk result (Gets (for_people false (open_message line)) (E.contents errors.old)
+        (E.contents errors.new) (E.has_failed errors.old) (E.has_failed errors.new)) }
     ensures ends { IfErr result (EndsOnlyAsAsked otherwise (W.has_failed output.new)) }
 {
     let message = open_message(alloc, line)?;

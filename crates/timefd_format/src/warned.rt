@@ -1,8 +1,9 @@
 //! The warnings about the descriptions of a run.
 
-ghost use Rattle.std.specs.Prelude.{◌≡◌, IfOk};
+ghost use Rattle.std.specs.Prelude.{◌≡◌, IfOk, OnOk};
 ghost use Rattle.timefd_lint_warnings.specs.Found.{output_parts};
 ghost use Rattle.timefd_lang_warnings.specs.Parts.{parts};
+ghost use Rattle.timefd_format.specs.RunReports.{GetsWarnings};
 ghost use Rattle.timefd_format.specs.Warned as spec;
 
 use crate::description::borrowed;
@@ -49,8 +50,10 @@ pub fn report_warnings<E: Sink>(
     warned: Warned,
     errors: &mut E,
 ) -> Result<Reported, AllocError>
-    ensures { IfOk result (spec.ReportsWarnings is_colored texts.entry warned (E.contents errors.old)
+    ensures seen { IfOk result (spec.ReportsWarnings is_colored texts.entry warned (E.contents errors.old)
         (E.contents errors.new) (E.has_failed errors.new)) }
+    ensures gets { OnOk result (GetsWarnings is_colored texts.entry warned (E.contents errors.old)
+        (E.contents errors.new) (E.has_failed errors.old) (E.has_failed errors.new)) }
 {
     let read = named(READ);
     let written = named(WRITTEN);
