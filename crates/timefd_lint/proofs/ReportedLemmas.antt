@@ -518,6 +518,7 @@ is_failed_alone (Accepted found) e = absurd (false≢true e)
 is_failed_alone (Converted traps) e = absurd (false≢true e)
 is_failed_alone Refused e = absurd (false≢true e)
 is_failed_alone NotText e = absurd (false≢true e)
+is_failed_alone (Allowed left) e = absurd (false≢true e)
 is_failed_alone UnreadCall e = absurd (false≢true e)
 is_failed_alone UnreadValue e = absurd (false≢true e)
 is_failed_alone Failed e = refl
