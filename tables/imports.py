@@ -50,10 +50,12 @@ TABLES = [
     )),
     *(imported(file, MODERN) for file in ("c_nodes/specs/Encoding", "c_nodes/specs/Decoding")),
     *(imported(file, TEXTS) for file in (
-        "lang_component/specs/Reserved", "lang_component/specs/Texts", "date_format/specs/Fields", "date_moment/specs/Fields/Rules",
+        "lang_component/specs/Reserved", "lang_component/specs/Texts", "date_moment/specs/Fields/Rules",
         "lang_warnings/specs/Settling/Bounds", "lang_warnings/specs/Settling/Settled", "lang_warnings/specs/Fields", "lang_warnings/specs/Widths",
     )),
-    *(imported(file, TEXTS + DEPRECATED) for file in ("date_format/proofs/TextLemmas", "date_format/proofs/Utf8Lemmas")),
+    *(imported(file, TEXTS + DEPRECATED) for file in (
+        "date_format/specs/Fields", "date_format/proofs/TextLemmas", "date_format/proofs/Utf8Lemmas",
+    )),
     imported("lang_component/proofs/Greatest", [it for it in TEXTS if it.shows != "Nothing"]),
     imported("date_format/specs/Sentences", NAMED + DEPRECATED),
     imported("lint_explain/proofs/SampleLemmas", ENDS + DEPRECATED),

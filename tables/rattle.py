@@ -1,5 +1,5 @@
 """The tables in Rattle code."""
-from component import ALL, BY_NUMBER, DEPRECATED, ENDS, MODERN, NAMED, NAMES, TEXTS, in_capitals, kind
+from component import ALL, BY_NUMBER, DEPRECATED, MODERN, NAMED, NAMES, TEXTS, in_capitals, kind
 from layout import arm, arm_of_many, statement
 from place import Alternatives, Between, Statement, Table, each
 
@@ -102,18 +102,6 @@ def named():
     return [line for name, group in groups for line in arm_of_many(8, patterns(group), f'"{name}"')]
 
 
-def kinds():
-    groups = dict(grouped(NAMED, lambda it: it.shows))
-    groups["Date"] = groups.pop("Date") + DEPRECATED
-    return [line for part, group in groups.items() for line in arm_of_many(8, patterns(group), f"Kind::{part}")]
-
-
-def all_others(file, item, components, part, value="Field::Nothing"):
-    """In a table of what shows one part of a moment, the arm of all that shows another."""
-    others = [it for it in components if it.shows != part] + DEPRECATED
-    return Table(f"{FORMAT}/{file}", Alternatives(item, f"{value},"), lambda: arm_of_many(8, patterns(others), value))
-
-
 def by_rule():
     """The arm of what the formatter appends by its rule: all but the commonest, which have an arm each."""
     common = {
@@ -195,11 +183,6 @@ TABLES = [
     Table("crates/timefd_lang_component/src/bracket/modifiers.rt", Between(("fn first_modifier", MATCH), "    }"), first_words),
     Table("crates/timefd_lang_component/src/bracket/modifiers.rt", Between(("fn second_modifier", MATCH), "    }"), second_words),
     Table(f"{FORMAT}/naming.rt", Between(("pub fn component_name", MATCH), "    }"), named),
-    Table(f"{FORMAT}/shown.rt", Between(("fn kind", MATCH), "    }"), kinds),
-    all_others("shown.rt", "fn date_field", MODERN, "Date", "Ok(Field::Nothing)"),
-    all_others("clock.rt", "pub(crate) fn time_field", ENDS, "Time"),
-    all_others("clock.rt", "pub(crate) fn offset_field", NAMED, "Offset"),
-    all_others("instant.rt", "fn stamp_field", NAMED, "Instant"),
     by_rule(),
     each(NAME_FILE, Between(("pub enum ComponentName {",), "}"), NAMES, "    {0.variant},"),
     Table(

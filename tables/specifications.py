@@ -38,6 +38,10 @@ def form(it):
     return whole if whole == short else f"choose d ({whole}) ({short})"
 
 
+def part_shown(it):
+    return f"of.{it.shows or 'Nothing'}"
+
+
 def modifier(at):
     """The words of the first modifier, or of the second."""
     def written(it):
@@ -88,7 +92,6 @@ def name_list():
 
 COMPONENT_NUMBERS = "  pub {0.number_name} : (m : {0.variant}) → number_of (components.{0.variant} m) ≡ {0.number}"
 SOUND = ("component_sound ({0.variant} a) ({0.variant} b) e", "ap {0.variant} (sound modifiers.{0.field_name} a b e)")
-NOT_DATES = [it for it in NAMED if it.shows != "Date"]
 COMPONENT = "crates/timefd_lang_component/specs"
 C_NODES = "crates/timefd_c_nodes/specs"
 FORMAT = "crates/timefd_date_format/specs"
@@ -120,7 +123,7 @@ TABLES = [
     cases(WORDS, "abbrev pub first_modifier :", ALL, "first_modifier d ({0.variant} m) digits", modifier(0)),
     cases(WORDS, "abbrev pub second_modifier :", ALL, "second_modifier d ({0.variant} m)", modifier(1)),
     cases(f"{FORMAT}/Sentences.antt", "abbrev pub name :", NAMED + DEPRECATED, "name ({0.variant} m)", 'codes "{0.name}"'),
-    cases(f"{FORMAT}/Fields.antt", "abbrev pub kind :", NOT_DATES, "kind ({0.variant} m)", "of.{0.shows}", "kind _"),
+    cases(f"{FORMAT}/Fields.antt", "abbrev pub kind :", NAMED + DEPRECATED, "kind ({0.variant} m)", part_shown),
     Table(NAMES_FILE, Between(("abbrev pub row_for :",), ""), name_rows),
     Table(NAMES_FILE, Between(("component_names =",), ""), name_list),
 ]

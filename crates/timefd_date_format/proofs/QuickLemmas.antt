@@ -8,7 +8,7 @@ use Rattle.timefd_date_moment.specs.declared.date.Date.{Date}
 use Rattle.timefd_date_moment.specs.declared.time.Time.{Time}
 use Rattle.timefd_date_moment.specs.declared.offset.UtcOffset.{UtcOffset}
 use Rattle.timefd_date_moment.specs.declared.moment.Moment.{Moment}
-use Rattle.timefd_date_format.specs.declared.field.Kind.TheVariants as of
+use Rattle.timefd_date_format.specs.Kinds as of
 use Rattle.timefd_date_format.specs.Fields.{by_kind, date_field, kind, offset_field, on_date, on_offset, on_time, signed, time_field, year}
 use Rattle.timefd_date_format.specs.Puts.{pair}
 use Rattle.timefd_date_format.specs.Written.{shown, text_of}

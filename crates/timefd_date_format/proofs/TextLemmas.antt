@@ -308,9 +308,9 @@ renders m (UnixTimestampNanosecond p) = of_date _ m.date _ (λ d. of_time _ m.ti
     signed_text Padding.None 1 p.sign_is_mandatory u.is_negative u.nanoseconds 31619087596800000000000 31494784780799999999999
     (IsMinusZero (UnixTimestampNanosecond p)) (λ n. omega (arith, lowest u shown n)) (λ n. omega (arith, highest u shown n))
     (λ n e. absurd (omega (arith, some_before d t o n, e)))))))
-renders m (Month p) = of_date _ m.date _ (λ d. inl refl)
-renders m (Weekday p) = of_date _ m.date _ (λ d. inl refl)
-renders m (WeekNumber p) = of_date _ m.date _ (λ d. inl refl)
-renders m (Hour p) = of_date _ m.date _ (λ d. inl refl)
-renders m (UnixTimestamp p) = of_date _ m.date _ (λ d. inl refl)
-renders m (Year p) = of_date _ m.date _ (λ d. inl refl)
+renders m (Month p) = inl refl
+renders m (Weekday p) = inl refl
+renders m (WeekNumber p) = inl refl
+renders m (Hour p) = inl refl
+renders m (UnixTimestamp p) = inl refl
+renders m (Year p) = inl refl

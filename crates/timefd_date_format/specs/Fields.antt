@@ -2,7 +2,7 @@
 use Rattle.std.specs.Prelude.{ℕ, ◌+◌, ◌-◌, ◌/◌, ◌%◌, ◌≤◌, ◌++◌, Bool, true, false, ◌||◌, nat_le, if◌then◌else◌, List, [], codes, get_or, Option, Some, None, Result, Ok, Err, ⊤}
 use Rattle.timefd_modifier.specs.declared.enums.Padding.{Padding}
 use Rattle.timefd_lang_component.specs.declared.component.Component.{Component}
-use Rattle.timefd_lang_component.specs.declared.component.Component.TheVariants.{Day, MonthShort, MonthLong, MonthNumerical, Ordinal, WeekdayShort, WeekdayLong, WeekdaySunday, WeekdayMonday, WeekNumberIso, WeekNumberSunday, WeekNumberMonday, CalendarYearFullExtendedRange, CalendarYearFullStandardRange, CalendarYearCenturyExtendedRange, CalendarYearCenturyStandardRange, IsoYearFullExtendedRange, IsoYearFullStandardRange, IsoYearCenturyExtendedRange, IsoYearCenturyStandardRange, CalendarYearLastTwo, IsoYearLastTwo, Hour12, Hour24, Minute, Second, OffsetMinute, OffsetSecond, Period, Subsecond, OffsetHour, UnixTimestampSecond, UnixTimestampMillisecond, UnixTimestampMicrosecond, UnixTimestampNanosecond, Ignore, End}
+use Rattle.timefd_lang_component.specs.declared.component.Component.TheVariants.{Day, MonthShort, MonthLong, MonthNumerical, Ordinal, WeekdayShort, WeekdayLong, WeekdaySunday, WeekdayMonday, WeekNumberIso, WeekNumberSunday, WeekNumberMonday, CalendarYearFullExtendedRange, CalendarYearFullStandardRange, CalendarYearCenturyExtendedRange, CalendarYearCenturyStandardRange, IsoYearFullExtendedRange, IsoYearFullStandardRange, IsoYearCenturyExtendedRange, IsoYearCenturyStandardRange, CalendarYearLastTwo, IsoYearLastTwo, Hour12, Hour24, Minute, Second, OffsetMinute, OffsetSecond, Period, Subsecond, OffsetHour, UnixTimestampSecond, UnixTimestampMillisecond, UnixTimestampMicrosecond, UnixTimestampNanosecond, Ignore, End, Month, Weekday, WeekNumber, Hour, UnixTimestamp, Year}
 use Rattle.timefd_lang_component.specs.Tree.{Text}
 use Rattle.timefd_lang_component.specs.Texts.{filled, subsecond, short_months, long_months, short_weekdays, long_weekdays}
 use Rattle.timefd_date_moment.specs.declared.date.Date.{Date}
@@ -15,10 +15,11 @@ use Rattle.timefd_date_moment.specs.Instants.{is_within}
 use Rattle.timefd_date_format.specs.declared.field.Field.{Field}
 use Rattle.timefd_date_format.specs.declared.field.Field.TheVariants as shows
 use Rattle.timefd_date_format.specs.declared.field.Sign.{Sign}
-use Rattle.timefd_date_format.specs.declared.field.Kind.{Kind}
-use Rattle.timefd_date_format.specs.declared.field.Kind.TheVariants as of
 use Rattle.timefd_date_format.specs.declared.field.Lack.{Lack}
 use Rattle.timefd_date_format.specs.declared.field.Lack.TheVariants as lack
+use Rattle.timefd_date_format.specs.declared.instant.Unit.{Unit}
+use Rattle.timefd_date_format.specs.Kinds.{Kind}
+use Rattle.timefd_date_format.specs.Kinds as of
 
 -- The text of a field.
 
@@ -139,6 +140,19 @@ whole_seconds u =
 abbrev pub stamp_of : Bool → UnixTime → ℕ → Field
 stamp_of mandatory u value = signed u.is_negative mandatory Padding.None 1 value
 
+-- The timestamp of a unit, and how many units an instant is from the start of 1970.
+abbrev pub timestamp : Unit → Bool → Component
+timestamp Unit.Second mandatory = UnixTimestampSecond (record { sign_is_mandatory = mandatory })
+timestamp Unit.Millisecond mandatory = UnixTimestampMillisecond (record { sign_is_mandatory = mandatory })
+timestamp Unit.Microsecond mandatory = UnixTimestampMicrosecond (record { sign_is_mandatory = mandatory })
+timestamp Unit.Nanosecond mandatory = UnixTimestampNanosecond (record { sign_is_mandatory = mandatory })
+
+abbrev pub counted : UnixTime → Unit → ℕ
+counted u Unit.Second = whole_seconds u
+counted u Unit.Millisecond = u.nanoseconds / 1000000
+counted u Unit.Microsecond = u.nanoseconds / 1000
+counted u Unit.Nanosecond = u.nanoseconds
+
 abbrev pub stamp_field : UnixTime → Component → Field
 stamp_field u (UnixTimestampSecond m) = stamp_of m.sign_is_mandatory u (whole_seconds u)
 stamp_field u (UnixTimestampMillisecond m) = stamp_of m.sign_is_mandatory u (u.nanoseconds / 1000000)
@@ -149,8 +163,30 @@ stamp_field u _ = shows.Nothing
 abbrev pub instant_field : UnixTime → Component → Result Field Lack
 instant_field u c = if is_within u then Ok (stamp_field u c) else Err lack.InstantOutOfRange
 
--- Which part of a moment a component shows.
+-- Which part of a moment a component shows. A deprecated one is replaced before that.
 abbrev pub kind : Component → Kind
+kind (Day m) = of.Date
+kind (MonthShort m) = of.Date
+kind (MonthLong m) = of.Date
+kind (MonthNumerical m) = of.Date
+kind (Ordinal m) = of.Date
+kind (WeekdayShort m) = of.Date
+kind (WeekdayLong m) = of.Date
+kind (WeekdaySunday m) = of.Date
+kind (WeekdayMonday m) = of.Date
+kind (WeekNumberIso m) = of.Date
+kind (WeekNumberSunday m) = of.Date
+kind (WeekNumberMonday m) = of.Date
+kind (CalendarYearFullExtendedRange m) = of.Date
+kind (CalendarYearFullStandardRange m) = of.Date
+kind (CalendarYearCenturyExtendedRange m) = of.Date
+kind (CalendarYearCenturyStandardRange m) = of.Date
+kind (IsoYearFullExtendedRange m) = of.Date
+kind (IsoYearFullStandardRange m) = of.Date
+kind (IsoYearCenturyExtendedRange m) = of.Date
+kind (IsoYearCenturyStandardRange m) = of.Date
+kind (CalendarYearLastTwo m) = of.Date
+kind (IsoYearLastTwo m) = of.Date
 kind (Hour12 m) = of.Time
 kind (Hour24 m) = of.Time
 kind (Minute m) = of.Time
@@ -166,7 +202,12 @@ kind (UnixTimestampMicrosecond m) = of.Instant
 kind (UnixTimestampNanosecond m) = of.Instant
 kind (Ignore m) = of.Nothing
 kind (End m) = of.Nothing
-kind _ = of.Date
+kind (Month m) = of.Nothing
+kind (Weekday m) = of.Nothing
+kind (WeekNumber m) = of.Nothing
+kind (Hour m) = of.Nothing
+kind (UnixTimestamp m) = of.Nothing
+kind (Year m) = of.Nothing
 
 abbrev pub on_date : Option Date → (Date → Result Field Lack) → Result Field Lack
 on_date None shown = Err lack.NoDate

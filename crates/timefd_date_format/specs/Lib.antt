@@ -1,4 +1,5 @@
 pub mod Puts
+pub mod Kinds
 pub mod Fields
 pub mod Written
 pub mod Writes

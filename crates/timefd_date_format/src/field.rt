@@ -47,17 +47,6 @@ pub enum Sign {
     Plus,
 }
 
-/// The part of a moment that a component shows.
-#[derive(Clone, Copy)]
-pub enum Kind {
-    Date,
-    Time,
-    Offset,
-    /// An instant: all three.
-    Instant,
-    Nothing,
-}
-
 /// Why a component shows nothing of a value.
 #[derive(Debug, Clone, Copy)]
 pub enum Lack {

@@ -6,76 +6,49 @@ ghost use Rattle.timefd_date_format.specs.Fields.{IsField};
 
 use crate::field::{Field, Lack};
 use crate::numbers::{sign_of, signed};
-use timefd_date_moment::UnixTime;
-use timefd_lang_component::Component;
+use crate::parts::{date_of, offset_of, time_of};
+use timefd_date_moment::{Moment, UnixTime};
 use timefd_modifier::Padding;
 
-pub(crate) fn instant_field(unix: UnixTime, component: Component) -> Result<Field, Lack>
-    ensures table { result ≡ spec.instant_field unix component }
+/// The unit that an instant is counted in.
+#[derive(Clone, Copy)]
+pub enum Unit {
+    Second,
+    Millisecond,
+    Microsecond,
+    Nanosecond,
+}
+
+/// What the timestamp in this unit shows of a moment.
+pub(crate) fn instant_field(
+    moment: Moment,
+    unit: Unit,
+    sign_is_mandatory: bool,
+) -> Result<Field, Lack>
+    ensures table { result ≡ spec.field moment (spec.timestamp unit sign_is_mandatory) }
     ensures field { IfOk result IsField }
 {
+    let date = date_of(moment)?;
+    let time = time_of(moment)?;
+    let offset = offset_of(moment)?;
+    let unix = UnixTime::of(date, time, offset);
     if unix.is_within() {
-        Ok(stamp_field(unix, component))
+        Ok(stamp(sign_is_mandatory, unix, counted(unix, unit)))
     } else {
         Err(Lack::InstantOutOfRange)
     }
 }
 
-fn stamp_field(unix: UnixTime, component: Component) -> Field
+// How many units an instant is from the start of 1970.
+fn counted(unix: UnixTime, unit: Unit) -> u128
     requires { unix.nanoseconds ≤ 31619087596800000000000 }
-    ensures table { result ≡ spec.stamp_field unix component }
-    ensures field { IsField result }
+    ensures { result ≡ spec.counted unix unit }
 {
-    match component {
-        Component::UnixTimestampSecond(m) => stamp(m.sign_is_mandatory, unix, whole_seconds(unix)),
-        Component::UnixTimestampMillisecond(m) => {
-            stamp(m.sign_is_mandatory, unix, unix.nanoseconds / 1_000_000)
-        }
-        Component::UnixTimestampMicrosecond(m) => {
-            stamp(m.sign_is_mandatory, unix, unix.nanoseconds / 1_000)
-        }
-        Component::UnixTimestampNanosecond(m) => {
-            stamp(m.sign_is_mandatory, unix, unix.nanoseconds)
-        }
-        Component::Day(_)
-        | Component::MonthShort(_)
-        | Component::MonthLong(_)
-        | Component::MonthNumerical(_)
-        | Component::Ordinal(_)
-        | Component::WeekdayShort(_)
-        | Component::WeekdayLong(_)
-        | Component::WeekdaySunday(_)
-        | Component::WeekdayMonday(_)
-        | Component::WeekNumberIso(_)
-        | Component::WeekNumberSunday(_)
-        | Component::WeekNumberMonday(_)
-        | Component::CalendarYearFullExtendedRange(_)
-        | Component::CalendarYearFullStandardRange(_)
-        | Component::CalendarYearCenturyExtendedRange(_)
-        | Component::CalendarYearCenturyStandardRange(_)
-        | Component::IsoYearFullExtendedRange(_)
-        | Component::IsoYearFullStandardRange(_)
-        | Component::IsoYearCenturyExtendedRange(_)
-        | Component::IsoYearCenturyStandardRange(_)
-        | Component::CalendarYearLastTwo(_)
-        | Component::IsoYearLastTwo(_)
-        | Component::Hour12(_)
-        | Component::Hour24(_)
-        | Component::Minute(_)
-        | Component::Second(_)
-        | Component::Period(_)
-        | Component::Subsecond(_)
-        | Component::OffsetHour(_)
-        | Component::OffsetMinute(_)
-        | Component::OffsetSecond(_)
-        | Component::Ignore(_)
-        | Component::End(_)
-        | Component::Month(_)
-        | Component::Weekday(_)
-        | Component::WeekNumber(_)
-        | Component::Hour(_)
-        | Component::UnixTimestamp(_)
-        | Component::Year(_) => Field::Nothing,
+    match unit {
+        Unit::Second => whole_seconds(unix),
+        Unit::Millisecond => unix.nanoseconds / 1_000_000,
+        Unit::Microsecond => unix.nanoseconds / 1_000,
+        Unit::Nanosecond => unix.nanoseconds,
     }
 }
 

@@ -2,7 +2,6 @@
 #![tactic(auto)]
 
 mod append;
-mod clock;
 mod component;
 mod cursor;
 mod digits;
@@ -21,6 +20,7 @@ mod names;
 mod naming;
 mod numbers;
 mod output;
+mod parts;
 mod put;
 mod put_field;
 mod quick;
@@ -32,6 +32,7 @@ mod text;
 mod unshown;
 mod view;
 mod write;
+mod years;
 
 pub use field::Lack;
 pub use forward::{append_leaves, append_literal};

@@ -183,12 +183,12 @@ field_shown m is (UnixTimestampMicrosecond p) = all_shown m (UnixTimestampMicros
 field_shown m is (UnixTimestampNanosecond p) = all_shown m (UnixTimestampNanosecond p) is
 field_shown m is (Ignore p) = tt
 field_shown m is (End p) = tt
-field_shown m is (Month p) = of_date m.date _ is.date (λ d day. tt)
-field_shown m is (Weekday p) = of_date m.date _ is.date (λ d day. tt)
-field_shown m is (WeekNumber p) = of_date m.date _ is.date (λ d day. tt)
-field_shown m is (Hour p) = of_date m.date _ is.date (λ d day. tt)
-field_shown m is (UnixTimestamp p) = of_date m.date _ is.date (λ d day. tt)
-field_shown m is (Year p) = of_date m.date _ is.date (λ d day. tt)
+field_shown m is (Month p) = tt
+field_shown m is (Weekday p) = tt
+field_shown m is (WeekNumber p) = tt
+field_shown m is (Hour p) = tt
+field_shown m is (UnixTimestamp p) = tt
+field_shown m is (Year p) = tt
 
 -- No component shows nothing.
 never : (m : Moment) (c : Component) (r : Result Field Lack) (u : Unshown) → Shown r

@@ -2,7 +2,7 @@
 use Rattle.std.proofs.Common.{ℕ, ◌≡◌, ◌-◌, ◌==◌, Bool, true, false, nat_le, length, Option, Some, None, Ok, refl, subst}
 use Rattle.timefd_lang_component.specs.declared.component.Component.{Component}
 use Rattle.timefd_lang_component.specs.declared.component.Component.TheVariants as of
-use Rattle.timefd_date_format.specs.declared.field.Kind.TheVariants as kind
+use Rattle.timefd_date_format.specs.Kinds as kind
 use Rattle.timefd_date_format.specs.Fields.{kind as kind_of}
 use Rattle.timefd_date_moment.specs.declared.fields.fields.Fields.{Fields}
 use Rattle.timefd_date_moment.specs.Fields.Inputs.{after_monday, as_period, as_weekday, first_number}

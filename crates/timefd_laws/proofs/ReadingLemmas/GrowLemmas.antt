@@ -2,8 +2,8 @@
 use Rattle.std.proofs.Common.{ℕ, ◌≡◌, ◌∙◌, ◌≤◌, Bool, true, Option, Some, None, sym, ap, subst, ◌||◌}
 use Rattle.std.specs.Prelude.{is_some, ⊤}
 use Rattle.std.proofs.lemmas.Bool.{or_left, or_right}
-use Rattle.timefd_date_format.specs.declared.field.Kind.{Kind}
-use Rattle.timefd_date_format.specs.declared.field.Kind.TheVariants as of
+use Rattle.timefd_date_format.specs.Kinds.{Kind}
+use Rattle.timefd_date_format.specs.Kinds as of
 use Rattle.timefd_date_moment.specs.declared.fields.fields.Fields.{Fields}
 use Rattle.timefd_date_moment.specs.declared.fields.fields.Signed.{Signed}
 use Rattle.timefd_date_moment.specs.Reading.Known.{has_date, has_day, has_hour, has_iso_year, has_offset, has_time, has_week}

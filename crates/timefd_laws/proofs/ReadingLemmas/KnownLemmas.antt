@@ -2,8 +2,8 @@
 use Rattle.std.proofs.Common.{ℕ, ◌≡◌, ◌∙◌, ◌&&◌, ◌||◌, not, Bool, true, false, if◌then◌else◌, Option, Some, None, Result}
 use Rattle.std.proofs.Common.{Ok, Err, refl, sym, ap, is_ok}
 use Rattle.std.specs.Prelude.{is_some}
-use Rattle.timefd_date_format.specs.declared.field.Kind.{Kind}
-use Rattle.timefd_date_format.specs.declared.field.Kind.TheVariants as of
+use Rattle.timefd_date_format.specs.Kinds.{Kind}
+use Rattle.timefd_date_format.specs.Kinds as of
 use Rattle.timefd_date_moment.specs.declared.fields.fields.Fields.{Fields}
 use Rattle.timefd_date_moment.specs.declared.fields.fields.Fraction.{Fraction}
 use Rattle.timefd_date_moment.specs.declared.fields.fields.Signed.{Signed}

@@ -1,8 +1,8 @@
 -- What is known about a moment that was read.
 use Rattle.std.proofs.Common.{◌≡◌, ◌∙◌, Bool, true, false, Option, Some, None, Result, Ok, refl, sym, ap, subst}
 use Rattle.std.specs.Prelude.{is_some, ⊤}
-use Rattle.timefd_date_format.specs.declared.field.Kind.{Kind}
-use Rattle.timefd_date_format.specs.declared.field.Kind.TheVariants as of
+use Rattle.timefd_date_format.specs.Kinds.{Kind}
+use Rattle.timefd_date_format.specs.Kinds as of
 use Rattle.timefd_date_moment.specs.declared.date.Date.{Date}
 use Rattle.timefd_date_moment.specs.declared.time.Time.{Time}
 use Rattle.timefd_date_moment.specs.declared.offset.UtcOffset.{UtcOffset}

@@ -7,7 +7,7 @@ use Rattle.timefd_lang_component.specs.declared.component.Component.TheVariants 
 use Rattle.timefd_lang_component.specs.Modern.{modern}
 use Rattle.timefd_lang_component.specs.Tree.{Text, Tree, Trees, component, compound, first, literal, more_trees, no_trees}
 use Rattle.timefd_lang_component.specs.Tree.{optional}
-use Rattle.timefd_date_format.specs.declared.field.Kind.{Kind}
+use Rattle.timefd_date_format.specs.Kinds.{Kind}
 use Rattle.timefd_date_format.specs.Fields.{date_field, field, kind as kind_of, on_date, signed, year}
 use Rattle.timefd_date_format.specs.Written.{followed, shown, text_of, written}
 use Rattle.timefd_date_format.specs.declared.field.Field.{Field}

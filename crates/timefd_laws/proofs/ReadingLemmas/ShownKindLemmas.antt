@@ -6,8 +6,8 @@ use Rattle.timefd_lang_component.specs.declared.component.Component.TheVariants 
 use Rattle.timefd_lang_component.specs.Modern.{modern}
 use Rattle.timefd_lang_component.proofs.ModernLemmas.{IsReplacement, hour_replaced, month_replaced, timestamp_replaced}
 use Rattle.timefd_lang_component.proofs.ModernLemmas.{week_replaced, weekday_replaced, year_replaced}
-use Rattle.timefd_date_format.specs.declared.field.Kind.{Kind}
-use Rattle.timefd_date_format.specs.declared.field.Kind.TheVariants as kind
+use Rattle.timefd_date_format.specs.Kinds.{Kind}
+use Rattle.timefd_date_format.specs.Kinds as kind
 use Rattle.timefd_date_format.specs.Fields.{kind as kind_of}
 use Rattle.timefd_date_moment.specs.declared.date.Date.{Date}
 use Rattle.timefd_date_moment.specs.declared.time.Time.{Time}

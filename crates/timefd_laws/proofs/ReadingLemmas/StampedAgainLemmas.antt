@@ -2,7 +2,7 @@
 use Rattle.std.proofs.Common.{ℕ, ◌≡◌, ◌∙◌, Bool, true, false, Option, Some, None, Result, Ok, Err, refl, sym, ap, subst}
 use Rattle.std.specs.Prelude.{is_some}
 use Rattle.timefd_lang_component.specs.Tree.{Text, Tree}
-use Rattle.timefd_date_format.specs.declared.field.Kind.TheVariants as kind
+use Rattle.timefd_date_format.specs.Kinds as kind
 use Rattle.timefd_date_moment.specs.declared.date.Date.{Date}
 use Rattle.timefd_date_moment.specs.declared.time.Time.{Time}
 use Rattle.timefd_date_moment.specs.declared.offset.UtcOffset.{UtcOffset}

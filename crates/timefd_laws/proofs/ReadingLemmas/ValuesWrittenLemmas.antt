@@ -1,7 +1,7 @@
 -- Values that were read are written.
 use Rattle.std.proofs.Common.{ℕ, ◌≡◌, ◌∙◌, ◌+◌, ◌-◌, ◌*◌, if◌then◌else◌, Bool, true, Option, Some, None, Ok}
 use Rattle.std.proofs.Common.{refl, sym, ap, subst}
-use Rattle.timefd_date_format.specs.declared.field.Kind.{Kind}
+use Rattle.timefd_date_format.specs.Kinds.{Kind}
 use Rattle.timefd_date_moment.specs.declared.date.Date.{Date}
 use Rattle.timefd_date_moment.specs.declared.time.Time.{Time}
 use Rattle.timefd_date_moment.specs.declared.offset.UtcOffset.{UtcOffset}
