@@ -47,10 +47,11 @@ pub extern "C" fn timefd_read_nodes(
 
 /// Reads a date by any nodes. It isn't inlined, because it has room for all fields.
 #[inline(never)]
+#[tactic(auto, using(crate::proofs::NodeDateLemmas::read_as))]
 fn read_exactly(alloc: Global, nodes: &[Node], literals: &[u8], date: &[u8]) -> DateAnswer
     ensures reads { ReadsNodes nodes.now literals.now date.now result }
 {
-    // Most nodes have no members. Then the leaves are enough to read by.
+    // Most descriptions have no optional parts and no alternatives. Then the leaves are enough to read by.
     if let Some(leaves) = leaves_of(alloc, nodes, literals) {
         return read_by_leaves(&leaves, date);
     }

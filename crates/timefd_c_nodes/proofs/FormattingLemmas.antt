@@ -6,4 +6,5 @@ pub mod ShortLemmas
 pub mod WalkLemmas
 pub mod ForwardLemmas
 pub mod ListLemmas
+pub mod GatheredLemmas
 pub mod FlatLemmas

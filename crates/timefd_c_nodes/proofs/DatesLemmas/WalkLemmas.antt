@@ -14,6 +14,7 @@ use Rattle.timefd_c_nodes.specs.Decoding.{read_nodes, read_on}
 use Rattle.timefd_c_nodes.specs.Formatting.Literals.{is_text}
 use Rattle.timefd_c_nodes.specs.Formatting.Nodes.{count_after, fault_after, fault_from, node_fault, node_trees, trees_of}
 use Rattle.timefd_c_nodes.specs.Formatting.Parts.{role_in}
+use Rattle.timefd_c_nodes.proofs.FormattingLemmas.GatheredLemmas.{either_way, gathered}
 use Rattle.timefd_c_nodes.proofs.FormattingLemmas.CutLemmas.{after_step, as_part, grown_length, whole_role}
 use Rattle.timefd_date_moment.specs.declared.moment.Moment.{Moment}
 use Rattle.timefd_date_moment.specs.declared.fields.short.Numbers.{Numbers}
@@ -30,12 +31,6 @@ abbrev ok_or : {A B : Type 0} → A → Result A B → A
 ok_or d (Ok a) = a
 ok_or d (Err e) = d
 
--- what holds for each value and each error holds
-either_way : {A B : Type 0} (P : Result A B → Type 0) → ((a : A) → P (Ok a)) → ((e : B) → P (Err e))
-    → (r : Result A B) → P r
-either_way P by_value by_error (Ok a) = by_value a
-either_way P by_value by_error (Err e) = by_error e
-
 no_value : {A B : Type 0} (e : B) (a : A) → Err e ≡ Ok a → ⊥
 no_value e a is = absurd cc
 
@@ -50,16 +45,6 @@ reads_one_more (u ∷ us) t p q r e f =
     either_way (λ o. followed o (λ x. read_all (trees us) x) ≡ Ok q
     → followed o (λ x. read_all (trees (us ++ t ∷ [])) x) ≡ Ok r)
     (λ m h. reads_one_more us t m q r h f) (λ g h. absurd (no_value g q h)) (read u p) e
-
--- A compound reads what its members read in turn.
-gathered : (xs ys : List Tree) (p : Point)
-    → read_all (trees (xs ++ compound (trees ys) ∷ [])) p ≡ read_all (trees (xs ++ ys)) p
-gathered [] ys p =
-    either_way (λ o. followed o (λ x. read_all (trees []) x) ≡ o) (λ m. refl) (λ g. refl) (read_all (trees ys) p)
-gathered (u ∷ us) ys p =
-    either_way (λ o. followed o (λ x. read_all (trees (us ++ compound (trees ys) ∷ [])) x)
-    ≡ followed o (λ x. read_all (trees (us ++ ys)) x))
-    (λ m. gathered us ys m) (λ g. refl) (read u p)
 
 -- the trees with one more part read what it reads
 reads_grown : (ts : List Tree) (r : Role) (p q s : Point) → read_all (trees ts) p ≡ Ok q → ReadsRole r q s

@@ -1,53 +1,74 @@
-//! Nodes without members, as most descriptions have only these: components and texts, by which a
-//! date is read faster.
+//! Descriptions without optional parts and alternatives: the components and texts in turn, by which a date is
+//! read faster than by nodes.
 
 ghost use Rattle.std.specs.List.{list_all};
-ghost use Rattle.std.specs.Prelude.{◌≡◌, IfSome, IsUtf8, None, map, true};
-ghost use Rattle.timefd_c_nodes.specs.Formatting.Flat.{IsLeaf};
+ghost use Rattle.std.specs.Prelude.{◌≡◌, ◌+◌, ◌++◌, ◌∷◌, [], IfSome, IsUtf8, None, true};
+ghost use Rattle.timefd_c_nodes.specs.Formatting.Flat.{ReadAs, Takes};
 ghost use Rattle.timefd_c_nodes.specs.Formatting.Literals.{is_text};
 ghost use Rattle.timefd_c_nodes.specs.Formatting.Nodes.{node_fault, node_trees};
 ghost use Rattle.timefd_c_nodes.specs.Formatting.Parts.{role_in};
-ghost use Rattle.timefd_lang_node_list.specs.LeafMeaning.{leaf_tree};
 
 use crate::Node;
 use crate::formatting::part::{Part, part_of};
 use std::alloc::Global;
 use timefd_lang_node_list::Leaf;
 
-/// The components and texts that nodes are, one after another. `None` says that the nodes are
-/// something else, or that memory ran out.
-#[tactic(auto, using(crate::proofs::FormattingLemmas::FlatLemmas::none_in_front, crate::proofs::FormattingLemmas::FlatLemmas::one_more, crate::proofs::FormattingLemmas::FlatLemmas::sound_all, crate::proofs::FormattingLemmas::FlatLemmas::texts_all, crate::proofs::FormattingLemmas::FlatLemmas::trees_all))]
+/// The components and texts that nodes are, or have as members in turn, one after another. `None` says that the
+/// nodes are something else, or that memory ran out.
+#[tactic(auto, using(crate::proofs::FormattingLemmas::FlatLemmas::none_in_front, crate::proofs::FormattingLemmas::FlatLemmas::sound_all, crate::proofs::FormattingLemmas::FlatLemmas::texts_all, crate::proofs::FormattingLemmas::FlatLemmas::reads_all))]
 pub fn leaves_of<'l>(alloc: Global, nodes: &[Node], literals: &'l [u8]) -> Option<Vec<Leaf<'l>>>
     ensures sound { IfSome result (λ leaves. node_fault literals.now nodes.now ≡ None) }
     ensures texts { IfSome result (λ leaves.
         list_all (λ n. is_text (role_in literals.now n)) nodes.now ≡ true) }
-    ensures trees { IfSome result (λ leaves.
-        node_trees literals.now nodes.now ≡ map leaf_tree leaves.items) }
+    ensures reads { IfSome result (λ leaves. ReadAs (node_trees literals.now nodes.now) leaves.items) }
 {
     let mut leaves = Vec::with_capacity(alloc, nodes.len()).ok()?;
+    // How many parts the nodes in front are: members of a compound are one.
+    let mut parts = 0;
     'nodes: for at in 0..nodes.len() {
-        let leaf = leaf_of(&nodes[at], literals)?;
-        match leaves.push(leaf) {
-            Ok(()) => {}
-            Err(_) => return None,
-        }
+        parts = take_node(&nodes[at], literals, parts, &mut leaves)?;
     }
     Some(leaves)
 }
 
-/// The component or text that a node is.
+/// How many parts there are after a node, where there are `parts` in front of it. A leaf is added to the leaves.
 #[inline(always)]
-#[tactic(auto, using(crate::proofs::FormattingLemmas::FlatLemmas::text_leaf, crate::proofs::FormattingLemmas::FlatLemmas::component_leaf))]
-fn leaf_of<'l>(node: &Node, literals: &'l [u8]) -> Option<Leaf<'l>>
-    ensures { IfSome result (λ leaf. IsLeaf literals.now node.now leaf) }
+#[tactic(auto, using(crate::proofs::FormattingLemmas::FlatLemmas::takes_leaf, crate::proofs::FormattingLemmas::FlatLemmas::takes_members))]
+fn take_node<'l>(
+    node: &Node,
+    literals: &'l [u8],
+    parts: usize,
+    leaves: &mut Vec<Leaf<'l>>,
+) -> Option<usize>
+    ensures { IfSome result (λ after. Takes literals.now node.now parts leaves.old.items after leaves.new.items) }
 {
     match part_of(node, literals)? {
         Part::Literal(bytes) => {
             let text = text_of(bytes)?;
-            Some(Leaf::Literal(text))
+            add_leaf(Leaf::Literal(text), parts, leaves)
         }
-        Part::Component(component) => Some(Leaf::Component(component.modern())),
-        Part::Compound(_) | Part::Optional(_) | Part::First(_) => None,
+        Part::Component(component) => {
+            add_leaf(Leaf::Component(component.modern()), parts, leaves)
+        }
+        Part::Compound(count) => {
+            if count > parts {
+                return None;
+            }
+            Some(parts - count + 1)
+        }
+        Part::Optional(_) | Part::First(_) => None,
+    }
+}
+
+#[inline(always)]
+fn add_leaf<'l>(leaf: Leaf<'l>, parts: usize, leaves: &mut Vec<Leaf<'l>>) -> Option<usize>
+    ensures one { IfSome result (λ after. after ≡ parts + 1) }
+    ensures added { IfSome result (λ after. leaves.new.items ≡ leaves.old.items ++ leaf ∷ []) }
+{
+    let after = parts.checked_add(1)?;
+    match leaves.push(leaf) {
+        Ok(()) => Some(after),
+        Err(_) => None,
     }
 }
 
