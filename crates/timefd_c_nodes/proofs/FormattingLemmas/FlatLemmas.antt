@@ -1,5 +1,5 @@
 -- Nodes that are leaves, or members in turn, from the first to the last.
-use Rattle.std.proofs.Common.{◌≡◌, ◌∙◌, ℕ, ◌+◌, ◌-◌, ◌≤◌, ◌<◌, ◌&&◌, ◌⊎◌, inl, inr, Bool, true, false, List, [], ◌∷◌, ◌++◌, Option, Some, None, length, take, drop, get_or, map, refl, sym, ap, subst, arith, add-one, drop-cons, length-append}
+use Rattle.std.proofs.Common.{◌≡◌, ◌∙◌, ℕ, ◌+◌, ◌-◌, ◌≤◌, ◌<◌, ◌&&◌, ◌⊎◌, inl, inr, Bool, true, false, List, [], ◌∷◌, ◌++◌, Option, Some, None, IfSome, length, take, drop, get_or, map, refl, sym, ap, subst, arith, add-one, drop-cons, length-append}
 use Rattle.std.proofs.lemmas.List.{drop_all, map-append, take-append-drop}
 use Rattle.std.proofs.lemmas.Str.{is_utf8-from_IsUtf8}
 use Rattle.std.specs.List.{list_all}
@@ -65,6 +65,7 @@ grown_leaf ts r leaf alone tree =
 pub record AreLeaves (l : Text) (ns : List Node) (at parts : ℕ) (leaves : List Leaf) : Type 0 where
   pub ts : List Tree
   pub counted : length ts ≡ parts
+  pub few : parts ≤ at
   pub front : AreInFront l ns at ts
   pub same : (p : Point) → read_all (trees ts) p ≡ read_all (trees (map leaf_tree leaves)) p
 
@@ -72,6 +73,7 @@ pub none_in_front : (l : Text) (ns : List Node) → AreLeaves l ns 0 0 []
 none_in_front l ns = record {
   ts = [];
   counted = refl;
+  few = omega arith;
   front = record { fault = refl; read = refl; texts = refl };
   same = λ p. refl;
 }
@@ -96,6 +98,7 @@ one_added l ns at parts after d leaves more below so one =
     subst (λ xs. AreLeaves l ns (at + 1) after xs) (sym one.added) (record {
       ts = so.ts ++ leaf_tree leaf ∷ [];
       counted = length-append so.ts (leaf_tree leaf ∷ []) ∙ ap (λ k. k + 1) so.counted ∙ sym one.one;
+      few = omega (arith, one.one, so.few);
       front = subst (λ vs. AreInFront l ns (at + 1) vs) grows
           (role_in_front l ns at d so.ts r below one.is.is fits one.is.textual so.front);
       same = λ p. added_read so.ts (map leaf_tree leaves) (leaf_tree leaf) p so.same
@@ -110,6 +113,7 @@ one_made l ns at parts after d leaves more below so one =
     subst (λ xs. AreLeaves l ns (at + 1) after xs) (sym one.same) (record {
       ts = grown so.ts (as_part (together one.count));
       counted = grown_length so.ts (together one.count) fits ∙ ap (λ k. k - one.count + 1) so.counted ∙ sym one.one;
+      few = omega (arith, one.one, so.few);
       front = role_in_front l ns at d so.ts (together one.count) below one.is fits refl so.front;
       same = λ p. gathered (before one.count so.ts) (ending one.count so.ts) p
           ∙ ap (λ us. read_all (trees us) p) (take-append-drop (length so.ts - one.count) so.ts) ∙ so.same p;
@@ -155,6 +159,13 @@ component_leaf l n c leaf is tree =
 pub takes_leaf : (l : Text) (n : Node) (parts after : ℕ) (leaves more : List Leaf) (leaf : Leaf) → IsLeaf l n leaf
     → after ≡ parts + 1 → more ≡ leaves ++ leaf ∷ [] → Takes l n parts leaves after more
 takes_leaf l n parts after leaves more leaf is one added = inl (record { leaf = leaf; is = is; one = one; added = added })
+
+pub takes_text : (l : Text) (n : Node) (parts : ℕ) (leaves more : List Leaf) (leaf : Leaf) (r : Option ℕ)
+    → IsLeaf l n leaf → IfSome r (λ after. after ≡ parts + 1) → IfSome r (λ after. more ≡ leaves ++ leaf ∷ [])
+    → IfSome r (λ after. Takes l n parts leaves after more)
+takes_text l n parts leaves more leaf None is one added = tt
+takes_text l n parts leaves more leaf (Some after) is one added =
+    takes_leaf l n parts after leaves more leaf is one added
 
 pub takes_members : (l : Text) (n : Node) (parts count : ℕ) (leaves : List Leaf) → Some (together count) ≡ role_in l n
     → count ≤ parts → Takes l n parts leaves (parts - count + 1) leaves

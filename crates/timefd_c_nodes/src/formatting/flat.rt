@@ -2,7 +2,7 @@
 //! read faster than by nodes.
 
 ghost use Rattle.std.specs.List.{list_all};
-ghost use Rattle.std.specs.Prelude.{◌≡◌, ◌+◌, ◌++◌, ◌∷◌, [], IfSome, IsUtf8, None, true};
+ghost use Rattle.std.specs.Prelude.{◌≡◌, ◌+◌, ◌<◌, ◌++◌, ◌∷◌, [], IfSome, IsUtf8, None, true};
 ghost use Rattle.timefd_c_nodes.specs.Formatting.Flat.{ReadAs, Takes};
 ghost use Rattle.timefd_c_nodes.specs.Formatting.Literals.{is_text};
 ghost use Rattle.timefd_c_nodes.specs.Formatting.Nodes.{node_fault, node_trees};
@@ -40,6 +40,7 @@ fn take_node<'l>(
     parts: usize,
     leaves: &mut Vec<Leaf<'l>>,
 ) -> Option<usize>
+    requires few { parts < 18446744073709551615 }
     ensures { IfSome result (λ after. Takes literals.now node.now parts leaves.old.items after leaves.new.items) }
 {
     match part_of(node, literals)? {
@@ -62,12 +63,12 @@ fn take_node<'l>(
 
 #[inline(always)]
 fn add_leaf<'l>(leaf: Leaf<'l>, parts: usize, leaves: &mut Vec<Leaf<'l>>) -> Option<usize>
+    requires few { parts < 18446744073709551615 }
     ensures one { IfSome result (λ after. after ≡ parts + 1) }
-    ensures added { IfSome result (λ after. leaves.new.items ≡ leaves.old.items ++ leaf ∷ []) }
+    ensures added { IfSome result (λ after. leaves.new.items ≡ leaves.old.items ++ leaf.entry ∷ []) }
 {
-    let after = parts.checked_add(1)?;
     match leaves.push(leaf) {
-        Ok(()) => Some(after),
+        Ok(()) => Some(parts + 1),
         Err(_) => None,
     }
 }

@@ -157,10 +157,10 @@ field_begins m known (of.UnixTimestampNanosecond p) =
     each_instant _ m (of.UnixTimestampNanosecond p) (λ u. stamp_begins known p.sign_is_mandatory u u.nanoseconds)
 field_begins m known (of.Ignore p) = λ rest h. h
 field_begins m known (of.End p) = λ rest h. h
-field_begins m known (of.Month p) = each_date _ m.date _ (λ d rest h. h)
-field_begins m known (of.Weekday p) = each_date _ m.date _ (λ d rest h. h)
-field_begins m known (of.WeekNumber p) = each_date _ m.date _ (λ d rest h. h)
-field_begins m known (of.Hour p) = each_date _ m.date _ (λ d rest h. h)
-field_begins m known (of.UnixTimestamp p) = each_date _ m.date _ (λ d rest h. h)
-field_begins m known (of.Year p) = each_date _ m.date _ (λ d rest h. h)
+field_begins m known (of.Month p) = λ rest h. h
+field_begins m known (of.Weekday p) = λ rest h. h
+field_begins m known (of.WeekNumber p) = λ rest h. h
+field_begins m known (of.Hour p) = λ rest h. h
+field_begins m known (of.UnixTimestamp p) = λ rest h. h
+field_begins m known (of.Year p) = λ rest h. h
 field_begins m known c = unknown known (field m c)

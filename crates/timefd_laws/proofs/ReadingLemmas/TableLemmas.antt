@@ -194,7 +194,12 @@ module _ (m : Moment) (d : Date) (t : Time) (o : UtcOffset) (s : Shows) (is : Is
       (omega arith))
   back (of.Ignore p) = λ rest ends. absurd ends
   back (of.End p) = λ rest ends. end_row d t o s p rest ends
-  back c = by_date m d t o s is c (λ rest ends. absurd ends)
+  back (of.Month p) = λ rest ends. absurd ends
+  back (of.Weekday p) = λ rest ends. absurd ends
+  back (of.WeekNumber p) = λ rest ends. absurd ends
+  back (of.Hour p) = λ rest ends. absurd ends
+  back (of.UnixTimestamp p) = λ rest ends. absurd ends
+  back (of.Year p) = λ rest ends. absurd ends
 
 abbrev text_in : Result Text Unshown → Text
 text_in (Ok text) = text
