@@ -1,19 +1,17 @@
 -- What JSON writes for a text holds no hidden character.
-use Rattle.std.proofs.Common.{Bool, true≢false, ℕ, ◌≡◌, ◌<◌, ◌≤◌, ◌+◌, ◌-◌, ◌/◌, ◌%◌, true, false, nat_lt, not, ◌==◌, ◌||◌, List, [], ◌∷◌, ◌++◌, chars, codes, flat_map, refl, sym, ap, subst, ◌∙◌, inl, inr, arith, ltb-true, eqb-true, get_or, IsUtf8}
+use Rattle.std.proofs.Common.{Bool, true≢false, ℕ, ◌≡◌, ◌<◌, ◌≤◌, ◌+◌, ◌-◌, ◌/◌, ◌%◌, true, false, nat_lt, ◌==◌, ◌||◌, List, [], ◌∷◌, ◌++◌, chars, codes, flat_map, refl, sym, ap, subst, ◌∙◌, inl, inr, arith, ltb-true, eqb-true, IsUtf8}
 use Rattle.std.proofs.lemmas.Bool.{and_parts, cases_Bool}
 use Rattle.std.proofs.lemmas.Bool.Decides.{nat_tests}
 use Rattle.std.proofs.lemmas.List.{append-nil}
-use Rattle.std.proofs.lemmas.List.FromFn.{get_or-range_with_len, length-range_with_len}
-use Rattle.std.proofs.lemmas.List.Sums.{AllPass-from_list_all}
 use Rattle.std.proofs.lemmas.Str.{chars-IsAscii, chars-encodes, encode_ascii, encodes-append, scalars-chars}
 use Rattle.std.specs.Prelude.{if◌then◌else◌}
 use Rattle.std.specs.Char.{encode_utf8}
-use Rattle.std.specs.List.{list_all, range_with_len}
+use Rattle.std.specs.List.{list_all}
 use Rattle.std.specs.Str.{NonePass, all_scalars, encode_utf8_all}
 use Rattle.timefd_lang_component.specs.Tree.{Text}
 use Rattle.timefd_lint_drawing.specs.Json.{NoneIsHiddenInJson, all_escaped, escaped, hex_digit, is_plain, quoted, unit, units}
 use Rattle.timefd_lint_drawing.specs.Shown.{is_hidden, is_printable}
-use Rattle.timefd_lint_drawing.proofs.ShownLemmas.{all_ascii, bounds, first_scalar, joined, not_true, other_scalars, prints}
+use Rattle.timefd_lint_drawing.proofs.ShownLemmas.{all_ascii, bounds, first_scalar, joined, other_scalars, prints}
 
 -- The bytes spell characters, and none of them is hidden.
 record IsClear (bytes : Text) : Type 0 where

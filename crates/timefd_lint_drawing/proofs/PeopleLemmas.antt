@@ -1,6 +1,6 @@
 -- What people see holds nothing that a terminal would obey, except for newlines and colours.
-use Rattle.std.proofs.Common.{true≢false, ℕ, suc, ◌≡◌, ◌<◌, ◌≤◌, Bool, true, false, nat_le, not, ◌&&◌, ◌||◌, ◌==◌, List, [], ◌∷◌, ◌++◌, chars, length, refl, sym, ap, subst, ◌∙◌, inl, inr, arith, eqb-true, IsUtf8}
-use Rattle.std.specs.Prelude.{String, if◌then◌else◌, string_bytes}
+use Rattle.std.proofs.Common.{true≢false, ℕ, suc, ◌≡◌, ◌<◌, Bool, true, false, nat_le, not, ◌&&◌, ◌||◌, ◌==◌, List, [], ◌∷◌, ◌++◌, chars, length, refl, sym, ap, subst, ◌∙◌, inl, inr, arith, eqb-true, IsUtf8}
+use Rattle.std.specs.Prelude.{String, string_bytes}
 use Rattle.std.proofs.lemmas.Bool.{and_parts, cases_Bool}
 use Rattle.std.proofs.lemmas.List.{append-nil, append_assoc}
 use Rattle.std.proofs.lemmas.Str.{IsUtf8-from_ascii, IsUtf8-string_bytes, chars-IsAscii, chars-encodes, encode_ascii, scalars-chars, utf8_lossy-IsUtf8}
@@ -11,7 +11,7 @@ use Rattle.std.specs.Str.{IsAscii, all_scalars, encode_utf8_all}
 use Rattle.std.specs.Str.Lossy.{utf8_lossy}
 use Rattle.timefd_lang_component.specs.Tree.{Text}
 use Rattle.timefd_lint_drawing.specs.People.{AllSeen, all_seen_of, begins_bold, begins_color, begins_plain, for_people, is_color, is_paint, is_plain, seen_of}
-use Rattle.timefd_lint_drawing.specs.Shown.{is_hidden, is_printable, shown}
+use Rattle.timefd_lint_drawing.specs.Shown.{is_hidden, is_printable}
 use Rattle.timefd_lint_drawing.proofs.ShownLemmas.{bounds, first_scalar, itself, joined, other_scalars, shown_is_clear, shown_scalar}
 
 first_false : (a b : Bool) → (a || b) ≡ false → a ≡ false

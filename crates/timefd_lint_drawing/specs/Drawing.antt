@@ -12,6 +12,7 @@ use Rattle.timefd_lint_drawing.specs.declared.draw.Format.{Format}
 use Rattle.timefd_lint_drawing.specs.declared.draw.Format.TheVariants.{Human, Json, Short, Github, Sarif}
 use Rattle.timefd_lint_drawing.specs.declared.draw.Style.{Style}
 use Rattle.timefd_lint_drawing.specs.declared.github.Command.TheVariants.{Error}
+use Rattle.timefd_lint_drawing.specs.declared.lines.Paint.{Paint}
 use Rattle.timefd_lint_drawing.specs.declared.position.Origin.{Origin}
 use Rattle.timefd_lint_drawing.specs.Github.{annotation, fault_annotation}
 use Rattle.timefd_lint_drawing.specs.HelpText.{help_text}
@@ -30,17 +31,17 @@ margin line = repeat (length (decimal line)) (codes " ")
 abbrev pub width : Text → ℕ
 width text = str_width false (chars text)
 
--- The line that a span begins in, with a caret under each column of the span, and one caret if the span has
+-- The line that a span begins in, with a caret of this colour under each column of the span, and one caret if the span has
 -- none. A long part is cut.
-abbrev pub source_of : Bool → ℕ → Text → Text → Text → Text
-source_of colored line before at after =
+abbrev pub source_of : Bool → Paint → ℕ → Text → Text → Text → Text
+source_of colored paint line before at after =
     bar_line colored (margin line) ++ (text_line colored line before at after
-    ++ caret_line colored (margin line) (repeat (width before) (codes " "))
+    ++ caret_line colored paint (margin line) (repeat (width before) (codes " "))
     (repeat (max (width at) 1) (codes "^")))
 
-abbrev pub source : Bool → ℕ → Text → Text → Text → Text
-source colored line before at after =
-    source_of colored line (safe (cut_start most_shown before)) (safe (cut_end most_shown at))
+abbrev pub source : Bool → Paint → ℕ → Text → Text → Text → Text
+source colored paint line before at after =
+    source_of colored paint line (safe (cut_start most_shown before)) (safe (cut_end most_shown at))
     (safe (cut_end most_shown after))
 
 abbrev pub code : Diagnostic → Text
@@ -50,7 +51,7 @@ abbrev pub human_at : Bool → Bool → Text → ℕ → Text → Diagnostic →
 human_at further colored file line text d =
     error_line colored (code d) (shown_sentence (fault_of d.fault))
     ++ (position_line colored (margin line) file line (column text d.span.start)
-    ++ (source colored line (before d.span.start text) (spanned d.span text) (after_span d.span text)
+    ++ (source colored Paint.Red line (before d.span.start text) (spanned d.span text) (after_span d.span text)
     ++ (help_lines further colored (margin line) (help_text d.help) ++ codes "\n")))
 
 abbrev pub human : Bool → Bool → Origin → Text → Diagnostic → Text

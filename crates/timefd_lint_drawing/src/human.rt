@@ -6,7 +6,7 @@ ghost use Rattle.timefd_lint_drawing.specs.Drawing as spec;
 
 use crate::counter::Counter;
 use crate::help_text::help_text;
-use crate::lines::{push_error_line, push_help_lines, push_position_line};
+use crate::lines::{Paint, push_error_line, push_help_lines, push_position_line};
 use crate::position::{Origin, line_of, position_from};
 use crate::sentence::shown_sentence;
 use crate::source_line::{margin, push_source};
@@ -38,7 +38,15 @@ pub fn human(
     let mut out = String::with_capacity(alloc, ROOM)?;
     push_error_line(&mut out, is_colored, code_of(diagnostic), &sentence)?;
     push_position_line(alloc, &mut out, is_colored, &margin, origin.file, position)?;
-    push_source(alloc, &mut out, is_colored, position.line, &margin, line)?;
+    push_source(
+        alloc,
+        &mut out,
+        is_colored,
+        Paint::Red,
+        position.line,
+        &margin,
+        line,
+    )?;
     push_help_lines(&mut out, is_further, is_colored, &margin, &words)?;
     out.push_str("\n")?;
     Ok(out)

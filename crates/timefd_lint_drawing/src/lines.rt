@@ -10,22 +10,33 @@ use std::alloc::{AllocError, Global};
 // Room for the numbers of a line, and for what is between its parts.
 const ROOM: usize = 32;
 
-// Begins red.
-fn red(is_colored: bool) -> &'static str
-    ensures { result.now ≡ spec.red is_colored }
-{
-    if is_colored { "\u{1B}[1;31m" } else { "" }
+/// The colour of a part of a drawing.
+#[derive(Clone, Copy)]
+pub enum Paint {
+    /// Of an error.
+    Red,
+    /// Of a warning.
+    Yellow,
+    /// Of a note, and of what frames the text.
+    Cyan,
 }
 
-// Begins blue.
-fn blue(is_colored: bool) -> &'static str
-    ensures { result.now ≡ spec.blue is_colored }
+/// The bytes that begin a colour: none if nothing is coloured.
+pub fn begin(is_colored: bool, paint: Paint) -> &'static str
+    ensures { result.now ≡ spec.begin is_colored paint }
 {
-    if is_colored { "\u{1B}[1;36m" } else { "" }
+    if !is_colored {
+        return "";
+    }
+    match paint {
+        Paint::Red => "\u{1B}[1;31m",
+        Paint::Yellow => "\u{1B}[1;33m",
+        Paint::Cyan => "\u{1B}[1;36m",
+    }
 }
 
-// Ends a colour.
-fn plain(is_colored: bool) -> &'static str
+/// The bytes that end a colour: none if nothing is coloured.
+pub fn plain(is_colored: bool) -> &'static str
     ensures { result.now ≡ spec.plain is_colored }
 {
     if is_colored { "\u{1B}[0m" } else { "" }
@@ -55,7 +66,7 @@ pub fn push_error_line(
     if !is_colored {
         return push_all(out, &["error[", code, "]: ", sentence, "\n"]);
     }
-    let (red, plain) = (red(is_colored), plain(is_colored));
+    let (red, plain) = (begin(is_colored, Paint::Red), plain(is_colored));
     write!(out, "{red}error[{code}]{plain}: {sentence}\n")
 }
 
@@ -85,8 +96,8 @@ fn push_arrow(out: &mut String, is_colored: bool, margin: &str) -> Result<(), Al
     if !is_colored {
         return push_all(out, &[margin, "--> "]);
     }
-    let (blue, plain) = (blue(is_colored), plain(is_colored));
-    write!(out, "{margin}{blue}-->{plain} ")
+    let (cyan, plain) = (begin(is_colored, Paint::Cyan), plain(is_colored));
+    write!(out, "{margin}{cyan}-->{plain} ")
 }
 
 /// A line with a bar.
@@ -97,8 +108,8 @@ pub fn push_bar_line(out: &mut String, is_colored: bool, margin: &str) -> Result
     if !is_colored {
         return push_all(out, &[margin, " |\n"]);
     }
-    let (blue, plain) = (blue(is_colored), plain(is_colored));
-    write!(out, "{margin} {blue}|{plain}\n")
+    let (cyan, plain) = (begin(is_colored, Paint::Cyan), plain(is_colored));
+    write!(out, "{margin} {cyan}|{plain}\n")
 }
 
 /// The line of the text, from its three parts.
@@ -125,28 +136,30 @@ fn push_number(out: &mut String, is_colored: bool, number: u64) -> Result<(), Al
     if !is_colored {
         return write!(out, "{number} | ");
     }
-    let (blue, plain) = (blue(is_colored), plain(is_colored));
-    write!(out, "{blue}{number} |{plain} ")
+    let (cyan, plain) = (begin(is_colored, Paint::Cyan), plain(is_colored));
+    write!(out, "{cyan}{number} |{plain} ")
 }
 
-/// A line with a bar, and carets after an indent.
+/// A line with a bar, and carets of this colour after an indent.
 pub fn push_caret_line(
     out: &mut String,
     is_colored: bool,
+    paint: Paint,
     margin: &str,
     indent: &str,
     carets: &str,
 ) -> Result<(), AllocError>
     ensures { OnOk result (string_bytes out.new ≡ string_bytes out.old
-        ++ spec.caret_line is_colored margin.now indent.now carets.now) }
+        ++ spec.caret_line is_colored paint margin.now indent.now carets.now) }
 {
     if !is_colored {
         return push_all(out, &[margin, " | ", indent, carets, "\n"]);
     }
-    let (red, blue, plain) = (red(is_colored), blue(is_colored), plain(is_colored));
+    let (paint, cyan) = (begin(is_colored, paint), begin(is_colored, Paint::Cyan));
+    let plain = plain(is_colored);
     write!(
         out,
-        "{margin} {blue}|{plain} {indent}{red}{carets}{plain}\n"
+        "{margin} {cyan}|{plain} {indent}{paint}{carets}{plain}\n"
     )
 }
 
@@ -163,8 +176,8 @@ pub fn push_help_line(
     if !is_colored {
         return push_all(out, &[margin, " = help: ", help, "\n"]);
     }
-    let (blue, plain) = (blue(is_colored), plain(is_colored));
-    write!(out, "{margin} {blue}={plain} help: {help}\n")
+    let (cyan, plain) = (begin(is_colored, Paint::Cyan), plain(is_colored));
+    write!(out, "{margin} {cyan}={plain} help: {help}\n")
 }
 
 /// The line with the help, and for a further fault one that says what it was found without.
@@ -189,10 +202,10 @@ fn push_note_line(out: &mut String, is_colored: bool, margin: &str) -> Result<()
     ensures { OnOk result (string_bytes out.new ≡ string_bytes out.old
         ++ spec.note_line is_colored margin.now) }
 {
-    let (blue, plain) = (blue(is_colored), plain(is_colored));
+    let (cyan, plain) = (begin(is_colored, Paint::Cyan), plain(is_colored));
     write!(
         out,
-        "{margin} {blue}={plain} note: found with the errors before it left out\n"
+        "{margin} {cyan}={plain} note: found with the errors before it left out\n"
     )
 }
 

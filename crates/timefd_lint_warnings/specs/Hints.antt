@@ -1,5 +1,5 @@
 -- The help on a warning, and which languages read a text that has no component.
-use Rattle.std.specs.Prelude.{◌==◌, Bool, true, false, not, List, [], ◌∷◌, ◌++◌, codes, flat_map}
+use Rattle.std.specs.Prelude.{◌==◌, Bool, true, not, List, [], ◌∷◌, ◌++◌, codes, flat_map}
 use Rattle.std.specs.List.{filter, list_any}
 use Rattle.timefd_lang_component.specs.Tree.{Text}
 use Rattle.timefd_lang_dialect.specs.declared.dialect.Dialect.{Dialect}

@@ -1,5 +1,5 @@
 -- What the linter reports about the warnings of a text.
-use Rattle.std.specs.Prelude.{ℕ, Bool, true, false, List, [], ◌∷◌, ◌++◌, codes, decimal, flat_map, length}
+use Rattle.std.specs.Prelude.{ℕ, Bool, List, [], ◌++◌, codes, decimal, flat_map, length}
 use Rattle.timefd_lang_component.specs.Tree.{Text}
 use Rattle.timefd_lint_diagnosis.specs.declared.span.Span.{Span}
 use Rattle.timefd_lint_drawing.specs.declared.draw.Format.{Format}
@@ -11,7 +11,8 @@ use Rattle.timefd_lint_drawing.specs.declared.position.Origin.{Origin}
 use Rattle.timefd_lint_drawing.specs.Drawing.{margin, source}
 use Rattle.timefd_lint_drawing.specs.Github.{annotation}
 use Rattle.timefd_lint_drawing.specs.Json.{text_field, number_field}
-use Rattle.timefd_lint_drawing.specs.Lines.{position_line, help_line}
+use Rattle.timefd_lint_drawing.specs.Lines.{begin, plain, position_line, help_line}
+use Rattle.timefd_lint_drawing.specs.declared.lines.Paint.{Paint}
 use Rattle.timefd_lint_drawing.specs.Positions.{before, spanned, after_span}
 use Rattle.timefd_lint_drawing.specs.Sarif.{note_result, with_help}
 use Rattle.timefd_lint_drawing.specs.Shown.{safe}
@@ -29,31 +30,22 @@ severity Allowed = codes "note"
 severity Warned = codes "warning"
 severity Denied = codes "error"
 
--- what is put before coloured text, and after it
-abbrev pub paint : Bool → Level → Text
-paint false level = []
-paint true Allowed = 27 ∷ codes "[1;36m"
-paint true Warned = 27 ∷ codes "[1;33m"
-paint true Denied = 27 ∷ codes "[1;31m"
-
-abbrev pub blue : Bool → Text
-blue true = 27 ∷ codes "[1;36m"
-blue false = []
-
-abbrev pub plain : Bool → Text
-plain true = 27 ∷ codes "[0m"
-plain false = []
+-- the colour of a message of this level
+abbrev pub paint : Level → Paint
+paint Allowed = Paint.Cyan
+paint Warned = Paint.Yellow
+paint Denied = Paint.Red
 
 -- `warning[CODE]: SENTENCE`
 abbrev pub head : Bool → Level → Text → Text → Text
 head colored level code sentence =
-    paint colored level ++ (severity level ++ (codes "[" ++ (code ++ (codes "]"
+    begin colored (paint level) ++ (severity level ++ (codes "[" ++ (code ++ (codes "]"
     ++ (plain colored ++ (codes ": " ++ (sentence ++ codes "\n")))))))
 
 -- `--> FILE:LINE:COLUMN`
 abbrev pub position : Bool → Text → ℕ → ℕ → Text
 position colored file line column =
-    codes " " ++ (blue colored ++ (codes "-->" ++ (plain colored ++ (codes " " ++ (safe file
+    codes " " ++ (begin colored Paint.Cyan ++ (codes "-->" ++ (plain colored ++ (codes " " ++ (safe file
     ++ (codes ":" ++ (decimal line ++ (codes ":" ++ (decimal column ++ codes "\n")))))))))
 
 -- A warning is about the whole text: its sentence, where the text begins, the line with carets under the text, and what to
@@ -62,7 +54,7 @@ abbrev pub human : Bool → Origin → Text → Span → Text → ℕ → Level 
 human colored origin whole span text column level w =
     head colored level (name_of w) (sentence_of w)
     ++ (position_line colored (margin origin.line) origin.file.now origin.line column
-    ++ (source colored origin.line (before span.start whole) (spanned span whole) (after_span span whole)
+    ++ (source colored (paint level) origin.line (before span.start whole) (spanned span whole) (after_span span whole)
     ++ (help_line colored (margin origin.line) (help_on w text) ++ codes "\n")))
 
 -- `FILE:LINE:COLUMN: warning[CODE]: SENTENCE`

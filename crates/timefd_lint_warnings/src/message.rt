@@ -9,7 +9,7 @@ use timefd_lang_warnings::{Level, Warning};
 use timefd_lint_diagnosis::Span;
 use timefd_lint_drawing::github::{Command, annotation};
 use timefd_lint_drawing::json::{Entry, push_number, push_text};
-use timefd_lint_drawing::lines::{push_help_line, push_position_line};
+use timefd_lint_drawing::lines::{Paint, begin, plain, push_help_line, push_position_line};
 use timefd_lint_drawing::sarif::{note_result, with_help};
 use timefd_lint_drawing::shown::safe;
 use timefd_lint_drawing::source_line::{margin, push_source};
@@ -67,32 +67,15 @@ fn severity(level: Level) -> &'static str
     }
 }
 
-// What is put before text in the colour of a level.
-fn paint(is_colored: bool, level: Level) -> &'static str
-    ensures { result.now ≡ spec.paint is_colored level }
+/// The colour of a message of this level.
+pub fn paint(level: Level) -> Paint
+    ensures { result ≡ spec.paint level }
 {
-    if !is_colored {
-        return "";
-    }
     match level {
-        Level::Allowed => "\u{1B}[1;36m",
-        Level::Warned => "\u{1B}[1;33m",
-        Level::Denied => "\u{1B}[1;31m",
+        Level::Allowed => Paint::Cyan,
+        Level::Warned => Paint::Yellow,
+        Level::Denied => Paint::Red,
     }
-}
-
-// What is put before blue text.
-fn blue(is_colored: bool) -> &'static str
-    ensures { result.now ≡ spec.blue is_colored }
-{
-    if is_colored { "\u{1B}[1;36m" } else { "" }
-}
-
-// What is put after coloured text.
-fn plain(is_colored: bool) -> &'static str
-    ensures { result.now ≡ spec.plain is_colored }
-{
-    if is_colored { "\u{1B}[0m" } else { "" }
 }
 
 // The drawing: the sentence, the position, the line with carets under the text, and the help.
@@ -120,6 +103,7 @@ fn human(
         alloc,
         &mut out,
         is_colored,
+        paint(level),
         line,
         &margin,
         line_of(whole, span),
@@ -140,7 +124,7 @@ pub fn head(
     ensures { IfOk result (λ line.
         string_bytes line ≡ spec.head is_colored level code.now sentence.now) }
 {
-    let (paint, plain) = (paint(is_colored, level), plain(is_colored));
+    let (paint, plain) = (begin(is_colored, paint(level)), plain(is_colored));
     let severity = severity(level);
     format!(in alloc; "{paint}{severity}[{code}]{plain}: {sentence}\n")
 }
@@ -155,10 +139,10 @@ pub fn position(
     ensures { IfOk result (λ line. string_bytes line
         ≡ spec.position is_colored origin.entry.file.now origin.entry.line column) }
 {
-    let (blue, plain) = (blue(is_colored), plain(is_colored));
+    let (cyan, plain) = (begin(is_colored, Paint::Cyan), plain(is_colored));
     let file = safe(alloc, origin.file)?;
     let line = origin.line;
-    format!(in alloc; " {blue}-->{plain} {file}:{line}:{column}\n")
+    format!(in alloc; " {cyan}-->{plain} {file}:{line}:{column}\n")
 }
 
 // `FILE:LINE:COLUMN: warning[CODE]: SENTENCE`

@@ -13,14 +13,14 @@ use Rattle.timefd_lint_drawing.specs.Lines.{position_line, help_line}
 use Rattle.timefd_lint_drawing.specs.Positions.{line_number, column, char_column, before, spanned, after_span}
 use Rattle.timefd_lint_drawing.specs.Sarif.{note_result, with_help}
 use Rattle.timefd_lint_drawing.specs.Shown.{safe}
-use Rattle.timefd_lint_warnings.specs.Messages.{severity, head, command}
+use Rattle.timefd_lint_warnings.specs.Messages.{severity, head, command, paint}
 use Rattle.timefd_lang_warnings.specs.declared.levels.Level.{Level}
 
 abbrev pub human_at : Bool → Text → ℕ → Text → Level → Text → Text → Text → Span → Text
 human_at colored file line text level code message help span =
     head colored level code message
     ++ (position_line colored (margin line) file line (column text span.start)
-    ++ (source colored line (before span.start text) (spanned span text) (after_span span text)
+    ++ (source colored (paint level) line (before span.start text) (spanned span text) (after_span span text)
     ++ (help_line colored (margin line) help ++ codes "\n")))
 
 -- its sentence, its place, the line with carets under the part, and the help

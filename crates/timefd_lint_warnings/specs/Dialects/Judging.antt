@@ -1,7 +1,6 @@
 -- What the linter says of a format of another language.
 use Rattle.std.specs.Prelude.{ℕ, ◌≡◌, Bool, true, false, List, [], flat_map, length}
 use Rattle.timefd_lang_component.specs.Tree.{Text}
-use Rattle.timefd_lint_diagnosis.specs.declared.span.Span.{Span}
 use Rattle.timefd_lang_dialect.specs.declared.dialect.Dialect.{Dialect}
 use Rattle.timefd_lang_dialect.specs.declared.reason.Reason.{Reason}
 use Rattle.timefd_lang_dialect.specs.declared.trapping.Found.{Found}

@@ -5,7 +5,7 @@ ghost use Rattle.timefd_lint_drawing.specs.Counted.{IsCounted};
 ghost use Rattle.timefd_lint_warnings.specs.Dialects.Drawn as spec;
 
 use crate::dialects::finding::Finding;
-use crate::head;
+use crate::{head, paint};
 use std::alloc::{AllocError, Global};
 use timefd_lint_drawing::lines::{push_help_line, push_position_line};
 use timefd_lint_drawing::source_line::{margin, push_source};
@@ -37,7 +37,15 @@ pub fn human(
         finding.message,
     )?;
     push_position_line(alloc, &mut out, is_colored, &margin, origin.file, position)?;
-    push_source(alloc, &mut out, is_colored, position.line, &margin, line)?;
+    push_source(
+        alloc,
+        &mut out,
+        is_colored,
+        paint(finding.level),
+        position.line,
+        &margin,
+        line,
+    )?;
     push_help_line(&mut out, is_colored, &margin, finding.help)?;
     out.push_str("\n")?;
     Ok(out)
