@@ -77,7 +77,9 @@ fn push_source_of(
     }
     let indent = " ".repeat(alloc, indent)?;
     let carets = "^".repeat(alloc, under)?;
-    push_lines(out, is_colored, paint, number, margin, line, &indent, &carets)
+    push_lines(
+        out, is_colored, paint, number, margin, line, &indent, &carets,
+    )
 }
 
 // The three lines, from the indent and the carets below the text.
