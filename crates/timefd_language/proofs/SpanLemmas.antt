@@ -9,7 +9,7 @@ use Rattle.std.proofs.lemmas.Str.Ascii.{IsAscii-cons, IsAscii-nil}
 use Rattle.std.proofs.Math.Seq.{drop-append_seam}
 use Rattle.timefd_lang_component.specs.Tree.{Text}
 use Rattle.timefd_lang_fault.specs.Faults.{Kind}
-use Rattle.timefd_lang_fault.specs.BorrowedFaults.{IsLent}
+use Rattle.timefd_lang_fault.specs.BorrowedFaults.{IsBorrowedFault}
 use Rattle.timefd_lang_fault.specs.RuleKinds.{rule_kind}
 use Rattle.timefd_lang_fault.specs.declared.read_error.Fault as code_fault
 use Rattle.timefd_lang_fault.specs.declared.borrowed_fault.BorrowedFault.{BorrowedFault}
@@ -137,18 +137,18 @@ module _ (text before front after : Text) (f : code_fault.Fault)
 
 pub spanned : (extent : Kind → Extent) (language : Language) (text : Text) (f : code_fault.Fault)
     (g : BorrowedFault) → ((k : Kind) → extent_of language k ≡ extent k) → SpansIn extent text f
-    → IsLent (length text) f g → IsSpanned language text g
-spanned extent language text f g same s lent =
+    → IsBorrowedFault (length text) f g → IsSpanned language text g
+spanned extent language text f g same s borrowed =
     let joined : length text ≡ length s.before + length s.rest =
     ap length s.whole ∙ length-append s.before s.rest in
-    let start : g.start ≡ length s.before = omega (arith, lent.start, s.start, joined) in
+    let start : g.start ≡ length s.before = omega (arith, borrowed.start, s.start, joined) in
     let cut : min f.len f.remaining ≡ f.len = omega (arith, s.within, s.start) in
-    let end : g.end ≡ g.start + f.len = lent.end ∙ ap (λ n. g.start + n) cut in
+    let end : g.end ≡ g.start + f.len = borrowed.end ∙ ap (λ n. g.start + n) cut in
     let there : drop g.start text ≡ s.rest =
     ap (λ n. drop n text) start ∙ ap (drop (length s.before)) s.whole
     ∙ drop-append_seam s.before s.rest in
     let is : extent_of language (rule_kind g.rule) ≡ extent (rule_kind f.rule) =
-    same (rule_kind g.rule) ∙ ap extent lent.kind in
+    same (rule_kind g.rule) ∙ ap extent borrowed.kind in
     record {
       end = end
           ∙ ap (λ n. g.start + n) (s.len ∙ sym (ap (λ x. measured x (drop g.start text)) is

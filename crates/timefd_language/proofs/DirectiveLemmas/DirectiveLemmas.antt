@@ -27,7 +27,7 @@ use Rattle.timefd_lang_fault.specs.declared.parse_error.ParseError.TheVariants a
 use Rattle.timefd_lang_fault.specs.declared.borrowed_fault.BorrowedFault.{BorrowedFault}
 use Rattle.timefd_lang_fault.specs.declared.borrowed_parse_error.BorrowedParseError.{BorrowedParseError}
 use Rattle.timefd_lang_fault.specs.declared.borrowed_parse_error.BorrowedParseError.TheVariants.{Invalid, Memory}
-use Rattle.timefd_lang_fault.specs.BorrowedFaults.{to_borrowed_fault, IsBorrowed, IsBorrowedOf, IsLent, IsMemory, IsOwned, Lends, LendsSpan}
+use Rattle.timefd_lang_fault.specs.BorrowedFaults.{to_borrowed_fault, IsBorrowed, IsBorrowedOf, IsBorrowedFault, IsMemory, IsOwned, Borrows, BorrowsSpan}
 use Rattle.timefd_lang_fault.proofs.BorrowedLemmas.{Assigned, borrowed_none, borrowed_of, borrowed_one}
 use Rattle.timefd_lang_fault.specs.ReadErrors.{IsInvalid}
 use Rattle.timefd_lang_fault.proofs.OwnedLemmas.{owned_of}
@@ -317,7 +317,7 @@ whole text (errors.Invalid f) h = whole_fault text f h
 whole text errors.Memory h = tt
 
 pub borrowed_strftime : (text : Text) (e : ReadError) (r : BorrowedParseError)
-    → MemoryOr (IsStrftimeFaultIn text) e → Lends (length text) e r
+    → MemoryOr (IsStrftimeFaultIn text) e → Borrows (length text) e r
     → IsBorrowedOf (StrftimeFaultOf text) r
 borrowed_strftime text e r h = borrowed_of (StrftimeFaultOf text) (length text) e r (whole text e h)
 
@@ -329,14 +329,14 @@ borrowed_strftime_fault text f b h borrowed =
     subst (StrftimeFaultOf text) (sym (borrowed w.g w.is)) w.assigned
 
 pub borrowed_strftime_spelled : (text : Text) (e : ReadError) (r : BorrowedParseError)
-    (list : List Tree) → MemoryOr (IsStrftimeFaultIn text) e → Lends (length text) e r
+    (list : List Tree) → MemoryOr (IsStrftimeFaultIn text) e → Borrows (length text) e r
     → SpellsStrftime text list → IsMemory r
 borrowed_strftime_spelled text e r list h borrowed s =
     borrowed_none (StrftimeFaultOf text) (length text) (λ g is. (one text).not_both list g s is) e r
     (whole text e h) borrowed
 
 pub borrowed_strftime_refused : (text : Text) (e : ReadError) (r : BorrowedParseError) (f : Fault)
-    → MemoryOr (IsStrftimeFaultIn text) e → IsInvalid e → Lends (length text) e r
+    → MemoryOr (IsStrftimeFaultIn text) e → IsInvalid e → Borrows (length text) e r
     → StrftimeFaultOf text f → IsBorrowed f r
 borrowed_strftime_refused text e r f h is borrowed has =
     borrowed_one (StrftimeFaultOf text) (length text) f
@@ -345,15 +345,15 @@ borrowed_strftime_refused text e r f h is borrowed has =
 -- the borrowed fault ends after what is at fault
 
 pub spanned_strftime_fault : (text : Text) (f : code_fault.Fault) (b : BorrowedFault)
-    → SpansStrftime text f → IsLent (length text) f b → IsSpanned languages.Strftime text b
+    → SpansStrftime text f → IsBorrowedFault (length text) f b → IsSpanned languages.Strftime text b
 spanned_strftime_fault text f b = spanned strftime_extent languages.Strftime text f b (λ k. refl)
 
 pub spanned_strftime : (text : Text) (e : ReadError) (r : BorrowedParseError)
-    → MemoryOr (IsStrftimeFaultIn text) e → LendsSpan (length text) e r → HasSpan languages.Strftime text r
-spanned_strftime text e (Memory m) h lent = tt
-spanned_strftime text errors.Memory (Invalid b) h lent = absurd lent
-spanned_strftime text (errors.Invalid f) (Invalid b) h lent =
-    spanned_strftime_fault text f b h.6 lent
+    → MemoryOr (IsStrftimeFaultIn text) e → BorrowsSpan (length text) e r → HasSpan languages.Strftime text r
+spanned_strftime text e (Memory m) h borrowed = tt
+spanned_strftime text errors.Memory (Invalid b) h borrowed = absurd borrowed
+spanned_strftime text (errors.Invalid f) (Invalid b) h borrowed =
+    spanned_strftime_fault text f b h.6 borrowed
 
 -- an error other than lack of memory is a fault
 pub is_invalid : (e : ReadError) → (e ≡ errors.Memory → ⊥) → IsInvalid e
