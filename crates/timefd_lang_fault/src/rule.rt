@@ -2,21 +2,28 @@
 
 ghost use Rattle.std.specs.Prelude.{◌≡◌};
 ghost use Rattle.timefd_lang_fault.specs.RuleKinds.{kind_of, rule_kind};
+ghost use Rattle.timefd_lang_fault.specs.Slots.{wanted_by};
+
+use crate::key::Key;
+use crate::refuser::Refuser;
+use crate::slot::Slot;
 
 /// The rule that a text breaks, with the word or the key that its sentence quotes.
 #[derive(Clone, Copy)]
 pub enum Rule<'a> {
     /// A bracket has to be closed.
     UnclosedBracket,
-    /// A bracket begins with the name of a component, and a letter of strftime is one of its table.
-    /// This is the word that is there instead.
+    /// A bracket begins with the name of a component. This is the word that is there instead.
     UnknownName(&'a str),
-    /// A modifier is a key of its component, a colon and a value. This is what isn't.
-    InvalidModifier(&'a str),
+    /// A letter of strftime is one of its table. This is what is there instead.
+    UnknownLetter(&'a str),
+    /// A modifier is a key of its component, a colon and a value. This is what isn't, and what it
+    /// should have been, if the name before it and the key of a value are known.
+    InvalidModifier(Option<Slot>, &'a str),
     /// A bracket has a name.
     MissingName,
     /// A component has each modifier that it needs. This is the key of the missing one.
-    MissingModifier(&'static str),
+    MissingModifier(Key),
     /// A backslash, or the percent sign of strftime, is followed by something that it takes.
     InvalidEscape,
     /// In version 3 a `]` that closes nothing has a backslash before it.
@@ -42,9 +49,9 @@ pub enum Rule<'a> {
     /// No other component than `optional` and `first` has a nested description.
     NestedInComponent,
     /// In version 3 a key is given only once. This one is given twice.
-    DuplicateModifier(&'static str),
+    DuplicateModifier(Key),
     /// A key isn't used with a value that refuses it: the key, and with what it is used.
-    RefusedModifier(&'static str, &'static str),
+    RefusedModifier(Key, Refuser),
 }
 
 impl<'a> Rule<'a> {
@@ -55,9 +62,10 @@ impl<'a> Rule<'a> {
         match self {
             Rule::UnclosedBracket => FaultKind::UnclosedBracket,
             Rule::UnknownName(name) => FaultKind::InvalidName(name),
-            Rule::InvalidModifier(word) => FaultKind::InvalidModifier(word),
+            Rule::UnknownLetter(letter) => FaultKind::InvalidName(letter),
+            Rule::InvalidModifier(_, word) => FaultKind::InvalidModifier(word),
             Rule::MissingName => FaultKind::MissingName,
-            Rule::MissingModifier(key) => FaultKind::MissingModifier(key),
+            Rule::MissingModifier(key) => FaultKind::MissingModifier(key.spelling()),
             Rule::InvalidEscape => FaultKind::Expected("valid escape sequence"),
             Rule::UnescapedBracket => FaultKind::Expected("right bracket to be escaped"),
             Rule::MissingSpace => {
@@ -83,8 +91,38 @@ impl<'a> Rule<'a> {
             Rule::NestedInComponent => {
                 FaultKind::NotSupported("nested format descriptions", "on this component")
             }
-            Rule::DuplicateModifier(key) => FaultKind::DuplicateModifier(key),
-            Rule::RefusedModifier(key, context) => FaultKind::InvalidCombination(key, context),
+            Rule::DuplicateModifier(key) => FaultKind::DuplicateModifier(key.spelling()),
+            Rule::RefusedModifier(key, refuser) => {
+                FaultKind::InvalidCombination(key.spelling(), refuser.context())
+            }
+        }
+    }
+
+    /// What should have been there, if that is known: a name, a key or a value.
+    pub fn wanted(self) -> Option<Slot>
+        ensures { result ≡ wanted_by self.entry }
+    {
+        match self {
+            Rule::UnknownName(_) => Some(Slot::Name),
+            Rule::InvalidModifier(wanted, _) => wanted,
+            Rule::UnknownLetter(_)
+            | Rule::UnclosedBracket
+            | Rule::MissingName
+            | Rule::MissingModifier(_)
+            | Rule::InvalidEscape
+            | Rule::UnescapedBracket
+            | Rule::MissingSpace
+            | Rule::MissingDescription
+            | Rule::MissingAlternative
+            | Rule::NestedTooDeep
+            | Rule::SeveralDescriptions
+            | Rule::OptionalItem
+            | Rule::FirstItem
+            | Rule::UnsupportedFlag
+            | Rule::UnsupportedLetter
+            | Rule::NestedInComponent
+            | Rule::DuplicateModifier(_)
+            | Rule::RefusedModifier(_, _) => None,
         }
     }
 }

@@ -1,6 +1,4 @@
 pub mod NearestLemmas
-pub mod SlotLemmas
-pub mod WordLemmas
 pub mod TableLemmas
 pub mod AlignLemmas
 pub mod WayLemmas

@@ -7,7 +7,7 @@ use Rattle.timefd_language.specs.declared.description_version.DescriptionVersion
 use Rattle.timefd_parse.specs.declared.modifier.Modifier as code
 use Rattle.timefd_parse.specs.declared.modifiers.Modifiers as code_modifiers
 use Rattle.timefd_parse.specs.declared.head.Head as code_head
-use Rattle.timefd_language.specs.declared.name.Name.{Name}
+use Rattle.timefd_lang_fault.specs.declared.name.Name.{Name}
 use Rattle.timefd_lang_fault.specs.declared.read_error.Fault as code_fault
 use Rattle.timefd_lang_fault.specs.declared.rule.Rule.TheVariants as broken
 use Rattle.timefd_language.specs.Bytes.{left, is_white, is_word_byte, OneOrMore, StopsBefore}

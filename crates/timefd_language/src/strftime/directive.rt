@@ -80,7 +80,7 @@ pub fn unknown(text: &str) -> Rule<'_>
     match first {
         b'O' => Rule::UnsupportedFlag,
         b'Z' => Rule::UnsupportedLetter,
-        byte if byte.is_ascii() => Rule::UnknownName(text.split_at(1).0),
-        _ => Rule::UnknownName("\u{FFFD}"),
+        byte if byte.is_ascii() => Rule::UnknownLetter(text.split_at(1).0),
+        _ => Rule::UnknownLetter("\u{FFFD}"),
     }
 }
