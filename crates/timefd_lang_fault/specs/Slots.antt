@@ -1,34 +1,12 @@
 -- What belongs where a fault is, and what refuses a key.
 use Rattle.std.specs.Prelude.{codes, Option, Some, None}
 use Rattle.timefd_lang_fault.specs.Faults.{Text}
-use Rattle.timefd_lang_fault.specs.declared.key.Key.{Key}
-use Rattle.timefd_lang_fault.specs.declared.key.Key.TheVariants as keys
 use Rattle.timefd_lang_fault.specs.declared.refuser.Refuser.{Refuser}
 use Rattle.timefd_lang_fault.specs.declared.refuser.Refuser.TheVariants as refusers
 use Rattle.timefd_lang_fault.specs.declared.rule.Rule.{Rule}
 use Rattle.timefd_lang_fault.specs.declared.rule.Rule.TheVariants as rules
 use Rattle.timefd_lang_fault.specs.declared.slot.Slot.{Slot}
 use Rattle.timefd_lang_fault.specs.declared.slot.Slot.TheVariants as slots
-
--- a key as it is written
-abbrev pub key_word : Key → Text
-key_word keys.Padding = codes "padding"
-key_word keys.TrailingInput = codes "trailing_input"
-key_word keys.HourRepr = codes "repr"
-key_word keys.Count = codes "count"
-key_word keys.MonthRepr = codes "repr"
-key_word keys.CaseSensitive = codes "case_sensitive"
-key_word keys.Sign = codes "sign"
-key_word keys.Case = codes "case"
-key_word keys.Digits = codes "digits"
-key_word keys.Precision = codes "precision"
-key_word keys.WeekdayRepr = codes "repr"
-key_word keys.OneIndexed = codes "one_indexed"
-key_word keys.WeekNumberRepr = codes "repr"
-key_word keys.YearRepr = codes "repr"
-key_word keys.Range = codes "range"
-key_word keys.Base = codes "base"
-key_word keys.Format = codes "format"
 
 -- with what a key isn't valid
 abbrev pub context_of : Refuser → Text
@@ -43,5 +21,5 @@ context_of refusers.LastTwo = codes "when `repr:last_two` is used"
 -- what should have been there, as the rule says that is broken
 abbrev pub wanted_by : Rule → Option Slot
 wanted_by (rules.UnknownName name) = Some slots.Name
-wanted_by (rules.InvalidModifier wanted word) = wanted
+wanted_by (rules.InvalidModifier word wanted) = wanted
 wanted_by rule = None

@@ -1,8 +1,5 @@
 //! The keys of modifiers.
 
-ghost use Rattle.std.specs.Prelude.{◌≡◌};
-ghost use Rattle.timefd_lang_fault.specs.Slots.{key_word};
-
 /// The key of a modifier, by what it sets. Several components have a key `repr`, and each `repr` is
 /// a key of its own here.
 #[derive(Clone, Copy)]
@@ -41,32 +38,4 @@ pub enum Key {
     Base,
     /// Whether an optional item is formatted.
     Format,
-}
-
-impl Key {
-    /// The key as it is written.
-    #[inline]
-    pub fn spelling(self) -> &'static str
-        ensures { result.now ≡ key_word self }
-    {
-        match self {
-            Key::Padding => "padding",
-            Key::TrailingInput => "trailing_input",
-            Key::Count => "count",
-            Key::HourRepr
-            | Key::MonthRepr
-            | Key::WeekdayRepr
-            | Key::WeekNumberRepr
-            | Key::YearRepr => "repr",
-            Key::CaseSensitive => "case_sensitive",
-            Key::Sign => "sign",
-            Key::Case => "case",
-            Key::Digits => "digits",
-            Key::Precision => "precision",
-            Key::OneIndexed => "one_indexed",
-            Key::Range => "range",
-            Key::Base => "base",
-            Key::Format => "format",
-        }
-    }
 }

@@ -4,7 +4,6 @@ ghost use Rattle.std.specs.Prelude.{◌≡◌};
 ghost use Rattle.timefd_lang_fault.specs.RuleKinds.{kind_of, rule_kind};
 ghost use Rattle.timefd_lang_fault.specs.Slots.{wanted_by};
 
-use crate::key::Key;
 use crate::refuser::Refuser;
 use crate::slot::Slot;
 
@@ -19,11 +18,11 @@ pub enum Rule<'a> {
     UnknownLetter(&'a str),
     /// A modifier is a key of its component, a colon and a value. This is what isn't, and what it
     /// should have been, if the name before it and the key of a value are known.
-    InvalidModifier(Option<Slot>, &'a str),
+    InvalidModifier(&'a str, Option<Slot>),
     /// A bracket has a name.
     MissingName,
     /// A component has each modifier that it needs. This is the key of the missing one.
-    MissingModifier(Key),
+    MissingModifier(&'static str),
     /// A backslash, or the percent sign of strftime, is followed by something that it takes.
     InvalidEscape,
     /// In version 3 a `]` that closes nothing has a backslash before it.
@@ -49,9 +48,9 @@ pub enum Rule<'a> {
     /// No other component than `optional` and `first` has a nested description.
     NestedInComponent,
     /// In version 3 a key is given only once. This one is given twice.
-    DuplicateModifier(Key),
+    DuplicateModifier(&'static str),
     /// A key isn't used with a value that refuses it: the key, and with what it is used.
-    RefusedModifier(Key, Refuser),
+    RefusedModifier(&'static str, Refuser),
 }
 
 impl<'a> Rule<'a> {
@@ -63,9 +62,9 @@ impl<'a> Rule<'a> {
             Rule::UnclosedBracket => FaultKind::UnclosedBracket,
             Rule::UnknownName(name) => FaultKind::InvalidName(name),
             Rule::UnknownLetter(letter) => FaultKind::InvalidName(letter),
-            Rule::InvalidModifier(_, word) => FaultKind::InvalidModifier(word),
+            Rule::InvalidModifier(word, _) => FaultKind::InvalidModifier(word),
             Rule::MissingName => FaultKind::MissingName,
-            Rule::MissingModifier(key) => FaultKind::MissingModifier(key.spelling()),
+            Rule::MissingModifier(key) => FaultKind::MissingModifier(key),
             Rule::InvalidEscape => FaultKind::Expected("valid escape sequence"),
             Rule::UnescapedBracket => FaultKind::Expected("right bracket to be escaped"),
             Rule::MissingSpace => {
@@ -91,9 +90,9 @@ impl<'a> Rule<'a> {
             Rule::NestedInComponent => {
                 FaultKind::NotSupported("nested format descriptions", "on this component")
             }
-            Rule::DuplicateModifier(key) => FaultKind::DuplicateModifier(key.spelling()),
+            Rule::DuplicateModifier(key) => FaultKind::DuplicateModifier(key),
             Rule::RefusedModifier(key, refuser) => {
-                FaultKind::InvalidCombination(key.spelling(), refuser.context())
+                FaultKind::InvalidCombination(key, refuser.context())
             }
         }
     }
@@ -104,7 +103,7 @@ impl<'a> Rule<'a> {
     {
         match self {
             Rule::UnknownName(_) => Some(Slot::Name),
-            Rule::InvalidModifier(wanted, _) => wanted,
+            Rule::InvalidModifier(_, wanted) => wanted,
             Rule::UnknownLetter(_)
             | Rule::UnclosedBracket
             | Rule::MissingName

@@ -13,7 +13,7 @@ use Rattle.timefd_language.specs.declared.language.Language.{Language}
 use Rattle.timefd_language.specs.declared.language.Language.TheVariants.{Version, Strftime}
 use Rattle.timefd_language.specs.Bytes.{colon, is_version_three, is_white, is_key_byte, ZeroOrMore, OneOrMore}
 use Rattle.timefd_language.specs.Head.{Head, IsHead, head_text}
-use Rattle.timefd_language.specs.Lookup.{IsNameOf, key_for, keys_for, keys_of, values_for}
+use Rattle.timefd_language.specs.Lookup.{IsNameOf, key_for, keys_for, keys_of}
 use Rattle.timefd_language.specs.Names.{rows, row_for}
 use Rattle.timefd_language.specs.Values as table
 use Rattle.timefd_language.specs.Values.{key_in}
@@ -37,7 +37,7 @@ words_of (table.words vs) = map (λ v. v.word) vs
 words_of table.numbers = []
 
 abbrev pub values : code_key.Key → List Text
-values key = words_of (values_for key)
+values key = words_of (key_for key).values
 
 abbrev pub words_at : Bool → Slot → List Text
 words_at strict slots.Name = names strict
@@ -125,7 +125,7 @@ pub record WantsValue (strict : Bool) (front word : Text) (wanted : Option Slot)
 
 -- A rule of versions is broken after this text.
 abbrev pub WantsIn : Bool → Text → Rule → Type 0
-WantsIn strict front (rules.InvalidModifier wanted word) =
+WantsIn strict front (rules.InvalidModifier word wanted) =
     WantsKey strict front word.now wanted ⊎ WantsValue strict front word.now wanted
 WantsIn strict front (rules.UnknownLetter letter) = ⊥
 WantsIn strict front rule = ⊤

@@ -3,7 +3,7 @@ use Rattle.std.specs.Char.{len_utf8}
 use Rattle.std.specs.Prelude.{ℕ, Bool, None, ◌≡◌, ◌+◌, ◌≤◌, List, [], ◌∷◌, ◌++◌, chars, length, drop, min, ⊤}
 use Rattle.std.specs.List.{prefix_len}
 use Rattle.timefd_lang_component.specs.Tree.{Text}
-use Rattle.timefd_lang_fault.specs.Faults.{Kind, Fault, unclosed_bracket, invalid_name, invalid_modifier, missing_name, missing_modifier, expected, not_supported, duplicate_modifier, invalid_combination}
+use Rattle.timefd_lang_fault.specs.Faults.{Kind, Fault, fault_of, unclosed_bracket, invalid_name, invalid_modifier, missing_name, missing_modifier, expected, not_supported, duplicate_modifier, invalid_combination}
 use Rattle.timefd_lang_fault.specs.BorrowedFaults.{to_borrowed_fault}
 use Rattle.timefd_lang_fault.specs.RuleKinds.{rule_kind}
 use Rattle.timefd_lang_fault.specs.Slots.{wanted_by}
@@ -12,6 +12,8 @@ use Rattle.timefd_lang_fault.specs.declared.borrowed_fault.BorrowedFault.{Borrow
 use Rattle.timefd_lang_fault.specs.declared.rule.Rule.{Rule}
 use Rattle.timefd_lang_fault.specs.declared.borrowed_parse_error.BorrowedParseError.{BorrowedParseError}
 use Rattle.timefd_lang_fault.specs.declared.borrowed_parse_error.BorrowedParseError.TheVariants.{Invalid, Memory}
+use Rattle.timefd_lang_fault.specs.declared.parse_error.ParseError.{ParseError}
+use Rattle.timefd_lang_fault.specs.declared.parse_error.ParseError.TheVariants as reported
 use Rattle.timefd_language.specs.Bytes.{is_word_byte, is_key_byte}
 use Rattle.timefd_language.specs.Slots.{IsWanted, WantsIn}
 use Rattle.timefd_language.specs.declared.language.Language.{Language}
@@ -80,6 +82,16 @@ pub record IsSpanned (language : Language) (text : Text) (f : BorrowedFault) : T
 abbrev pub HasSpan : Language → Text → BorrowedParseError → Type 0
 HasSpan language text (Invalid f) = IsSpanned language text f
 HasSpan language text (Memory e) = ⊤
+
+-- The bytes at fault, from the index of a fault on, lie within the text.
+abbrev pub SpansWithin : Language → Text → Fault → Type 0
+SpansWithin language text f =
+    (f.index ≤ end_of language text f) × (end_of language text f ≤ length text)
+
+-- such a fault, or out of memory
+abbrev pub HasSpanWithin : Language → Text → ParseError → Type 0
+HasSpanWithin language text (reported.Invalid f) = SpansWithin language text (fault_of f)
+HasSpanWithin language text (reported.Memory e) = ⊤
 
 -- How that is known of a reader's fault: it is in the last bytes of the text, has as many bytes as
 -- are at fault there, and what is wanted there is known by what precedes it. What holds of a text's

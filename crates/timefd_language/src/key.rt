@@ -10,6 +10,32 @@ use crate::description_version::DescriptionVersion;
 use crate::same::same;
 use timefd_lang_fault::{ComponentName, Key, Name};
 
+/// The key as it is written.
+#[inline]
+pub fn spelling(key: Key) -> &'static str
+    ensures { result.now ≡ (key_for key).key }
+{
+    match key {
+        Key::Padding => "padding",
+        Key::TrailingInput => "trailing_input",
+        Key::Count => "count",
+        Key::HourRepr
+        | Key::MonthRepr
+        | Key::WeekdayRepr
+        | Key::WeekNumberRepr
+        | Key::YearRepr => "repr",
+        Key::CaseSensitive => "case_sensitive",
+        Key::Sign => "sign",
+        Key::Case => "case",
+        Key::Digits => "digits",
+        Key::Precision => "precision",
+        Key::OneIndexed => "one_indexed",
+        Key::Range => "range",
+        Key::Base => "base",
+        Key::Format => "format",
+    }
+}
+
 /// The keys that a bracket with this name takes.
 #[inline]
 fn keys(name: Name) -> &'static [Key]
@@ -60,7 +86,7 @@ pub fn key_of(name: Name, version: DescriptionVersion, word: &str) -> Option<Key
         name) }
 {
     for key in keys(name) {
-        if same(version, key.spelling(), word) {
+        if same(version, spelling(*key), word) {
             return Some(*key);
         }
     }

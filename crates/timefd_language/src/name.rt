@@ -12,7 +12,7 @@ use timefd_lang_fault::{ComponentName, Name};
 
 /// The name as it is written.
 #[inline(always)]
-pub fn spelling(name: ComponentName) -> &'static str
+pub fn name_spelling(name: ComponentName) -> &'static str
     ensures { result.now ≡ (row_for name).name }
 {
     match name {
@@ -86,5 +86,5 @@ fn component_name_of(version: DescriptionVersion, word: &str) -> Option<Componen
 fn names(name: ComponentName, version: DescriptionVersion, word: &str) -> bool
     ensures { result ≡ spec.same (is_version_three version) (row_for name).name word.now }
 {
-    same(version, spelling(name), word)
+    same(version, name_spelling(name), word)
 }

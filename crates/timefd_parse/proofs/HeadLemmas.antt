@@ -70,7 +70,7 @@ placed_more k (x ∷ ms) m =
     ap (λ l. placed_at k x ∷ l) (placed_more (k + length (modifier_text x)) ms m ∙
     ap (λ j. placed_from (k + length (modifier_text x)) ms ++ placed_at j m ∷ []) same)
 
-white_between : (rest white after word after_word : Text) → StopsBefore is_word_byte rest
+pub white_between : (rest white after word after_word : Text) → StopsBefore is_word_byte rest
     → IsCut is_white rest white after → IsCut is_word_byte after word after_word → 0 < length word
     → OneOrMore is_white white
 white_between rest (b ∷ white) after word after_word stops w u some = w.passes

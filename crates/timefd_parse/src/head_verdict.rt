@@ -23,10 +23,11 @@ use crate::head::{Head, read_head};
 use crate::modifiers::Modifiers;
 use crate::positions::Positions;
 use timefd_items::Component;
-use timefd_lang_fault::{ComponentName, Fault, Key, Name, Rule};
+use timefd_lang_fault::{ComponentName, Fault, Name, Rule};
 use timefd_language::combination::refusals;
 use timefd_language::component::component_of;
 use timefd_language::description_version::DescriptionVersion;
+use timefd_language::key::spelling;
 use timefd_language::text::{Start, start_of};
 
 /// What a head is by itself.
@@ -178,10 +179,11 @@ pub fn combination_fault(
     }
     'refusals: for refusal in refusals(component) {
         if let Some(remaining) = positions.of(refusal.key) {
+            let key = spelling(refusal.key);
             return Some(Fault {
-                rule: Rule::RefusedModifier(refusal.key, refusal.refuser),
+                rule: Rule::RefusedModifier(key, refusal.refuser),
                 remaining,
-                len: refusal.key.spelling().len(),
+                len: key.len(),
             });
         }
     }
@@ -210,7 +212,7 @@ fn component<'a>(
     }
     let Some(component) = component_of(name, modifiers.settings) else {
         return Err(Fault {
-            rule: Rule::MissingModifier(Key::Count),
+            rule: Rule::MissingModifier("count"),
             remaining: head.remaining,
             len: head.word.len(),
         });

@@ -41,7 +41,7 @@ pub fn read_modifier<'a>(
             return Ok(None);
         }
         return Err(Fault {
-            rule: Rule::InvalidModifier(key_slot(name), key),
+            rule: Rule::InvalidModifier(key, key_slot(name)),
             remaining: text.len(),
             len: key.len(),
         });
@@ -49,14 +49,14 @@ pub fn read_modifier<'a>(
     let (value, rest) = cut(assigned, Class::Word);
     if key.is_empty() {
         return Err(Fault {
-            rule: Rule::InvalidModifier(value_slot(version, name, key), ""),
+            rule: Rule::InvalidModifier("", value_slot(version, name, key)),
             remaining: text.len(),
             len: 1,
         });
     }
     if value.is_empty() {
         return Err(Fault {
-            rule: Rule::InvalidModifier(value_slot(version, name, key), ""),
+            rule: Rule::InvalidModifier("", value_slot(version, name, key)),
             remaining: after.len(),
             len: 1,
         });

@@ -16,7 +16,7 @@ use crate::modifier::Modifier;
 use crate::positions::Positions;
 use timefd_lang_fault::{Fault, Key, Name, Rule, Slot};
 use timefd_language::description_version::DescriptionVersion;
-use timefd_language::key::key_of;
+use timefd_language::key::{key_of, spelling};
 use timefd_language::setting::{Setting, Settings};
 use timefd_language::value::setting_of;
 
@@ -82,14 +82,14 @@ impl<'a> Modifiers<'a> {
     {
         let Some(key) = known_key(version, name, modifier.key) else {
             return Err(Fault {
-                rule: Rule::InvalidModifier(key_slot(name), modifier.key),
+                rule: Rule::InvalidModifier(modifier.key, key_slot(name)),
                 remaining: modifier.key_remaining,
                 len: modifier.key.len(),
             });
         };
         if version.is_strict() && self.positions.of(key).is_some() {
             return Err(Fault {
-                rule: Rule::DuplicateModifier(key),
+                rule: Rule::DuplicateModifier(spelling(key)),
                 remaining: modifier.key_remaining,
                 len: modifier.key.len(),
             });
@@ -97,7 +97,7 @@ impl<'a> Modifiers<'a> {
         match setting_of(key, version, modifier.value) {
             Some(setting) => Ok((key, setting)),
             None => Err(Fault {
-                rule: Rule::InvalidModifier(Some(Slot::Value(key)), modifier.value),
+                rule: Rule::InvalidModifier(modifier.value, Some(Slot::Value(key))),
                 remaining: modifier.value_remaining,
                 len: modifier.value.len(),
             }),
@@ -120,6 +120,7 @@ pub fn key_slot(name: Option<Name>) -> Option<Slot>
 }
 
 /// What the value of a word should have been, if the word is a key that the name takes.
+#[inline(never)]
 pub fn value_slot(version: DescriptionVersion, name: Option<Name>, word: &str) -> Option<Slot>
     ensures { (key : Option spec_key.Key)
         × (option_map key_for key ≡ key_in (is_version_three version) word.now (keys_of name))
