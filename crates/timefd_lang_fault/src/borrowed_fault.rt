@@ -21,12 +21,12 @@ use std::alloc::{AllocError, Global};
 /// port's own.
 #[derive(Clone, Copy)]
 pub struct BorrowedFault<'a> {
+    /// The rule that is broken.
+    pub rule: Rule<'a>,
     /// The first byte at fault, as an index from the start of the text.
     pub start: usize,
     /// The index after the last byte at fault.
     pub end: usize,
-    /// The rule that is broken.
-    pub rule: Rule<'a>,
 }
 
 impl<'a> BorrowedFault<'a> {

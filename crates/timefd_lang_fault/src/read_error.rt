@@ -10,12 +10,12 @@ use std::alloc::{AllocError, AllocFailed};
 /// from some byte on, so the position is counted from the end.
 #[derive(Clone, Copy)]
 pub struct Fault<'a> {
+    /// The rule that is broken.
+    pub rule: Rule<'a>,
     /// The number of bytes from the fault to the end of the text.
     pub remaining: usize,
     /// The number of bytes at fault.
     pub len: usize,
-    /// The rule that is broken.
-    pub rule: Rule<'a>,
 }
 
 /// Why the reader stops.

@@ -5,6 +5,7 @@ pub mod WayLemmas
 pub mod EditLemmas
 pub mod DistanceLemmas
 pub mod LackingLemmas
+pub mod HelpLemmas
 pub mod FewLemmas
 pub mod ModifierSlotLemmas
 pub mod FurtherLemmas

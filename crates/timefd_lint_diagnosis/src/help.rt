@@ -71,8 +71,10 @@ fn version_help(
     match fault.rule {
         Rule::UnknownName(name) => words_help(alloc, version, Slot::Name, name),
         Rule::UnknownLetter(letter) => words_help(alloc, version, Slot::Name, letter),
-        Rule::InvalidModifier(word, Some(slot)) => words_help(alloc, version, slot, word),
-        Rule::InvalidModifier(_, None) => Ok(Help::Advice(advice(version, Code::InvalidModifier))),
+        Rule::InvalidModifier(word, wanted) => match wanted {
+            Some(slot) => words_help(alloc, version, slot, word),
+            None => Ok(Help::Advice(advice(version, Code::InvalidModifier))),
+        },
         Rule::RefusedModifier(key, _) => Ok(Help::LeaveOut(key)),
         Rule::UnclosedBracket
         | Rule::MissingName
