@@ -6,6 +6,7 @@ use Rattle.timefd_lang_fault.specs.declared.read_error.ReadError.{ReadError}
 use Rattle.timefd_lang_fault.specs.declared.read_error.ReadError.TheVariants as errors
 use Rattle.timefd_lang_fault.specs.declared.parse_error.ParseError.{ParseError}
 use Rattle.timefd_lang_fault.specs.RuleKinds.{rule_kind}
+use Rattle.timefd_lang_fault.specs.Slots.{wanted_by}
 use Rattle.timefd_lang_fault.specs.ReadErrors.{IsFault}
 use Rattle.timefd_lang_fault.specs.Reported.{IsFaultOrMemory, MemoryAlone}
 use Rattle.timefd_lang_fault.specs.declared.borrowed_fault.BorrowedFault.{BorrowedFault}
@@ -56,22 +57,23 @@ IsBorrowedOf P (Memory e) = ⊤
 
 -- the borrowed error for a reader's error in a text with this many bytes: the fault, or that memory
 -- ran out
-abbrev pub Lends : ℕ → ReadError → BorrowedParseError → Type 0
-Lends len errors.Memory borrowed = IsMemory borrowed
-Lends len (errors.Invalid f) borrowed = (g : Fault) → IsFault len f g → IsBorrowed g borrowed
+abbrev pub Borrows : ℕ → ReadError → BorrowedParseError → Type 0
+Borrows len errors.Memory borrowed = IsMemory borrowed
+Borrows len (errors.Invalid f) borrowed = (g : Fault) → IsFault len f g → IsBorrowed g borrowed
 
 -- the borrowed fault for one of a reader, in a text with this many bytes: it ends no later than the
 -- text
-pub record IsLent (len : ℕ) (f : code_fault.Fault) (g : BorrowedFault) : Type 0 where
+pub record IsBorrowedFault (len : ℕ) (f : code_fault.Fault) (g : BorrowedFault) : Type 0 where
   pub kind : rule_kind g.rule ≡ rule_kind f.rule
+  pub wanted : wanted_by g.rule ≡ wanted_by f.rule
   pub start : g.start + f.remaining ≡ len
   pub end : g.end ≡ g.start + min f.len f.remaining
 
 -- the fault of the borrowed error, if there is one, is the reader's
-abbrev pub LendsSpan : ℕ → ReadError → BorrowedParseError → Type 0
-LendsSpan len errors.Memory borrowed = IsMemory borrowed
-LendsSpan len (errors.Invalid f) (Invalid g) = IsLent len f g
-LendsSpan len (errors.Invalid f) (Memory e) = ⊥
+abbrev pub BorrowsSpan : ℕ → ReadError → BorrowedParseError → Type 0
+BorrowsSpan len errors.Memory borrowed = IsMemory borrowed
+BorrowsSpan len (errors.Invalid f) (Invalid g) = IsBorrowedFault len f g
+BorrowsSpan len (errors.Invalid f) (Memory e) = ⊥
 
 -- the owned error for a borrowed one: its fault or, if memory runs out, that
 abbrev pub IsOwned : BorrowedParseError → ParseError → Type 0

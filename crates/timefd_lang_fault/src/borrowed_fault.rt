@@ -5,7 +5,7 @@ ghost use Rattle.timefd_lang_fault.specs.ReadErrors.{IsFault};
 ghost use Rattle.timefd_lang_fault.specs.RuleKinds.{rule_kind};
 ghost use Rattle.timefd_lang_fault.specs.Faults as spec;
 ghost use Rattle.timefd_lang_fault.specs.Sentences.{sentence};
-ghost use Rattle.timefd_lang_fault.specs.BorrowedFaults.{HasShortWords, IsLent, to_borrowed_fault};
+ghost use Rattle.timefd_lang_fault.specs.BorrowedFaults.{HasShortWords, IsBorrowedFault, to_borrowed_fault};
 ghost use Rattle.timefd_lang_fault.specs.Excerpts.{IsExcerpt};
 
 use crate::digits::Digits;
@@ -34,7 +34,7 @@ impl<'a> BorrowedFault<'a> {
     pub fn of(fault: Fault<'a>, len: usize) -> BorrowedFault<'a>
         requires { fault.remaining ≤ len }
         ensures fault { (g : spec.Fault) → IsFault len fault.entry g → to_borrowed_fault result ≡ g }
-        ensures lent { IsLent len fault.entry result }
+        ensures borrowed { IsBorrowedFault len fault.entry result }
     {
         let start = len - fault.remaining;
         BorrowedFault {

@@ -2,7 +2,7 @@
 
 ghost use Rattle.std.specs.Prelude.{◌≡◌, ◌≤◌};
 ghost use Rattle.timefd_lang_fault.specs.ReadErrors.{MemoryOr};
-ghost use Rattle.timefd_lang_fault.specs.BorrowedFaults.{IsOwned, Lends, LendsSpan};
+ghost use Rattle.timefd_lang_fault.specs.BorrowedFaults.{IsOwned, Borrows, BorrowsSpan};
 
 use crate::borrowed_fault::BorrowedFault;
 use crate::parse_error::ParseError;
@@ -44,8 +44,8 @@ fn owned(alloc: Global, fault: BorrowedFault) -> ParseError
 /// The borrowed error for a reader's error in a text of `len` bytes.
 pub fn borrowed<'a>(error: ReadError<'a>, len: usize) -> BorrowedParseError<'a>
     requires { MemoryOr (λ f. f.remaining ≤ len) error }
-    ensures lends { Lends len error.entry result }
-    ensures span { LendsSpan len error.entry result }
+    ensures borrows { Borrows len error.entry result }
+    ensures span { BorrowsSpan len error.entry result }
 {
     match error {
         ReadError::Invalid(fault) => BorrowedParseError::Invalid(BorrowedFault::of(fault, len)),

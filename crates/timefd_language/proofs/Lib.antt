@@ -35,6 +35,7 @@ pub mod VerdictPositions
 pub mod PositionsBetween
 pub mod DistinctLemmas
 pub mod ShortWords
+pub mod SlotLemmas
 pub mod SpanLemmas
 pub mod PlacedLemmas
 pub mod DirectiveLemmas

@@ -18,6 +18,7 @@ pub mod Strings
 pub mod Rewritten
 pub mod Recased
 pub mod Relaxed
+pub mod Slots
 pub mod Spans
 pub mod Cut
 pub mod FaultMeaning

@@ -7,10 +7,10 @@ use Rattle.timefd_lang_component.specs.Tree.{Text, Tree, component, optional, fi
 use Rattle.timefd_lang_component.specs.declared.component.Component.{Component}
 use Rattle.timefd_lang_fault.specs.Faults.{Kind, Fault, fault, unclosed_bracket, invalid_name, invalid_modifier, missing_name, missing_modifier, expected, not_supported, duplicate_modifier, invalid_combination}
 use Rattle.timefd_language.specs.declared.description_version.DescriptionVersion.{DescriptionVersion}
-use Rattle.timefd_language.specs.declared.key.Key as code_key
-use Rattle.timefd_language.specs.declared.key.Key.TheVariants as keys
-use Rattle.timefd_language.specs.declared.name.ComponentName.{ComponentName}
-use Rattle.timefd_language.specs.declared.name.Name.{Name}
+use Rattle.timefd_lang_fault.specs.declared.key.Key as code_key
+use Rattle.timefd_lang_fault.specs.declared.key.Key.TheVariants as keys
+use Rattle.timefd_lang_fault.specs.declared.name.ComponentName.{ComponentName}
+use Rattle.timefd_lang_fault.specs.declared.name.Name.{Name}
 use Rattle.timefd_language.specs.declared.setting.Settings.{Settings}
 use Rattle.timefd_language.specs.Bytes.{colon, left, same, named, is_version_three, is_white, is_key_byte, is_word_byte, ZeroOrMore, OneOrMore}
 use Rattle.timefd_lang_fault.specs.Words.{expected_white, expected_nested, expected_alternative, optional_item, first_item}
@@ -22,9 +22,9 @@ use Rattle.timefd_language.specs.Lookup.{IsNameOf, key_for, keys_for}
 use Rattle.timefd_language.specs.Combinations.{Refusal, refusals}
 use Rattle.timefd_language.specs.Verdict.{PlacedDescription, ◌or◌, refuse, unless, is_set, bad_value, bad_modifier, bad_modifiers, misplaced, combined, combination, made, after, component_verdict, touching, too_many, nested_refused, nested_wanted, any_modifier, is_formatted, only, optional_verdict, first_verdict, settings, verdict}
 use Rattle.timefd_language.proofs.Lookup.{Each, each-map}
-use Rattle.timefd_lint_diagnosis.specs.declared.slot.Slot.{Slot}
-use Rattle.timefd_lint_diagnosis.specs.declared.slot.Slot.TheVariants as slots
-use Rattle.timefd_lint_diagnosis.specs.Slots.{EndsInHead, IsSlotAt, IsSlotIn, colon_before}
+use Rattle.timefd_lang_fault.specs.declared.slot.Slot.{Slot}
+use Rattle.timefd_lang_fault.specs.declared.slot.Slot.TheVariants as slots
+use Rattle.timefd_language.specs.Slots.{EndsInHead, IsSlotAt, IsSlotIn, colon_before}
 use Rattle.timefd_lint_diagnosis.specs.Helps.{IsModifierSlot}
 use Rattle.timefd_lint_diagnosis.specs.Laws.{HasModifierSlot}
 

@@ -5,7 +5,7 @@ ghost use Rattle.timefd_lint_drawing.specs.HelpText as spec;
 
 use std::alloc::{AllocError, Global};
 use timefd_lint_diagnosis::Help;
-use timefd_lint_diagnosis::slot::Slot;
+use timefd_lint_diagnosis::Slot;
 
 // Room for most help texts.
 const ROOM: usize = 48;

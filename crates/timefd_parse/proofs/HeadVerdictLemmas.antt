@@ -10,12 +10,12 @@ use Rattle.timefd_parse.specs.declared.head.Head as code_head
 use Rattle.timefd_parse.specs.declared.head_verdict.HeadVerdict.{HeadVerdict}
 use Rattle.timefd_parse.specs.declared.head_verdict.HeadVerdict.TheVariants as verdicts
 use Rattle.timefd_parse.specs.declared.modifiers.Modifiers as code_modifiers
-use Rattle.timefd_language.specs.declared.name.ComponentName.{ComponentName}
-use Rattle.timefd_language.specs.declared.name.Name.{Name}
-use Rattle.timefd_language.specs.declared.name.Name.TheVariants as names
+use Rattle.timefd_lang_fault.specs.declared.name.ComponentName.{ComponentName}
+use Rattle.timefd_lang_fault.specs.declared.name.Name.{Name}
+use Rattle.timefd_lang_fault.specs.declared.name.Name.TheVariants as names
 use Rattle.timefd_parse.specs.declared.positions.Positions.{Positions}
 use Rattle.timefd_language.specs.declared.combination.Refusal as code_refusal
-use Rattle.timefd_language.specs.declared.key.Key as code_key
+use Rattle.timefd_lang_fault.specs.declared.key.Key as code_key
 use Rattle.timefd_language.specs.Bytes.{equal, same, left, is_white, is_word_byte, OneOrMore, StopsBefore}
 use Rattle.timefd_lang_fault.specs.Words.{expected_white, expected_nested, expected_alternative, optional_item, first_item, nested_here}
 use Rattle.timefd_language.specs.Head.{Head, Placed, placed, name_index}

@@ -17,8 +17,8 @@ use Rattle.timefd_parse.specs.declared.parsing.BorrowedOutput.TheVariants.{Items
 use Rattle.timefd_lang_fault.specs.declared.parse_error.ParseError.{ParseError}
 use Rattle.timefd_lang_fault.specs.declared.parse_error.ParseError.TheVariants as reported
 use Rattle.timefd_lang_fault.specs.declared.borrowed_parse_error.BorrowedParseError.{BorrowedParseError}
-use Rattle.timefd_lang_fault.specs.declared.borrowed_parse_error.BorrowedParseError.TheVariants as lent
-use Rattle.timefd_lang_fault.specs.BorrowedFaults.{IsBorrowed, IsBorrowedOf, IsMemory, IsOwned, IsRefusal, Lends, LendsSpan}
+use Rattle.timefd_lang_fault.specs.declared.borrowed_parse_error.BorrowedParseError.TheVariants as answers
+use Rattle.timefd_lang_fault.specs.BorrowedFaults.{IsBorrowed, IsBorrowedOf, IsMemory, IsOwned, IsRefusal, Borrows, BorrowsSpan}
 use Rattle.timefd_lang_fault.proofs.BorrowedLemmas as borrowed
 use Rattle.timefd_lang_fault.proofs.BorrowedLemmas.{Assigned}
 use Rattle.timefd_lang_fault.proofs.OwnedLemmas.{owned_of}
@@ -33,7 +33,9 @@ use Rattle.timefd_language.specs.Strings.{AreItems}
 use Rattle.timefd_parse.specs.Answers.{IsOutput, IsAssigned}
 use Rattle.timefd_parse.specs.Language.{IsAmount, amount}
 use Rattle.timefd_language.specs.Laws.{HasOneAnswer}
+use Rattle.timefd_language.specs.Slots.{WantsIn}
 use Rattle.timefd_language.specs.Spans.{HasSpan, SpansVersion, version_extent}
+use Rattle.timefd_language.proofs.SlotLemmas.{version_slot}
 use Rattle.timefd_language.proofs.SpanLemmas.{spanned}
 use Rattle.timefd_language.proofs.LawLemmas.{one_answer_law}
 use Rattle.timefd_language.proofs.Reserved.{reserves_within_law}
@@ -104,40 +106,41 @@ whole v limit text (errors.Invalid f) h = whole_fault v limit text f h
 whole v limit text errors.Memory h = tt
 
 pub borrowed_assigned : (v : DescriptionVersion) (limit : ℕ) (text : Text) (e : ReadError)
-    (r : BorrowedParseError) → MemoryOr (IsFaultIn v limit 0 text) e → Lends (length text) e r
+    (r : BorrowedParseError) → MemoryOr (IsFaultIn v limit 0 text) e → Borrows (length text) e r
     → IsBorrowedOf (FaultOf v limit text) r
 borrowed_assigned v limit text e r h =
     borrowed.borrowed_of (FaultOf v limit text) (length text) e r (whole v limit text e h)
 
 pub borrowed_spelled : (v : DescriptionVersion) (limit : ℕ) (text : Text) (e : ReadError)
     (r : BorrowedParseError) (list : List Tree) → MemoryOr (IsFaultIn v limit 0 text) e
-    → Lends (length text) e r → Spells v limit 0 text list → IsMemory r
-borrowed_spelled v limit text e r list h lends s =
+    → Borrows (length text) e r → Spells v limit 0 text list → IsMemory r
+borrowed_spelled v limit text e r list h borrows s =
     borrowed.borrowed_none (FaultOf v limit text) (length text)
-    (λ g is. (one v limit text).not_both list g s is) e r (whole v limit text e h) lends
+    (λ g is. (one v limit text).not_both list g s is) e r (whole v limit text e h) borrows
 
 -- if memory did not run out, the fault is borrowed
 
 pub borrowed_refused : (v : DescriptionVersion) (limit : ℕ) (text : Text) (e : ReadError)
     (r : BorrowedParseError) (f : Fault) → MemoryOr (IsFaultIn v limit 0 text) e → IsInvalid e
-    → Lends (length text) e r → FaultOf v limit text f → IsBorrowed f r
-borrowed_refused v limit text e r f h is lends has =
+    → Borrows (length text) e r → FaultOf v limit text f → IsBorrowed f r
+borrowed_refused v limit text e r f h is borrows has =
     borrowed.borrowed_one (FaultOf v limit text) (length text) f
-    (λ g other. (one v limit text).one_fault g f other has) e r (whole v limit text e h) is lends
+    (λ g other. (one v limit text).one_fault g f other has) e r (whole v limit text e h) is borrows
 
 pub borrowed_refusal : (v : DescriptionVersion) (limit : ℕ) (text : Text) (e : ReadError)
     (r : BorrowedParseError) → MemoryOr (IsFaultIn v limit 0 text) e → IsInvalid e
-    → Lends (length text) e r → IsRefusal r
+    → Borrows (length text) e r → IsRefusal r
 borrowed_refusal v limit text e r h =
     borrowed.borrowed_refusal (FaultOf v limit text) (length text) e r (whole v limit text e h)
 
 -- the borrowed fault ends after what is at fault
 pub spanned_version : (v : DescriptionVersion) (text : Text) (e : ReadError) (r : BorrowedParseError)
-    → MemoryOr (SpansVersion text) e → LendsSpan (length text) e r → HasSpan (Version v) text r
-spanned_version v text e (lent.Memory m) h lends = tt
-spanned_version v text errors.Memory (lent.Invalid g) h lends = absurd lends
-spanned_version v text (errors.Invalid f) (lent.Invalid g) h lends =
-    spanned version_extent (Version v) text f g (λ k. refl) h lends
+    → MemoryOr (SpansVersion (is_version_three v) text) e → BorrowsSpan (length text) e r → HasSpan (Version v) text r
+spanned_version v text e (answers.Memory m) h borrows = tt
+spanned_version v text errors.Memory (answers.Invalid g) h borrows = absurd borrows
+spanned_version v text (errors.Invalid f) (answers.Invalid g) h borrows =
+    spanned version_extent (WantsIn (is_version_three v)) (Version v) text f g (λ k. refl)
+    (λ before rest e wanted. version_slot v text f.rule before rest e wanted) h borrows
 
 -- Faults that the caller owns.
 

@@ -14,10 +14,10 @@ returns c =
     let bad = c.in-Err.ensures.count in
     record {
       found = tt;
-      fault = borrowed-in-version _ _ _ _ (borrowed_assigned _ _ _ _ _ bad c.borrowed.ensures.lends);
-      spelled = λ list s. borrowed_spelled _ _ _ _ _ list bad c.borrowed.ensures.lends s;
-      refused = λ f h. borrowed_refused _ _ _ _ _ f bad c.in-Err.ensures.invalid c.borrowed.ensures.lends h;
-      memory = λ lax. borrowed_refusal _ _ _ _ _ bad c.in-Err.ensures.invalid c.borrowed.ensures.lends;
+      fault = borrowed-in-version _ _ _ _ (borrowed_assigned _ _ _ _ _ bad c.borrowed.ensures.borrows);
+      spelled = λ list s. borrowed_spelled _ _ _ _ _ list bad c.borrowed.ensures.borrows s;
+      refused = λ f h. borrowed_refused _ _ _ _ _ f bad c.in-Err.ensures.invalid c.borrowed.ensures.borrows h;
+      memory = λ lax. borrowed_refusal _ _ _ _ _ bad c.in-Err.ensures.invalid c.borrowed.ensures.borrows;
       empty = λ e. absurd (omega (arith, c.in-Err.ensures.some, ap length e));
       span = spanned_version _ _ _ _ c.in-Err.ensures.span c.borrowed.ensures.span;
     }

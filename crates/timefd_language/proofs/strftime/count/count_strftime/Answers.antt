@@ -20,4 +20,4 @@ returns-in-Err-clause-words c =
 
 pub returns-in-Err-clause-span : goal.returns-in-Err-clause-span
 returns-in-Err-clause-span c =
-    spanned_strftime_fault c.args.s.now c.in-Err.fault c.of.result c.in-Err.ensures.6 c.of.ensures.lent
+    spanned_strftime_fault c.args.s.now c.in-Err.fault c.of.result c.in-Err.ensures.6 c.of.ensures.borrowed

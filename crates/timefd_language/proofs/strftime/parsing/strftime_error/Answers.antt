@@ -15,14 +15,14 @@ returns-in-Err-clause-refused c = λ f has.
     (one c.args.text.now).one_fault _ f c.in-Err.ensures.fault has
 
 pub returns-in_default-clause-fault : goal.returns-in_default-clause-fault
-returns-in_default-clause-fault c = borrowed_strftime _ _ _ c.requires c.borrowed.ensures.lends
+returns-in_default-clause-fault c = borrowed_strftime _ _ _ c.requires c.borrowed.ensures.borrows
 
 pub returns-in_default-clause-spelled : goal.returns-in_default-clause-spelled
-returns-in_default-clause-spelled c = λ list s. borrowed_strftime_spelled _ _ _ list c.requires c.borrowed.ensures.lends s
+returns-in_default-clause-spelled c = λ list s. borrowed_strftime_spelled _ _ _ list c.requires c.borrowed.ensures.borrows s
 
 pub returns-in_default-clause-refused : goal.returns-in_default-clause-refused
 returns-in_default-clause-refused c = λ f h. borrowed_strftime_refused _ _ _ f c.requires
-    (is_invalid _ c.in_default.not-Memory) c.borrowed.ensures.lends h
+    (is_invalid _ c.in_default.not-Memory) c.borrowed.ensures.borrows h
 
 pub returns-in_default-clause-span : goal.returns-in_default-clause-span
 returns-in_default-clause-span c = spanned_strftime _ _ _ c.requires c.borrowed.ensures.span

@@ -1,10 +1,10 @@
-use Rattle.std.proofs.Common.{refl, sym, ap, ◌≡◌, ◌∙◌, true, false, is_some}
+use Rattle.std.proofs.Common.{inl, inr, option_map, refl, sym, ap, ◌≡◌, ◌∙◌, true, false, is_some}
 use Rattle.std.proofs.lemmas.Bool.{true≢false}
 use Rattle.timefd_language.specs.Lookup.{key_for}
 use Rattle.timefd_parse.specs.Checked.{first_position}
 use Rattle.timefd_parse.proofs.CheckLemmas.{at_unknown, at_again, at_good, at_bad_value, position_known}
 use Rattle.timefd_language.specs.Bytes.{is_version_three}
-use Rattle.timefd_parse.proofs.SpanLemmas.{again_spans, key_spans, value_spans}
+use Rattle.timefd_parse.proofs.SpanLemmas.{again_spans, key_spans, key_wanted, value_spans, value_wanted}
 use Rattle.timefd_parse.proofs.modifiers.Modifiers.check.Goals as goal
 use Rattle.timefd_parse.proofs.modifiers.Modifiers.check.Goals.{else-is_strict-via-then-is_strict+else-is_some, else-is_strict-via-else-is_strict}
 
@@ -46,12 +46,15 @@ returns-in-None-clause-checks c = λ total ps p checks none is.
 
 pub returns-in_default-clause-span : goal.returns-in_default-clause-span
 returns-in_default-clause-span c = λ text stands.
-    key_spans text c.args.modifier stands _ refl refl refl
+    key_spans (is_version_three c.args.version) text c.args.name c.args.modifier stands _ refl refl refl
+    (inl (key_wanted (is_version_three c.args.version) text c.args.name c.args.modifier stands _ c.key_slot.ensures))
 
 pub returns-then-is_some-clause-span : goal.returns-then-is_some-clause-span
 returns-then-is_some-clause-span c = λ text stands.
-    again_spans text c.args.modifier stands _ refl refl refl
+    again_spans (is_version_three c.args.version) text c.args.name c.args.modifier stands _ refl refl refl tt
 
 pub returns-in-None-clause-span : goal.returns-in-None-clause-span
 returns-in-None-clause-span c = λ text stands.
-    value_spans text c.args.modifier stands _ refl refl refl
+    value_spans (is_version_three c.args.version) text c.args.name c.args.modifier stands _ refl refl refl
+    (inr (value_wanted (is_version_three c.args.version) text c.args.name c.args.modifier stands c.in-Some.key
+    (sym (ap (option_map key_for) c.in-Some.is) ∙ c.known_key.ensures)))
