@@ -1,6 +1,5 @@
 -- Which bytes are at fault, for each reader.
-use Rattle.std.proofs.Common.{◌≡◌, ℕ, ◌+◌, ◌<◌, ◌≤◌, Bool, true, false, List, [], ◌∷◌, ◌++◌, length, Option, Some, None, IfSome, option_map, lit<, refl, sym, ap, ◌∙◌, subst, arith, append_assoc, append-nil, inl, inr, length-append}
-use Rattle.std.specs.Borrow.{Bor}
+use Rattle.std.proofs.Common.{◌≡◌, ℕ, ◌+◌, ◌<◌, ◌≤◌, Bool, true, false, List, [], ◌∷◌, ◌++◌, length, Option, Some, None, IfSome, option_map, lit<, refl, sym, ap, ◌∙◌, subst, arith, append_assoc, append-nil, inl, inr, ◌⊎◌, length-append}
 use Rattle.std.specs.List.{list_all}
 use Rattle.std.proofs.lemmas.Bool.{and_parts}
 use Rattle.std.proofs.lemmas.Bool.Decides.{nat_tests}
@@ -10,7 +9,6 @@ use Rattle.timefd_lang_fault.specs.RuleKinds.{rule_kind}
 use Rattle.timefd_lang_fault.specs.declared.read_error.Fault as code_fault
 use Rattle.timefd_lang_fault.specs.declared.key.Key as code_key
 use Rattle.timefd_lang_fault.specs.declared.name.Name.{Name}
-use Rattle.timefd_lang_fault.specs.declared.rule.Rule.TheVariants as rules
 use Rattle.timefd_lang_fault.specs.declared.slot.Slot.{Slot}
 use Rattle.timefd_lang_fault.specs.declared.slot.Slot.TheVariants as slots
 use Rattle.timefd_language.specs.Bytes.{left, colon, equal, is_white, is_word_byte, is_key_byte, ZeroOrMore, OneOrMore, StopsBefore}
@@ -135,19 +133,18 @@ value_wanted strict text name m stands key known = record {
 
 -- at a colon before which there is no key, or after which there is no value
 pub no_value : (strict : Bool) (front at : Text) (name : Option Name) (key : Text)
-    (wanted : Option Slot) (word : Bor (List ℕ)) → EndsAfterHead strict at name
-    → ZeroOrMore is_key_byte key → front ≡ at ++ key → word.now ≡ []
+    (wanted : Option Slot) → EndsAfterHead strict at name → ZeroOrMore is_key_byte key
+    → front ≡ at ++ key
     → (k : Option code_key.Key) × (option_map key_for k ≡ key_in strict key (keys_of name))
     × (wanted ≡ option_map slots.Value k)
-    → WantsIn strict front (rules.InvalidModifier word wanted)
-no_value strict front at name key wanted word after keys whole none found = inr (record {
+    → WantsKey strict front [] wanted ⊎ WantsValue strict front [] wanted
+no_value strict front at name key wanted after keys whole found = inr (record {
   name = name;
   at = at;
   after = after;
   key_word = key;
   key_bytes = keys;
-  whole = whole ∙ ap (λ t. at ++ t) (sym (append-nil key))
-      ∙ ap (λ t. at ++ (key ++ colon_before t)) (sym none);
+  whole = whole ∙ ap (λ t. at ++ t) (sym (append-nil key));
   key = found.0;
   known = found.1;
   slot = found.2;
@@ -188,20 +185,25 @@ head_joined inside white named word start before rest white' after a b c d =
     ap (λ t. left ∷ t) (a ∙ ap (λ t. white ++ t) (b ∙ ap (λ t. word ++ t)
     (c ∙ ap (λ t. before ++ t) d))) ∙ simp append_assoc
 
+pub spans_there : (strict : Bool) (whole text : Text) (f : code_fault.Fault) → whole ≡ text
+    → SpansVersion strict text f → SpansVersion strict whole f
+spans_there strict whole text f e is = subst (λ t. SpansVersion strict t f) (sym e) is
+
 -- what precedes a modifier is a head and white bytes
-pub head_before : (strict : Bool) (inside white named word start rest white' after : Text)
+pub head_before : (strict : Bool) (inside white named word start white' : Text)
     (name : Option Name) (ms : List Modifier) → IsCut is_white inside white named
     → IsCut is_word_byte named word start → 0 < length word → IsNameOf strict word name
     → AreModifiers ms → OneOrMore is_white white'
     → EndsAfterHead strict (before_rest white word (modifiers_text ms) white') name
 unfolding before_rest
-head_before strict inside white named word start rest white' after name ms w n some is are spaced = record {
+head_before strict inside white named word start white' name ms w n some is are spaced = record {
   head = record { white = white; name = word; modifiers = ms };
   white = white';
   ends = record {
     before = [];
     is = record { white = w.passes; name = one_or_more is_word_byte word some n.passes; modifiers = are };
-    whole = ap (λ t. left ∷ t) (simp append_assoc);
+    whole = ap (λ t. left ∷ t) (sym (append_assoc (white ++ word) (modifiers_text ms) white'
+        ∙ append_assoc white word (modifiers_text ms ++ white')));
   };
   all_white = spaced;
   named = is;

@@ -7,7 +7,7 @@ use Rattle.timefd_language.specs.Bytes.{left, is_version_three}
 use Rattle.timefd_language.specs.Slots.{WantsIn}
 use Rattle.timefd_language.specs.Spans.{SpansVersion, version_extent}
 use Rattle.timefd_language.proofs.SpanLemmas.{spans_byte}
-use Rattle.timefd_parse.proofs.SpanLemmas.{head_before, head_joined, stands_in, unfaulted, white_spans}
+use Rattle.timefd_parse.proofs.SpanLemmas.{head_before, head_joined, spans_there, stands_in, unfaulted, white_spans}
 use Rattle.timefd_parse.proofs.head.read_head.Goals as goal
 use Rattle.timefd_parse.proofs.head.read_head.Goals.{then-is_empty-2, else-is_empty-2}
 
@@ -47,10 +47,10 @@ returns-in_err-modifier c =
           c.cut-2.ensures.parts (omega (arith, false-eqb _ 0 c.if-is_empty.ensures))
           c.modifiers.invariant.before
           c.cut-in-modifiers.ensures.parts c.in_err-modifier.ensures.modifier;
-      span = subst (λ t. SpansVersion (is_version_three c.args.version) t c.in_err-modifier.error)
-          (sym (head_joined _ _ _ _ _ _ _ _ _ c.cut.ensures.parts.whole c.cut-2.ensures.parts.whole
-          c.modifiers.invariant.before.whole c.cut-in-modifiers.ensures.parts.whole))
-          (c.in_err-modifier.ensures.span _ (head_before (is_version_three c.args.version) _ _ _ _ _ _ _ _ _ _
+      span = spans_there (is_version_three c.args.version) (left ∷ c.args.inside.now) _ _
+          (head_joined _ _ _ _ _ _ _ _ _ c.cut.ensures.parts.whole c.cut-2.ensures.parts.whole
+          c.modifiers.invariant.before.whole c.cut-in-modifiers.ensures.parts.whole)
+          (c.in_err-modifier.ensures.span _ (head_before (is_version_three c.args.version) _ _ _ _ _ _ _ _
           c.cut.ensures.parts c.cut-2.ensures.parts (omega (arith, false-eqb _ 0 c.if-is_empty.ensures))
           c.name_of-name.ensures c.modifiers.invariant.before.are
           (white_between _ _ _ _ _ c.modifiers.invariant.before.stops c.cut-in-modifiers.ensures.parts
@@ -83,7 +83,7 @@ modifiers-preserved c =
           (stands_in (is_version_three c.args.version) (left ∷ c.args.inside.now) _ _ _ _ _ _
           (head_joined _ _ _ _ _ _ _ _ _ c.cut.ensures.parts.whole c.cut-2.ensures.parts.whole
           c.modifiers.invariant.before.whole c.cut-in-modifiers.ensures.parts.whole)
-          (head_before (is_version_three c.args.version) _ _ _ _ _ _ _ _ _ _ c.cut.ensures.parts c.cut-2.ensures.parts
+          (head_before (is_version_three c.args.version) _ _ _ _ _ _ _ _ c.cut.ensures.parts c.cut-2.ensures.parts
           (omega (arith, false-eqb _ 0 c.if-is_empty.ensures)) c.name_of-name.ensures
           c.modifiers.invariant.before.are
           (white_between _ _ _ _ _ c.modifiers.invariant.before.stops c.cut-in-modifiers.ensures.parts

@@ -73,10 +73,10 @@ returns-then-is_empty-2-clause-span c = λ front after.
     ∙ c.in-Some.ensures in
     spans_byte version_extent (WantsIn (is_version_three c.args.version)) (front ++ c.args.text.now) front colon
     c.in-Some.assigned.now _ (ap (λ t. front ++ t) whole) (lit< tt) refl (ap length whole) refl
-    (no_value (is_version_three c.args.version) front front c.args.name c.cut.result.0.now _ _ after
+    (no_value (is_version_three c.args.version) front front c.args.name c.cut.result.0.now _ after
     c.cut.ensures.parts.passes
     (sym (ap (λ t. front ++ t) (empty c.cut.result.0.now (eqb-true _ 0 (sym c.if-is_empty-2.ensures)))
-   XX
+    ∙ append-nil front)) c.value_slot.ensures)
 
 pub returns-then-is_empty-3-clause-span : goal.returns-then-is_empty-3-clause-span
 returns-then-is_empty-3-clause-span c = λ front after.
@@ -85,5 +85,5 @@ returns-then-is_empty-3-clause-span c = λ front after.
     (ap (λ t. front ++ t) (c.cut.ensures.parts.whole ∙ ap (λ t. c.cut.result.0.now ++ t) c.in-Some.ensures)
     ∙ sym (append_assoc front c.cut.result.0.now (colon ∷ c.in-Some.assigned.now))) (lit< tt) refl
     (ap length c.in-Some.ensures) refl
-    (no_value (is_version_three c.args.version) (front ++ c.cut.result.0.now) front c.args.name c.cut.result.0.now _ _
-    after c.cut.ensures.parts.passes refl refl c.value_slot.ensures)
+    (no_value (is_version_three c.args.version) (front ++ c.cut.result.0.now) front c.args.name
+    c.cut.result.0.now _ after c.cut.ensures.parts.passes refl c.value_slot-then-is_empty-3.ensures)

@@ -10,7 +10,7 @@ use Rattle.timefd_parse.proofs.modifiers.Modifiers.check.Goals.{else-is_strict-v
 
 pub returns-in_default-clause-checks : goal.returns-in_default-clause-checks
 returns-in_default-clause-checks c = λ total ps p checks none is.
-    at_unknown (is_version_three c.args.version) c.args.name total c.args.modifier ps p is _ _ c.known_key.ensures
+    at_unknown (is_version_three c.args.version) c.args.name total c.args.modifier ps p is _ _ _ c.known_key.ensures
     c.in_default.is
 
 pub returns-then-is_some-clause-checks : goal.returns-then-is_some-clause-checks
@@ -41,7 +41,7 @@ returns-in-None-clause-checks c = λ total ps p checks none is.
           (sym (w.if-is_some.ensures ∙ ap is_some w.of.ensures))
       | else-is_strict-via-else-is_strict w ↦ absurd (true≢false (sym exact ∙ sym w.if-is_strict.ensures))
     ] in
-    at_bad_value (is_version_three c.args.version) c.args.name total c.args.modifier ps p is _ _ _ _ c.known_key.ensures
+    at_bad_value (is_version_three c.args.version) c.args.name total c.args.modifier ps p is _ _ _ _ _ c.known_key.ensures
     c.in-Some.is new c.setting_of.ensures c.in-None.is
 
 pub returns-in_default-clause-span : goal.returns-in_default-clause-span
