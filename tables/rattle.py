@@ -184,10 +184,10 @@ TABLES = [
     Table("crates/timefd_lang_component/src/bracket/modifiers.rt", Between(("fn second_modifier", MATCH), "    }"), second_words),
     Table(f"{FORMAT}/naming.rt", Between(("pub fn component_name", MATCH), "    }"), named),
     by_rule(),
-    each(NAME_FILE, Between(("pub enum ComponentName {",), "}"), NAMES, "    {0.variant},"),
+    each("crates/timefd_lang_fault/src/name.rt", Between(("pub enum ComponentName {",), "}"), NAMES, "    {0.variant},"),
     Table(
-        NAME_FILE, Between(("pub fn spelling", "match self {"), "        }"),
-        lambda: [line for it in NAMES for line in arm(12, f"ComponentName::{it.variant}", f'"{it.name}"')],
+        NAME_FILE, Between(("pub fn name_spelling", "match name {"), "    }"),
+        lambda: [line for it in NAMES for line in arm(8, f"ComponentName::{it.variant}", f'"{it.name}"')],
     ),
     Table(NAME_FILE, Between(("fn component_name_of", "match word.len() {"), "        _ =>"), by_length),
     Table(
