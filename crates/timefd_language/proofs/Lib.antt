@@ -38,4 +38,8 @@ pub mod ShortWords
 pub mod SlotLemmas
 pub mod SpanLemmas
 pub mod PlacedLemmas
+pub mod LieLemmas
+pub mod ModifierFaults
+pub mod FaultShapes
+pub mod SlotLackLemmas
 pub mod DirectiveLemmas

@@ -123,13 +123,13 @@ head_inside h is =
 
 -- Two heads that one text ends in have one name, and what follows both is the same.
 
-same_front : (test : ℕ → Bool) (a b c d : Text) → a ++ b ≡ c ++ d → ZeroOrMore test a
+pub same_front : (test : ℕ → Bool) (a b c d : Text) → a ++ b ≡ c ++ d → ZeroOrMore test a
     → ZeroOrMore test c → StopsBefore test b → StopsBefore test d → (a ≡ c) × (b ≡ d)
 same_front test a b c d e ha hc hb hd =
     let s = sym (span-exact test a b ha hb) ∙ ap (span test) e ∙ span-exact test c d hc hd in
     (ap (λ x. x.front) s, ap (λ x. x.rest) s)
 
-stops_name : (ms : List Modifier) (rest : Text) → AreModifiers ms → StopsBefore is_word_byte rest
+pub stops_name : (ms : List Modifier) (rest : Text) → AreModifiers ms → StopsBefore is_word_byte rest
     → StopsBefore is_word_byte (modifiers_text ms ++ rest)
 stops_name [] rest are stops = stops
 stops_name (m ∷ ms) rest are stops =
@@ -212,18 +212,26 @@ same_keys strict word (Component n) First a b = absurd (true≢false (sym b.1 �
 same_keys strict word (Component n) (Component m) a b =
     ap (λ r. r.keys) (same_Some (row_for n) (row_for m) (sym a.2 ∙ b.2))
 
-keys_named : (strict : Bool) (word : Text) (o : Option Name) (m : Name) → IsNameOf strict word o
+pub keys_named : (strict : Bool) (word : Text) (o : Option Name) (m : Name) → IsNameOf strict word o
     → IsNameOf strict word (Some m) → keys_of o ≡ keys_for m
 keys_named strict word None m a b = absurd (unnamed strict word m a b)
 keys_named strict word (Some n) m a b = same_keys strict word n m a b
 
 -- What a key and a colon, or nothing, follow.
 
+pub some_bytes : (test : ℕ → Bool) (text : Text) → OneOrMore test text → 0 < length text
+some_bytes test [] some = absurd some
+some_bytes test (b ∷ text) some = omega arith
+
+pub one_colon : (value : Text) → OneOrMore is_word_byte value → colon_before value ≡ colon ∷ []
+one_colon [] some = absurd some
+one_colon (b ∷ value) some = refl
+
 colon_words : (word : Text) → ZeroOrMore is_word_byte (colon_before word)
 colon_words [] = refl
 colon_words (b ∷ word) = refl
 
-key_words : (key word : Text) → ZeroOrMore is_key_byte key
+pub key_words : (key word : Text) → ZeroOrMore is_key_byte key
     → ZeroOrMore is_word_byte (key ++ colon_before word)
 key_words key word keys =
     all-append is_word_byte key (colon_before word) (all-implied is_key_byte is_word_byte key-word key keys)
@@ -261,11 +269,11 @@ module _ (strict : Bool) (front at : Text) (name : Option Name) (after : EndsAft
       (key_words at_slot.1 word at_slot.4) in
       (subst (λ n. IsNameOf strict n (Some at_slot.2)) (sym s.name) at_slot.6, s.word)
 
-colon_stops : (word : Text) → StopsBefore is_key_byte (colon_before word)
+pub colon_stops : (word : Text) → StopsBefore is_key_byte (colon_before word)
 colon_stops [] = tt
 colon_stops (b ∷ word) = refl
 
-no_room : (word key : Text) → 0 < length word → key ++ colon_before word ≡ [] → ⊥
+pub no_room : (word key : Text) → 0 < length word → key ++ colon_before word ≡ [] → ⊥
 no_room [] key some e = omega (arith, some)
 no_room (b ∷ word) key some e = omega (arith, ap length e, length-append key (colon ∷ []))
 
@@ -333,6 +341,15 @@ wanted_value strict front word wanted w =
     by None known = λ slot is. none slot is.0 is.1 is.2 known is.3
     by (Some k) known = some k w.name w.after known
 
+-- the slot of such a word
+pub wanted_slot : (strict : Bool) (front word : Text) (wanted : Option Slot)
+    → WantsKey strict front word wanted ⊎ WantsValue strict front word wanted → (slot : Slot)
+    → wanted ≡ Some slot → (s : Slot) × IsSlotIn strict front word s
+wanted_slot strict front word wanted (inl k) slot e =
+    (slot, subst (IsSlotAfter strict front word) e (wanted_key strict front word wanted k))
+wanted_slot strict front word wanted (inr v) slot e =
+    (slot, subst (IsSlotAfter strict front word) e (wanted_value strict front word wanted v))
+
 wanted_in : (strict : Bool) (front : Text) (r : Rule) → WantsIn strict front r
     → IsWantedOf strict front (rule_kind r) (wanted_by r)
 wanted_in strict front (rules.InvalidModifier word wanted) (inl k) =
@@ -361,7 +378,7 @@ ends_after before front h between is = record {
       ∙ sym (append_assoc before is.before (head_text h ++ between));
 }
 
-head_after : (strict : Bool) (before front : Text) (name : Option Name)
+pub head_after : (strict : Bool) (before front : Text) (name : Option Name)
     → EndsAfterHead strict front name → EndsAfterHead strict (before ++ front) name
 head_after strict before front name a = record {
   head = a.head;

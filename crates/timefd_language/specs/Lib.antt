@@ -26,4 +26,5 @@ pub mod Laws
 pub mod Settled
 pub mod Positions
 pub mod Distinct
+pub mod FaultSpans
 pub mod Directives

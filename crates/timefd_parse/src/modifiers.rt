@@ -106,6 +106,7 @@ impl<'a> Modifiers<'a> {
 }
 
 /// The key that a word spells, one of those that the name takes. An unknown name takes none.
+#[inline(always)]
 fn known_key(version: DescriptionVersion, name: Option<Name>, word: &str) -> Option<Key>
     ensures { option_map key_for result ≡ key_in (is_version_three version) word.now (keys_of name) }
 {
@@ -113,6 +114,7 @@ fn known_key(version: DescriptionVersion, name: Option<Name>, word: &str) -> Opt
 }
 
 /// What a key should have been in a bracket with this name.
+#[inline(never)]
 pub fn key_slot(name: Option<Name>) -> Option<Slot>
     ensures { result ≡ option_map spec_slot.Slot.Key name }
 {
