@@ -114,6 +114,7 @@ fn known_key(version: DescriptionVersion, name: Option<Name>, word: &str) -> Opt
 }
 
 /// What a key should have been in a bracket with this name.
+#[cold]
 #[inline(never)]
 pub fn key_slot(name: Option<Name>) -> Option<Slot>
     ensures { result ≡ option_map spec_slot.Slot.Key name }
@@ -122,6 +123,7 @@ pub fn key_slot(name: Option<Name>) -> Option<Slot>
 }
 
 /// What the value of a word should have been, if the word is a key that the name takes.
+#[cold]
 #[inline(never)]
 pub fn value_slot(version: DescriptionVersion, name: Option<Name>, word: &str) -> Option<Slot>
     ensures { (key : Option spec_key.Key)
