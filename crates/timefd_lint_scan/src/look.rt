@@ -26,7 +26,7 @@ pub struct Look {
     /// Where names begin that known calls take instead of a literal, and for which no text is found in the
     /// source. Byte indices.
     pub calls: Vec<usize>,
-    /// Where comments begin that should name a language, but don't. Byte indices.
+    /// Where the words of comments begin that should name a language, but don't. Byte indices.
     pub comments: Vec<usize>,
 }
 
