@@ -2,6 +2,7 @@ pub mod FirstLemmas
 pub mod ScalarLemmas
 pub mod UnescapeLemmas
 pub mod PieceLemmas
+pub mod GatheredLemmas
 pub mod EachLemmas
 pub mod CandidateLemmas
 pub mod UsingLemmas

@@ -7,12 +7,12 @@ ghost use Rattle.timefd_lint_scan.specs.Looks.{IsLook, IsSeen};
 ghost use Rattle.timefd_lint_scan.specs.Looks as spec;
 
 use crate::alias::aliases_of;
-use crate::candidate::significant;
 use crate::description::{Description, described_by};
 use crate::dialect::is;
+use crate::gathered::{Gathered, tokens_of};
 use crate::marks::{Mark, marks_of, unknown_marks};
 use crate::names::may_describe;
-use crate::piece::{Piece, pieces_of};
+use crate::piece::Piece;
 use crate::uses::Use;
 use crate::using::uses_of;
 use crate::word::text_of;
@@ -137,6 +137,7 @@ fn seen_in(
 }
 
 /// Looks for descriptions in a source. An `Err` says that memory ran out.
+#[tactic(auto, using(crate::proofs::LookLemmas::seen))]
 pub fn looked_at(alloc: Global, source: &str) -> Result<Look, AllocError>
     ensures { IfOk result (IsLook source.now) }
 {
@@ -147,10 +148,9 @@ pub fn looked_at(alloc: Global, source: &str) -> Result<Look, AllocError>
             comments: Vec::new(alloc),
         });
     }
-    let all = pieces_of(alloc, source)?;
-    let marks = marks_of(alloc, source.as_bytes(), &all)?;
-    let comments = unknown_marks(alloc, source.as_bytes(), &all)?;
-    let pieces = significant(alloc, &all)?;
+    let Gathered { pieces, comments } = tokens_of(alloc, source)?;
+    let marks = marks_of(alloc, source.as_bytes(), &comments)?;
+    let words = unknown_marks(alloc, source.as_bytes(), &comments)?;
     let Seen {
         descriptions,
         calls,
@@ -158,7 +158,7 @@ pub fn looked_at(alloc: Global, source: &str) -> Result<Look, AllocError>
     Ok(Look {
         descriptions,
         calls,
-        comments,
+        comments: words,
     })
 }
 

@@ -176,7 +176,8 @@ fn mark_of(source: &[u8], comment: Piece) -> Option<Mark>
     }
 }
 
-fn is_comment(token: Token) -> bool
+/// Whether a token is a comment.
+pub fn is_comment(token: Token) -> bool
     ensures { result ≡ spec.is_comment token }
 {
     match token {

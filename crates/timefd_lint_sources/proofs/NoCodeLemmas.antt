@@ -24,16 +24,14 @@ is_code source word words a old same is =
     ([], inl (subst (λ w. is_among words w ≡ true) same is, refl), sym (append-nil old))
 
 pub no_code : (source word : Text) (words : List Text) (a : Allowance) (at : NoCode) (old new : List Remark)
-    → word ≡ word_in source a.start a.end → is_among words word ≡ false → at.at ≡ a.at → at.start ≡ a.start
-    → at.end ≡ a.end → IsNearest words word (option_map (λ w. w.now) at.nearest) → new ≡ old ++ Code at ∷ []
+    → word ≡ word_in source a.start a.end → is_among words word ≡ false → at.start ≡ a.start → at.end ≡ a.end → IsNearest words word (option_map (λ w. w.now) at.nearest) → new ≡ old ++ Code at ∷ []
     → AddsCode source words a old new
-no_code source word words a at old new same none place start end near pushed = (
+no_code source word words a at old new same none start end near pushed = (
   Code at ∷ [],
   inr (
     at,
     record {
-      no_code = subst (λ w. is_among words w ≡ false) same none;
-      at = place;
+      none = subst (λ w. is_among words w ≡ false) same none;
       start = start;
       end = end;
       nearest = subst (λ w. IsNearest words w (option_map (λ n. n.now) at.nearest)) same near;
@@ -80,17 +78,3 @@ at_last source words all left before now none so_far =
 pub none_allowed : (s : Source) (old : List Remark) → s.allowances.now ≡ [] → AddsCodes s old old
 none_allowed s old none =
     subst (λ l. AddsAll s.text.now description_codes l old old) (sym none) ([], refl, sym (append-nil old))
-
--- The note on a word.
-pub noted : {E : Type 0} (style : Style) (s : Source) (word : NoCode) (line : ℕ) (shown sentence : Text)
-    (done : Result (Vec ℕ Global) E) → line ≡ line_number 1 s.text.now word.at
-    → shown ≡ word_in s.text.now word.start word.end
-    → sentence ≡ code_sentence shown (option_map (λ w. w.now) word.nearest)
-    → IfOk done (λ m. m.items ≡ note style (record { file = s.file; line = line }) (codes "unknown-code") sentence)
-    → IfOk done (λ m. m.items ≡ code_note style s word)
-noted style s word line shown sentence (Ok m) at same told is =
-    is
-    ∙ (ap (λ l. note style (record { file = s.file; line = l }) (codes "unknown-code") sentence) at
-    ∙ ap (λ t. note style (record { file = s.file; line = line_number 1 s.text.now word.at }) (codes "unknown-code") t)
-    (told ∙ ap (λ x. code_sentence x (option_map (λ w. w.now) word.nearest)) same))
-noted style s word line shown sentence (Err e) at same told is = tt

@@ -14,7 +14,7 @@ use Rattle.timefd_lint_lsp.specs.Editor.Finding.{AreWarnings, IsNote, IsOne}
 use Rattle.timefd_lint_lsp.specs.Editor.Others.{AreOnOther}
 use Rattle.timefd_lang_fault.specs.Faults.{fault_of}
 use Rattle.timefd_lint_sources.specs.declared.reported.End.{End}
-use Rattle.timefd_lint_sources.specs.declared.reported.End.TheVariants.{PassedOver, Accepted, Converted, Refused, NotText, Allowed, UnreadCall, UnreadValue}
+use Rattle.timefd_lint_sources.specs.declared.reported.End.TheVariants.{PassedOver, Accepted, Converted, Refused, NotText, Allowed, UnreadCall, UnreadValue, WrongComment}
 use Rattle.timefd_lint_sources.specs.declared.reported.Finder.{Finder}
 use Rattle.timefd_lint_sources.specs.declared.reported.Source.{Source}
 use Rattle.timefd_lint_sources.specs.Allowances.Found.{AreAllowances}
@@ -51,6 +51,7 @@ AreBy text d NotText found = IsNote text d found
 AreBy text d (Allowed left) found = ⊥
 AreBy text d UnreadCall found = ⊥
 AreBy text d UnreadValue found = ⊥
+AreBy text d WrongComment found = ⊥
 
 pub record AreOnOwn (levels : Option Levels) (text : Text) (d : Description) (found : List Finding) : Type 0 where
   pub end : End

@@ -51,7 +51,7 @@ is_separator b = is_white b || (b == 44)
 -- a word from one index of the source to another, if it isn't empty
 abbrev pub one_word : Reach → ℕ → ℕ → List Allowance
 one_word r start end =
-    if nat_lt start end then (record { at = r.at; from = r.from; to = r.to; start = start; end = end }) ∷ [] else []
+    if nat_lt start end then (record { from = r.from; to = r.to; start = start; end = end }) ∷ [] else []
 
 -- The words of a text that ends at an index of the source: the first one begins where `word` does, and `rest` is
 -- what is left of the text.
@@ -81,11 +81,10 @@ abbrev pub reach_of : Sign → Text → ℕ → ℕ → Reach
 reach_of sign source at end =
     if is_alone source at then
     record {
-      at = at;
       from = length source - length (covered sign (drop end source));
       to = length source - length (after_run (class_test Line) (covered sign (drop end source)));
     }
-    else record { at = at; from = line_begin source at; to = at }
+    else record { from = line_begin source at; to = at }
 
 abbrev pub in_words : Reach → ℕ → Option Text → List Allowance
 in_words r end None = []
