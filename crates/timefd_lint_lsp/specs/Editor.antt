@@ -14,5 +14,6 @@ pub mod Hovers
 pub mod Offered
 pub mod OpenSlots
 pub mod Positions
+pub mod Remarked
 pub mod Replacing
 pub mod Scans

@@ -29,20 +29,30 @@ seen_in_order source look (inl (none, blank)) = subst (AreInOrder 0) (sym blank.
 seen_in_order source look (inr (all, seen)) = all_in_order source 0 _ look.descriptions.items seen.descriptions
 
 -- What is seen among the tokens that are looked at is what is seen in the source.
-pub seen : (source : Text) (pieces notes : List Piece) (marks : List Mark) (look : Look)
-    → AreGathered source pieces notes → marks ≡ spec.marks source notes
-    → look.comments.items ≡ spec.unknown_marks source notes
-    → AreDescribed source 0 (candidates_in source pieces marks) look.descriptions.items
-    → look.calls.items ≡ calls_in source pieces look.descriptions.items → IsLook source look
-seen source pieces notes marks look are marked words described calls = inr (
-  are.all,
-  record {
-    tokens = are.tokens;
-    descriptions =
-        subst (λ m. AreDescribed source 0 (candidates_in source (significant are.all) m) look.descriptions.items)
-        (marked ∙ (ap (spec.marks source) are.noted ∙ marks_are source are.all))
-        (subst (λ ps. AreDescribed source 0 (candidates_in source ps marks) look.descriptions.items) are.kept described);
-    calls = calls ∙ ap (λ ps. calls_in source ps look.descriptions.items) are.kept;
-    comments = words ∙ (ap (spec.unknown_marks source) are.noted ∙ words_are source are.all);
-  },
-)
+pub seen : (source bytes others : Text) (pieces notes given again those : List Piece) (marks handed : List Mark)
+    (look : Look) → AreGathered source pieces notes → bytes ≡ source → given ≡ notes
+    → marks ≡ spec.marks bytes given → others ≡ source → again ≡ notes
+    → look.comments.items ≡ spec.unknown_marks others again → those ≡ pieces → handed ≡ marks
+    → AreDescribed source 0 (candidates_in source those handed) look.descriptions.items
+    → look.calls.items ≡ calls_in source those look.descriptions.items → IsLook source look
+seen source bytes others pieces notes given again those marks handed look are here noted marked there noted_too words same used
+    described calls =
+    let all_marks : handed ≡ spec.marks source are.all =
+    used ∙ (marked ∙ (ap (λ b. spec.marks b given) here
+    ∙ (ap (spec.marks source) (noted ∙ are.noted) ∙ marks_are source are.all))) in
+    let all_words : look.comments.items ≡ spec.unknown_marks source are.all =
+    words ∙ (ap (λ b. spec.unknown_marks b again) there
+    ∙ (ap (spec.unknown_marks source) (noted_too ∙ are.noted) ∙ words_are source are.all)) in
+    inr (
+      are.all,
+      record {
+        tokens = are.tokens;
+        descriptions =
+            subst (λ m. AreDescribed source 0 (candidates_in source (significant are.all) m) look.descriptions.items)
+            all_marks
+            (subst (λ ps. AreDescribed source 0 (candidates_in source ps handed) look.descriptions.items) (same ∙ are.kept)
+            described);
+        calls = calls ∙ ap (λ ps. calls_in source ps look.descriptions.items) (same ∙ are.kept);
+        comments = all_words;
+      },
+    )

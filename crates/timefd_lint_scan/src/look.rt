@@ -137,7 +137,6 @@ fn seen_in(
 }
 
 /// Looks for descriptions in a source. An `Err` says that memory ran out.
-#[tactic(auto, using(crate::proofs::LookLemmas::seen))]
 pub fn looked_at(alloc: Global, source: &str) -> Result<Look, AllocError>
     ensures { IfOk result (IsLook source.now) }
 {

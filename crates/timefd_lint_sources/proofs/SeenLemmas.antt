@@ -18,7 +18,7 @@ use Rattle.timefd_lint_sources.specs.declared.reported.Source.{Source}
 use Rattle.timefd_lint_sources.specs.declared.reported.Reporting.{Reporting}
 use Rattle.timefd_lint_sources.specs.Items.{AreJudgedAs}
 use Rattle.timefd_lint_sources.specs.Remarks.{AddsCodes, AreRemarksBy, AreSeenIn, AreValuesSeen, ends_of, messages_of, on_values, remarks_on}
-use Rattle.timefd_lint_sources.specs.Reported.{AreAllBy, AreSeen, AreSeenFirst, AreReported, IsFoundBy, IsSourceReported}
+use Rattle.timefd_lint_sources.specs.Reported.{AreAllBy, AreJudgedIn, AreRemarksOn, AreSeen, AreSeenFirst, AreReported, IsFoundBy, IsSourceReported}
 use Rattle.timefd_lint_sources.proofs.FinderLemmas.{all_by_keys, all_by_rust, by_keys, by_rust}
 
 pub of_look : (source : Text) (look : Look) (calls comments : List ℕ) (remarks : List Remark) → IsLook source look
@@ -66,6 +66,21 @@ with_codes s ds seen remarks first more = record {
   in_order = first.in_order;
   remarked = (seen, first.remarked, more);
 }
+
+-- What is seen, with the descriptions as they are checked.
+pub judged_of : (s : Source) (found judged : List Description) (remarks : List Remark) → AreSeen s found remarks
+    → AreJudgedAs found judged → AreJudgedIn s judged
+judged_of s found judged remarks seen are = record {
+  found = found;
+  all = seen.all;
+  stand = seen.stand;
+  in_order = seen.in_order;
+  judged = are;
+}
+
+pub remarks_of : (s : Source) (found : List Description) (remarks : List Remark) → AreSeen s found remarks
+    → AreRemarksOn s remarks
+remarks_of s found remarks seen = (found, seen.remarked)
 
 pub source_reported : (reporting : Reporting) (s : Source) (found judged : List Description) (remarks : List Remark)
     (ends : List End) (message : Text) (r : Report) → AreSeen s found remarks → AreJudgedAs found judged

@@ -85,6 +85,10 @@ pub record AreSeen (s : Source) (ds : List Description) (remarks : List Remark) 
   pub in_order : AreInOrder 0 ds
   pub remarked : AreAllRemarks s ds remarks
 
+-- These are all remarks on a source.
+abbrev pub AreRemarksOn : Source → List Remark → Type 0
+AreRemarksOn s remarks = (ds : List Description) × AreAllRemarks s ds remarks
+
 -- The report covers each description as it is checked, and then each remark.
 pub record IsSourceReported (reporting : Reporting) (s : Source) (r : Report) : Type 0 where
   pub found : List Description

@@ -43,4 +43,6 @@ pub use position::FIRST_LINE;
 pub use remark::{NO_LANGUAGE, NO_LANGUAGE_SENTENCE, Remark, place_of, word_at};
 pub use reported::{End, Finder, Reported, Reporting, Source};
 pub use search::first_refusal;
-pub use source::{Report, descriptions_in, judged_in, lint_source, report_all};
+pub use source::{
+    Judged, Report, descriptions_in, judged_in, judged_with_remarks, lint_source, report_all,
+};

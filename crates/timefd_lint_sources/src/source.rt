@@ -4,7 +4,7 @@ ghost use Rattle.std.specs.Prelude.{IfOk, OnOk};
 ghost use Rattle.timefd_lint_drawing.specs.Counted.{IsCounted};
 ghost use Rattle.timefd_lint_scan.specs.Keys.Found.{AllValues};
 ghost use Rattle.timefd_lint_sources.specs.Remarks.{AreSeenIn, AreValuesSeen};
-ghost use Rattle.timefd_lint_sources.specs.Reported.{AddsReported, AreSeen, AreSeenFirst, AllFound, AreAllOf, AreJudgedIn, AreReported, IsSourceReported};
+ghost use Rattle.timefd_lint_sources.specs.Reported.{AddsReported, AreSeen, AreSeenFirst, AllFound, AreAllOf, AreJudgedIn, AreRemarksOn, AreReported, IsSourceReported};
 ghost use Rattle.timefd_lint_scan.specs.Found.{AreInOrder};
 
 use crate::judged::judged_all;
@@ -134,6 +134,33 @@ pub fn judged_in(alloc: Global, source: Source<'_>) -> Result<Vec<Description>, 
 {
     let found = descriptions_in(alloc, source)?;
     judged_all(alloc, found)
+}
+
+/// The descriptions in a source, and what else is seen in it.
+#[derive(Drop)]
+pub struct Judged {
+    /// The descriptions in order, each with the text that is checked for it.
+    pub descriptions: Vec<Description>,
+    /// What else is seen: calls and values that aren't looked at, and errors in comments.
+    pub remarks: Vec<Remark>,
+}
+
+/// The descriptions in a source, in order, each with the text that is checked for it, and what else is seen. An `Err`
+/// says that memory ran out.
+#[tactic(auto, using(crate::proofs::SeenLemmas::judged_of, crate::proofs::SeenLemmas::remarks_of))]
+pub fn judged_with_remarks(alloc: Global, source: Source<'_>) -> Result<Judged, AllocError>
+    ensures judged { IfOk result (λ judged. AreJudgedIn source.entry judged.descriptions.items) }
+    ensures remarks { IfOk result (λ judged. AreRemarksOn source.entry judged.remarks.items) }
+{
+    let Seen {
+        descriptions,
+        remarks,
+    } = seen_in(alloc, source)?;
+    let descriptions = judged_all(alloc, descriptions)?;
+    Ok(Judged {
+        descriptions,
+        remarks,
+    })
 }
 
 /// The descriptions in a source, in order; they don't overlap. An `Err` says that memory ran out.
