@@ -6,6 +6,7 @@ pub mod GatheredLemmas
 pub mod EachLemmas
 pub mod CandidateLemmas
 pub mod UsingLemmas
+pub mod UsesLemmas
 pub mod LookLemmas
 pub mod FoundLemmas
 pub mod GrammarLemmas

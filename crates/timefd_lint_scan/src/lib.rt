@@ -17,6 +17,7 @@ pub mod dialect;
 mod escape;
 mod flow;
 mod frames;
+mod furthest;
 mod gathered;
 pub mod known;
 pub mod laws;

@@ -9,11 +9,12 @@ ghost use Rattle.timefd_lint_scan.specs.Looks as spec;
 use crate::alias::aliases_of;
 use crate::description::{Description, described_by};
 use crate::dialect::is;
+use crate::furthest::furthest_of;
 use crate::gathered::{Gathered, tokens_of};
 use crate::marks::{Mark, marks_of, unknown_marks};
 use crate::names::may_describe;
 use crate::piece::Piece;
-use crate::uses::Use;
+use crate::uses::{Use, Uses};
 use crate::using::uses_of;
 use crate::word::text_of;
 use std::alloc::{AllocError, Global};
@@ -127,7 +128,12 @@ fn seen_in(
     let bytes = source.as_bytes();
     let aliases = aliases_of(alloc, bytes, pieces)?;
     let uses = uses_of(alloc, bytes, pieces, &aliases)?;
-    let descriptions = described_by(alloc, source, pieces, &aliases, &uses, marks)?;
+    let furthest = furthest_of(alloc, &uses)?;
+    let named = Uses {
+        list: &uses,
+        furthest: &furthest,
+    };
+    let descriptions = described_by(alloc, source, pieces, &aliases, named, marks)?;
     let has_chrono = has_word(bytes, pieces, "chrono");
     let calls = unread_calls(alloc, &uses, &descriptions, has_chrono)?;
     Ok(Seen {
