@@ -1,5 +1,5 @@
 -- The tokens that are looked at, in a walk over all tokens.
-use Rattle.std.proofs.Common.{◌≡◌, ◌∙◌, ◌-◌, Bool, true, false, List, [], ◌∷◌, ◌++◌, ap, inl, inr, length, refl, sym}
+use Rattle.std.proofs.Common.{◌≡◌, ◌∙◌, ◌-◌, false, List, [], ◌∷◌, ◌++◌, ap, inl, inr, length, refl, sym}
 use Rattle.std.proofs.lemmas.Bool.{cases_Bool}
 use Rattle.std.proofs.lemmas.List.{flat_map_more}
 use Rattle.std.specs.List.{flat_map}

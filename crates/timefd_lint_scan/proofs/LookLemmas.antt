@@ -1,7 +1,5 @@
 -- What is seen in a source.
-use Rattle.std.proofs.Common.{ℕ, ◌≡◌, ◌∙◌, List, [], ap, inl, inr, refl, subst, sym}
-use Rattle.std.specs.Prelude.{length}
-use Rattle.timefd_lint_scan.specs.declared.description.Description.{Description}
+use Rattle.std.proofs.Common.{◌≡◌, ◌∙◌, List, ap, inl, inr, subst, sym}
 use Rattle.timefd_lint_scan.specs.declared.look.Look.{Look}
 use Rattle.timefd_lint_scan.specs.declared.marks.Mark.{Mark}
 use Rattle.timefd_lint_scan.specs.declared.piece.Piece.{Piece}
@@ -9,7 +7,7 @@ use Rattle.timefd_lint_scan.specs.Bytes.{Text}
 use Rattle.timefd_lint_scan.specs.Candidates.{candidates_in, significant}
 use Rattle.timefd_lint_scan.specs.Found.{AllStandIn, AreDescribed, AreDescriptionsOf, AreInOrder}
 use Rattle.timefd_lint_scan.specs.Gathered.{AreGathered}
-use Rattle.timefd_lint_scan.specs.Looks.{IsLook, IsSeen, calls_in}
+use Rattle.timefd_lint_scan.specs.Looks.{IsLook, calls_in}
 use Rattle.timefd_lint_scan.specs.Marks as spec
 use Rattle.timefd_lint_scan.proofs.CandidateLemmas.{all_in_order, all_stand}
 use Rattle.timefd_lint_scan.proofs.FoundLemmas.{at_first}

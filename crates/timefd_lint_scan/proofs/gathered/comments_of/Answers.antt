@@ -1,4 +1,3 @@
-use Rattle.std.proofs.Common.{rules}
 use Rattle.timefd_lint_scan.proofs.GatheredLemmas.{all_comments}
 use Rattle.timefd_lint_scan.proofs.gathered.comments_of.Goals as goal
 

@@ -1,4 +1,3 @@
-use Rattle.std.proofs.Common.{rules}
 use Rattle.timefd_lint_scan.proofs.GatheredLemmas.{at_last}
 use Rattle.timefd_lint_scan.proofs.gathered.tokens_of.Goals as goal
 

@@ -1,4 +1,4 @@
-use Rattle.std.proofs.Common.{◌∙◌, ◌++◌, ap, refl, rules, arith}
+use Rattle.std.proofs.Common.{◌∙◌, ◌++◌, ap, rules, arith}
 use Rattle.std.specs.Option.{option_to_list}
 use Rattle.timefd_lint_scan.proofs.UsingLemmas.{last_loop, no_piece, one_more_loop}
 use Rattle.timefd_lint_scan.proofs.using.in_loops.Goals as goal
