@@ -1,4 +1,5 @@
 pub mod CodeLemmas
+pub mod CommentLemmas
 mod ItemLemmas
 mod OpeningLemmas
 mod SearchLemmas
