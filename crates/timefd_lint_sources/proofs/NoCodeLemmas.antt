@@ -1,21 +1,22 @@
 -- The remarks on what comments allow, one after another.
-use Rattle.std.proofs.Common.{ℕ, ◌≡◌, ◌≤◌, ◌-◌, true, false, List, [], ◌∷◌, ◌++◌, Option, Result, Ok, Err, append_assoc, append-nil, arith, codes, drop, get_or, inl, inr, refl, sym, ap, subst, take, ◌∙◌, length}
+use Rattle.std.proofs.Common.{ℕ, ◌≡◌, ◌≤◌, ◌-◌, true, false, List, [], ◌∷◌, ◌++◌, Result, Ok, Err, append_assoc, append-nil, arith, drop, get_or, inl, inr, refl, sym, ap, subst, take, ◌∙◌, length}
 use Rattle.std.proofs.Math.Seq.{take-length}
 use Rattle.std.specs.Prelude.{IfOk, option_map}
 use Rattle.std.specs.declared.alloc.Global.{Global}
 use Rattle.std.specs.declared.vec.Vec.{Vec}
 use Rattle.timefd_lang_component.specs.Tree.{Text}
+use Rattle.timefd_lint_diagnosis.specs.declared.span.Span.{Span}
 use Rattle.timefd_lint_diagnosis.specs.Nearest.{IsNearest}
 use Rattle.timefd_lint_drawing.specs.declared.draw.Style.{Style}
-use Rattle.timefd_lint_drawing.specs.Drawing.{note}
-use Rattle.timefd_lint_drawing.specs.Positions.{line_number}
 use Rattle.timefd_lint_sources.specs.declared.allowances.comment.Allowance.{Allowance}
 use Rattle.timefd_lint_sources.specs.declared.no_code.NoCode.{NoCode}
 use Rattle.timefd_lint_sources.specs.declared.remark.Remark.{Remark}
 use Rattle.timefd_lint_sources.specs.declared.remark.Remark.TheVariants.{Code}
 use Rattle.timefd_lint_sources.specs.declared.reported.Source.{Source}
+use Rattle.timefd_lint_sources.specs.AtWord.{message}
 use Rattle.timefd_lint_sources.specs.CodeNames.{description_codes, is_among}
-use Rattle.timefd_lint_sources.specs.Remarks.{AddsAll, AddsCode, AddsCodes, code_note, code_sentence, word_in}
+use Rattle.timefd_lint_sources.specs.Remarks as spec
+use Rattle.timefd_lint_sources.specs.Remarks.{AddsAll, AddsCode, AddsCodes, code_note, language_code, language_note, language_sentence, sentence_on, word_at, word_in}
 
 -- A code has no remark, and anything else has one.
 pub is_code : (source word : Text) (words : List Text) (a : Allowance) (old : List Remark)
@@ -78,3 +79,21 @@ at_last source words all left before now none so_far =
 pub none_allowed : (s : Source) (old : List Remark) → s.allowances.now ≡ [] → AddsCodes s old old
 none_allowed s old none =
     subst (λ l. AddsAll s.text.now description_codes l old old) (sym none) ([], refl, sym (append-nil old))
+
+-- The messages on words in comments.
+
+pub noted : {E : Type 0} (style : Style) (s : Source) (word : NoCode) (sentence : Text)
+    (done : Result (Vec ℕ Global) E) → sentence ≡ sentence_on s.text.now word
+    → IfOk done (λ m. m.items ≡ message style s (record { start = word.start; end = word.end }) spec.no_code sentence)
+    → IfOk done (λ m. m.items ≡ code_note style s word)
+noted style s word sentence (Ok m) same is =
+    is ∙ ap (λ t. message style s (record { start = word.start; end = word.end }) spec.no_code t) same
+noted style s word sentence (Err e) same is = tt
+
+pub language_noted : {E : Type 0} (style : Style) (s : Source) (at : ℕ) (word : Span)
+    (done : Result (Vec ℕ Global) E) → word ≡ word_at s.text.now at
+    → IfOk done (λ m. m.items ≡ message style s word language_code language_sentence)
+    → IfOk done (λ m. m.items ≡ language_note style s at)
+language_noted style s at word (Ok m) same is =
+    is ∙ ap (λ w. message style s w language_code language_sentence) same
+language_noted style s at word (Err e) same is = tt

@@ -39,6 +39,13 @@ AreReported reporting s (d ∷ ds) [] message = ⊥
 AreReported reporting s (d ∷ ds) (e ∷ ends) message = (one : Text) × (rest : Text)
     × IsReported reporting s d e one × AreReported reporting s ds ends rest × (message ≡ one ++ rest)
 
+-- The outcomes of these descriptions as they are checked, and the messages on them.
+pub record AreReportedAs (reporting : Reporting) (s : Source) (ds : List Description) (ends : List End) (message : Text)
+    : Type 0 where
+  pub judged : List Description
+  pub are : AreJudgedAs ds judged
+  pub reported : AreReported reporting s judged ends message
+
 -- A description is a literal of a Rust source, or the value of a key, in the key's language.
 abbrev pub IsFoundBy : Finder → Text → Description → Type 0
 IsFoundBy Rust source d = StandsIn source d

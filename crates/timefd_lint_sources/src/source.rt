@@ -4,10 +4,10 @@ ghost use Rattle.std.specs.Prelude.{IfOk, OnOk};
 ghost use Rattle.timefd_lint_drawing.specs.Counted.{IsCounted};
 ghost use Rattle.timefd_lint_scan.specs.Keys.Found.{AllValues};
 ghost use Rattle.timefd_lint_sources.specs.Remarks.{AreSeenIn, AreValuesSeen};
-ghost use Rattle.timefd_lint_sources.specs.Reported.{AddsReported, AreSeen, AreSeenFirst, AllFound, AreAllOf, AreJudgedIn, AreRemarksOn, AreReported, IsSourceReported};
+ghost use Rattle.timefd_lint_sources.specs.Reported.{AddsReported, AreSeen, AreSeenFirst, AllFound, AreAllOf, AreJudgedIn, AreRemarksOn, AreReported, AreReportedAs, IsSourceReported};
 ghost use Rattle.timefd_lint_scan.specs.Found.{AreInOrder};
 
-use crate::judged::judged_all;
+use crate::judged::{judged_all, judged_as};
 use crate::no_code::push_no_codes;
 use crate::position::FIRST_LINE;
 use crate::remark::{Remark, push_remarks, remarks_on, remarks_on_values};
@@ -40,11 +40,10 @@ pub fn lint_source(
         descriptions,
         remarks,
     } = seen_in(alloc, source)?;
-    let descriptions = judged_all(alloc, descriptions)?;
     let Report {
         mut ends,
         mut message,
-    } = report_all(alloc, reporting, source, &descriptions)?;
+    } = report_each(alloc, reporting, source, descriptions)?;
     push_remarks(
         alloc,
         reporting.style,
@@ -199,6 +198,37 @@ pub fn report_all(
             source,
             from,
             description,
+            &mut ends,
+            &mut message,
+        )?;
+    }
+    Ok(Report { ends, message })
+}
+
+// Checks these descriptions of a source, one after another, each with the text that is checked for it, and reports on them.
+// One is kept only until it is reported.
+#[tactic(auto, using(crate::proofs::ReportLemmas::none_reported, crate::proofs::ReportLemmas::one_more_reported))]
+fn report_each(
+    alloc: Global,
+    reporting: Reporting,
+    source: Source<'_>,
+    descriptions: Vec<Description>,
+) -> Result<Report, AllocError>
+    ensures { IfOk result (λ report. AreReportedAs reporting source.entry descriptions.items
+        report.ends.items report.message.items) }
+{
+    let mut ends = Vec::new(alloc);
+    let mut message = Vec::new(alloc);
+    let mut from = none_counted(FIRST_LINE);
+    for description in descriptions {
+        let judged = judged_as(alloc, description)?;
+        from = counted(FIRST_LINE, source.text, from, judged.piece.start);
+        push_reported(
+            alloc,
+            reporting,
+            source,
+            from,
+            &judged,
             &mut ends,
             &mut message,
         )?;

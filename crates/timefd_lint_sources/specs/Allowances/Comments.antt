@@ -1,5 +1,5 @@
 -- What a comment allows: `// timefd: allow unknown-name`, or with `#`.
-use Rattle.std.specs.Prelude.{ℕ, ◌-◌, Bool, true, false, not, ◌&&◌, ◌||◌, ◌==◌, nat_lt, if◌then◌else◌, List, [], ◌∷◌, ◌++◌, bytes_eq, codes, drop, is_some, length, min, take, Option, Some, None}
+use Rattle.std.specs.Prelude.{ℕ, ◌-◌, Bool, not, ◌&&◌, ◌||◌, ◌==◌, nat_lt, if◌then◌else◌, List, [], ◌∷◌, ◌++◌, bytes_eq, codes, drop, is_some, length, min, take, Option, Some, None}
 use Rattle.timefd_lint_scan.specs.After.{after_run}
 use Rattle.timefd_lint_scan.specs.Bytes.{Text, is_blank, is_white, is_word, class_test, line_feed}
 use Rattle.timefd_lint_scan.specs.declared.class.Class.TheVariants.{Line}

@@ -52,7 +52,6 @@ fn push_tokens(
 
 /// What the comments in a source of Rust allow, in order. Only its comments are kept in memory. An `Err` says that memory
 /// ran out.
-#[tactic(auto, using(crate::proofs::CommentLemmas::by_comments))]
 pub fn allowances_of_rust(alloc: Global, source: &str) -> Result<Vec<Allowance>, AllocError>
     ensures { IfOk result (λ found. spec.AreBy finders.Rust source.now found.items) }
 {
