@@ -219,15 +219,15 @@ fn report_each(
 {
     let mut ends = Vec::new(alloc);
     let mut message = Vec::new(alloc);
-    let mut from = none_counted(FIRST_LINE);
+    let mut counter = none_counted(FIRST_LINE);
     for description in descriptions {
         let judged = judged_as(alloc, description)?;
-        from = counted(FIRST_LINE, source.text, from, judged.piece.start);
+        counter = counted(FIRST_LINE, source.text, counter, judged.piece.start);
         push_reported(
             alloc,
             reporting,
             source,
-            from,
+            counter,
             &judged,
             &mut ends,
             &mut message,

@@ -1,5 +1,5 @@
 -- What a comment allows: `// timefd: allow unknown-name`, or with `#`.
-use Rattle.std.specs.Prelude.{ℕ, ◌-◌, Bool, not, ◌&&◌, ◌||◌, ◌==◌, nat_lt, if◌then◌else◌, List, [], ◌∷◌, ◌++◌, bytes_eq, codes, drop, is_some, length, min, take, Option, Some, None}
+use Rattle.std.specs.Prelude.{ℕ, ◌≡◌, ◌<◌, ◌⊎◌, ◌-◌, Bool, true, false, not, ◌&&◌, ◌||◌, ◌==◌, nat_lt, if◌then◌else◌, List, [], ◌∷◌, ◌++◌, bytes_eq, codes, drop, is_some, length, min, take, Option, Some, None}
 use Rattle.timefd_lint_scan.specs.After.{after_run}
 use Rattle.timefd_lint_scan.specs.Bytes.{Text, is_blank, is_white, is_word, class_test, line_feed}
 use Rattle.timefd_lint_scan.specs.declared.class.Class.TheVariants.{Line}
@@ -67,6 +67,25 @@ abbrev pub covered : Sign → Text → Text
 covered sign [] = []
 covered sign (b ∷ rest) =
     if (b == line_feed) && not (is_mark_line sign rest) then rest else covered sign rest
+
+-- A later line of a text, from its start to the end of the text.
+abbrev pub IsLaterLine : Text → Text → Type 0
+IsLaterLine text line = (front : Text) × (text ≡ front ++ line_feed ∷ line)
+
+-- It has something else than such a comment, and all later lines before it have only one.
+pub record IsFirstOther (sign : Sign) (text line : Text) : Type 0 where
+  pub is : IsLaterLine text line
+  pub other : is_mark_line sign line ≡ false
+  pub first : (l : Text) → IsLaterLine text l → length line < length l → is_mark_line sign l ≡ true
+
+-- What a comment alone in its line is about: the first later line with something else, and nothing if there is none.
+abbrev pub IsCovered : Sign → Text → Text → Type 0
+IsCovered sign text line =
+    IsFirstOther sign text line
+    ⊎ ((line ≡ []) × ((l : Text) → IsLaterLine text l → is_mark_line sign l ≡ true))
+
+abbrev pub ReachesFirstOther : Type 0
+ReachesFirstOther = (sign : Sign) → (text : Text) → IsCovered sign text (covered sign text)
 
 -- where the line of a position begins
 abbrev pub line_begin : Text → ℕ → ℕ

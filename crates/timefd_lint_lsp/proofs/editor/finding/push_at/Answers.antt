@@ -1,6 +1,6 @@
 use Rattle.timefd_lint_lsp.proofs.EditorLemmas.WarningLemmas.{pushed}
 use Rattle.timefd_lint_lsp.specs.declared.editor.finding.Finding.{Finding}
-use Rattle.timefd_lint_lsp.proofs.editor.finding.push.Goals as goal
+use Rattle.timefd_lint_lsp.proofs.editor.finding.push_at.Goals as goal
 
 pub returns : goal.returns
 returns c =
@@ -10,5 +10,5 @@ returns c =
       code = c.args.code;
       message = c.args.message;
     } in
-    pushed c.args.spot.text.now c.args.start c.args.end f c.args.found.now.items c.push.new.self.items
+    pushed c.args.text.now c.args.start c.args.end f c.args.found.now.items c.push.new.self.items
     c.range_from-range.ensures c.in_ok-push.ensures.items
