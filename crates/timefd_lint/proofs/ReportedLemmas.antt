@@ -17,7 +17,7 @@ use Rattle.timefd_lint_drawing.specs.declared.draw.Style.{Style}
 use Rattle.timefd_lint_drawing.specs.declared.position.Origin.{Origin}
 use Rattle.timefd_lint_options.specs.declared.wording.Wording.{Wording}
 use Rattle.timefd_lint.specs.declared.line.TextEnd.{TextEnd}
-use Rattle.timefd_lint.specs.declared.line.TextEnd.TheVariants.{PassedOver, Accepted, Converted, Refused, NotText, Allowed, Failed, UnreadCall, UnreadValue}
+use Rattle.timefd_lint.specs.declared.line.TextEnd.TheVariants.{PassedOver, Accepted, Converted, Refused, NotText, Allowed, Failed, UnreadCall, UnreadValue, WrongComment}
 use Rattle.timefd_lint_sources.specs.declared.reported.Reporting.{Reporting}
 use Rattle.timefd_lint.specs.declared.tally.Tally.{Tally}
 use Rattle.timefd_lang_warnings.specs.declared.levels.Level.TheVariants.{Warned}
@@ -30,7 +30,7 @@ use Rattle.timefd_lint.specs.Lines.{IsEndOf, IsLineEnd}
 use Rattle.timefd_lint.specs.Failures.{note_of, unread}
 use Rattle.timefd_lint.specs.declared.failure.Failure.{Failure}
 use Rattle.timefd_lint.specs.Marks.{Notes, has_mark}
-use Rattle.timefd_lint.specs.Reported.{Says, SaysUnread, SaysOf, IsUnreadIfFailed, AreMarked, Reported, is_description, is_refused, is_not_text, is_failed, is_unread_call, is_unread_value, warnings_in, warnings_of, allowed_in, allowed_of, IsEndIn, IsReportOn, IsPosition, ArePlaced, position, one_if, count, tally_of_one, tally_of, text_in, both, messages, lines_in, lines_of, IsReadUp, AreCountedOut, IsRun, IsRunOver, IsRunOfAll, IsRunOn, IsNext}
+use Rattle.timefd_lint.specs.Reported.{Says, SaysUnread, SaysOf, IsUnreadIfFailed, AreMarked, Reported, is_description, is_refused, is_not_text, is_failed, is_unread_call, is_unread_value, is_wrong_comment, warnings_in, warnings_of, allowed_in, allowed_of, IsEndIn, IsReportOn, IsPosition, ArePlaced, position, one_if, count, tally_of_one, tally_of, text_in, both, messages, lines_in, lines_of, IsReadUp, AreCountedOut, IsRun, IsRunOver, IsRunOfAll, IsRunOn, IsNext}
 
 -- A note, and the message after it.
 pub notes_and_says : (is_marked : Bool) (language : Wording) (reporting : Reporting) (origin : Origin)
@@ -104,6 +104,7 @@ never_failed language reporting text (Allowed left) ended fails = ended
 never_failed language reporting text Failed ended fails = ended
 never_failed language reporting text UnreadCall ended fails = ended
 never_failed language reporting text UnreadValue ended fails = ended
+never_failed language reporting text WrongComment ended fails = ended
 
 line_never_failed : (language : Wording) (comment : Option (Bor Text)) (reporting : Reporting) (line : Text) (end : TextEnd)
     → IsLineEnd language comment reporting line end → IsTrue (is_failed end) → ⊥
@@ -116,6 +117,7 @@ line_never_failed language comment reporting line (Allowed left) ended fails = e
 line_never_failed language comment reporting line Failed ended fails = ended
 line_never_failed language comment reporting line UnreadCall ended fails = ended
 line_never_failed language comment reporting line UnreadValue ended fails = ended
+line_never_failed language comment reporting line WrongComment ended fails = ended
 
 -- One text is a run.
 or_false : (b : Bool) → (b || false) ≡ b
@@ -138,6 +140,7 @@ few_warnings (Allowed left) = omega arith
 few_warnings Failed = refl
 few_warnings UnreadCall = refl
 few_warnings UnreadValue = refl
+few_warnings WrongComment = refl
 
 few_allowed : (end : TextEnd) → u64_saturate (allowed_in end + 0) ≡ allowed_in end
 few_allowed PassedOver = refl
@@ -149,6 +152,7 @@ few_allowed (Allowed left) = omega arith
 few_allowed Failed = refl
 few_allowed UnreadCall = refl
 few_allowed UnreadValue = refl
+few_allowed WrongComment = refl
 
 pub tally_one : (t : Reported) → tally_of (t ∷ []) ≡ tally_of_one t.end
 tally_one t =
@@ -158,6 +162,7 @@ tally_one t =
       few_warnings t.end,
       one_alone (is_unread_call t.end),
       one_alone (is_unread_value t.end),
+      one_alone (is_wrong_comment t.end),
       few_allowed t.end,
       or_false (is_not_text t.end),
       or_false (is_failed t.end),
@@ -218,12 +223,15 @@ tally_both xs ys =
           (count (λ (t : Reported). is_unread_call t.end) ys),
       sum_both (count (λ (t : Reported). is_unread_value t.end) xs)
           (count (λ (t : Reported). is_unread_value t.end) ys),
+      sum_both (count (λ (t : Reported). is_wrong_comment t.end) xs)
+          (count (λ (t : Reported). is_wrong_comment t.end) ys),
       sum_both (allowed_of xs) (allowed_of ys),
       count_both (λ (t : Reported). is_description t.end) xs ys,
       count_both (λ (t : Reported). is_refused t.end) xs ys,
       warnings_both xs ys,
       count_both (λ (t : Reported). is_unread_call t.end) xs ys,
       count_both (λ (t : Reported). is_unread_value t.end) xs ys,
+      count_both (λ (t : Reported). is_wrong_comment t.end) xs ys,
       allowed_both xs ys,
       list_any-append (λ (t : Reported). is_not_text t.end) xs ys,
       list_any-append (λ (t : Reported). is_failed t.end) xs ys,
@@ -521,6 +529,7 @@ is_failed_alone NotText e = absurd (false≢true e)
 is_failed_alone (Allowed left) e = absurd (false≢true e)
 is_failed_alone UnreadCall e = absurd (false≢true e)
 is_failed_alone UnreadValue e = absurd (false≢true e)
+is_failed_alone WrongComment e = absurd (false≢true e)
 is_failed_alone Failed e = refl
 
 pub line_fails : (is_first : Bool) (language : Wording) (comment : Option (Bor Text)) (reporting : Reporting)

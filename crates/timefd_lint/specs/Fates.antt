@@ -86,6 +86,7 @@ left_in found = record {
   warnings = 0;
   unread_calls = 0;
   unread_values = 0;
+  wrong_comments = 0;
   allowed = 0;
   not_text = false;
   failed = false;

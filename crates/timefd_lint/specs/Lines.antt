@@ -16,7 +16,7 @@ use Rattle.timefd_lint_sources.specs.declared.reported.Reporting.{Reporting}
 use Rattle.timefd_lint_warnings.specs.Found.{found_by}
 use Rattle.timefd_lang_warnings.specs.declared.levels.Levels.{Levels}
 use Rattle.timefd_lint.specs.declared.line.TextEnd.{TextEnd}
-use Rattle.timefd_lint.specs.declared.line.TextEnd.TheVariants.{PassedOver, Accepted, Converted, Refused, NotText, Allowed, Failed, UnreadCall, UnreadValue}
+use Rattle.timefd_lint.specs.declared.line.TextEnd.TheVariants.{PassedOver, Accepted, Converted, Refused, NotText, Allowed, Failed, UnreadCall, UnreadValue, WrongComment}
 
 -- a text of a language of `time` spells a list, with the list's warnings
 abbrev pub IsAcceptedBy : Wording → Reporting → Text → Levels → Type 0
@@ -45,6 +45,7 @@ IsEndOf language reporting text (Allowed left) = ⊥
 IsEndOf language reporting text Failed = ⊥
 IsEndOf language reporting text UnreadCall = ⊥
 IsEndOf language reporting text UnreadValue = ⊥
+IsEndOf language reporting text WrongComment = ⊥
 
 -- The end of a line's check: the line is passed over, or the end is that of a text.
 abbrev pub IsLineEnd : Wording → Option (Bor Text) → Reporting → Text → TextEnd → Type 0
@@ -61,6 +62,7 @@ IsLineEnd language comment reporting line (Allowed left) = ⊥
 IsLineEnd language comment reporting line Failed = ⊥
 IsLineEnd language comment reporting line UnreadCall = ⊥
 IsLineEnd language comment reporting line UnreadValue = ⊥
+IsLineEnd language comment reporting line WrongComment = ⊥
 
 -- How the check of a format of another language ends.
 abbrev pub end_by : Judgement → TextEnd

@@ -13,7 +13,7 @@ use Rattle.timefd_lint_diagnosis.specs.declared.diagnostic.Diagnostic.{Diagnosti
 use Rattle.timefd_lint_diagnosis.specs.Further.{AreDiagnosed}
 use Rattle.timefd_lint.specs.declared.failure.Failure.{Failure}
 use Rattle.timefd_lint.specs.declared.line.TextEnd.{TextEnd}
-use Rattle.timefd_lint.specs.declared.line.TextEnd.TheVariants.{PassedOver, Accepted, Converted, Refused, NotText, Allowed, Failed, UnreadCall, UnreadValue}
+use Rattle.timefd_lint.specs.declared.line.TextEnd.TheVariants.{PassedOver, Accepted, Converted, Refused, NotText, Allowed, Failed, UnreadCall, UnreadValue, WrongComment}
 use Rattle.timefd_lint.specs.declared.tally.Tally.{Tally}
 use Rattle.timefd_lint_drawing.specs.declared.draw.Style.{Style}
 use Rattle.timefd_lint_drawing.specs.declared.position.Origin.{Origin}
@@ -89,6 +89,7 @@ IsMessageOn language reporting origin text Failed message =
     IsFailureNote reporting.style origin.file message
 IsMessageOn language reporting origin text UnreadCall message = ⊥
 IsMessageOn language reporting origin text UnreadValue message = ⊥
+IsMessageOn language reporting origin text WrongComment message = ⊥
 
 -- The message on a text is written after what was there before, and no other bytes are.
 abbrev pub Says : Wording → Reporting → Origin → Text → TextEnd → Option Text → Option Text → Type 0
@@ -137,6 +138,7 @@ is_description (Allowed left) = true
 is_description Failed = false
 is_description UnreadCall = false
 is_description UnreadValue = false
+is_description WrongComment = false
 
 -- whether one of the warnings is denied
 abbrev pub is_denied : Levels → Bool
@@ -152,6 +154,7 @@ is_refused (Allowed left) = left.is_refused
 is_refused Failed = false
 is_refused UnreadCall = false
 is_refused UnreadValue = false
+is_refused WrongComment = false
 
 abbrev pub is_not_text : TextEnd → Bool
 is_not_text PassedOver = false
@@ -163,6 +166,7 @@ is_not_text (Allowed left) = false
 is_not_text Failed = false
 is_not_text UnreadCall = false
 is_not_text UnreadValue = false
+is_not_text WrongComment = false
 
 abbrev pub is_failed : TextEnd → Bool
 is_failed PassedOver = false
@@ -174,6 +178,7 @@ is_failed (Allowed left) = false
 is_failed Failed = true
 is_failed UnreadCall = false
 is_failed UnreadValue = false
+is_failed WrongComment = false
 
 -- a name instead of a text, and no text is found for it
 abbrev pub is_unread_call : TextEnd → Bool
@@ -186,6 +191,7 @@ is_unread_call (Allowed left) = false
 is_unread_call Failed = false
 is_unread_call UnreadCall = true
 is_unread_call UnreadValue = false
+is_unread_call WrongComment = false
 
 -- a value of a key that isn't looked at
 abbrev pub is_unread_value : TextEnd → Bool
@@ -198,6 +204,20 @@ is_unread_value (Allowed left) = false
 is_unread_value Failed = false
 is_unread_value UnreadCall = false
 is_unread_value UnreadValue = true
+is_unread_value WrongComment = false
+
+-- a comment that names no language, or allows what is no code
+abbrev pub is_wrong_comment : TextEnd → Bool
+is_wrong_comment PassedOver = false
+is_wrong_comment (Accepted found) = false
+is_wrong_comment (Converted traps) = false
+is_wrong_comment Refused = false
+is_wrong_comment NotText = false
+is_wrong_comment (Allowed left) = false
+is_wrong_comment Failed = false
+is_wrong_comment UnreadCall = false
+is_wrong_comment UnreadValue = false
+is_wrong_comment WrongComment = true
 
 -- how many warnings are reported, without the denied ones
 abbrev pub warnings_in : TextEnd → ℕ
@@ -210,6 +230,7 @@ warnings_in (Allowed left) = u64_saturate left.warnings
 warnings_in Failed = 0
 warnings_in UnreadCall = 0
 warnings_in UnreadValue = 0
+warnings_in WrongComment = 0
 
 -- how many errors and warnings comments allow
 abbrev pub allowed_in : TextEnd → ℕ
@@ -222,6 +243,7 @@ allowed_in (Allowed left) = u64_saturate left.allowed
 allowed_in Failed = 0
 allowed_in UnreadCall = 0
 allowed_in UnreadValue = 0
+allowed_in WrongComment = 0
 
 -- the text in these bytes: all of a whole file, or what comes before a line's newline
 abbrev pub text_in : Bool → Text → Text
@@ -271,6 +293,7 @@ tally_of_one end = record {
   warnings = warnings_in end;
   unread_calls = one_if (is_unread_call end);
   unread_values = one_if (is_unread_value end);
+  wrong_comments = one_if (is_wrong_comment end);
   allowed = allowed_in end;
   not_text = is_not_text end;
   failed = is_failed end;
@@ -285,6 +308,7 @@ tally_of reported = record {
   warnings = u64_saturate (warnings_of reported);
   unread_calls = u64_saturate (count (λ t. is_unread_call t.end) reported);
   unread_values = u64_saturate (count (λ t. is_unread_value t.end) reported);
+  wrong_comments = u64_saturate (count (λ t. is_wrong_comment t.end) reported);
   allowed = u64_saturate (allowed_of reported);
   not_text = list_any (λ t. is_not_text t.end) reported;
   failed = list_any (λ t. is_failed t.end) reported;
@@ -300,6 +324,7 @@ both a b =
       warnings = u64_saturate (a.warnings + b.warnings);
       unread_calls = u64_saturate (a.unread_calls + b.unread_calls);
       unread_values = u64_saturate (a.unread_values + b.unread_values);
+      wrong_comments = u64_saturate (a.wrong_comments + b.wrong_comments);
       allowed = u64_saturate (a.allowed + b.allowed);
       not_text = a.not_text || b.not_text;
       failed = a.failed || b.failed;

@@ -23,7 +23,7 @@ use Rattle.timefd_lint_sources.specs.Reported.{AreSeen, IsJudgedFound, IsSourceR
 use Rattle.timefd_lint_sources.specs.Whole.{no_text_note, origin_of}
 use Rattle.timefd_lint_sources.specs.Reported as literal
 use Rattle.timefd_lint.specs.declared.line.TextEnd.{TextEnd}
-use Rattle.timefd_lint.specs.declared.line.TextEnd.TheVariants.{PassedOver, Accepted, Converted, Refused, NotText, Allowed, Failed, UnreadCall, UnreadValue}
+use Rattle.timefd_lint.specs.declared.line.TextEnd.TheVariants.{PassedOver, Accepted, Converted, Refused, NotText, Allowed, Failed, UnreadCall, UnreadValue, WrongComment}
 use Rattle.timefd_lint.specs.declared.options.Options.{Options}
 use Rattle.timefd_lint.specs.declared.tally.Tally.{Tally}
 use Rattle.timefd_lint.specs.Reported.{IsReadUp, IsRun, IsReportOn, SaysUnread, Reported, both, messages, position, tally_of, tally_of_one}
@@ -63,6 +63,7 @@ text_end sources.NotText = NotText
 text_end (sources.Allowed left) = Allowed left
 text_end sources.UnreadCall = UnreadCall
 text_end sources.UnreadValue = UnreadValue
+text_end sources.WrongComment = WrongComment
 
 -- the tally of these ends, added to an earlier tally
 abbrev pub tally_from : Tally → List End → Tally

@@ -23,6 +23,9 @@ calls n = noun n (codes "call") (codes "calls")
 abbrev pub values : ℕ → Text
 values n = noun n (codes "value of a key") (codes "values of keys")
 
+abbrev pub errors : ℕ → Text
+errors n = noun n (codes "error in a comment") (codes "errors in comments")
+
 -- as `8 descriptions, 6 refused`
 abbrev pub refusals : Tally → Text
 refusals tally =
@@ -68,6 +71,14 @@ with_values line unread =
 abbrev pub with_unread_values : Text → ℕ → Text
 with_unread_values line unread = if nat_eq unread 0 then line else with_values line unread
 
+-- as `.., 2 files; 2 errors in comments`
+abbrev pub with_wrong : Text → ℕ → Text
+with_wrong line wrong = line ++ (codes "; " ++ (decimal wrong ++ (codes " " ++ errors wrong)))
+
+-- with the errors in comments, if there are any
+abbrev pub with_any_wrong : Text → ℕ → Text
+with_any_wrong line wrong = if nat_eq wrong 0 then line else with_wrong line wrong
+
 -- as `.., 2 files; 2 allowed by comments`
 abbrev pub with_allowed : Text → ℕ → Text
 with_allowed line allowed = line ++ (codes "; " ++ (decimal allowed ++ codes " allowed by comments"))
@@ -79,5 +90,7 @@ with_any_allowed line allowed = if nat_eq allowed 0 then line else with_allowed 
 abbrev pub summary : Bool → Tally → ℕ → Text
 summary warns tally file_count =
     with_any_allowed
+    (with_any_wrong
     (with_unread_values (with_unread_calls (counted warns tally file_count) tally.unread_calls) tally.unread_values)
+    tally.wrong_comments)
     tally.allowed

@@ -70,6 +70,8 @@ pub enum TextEnd {
     UnreadCall,
     /// No text: a value of a key isn't looked at.
     UnreadValue,
+    /// No text: a comment names no language, or allows what isn't the code of an error or a warning.
+    WrongComment,
 }
 
 /// Checks a line, without its newline, and writes what is wrong with it. An `Err` says why the run ends here.

@@ -184,5 +184,6 @@ fn text_end(end: End) -> TextEnd
         End::Allowed(left) => TextEnd::Allowed(left),
         End::UnreadCall => TextEnd::UnreadCall,
         End::UnreadValue => TextEnd::UnreadValue,
+        End::WrongComment => TextEnd::WrongComment,
     }
 }

@@ -7,9 +7,9 @@ use crate::tally::Tally;
 use std::alloc::{AllocError, Global};
 
 /// The summary, as `8 descriptions, 6 refused, 1 warning, 2 files; 3 calls with a name in place of a text; 2
-/// values of keys not looked at; 1 allowed by comments`. It counts the checked descriptions, those that were refused,
-/// the reported warnings (if warnings are on), the files, the calls that weren't checked, the values of keys that weren't
-/// looked at, and the errors and warnings that comments allow. An `Err` says that memory ran out.
+/// values of keys not looked at; 1 error in a comment; 1 allowed by comments`. It counts the checked descriptions, those
+/// that were refused, the reported warnings (if warnings are on), the files, the calls that weren't checked, the values of
+/// keys that weren't looked at, the errors in comments, and the errors and warnings that comments allow. An `Err` says that memory ran out.
 pub fn summary(
     alloc: Global,
     warns: bool,
@@ -25,7 +25,33 @@ pub fn summary(
     };
     let line = with_unread_calls(alloc, counted, tally.unread_calls)?;
     let line = with_unread_values(alloc, line, tally.unread_values)?;
+    let line = with_any_wrong(alloc, line, tally.wrong_comments)?;
     with_any_allowed(alloc, line, tally.allowed)
+}
+
+fn with_any_wrong(alloc: Global, counted: String, errors: u64) -> Result<String, AllocError>
+    ensures { IfOk result (λ line. string_bytes line ≡ spec.with_any_wrong (string_bytes counted) errors) }
+{
+    if errors == 0 {
+        return Ok(counted);
+    }
+    with_wrong(alloc, &counted, errors)
+}
+
+fn with_wrong(alloc: Global, counted: &str, errors: u64) -> Result<String, AllocError>
+    ensures { IfOk result (λ line. string_bytes line ≡ spec.with_wrong counted.now errors) }
+{
+    let noun = error_noun(errors);
+    format!(in alloc; "{counted}; {errors} {noun}")
+}
+
+fn error_noun(count: u64) -> &'static str
+    ensures { result.now ≡ spec.errors count }
+{
+    match count {
+        1 => "error in a comment",
+        _ => "errors in comments",
+    }
 }
 
 fn with_any_allowed(alloc: Global, counted: String, allowed: u64) -> Result<String, AllocError>

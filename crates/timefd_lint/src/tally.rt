@@ -19,6 +19,8 @@ pub struct Tally {
     pub unread_calls: u64,
     /// How many values of keys aren't looked at.
     pub unread_values: u64,
+    /// How many comments name no language, or how many words in them are no codes.
+    pub wrong_comments: u64,
     /// How many errors and warnings comments allow.
     pub allowed: u64,
     /// A line wasn't UTF-8.
@@ -40,6 +42,7 @@ impl Tally {
             warnings: 0,
             unread_calls: 0,
             unread_values: 0,
+            wrong_comments: 0,
             allowed: 0,
             not_text: false,
             failed: false,
@@ -57,6 +60,7 @@ impl Tally {
             warnings: warnings_in(end),
             unread_calls: u64::from(is_unread_call(end)),
             unread_values: u64::from(is_unread_value(end)),
+            wrong_comments: u64::from(is_wrong_comment(end)),
             allowed: allowed_in(end),
             not_text: matches!(end, TextEnd::NotText),
             failed: matches!(end, TextEnd::Failed),
@@ -74,6 +78,7 @@ impl Tally {
             warnings: self.warnings.saturating_add(other.warnings),
             unread_calls: self.unread_calls.saturating_add(other.unread_calls),
             unread_values: self.unread_values.saturating_add(other.unread_values),
+            wrong_comments: self.wrong_comments.saturating_add(other.wrong_comments),
             allowed: self.allowed.saturating_add(other.allowed),
             not_text: self.not_text || other.not_text,
             failed: self.failed || other.failed,
@@ -81,17 +86,17 @@ impl Tally {
         }
     }
 
-    /// The exit status: 4 if a file failed, else 5 if a line wasn't UTF-8, else 1 if a text was refused or
-    /// something is left to change, else 0.
+    /// The exit status: 4 if a file failed, else 5 if a line wasn't UTF-8, else 1 if a text was refused, a comment is
+    /// wrong or something is left to change, else 0.
     pub fn status(self) -> u8
         ensures { result ≡ (if self.failed then 4 else if self.not_text then 5
-            else if nat_lt 0 self.refused || self.is_left then 1 else 0) }
+            else if nat_lt 0 self.refused || nat_lt 0 self.wrong_comments || self.is_left then 1 else 0) }
     {
         if self.failed {
             4
         } else if self.not_text {
             5
-        } else if self.refused > 0 || self.is_left {
+        } else if self.refused > 0 || self.wrong_comments > 0 || self.is_left {
             1
         } else {
             0
@@ -109,7 +114,11 @@ fn is_description(end: TextEnd) -> bool
         | TextEnd::Refused
         | TextEnd::NotText
         | TextEnd::Allowed(_) => true,
-        TextEnd::PassedOver | TextEnd::Failed | TextEnd::UnreadCall | TextEnd::UnreadValue => false,
+        TextEnd::PassedOver
+        | TextEnd::Failed
+        | TextEnd::UnreadCall
+        | TextEnd::UnreadValue
+        | TextEnd::WrongComment => false,
     }
 }
 
@@ -126,7 +135,8 @@ fn is_unread_call(end: TextEnd) -> bool
         | TextEnd::NotText
         | TextEnd::Allowed(_)
         | TextEnd::Failed
-        | TextEnd::UnreadValue => false,
+        | TextEnd::UnreadValue
+        | TextEnd::WrongComment => false,
     }
 }
 
@@ -143,7 +153,26 @@ fn is_unread_value(end: TextEnd) -> bool
         | TextEnd::NotText
         | TextEnd::Allowed(_)
         | TextEnd::Failed
-        | TextEnd::UnreadCall => false,
+        | TextEnd::UnreadCall
+        | TextEnd::WrongComment => false,
+    }
+}
+
+// Whether it is a comment that names no language, or a word in one that is no code.
+fn is_wrong_comment(end: TextEnd) -> bool
+    ensures { result ≡ spec.is_wrong_comment end }
+{
+    match end {
+        TextEnd::WrongComment => true,
+        TextEnd::PassedOver
+        | TextEnd::Accepted(_)
+        | TextEnd::Converted(_)
+        | TextEnd::Refused
+        | TextEnd::NotText
+        | TextEnd::Allowed(_)
+        | TextEnd::Failed
+        | TextEnd::UnreadCall
+        | TextEnd::UnreadValue => false,
     }
 }
 
@@ -160,7 +189,8 @@ fn is_refused(end: TextEnd) -> bool
         | TextEnd::NotText
         | TextEnd::Failed
         | TextEnd::UnreadCall
-        | TextEnd::UnreadValue => false,
+        | TextEnd::UnreadValue
+        | TextEnd::WrongComment => false,
     }
 }
 
@@ -177,7 +207,8 @@ fn warnings_in(end: TextEnd) -> u64
         | TextEnd::NotText
         | TextEnd::Failed
         | TextEnd::UnreadCall
-        | TextEnd::UnreadValue => 0,
+        | TextEnd::UnreadValue
+        | TextEnd::WrongComment => 0,
     }
 }
 
@@ -194,6 +225,7 @@ fn allowed_in(end: TextEnd) -> u64
         | TextEnd::NotText
         | TextEnd::Failed
         | TextEnd::UnreadCall
-        | TextEnd::UnreadValue => 0,
+        | TextEnd::UnreadValue
+        | TextEnd::WrongComment => 0,
     }
 }

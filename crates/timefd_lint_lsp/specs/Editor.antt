@@ -14,6 +14,7 @@ pub mod Hovers
 pub mod Offered
 pub mod OpenSlots
 pub mod Positions
+pub mod Remarked
 pub mod Replacing
 pub mod Scans
 pub mod SlotSearches

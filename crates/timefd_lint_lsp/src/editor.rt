@@ -21,6 +21,7 @@ mod offered;
 mod open_slot;
 mod other;
 mod position;
+mod remarked;
 mod replacing;
 mod scan;
 mod slot;

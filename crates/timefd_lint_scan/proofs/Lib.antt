@@ -2,9 +2,11 @@ pub mod FirstLemmas
 pub mod ScalarLemmas
 pub mod UnescapeLemmas
 pub mod PieceLemmas
+pub mod GatheredLemmas
 pub mod EachLemmas
 pub mod CandidateLemmas
 pub mod UsingLemmas
+pub mod UsesLemmas
 pub mod LookLemmas
 pub mod FoundLemmas
 pub mod GrammarLemmas

@@ -1,13 +1,17 @@
 -- What is seen in a source.
-use Rattle.std.proofs.Common.{◌≡◌, List, [], inl, inr, refl, subst, sym}
-use Rattle.std.specs.Prelude.{length}
-use Rattle.timefd_lint_scan.specs.declared.description.Description.{Description}
+use Rattle.std.proofs.Common.{◌≡◌, ◌∙◌, List, ap, inl, inr, subst, sym}
 use Rattle.timefd_lint_scan.specs.declared.look.Look.{Look}
+use Rattle.timefd_lint_scan.specs.declared.marks.Mark.{Mark}
+use Rattle.timefd_lint_scan.specs.declared.piece.Piece.{Piece}
 use Rattle.timefd_lint_scan.specs.Bytes.{Text}
+use Rattle.timefd_lint_scan.specs.Candidates.{candidates_in, significant}
 use Rattle.timefd_lint_scan.specs.Found.{AllStandIn, AreDescribed, AreDescriptionsOf, AreInOrder}
-use Rattle.timefd_lint_scan.specs.Looks.{IsLook, IsSeen}
+use Rattle.timefd_lint_scan.specs.Gathered.{AreGathered}
+use Rattle.timefd_lint_scan.specs.Looks.{IsLook, calls_in}
+use Rattle.timefd_lint_scan.specs.Marks as spec
 use Rattle.timefd_lint_scan.proofs.CandidateLemmas.{all_in_order, all_stand}
 use Rattle.timefd_lint_scan.proofs.FoundLemmas.{at_first}
+use Rattle.timefd_lint_scan.proofs.GatheredLemmas.{marks_are, words_are}
 
 pub all_seen : (source : Text) (look : Look) → IsLook source look → AreDescriptionsOf source look.descriptions.items
 all_seen source look (inl (none, blank)) = inl (none, blank.descriptions)
@@ -21,3 +25,32 @@ seen_stand source look (inr (all, seen)) = all_stand source 0 _ look.description
 pub seen_in_order : (source : Text) (look : Look) → IsLook source look → AreInOrder 0 look.descriptions.items
 seen_in_order source look (inl (none, blank)) = subst (AreInOrder 0) (sym blank.descriptions) tt
 seen_in_order source look (inr (all, seen)) = all_in_order source 0 _ look.descriptions.items seen.descriptions
+
+-- What is seen among the tokens that are looked at is what is seen in the source.
+pub seen : (source bytes others : Text) (pieces notes given again those : List Piece) (marks handed : List Mark)
+    (look : Look) → AreGathered source pieces notes → bytes ≡ source → given ≡ notes
+    → marks ≡ spec.marks bytes given → others ≡ source → again ≡ notes
+    → look.comments.items ≡ spec.unknown_marks others again → those ≡ pieces → handed ≡ marks
+    → AreDescribed source 0 (candidates_in source those handed) look.descriptions.items
+    → look.calls.items ≡ calls_in source those look.descriptions.items → IsLook source look
+seen source bytes others pieces notes given again those marks handed look are here noted marked there noted_too words same used
+    described calls =
+    let all_marks : handed ≡ spec.marks source are.all =
+    used ∙ (marked ∙ (ap (λ b. spec.marks b given) here
+    ∙ (ap (spec.marks source) (noted ∙ are.noted) ∙ marks_are source are.all))) in
+    let all_words : look.comments.items ≡ spec.unknown_marks source are.all =
+    words ∙ (ap (λ b. spec.unknown_marks b again) there
+    ∙ (ap (spec.unknown_marks source) (noted_too ∙ are.noted) ∙ words_are source are.all)) in
+    inr (
+      are.all,
+      record {
+        tokens = are.tokens;
+        descriptions =
+            subst (λ m. AreDescribed source 0 (candidates_in source (significant are.all) m) look.descriptions.items)
+            all_marks
+            (subst (λ ps. AreDescribed source 0 (candidates_in source ps handed) look.descriptions.items) (same ∙ are.kept)
+            described);
+        calls = calls ∙ ap (λ ps. calls_in source ps look.descriptions.items) (same ∙ are.kept);
+        comments = all_words;
+      },
+    )

@@ -23,6 +23,7 @@ pub mod Frames
 pub mod Using
 pub mod Marks
 pub mod Candidates
+pub mod Gathered
 pub mod Names
 pub mod Found
 pub mod Looks

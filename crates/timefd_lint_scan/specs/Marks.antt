@@ -45,18 +45,18 @@ abbrev pub is_unknown : Text → Bool
 is_unknown text =
     is_none (word_dialect text) && not (bytes_eq (in_front text (after_run is_word text)) (codes "allow"))
 
-abbrev pub mark_names_none : Option Text → Bool
-mark_names_none None = false
-mark_names_none (Some text) = is_unknown (after_run is_white text)
+abbrev pub mark_word : Option Text → Option Text
+mark_word None = None
+mark_word (Some text) = Some (after_run is_white text)
 
-abbrev pub line_names_none : Option Text → Bool
-line_names_none None = false
-line_names_none (Some text) = mark_names_none (after (after_run is_white text) (codes "timefd:"))
+abbrev pub line_word : Option Text → Option Text
+line_word None = None
+line_word (Some text) = mark_word (after (after_run is_white text) (codes "timefd:"))
 
--- a comment that should name a language, but doesn't
-abbrev pub names_none : Option Text → Bool
-names_none None = false
-names_none (Some text) = line_names_none (after text (codes "//"))
+-- a comment with `timefd:`, from the word on that follows that
+abbrev pub marked : Option Text → Option Text
+marked None = None
+marked (Some text) = line_word (after text (codes "//"))
 
 -- Only white bytes precede a position in its line.
 abbrev pub is_alone : Text → ℕ → Bool
@@ -85,13 +85,15 @@ is_comment Unclosed = false
 abbrev pub mark_at : Text → Piece → Option Mark
 mark_at source p = if is_comment p.token then mark_of source p (comment_dialect (cut source p)) else None
 
-abbrev pub is_unknown_mark : Text → Piece → Bool
-is_unknown_mark source p = is_comment p.token && names_none (cut source p)
+-- the start of a text that ends at an index, if it should name a language, but doesn't
+abbrev pub unknown_in : ℕ → Option Text → List ℕ
+unknown_in end None = []
+unknown_in end (Some text) = if is_unknown text then (end - length text) ∷ [] else []
 
 abbrev pub unknown_mark : Text → Piece → List ℕ
-unknown_mark source p = if is_unknown_mark source p then p.start ∷ [] else []
+unknown_mark source p = if is_comment p.token then unknown_in p.end (marked (cut source p)) else []
 
--- where comments begin that should name a language, but don't, in order
+-- where the words of comments begin that should name a language, but don't, in order
 abbrev pub unknown_marks : Text → List Piece → List ℕ
 unknown_marks source ps = flat_map (unknown_mark source) ps
 

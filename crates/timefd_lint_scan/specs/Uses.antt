@@ -1,5 +1,5 @@
 -- Names that are used instead of descriptions, and what their use says about the text that they denote.
-use Rattle.std.specs.Prelude.{ℕ, Bool, true, false, not, ◌&&◌, nat_le, if◌then◌else◌, List, [], ◌∷◌, codes, bytes_eq, length, Option, Some, None}
+use Rattle.std.specs.Prelude.{ℕ, ◌≤◌, ◌<◌, Bool, false, not, ◌&&◌, nat_le, if◌then◌else◌, List, [], ◌∷◌, codes, bytes_eq, get_or, length, Option, Some, None}
 use Rattle.timefd_lint_scan.specs.declared.piece.Piece.{Piece}
 use Rattle.timefd_lint_scan.specs.declared.known.Known.{Known}
 use Rattle.timefd_lint_scan.specs.declared.uses.Use.{Use}
@@ -47,6 +47,27 @@ is_use_of source ps declared u =
     bytes_eq (text_of source u.name) (text_at source ps declared)
     && is_alike u.way (bytes_eq (text_before source ps declared 1) (codes "fn"))
     && is_meant source ps declared u.name.start
+
+abbrev pub first_start : List Piece → ℕ
+first_start [] = 0
+first_start (p ∷ ps) = p.start
+
+-- Before this position no use is of the name that a token declares with `let` or `for`.
+abbrev pub first_seen : Text → List Piece → ℕ → ℕ
+first_seen source ps declared =
+    if bytes_eq (text_before source ps declared 1) (codes "let") then first_start (tokens_after ps declared)
+    else if bytes_eq (text_before source ps declared 1) (codes "for") then
+    first_start (after_first source (codes "{") (tokens_after ps declared))
+    else 0
+
+-- The uses at the front of the list, so many of them, are before a position.
+abbrev pub AreBefore : ℕ → ℕ → List Use → Type 0
+AreBefore at count us = (i : ℕ) → (d : Use) → i < count → i < length us → (get_or us i d).name.start < at
+
+-- None of the uses up to each index of this list is after the position there.
+abbrev pub AreFurthest : List Use → List ℕ → Type 0
+AreFurthest us furthest =
+    (i k : ℕ) → (d : Use) → i ≤ k → k < length furthest → i < length us → (get_or us i d).name.start ≤ get_or furthest k 0
 
 -- what the first use says about the name that a token declares
 abbrev pub known_by_name : Text → List Piece → ℕ → List Use → Option Known

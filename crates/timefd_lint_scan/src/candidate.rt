@@ -1,6 +1,6 @@
 //! Literals that may be descriptions, because of a comment or of where they are.
 
-ghost use Rattle.std.specs.Prelude.{◌≡◌, ◌++◌, IfOk, OnOk};
+ghost use Rattle.std.specs.Prelude.{◌≡◌, ◌++◌, OnOk};
 ghost use Rattle.timefd_lint_scan.specs.Candidates as spec;
 
 use crate::attribute::known_by_attribute;
@@ -11,7 +11,7 @@ use crate::known::{Items, Known, reported_in};
 use crate::piece::Piece;
 use crate::token::{Kind, Token};
 use crate::version::VersionPosition;
-use std::alloc::{AllocError, Global};
+use std::alloc::AllocError;
 
 /// A literal that is a description if its text can be one.
 #[derive(Clone, Copy)]
@@ -54,24 +54,14 @@ fn is_significant(token: Token) -> bool
     }
 }
 
-fn keep(kept: &mut Vec<Piece>, piece: Piece) -> Result<(), AllocError>
+/// Adds a token, if it is neither white nor a comment. An `Err` says that memory ran out.
+pub fn keep(kept: &mut Vec<Piece>, piece: Piece) -> Result<(), AllocError>
     ensures { OnOk result (kept.new.items ≡ kept.old.items ++ spec.kept piece) }
 {
     if is_significant(piece.token) {
         kept.push(piece)?;
     }
     Ok(())
-}
-
-/// The tokens that are neither white nor comments.
-pub fn significant(alloc: Global, pieces: &[Piece]) -> Result<Vec<Piece>, AllocError>
-    ensures { IfOk result (λ kept. kept.items ≡ spec.significant pieces.now) }
-{
-    let mut kept = Vec::new(alloc);
-    for piece in pieces {
-        keep(&mut kept, *piece)?;
-    }
-    Ok(kept)
 }
 
 fn by_comment(dialect: Option<Dialect>) -> Option<Known>

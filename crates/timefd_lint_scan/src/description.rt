@@ -5,6 +5,7 @@ ghost use Rattle.std.specs.Option.{option_to_list};
 ghost use Rattle.timefd_lint_scan.specs.Candidates.{candidates_by};
 ghost use Rattle.timefd_lint_scan.specs.Escapes.{placed};
 ghost use Rattle.timefd_lint_scan.specs.Found.{AreDescribed, IsAnyDescribed, IsDescribed, IsOfText, begun_after, end_after};
+ghost use Rattle.timefd_lint_scan.specs.Uses.{AreFurthest};
 
 use crate::alias::Alias;
 use crate::between::is_between;
@@ -19,7 +20,7 @@ use crate::marks::{Mark, reported_at, still_open};
 use crate::piece::Piece;
 use crate::token::Kind;
 use crate::unescape::Unescaped;
-use crate::uses::Use;
+use crate::uses::Uses;
 use crate::version::{VersionPosition, first_position, tested};
 use std::alloc::{AllocError, Global};
 
@@ -124,11 +125,12 @@ pub fn described_by(
     source: &str,
     pieces: &[Piece],
     aliases: &[Alias],
-    uses: &[Use],
+    uses: Uses<'_>,
     marks: &[Mark],
 ) -> Result<Vec<Description>, AllocError>
+    requires { AreFurthest uses.list.now uses.furthest.now }
     ensures { IfOk result (λ found. AreDescribed source.now 0
-        (candidates_by source.now pieces.now aliases.now uses.now marks.now) found.items) }
+        (candidates_by source.now pieces.now aliases.now uses.entry.list.now marks.now) found.items) }
 {
     let mut frames = Vec::new(alloc);
     frames.push(outermost())?;

@@ -2,13 +2,14 @@
 
 ghost use Rattle.std.specs.Prelude.{◌≡◌, None};
 ghost use Rattle.timefd_lint_scan.specs.Flows as spec;
+ghost use Rattle.timefd_lint_scan.specs.Uses.{AreFurthest};
 
 use crate::alias::Alias;
 use crate::calls::{Argument, Call, Frame, call_of};
 use crate::dialect::is;
 use crate::known::{Known, known_by_call};
 use crate::piece::Piece;
-use crate::uses::{Use, known_by_name};
+use crate::uses::{Uses, known_by_name};
 use crate::value::{is_operator, is_value};
 use crate::word::{is_word_at, text_after, text_at, text_before};
 
@@ -62,11 +63,12 @@ fn after_colon(source: &[u8], pieces: &[Piece], index: usize, frame: Frame) -> F
 fn assigned(
     source: &[u8],
     pieces: &[Piece],
-    uses: &[Use],
+    uses: Uses<'_>,
     index: usize,
     frame: Frame,
 ) -> Option<Known>
-    ensures { result ≡ spec.assigned source.now pieces.now uses.now index frame }
+    requires { AreFurthest uses.list.now uses.furthest.now }
+    ensures { result ≡ spec.assigned source.now pieces.now uses.entry.list.now index frame }
 {
     match frame.name {
         Some(name) => known_by_name(source, pieces, uses, name),
@@ -78,11 +80,12 @@ fn assigned(
 fn after_equals_sign(
     source: &[u8],
     pieces: &[Piece],
-    uses: &[Use],
+    uses: Uses<'_>,
     index: usize,
     frame: Frame,
 ) -> Frame
-    ensures { result ≡ spec.after_equals_sign source.now pieces.now uses.now index frame }
+    requires { AreFurthest uses.list.now uses.furthest.now }
+    ensures { result ≡ spec.after_equals_sign source.now pieces.now uses.entry.list.now index frame }
 {
     if is(text_after(source, pieces, index, 1), ">") {
         settled(frame)
@@ -113,8 +116,9 @@ fn names_value(source: &[u8], pieces: &[Piece], index: usize) -> bool
 }
 
 /// The bracket after a word: `let`, the name of an item or of a variable, `in`.
-fn after_word(source: &[u8], pieces: &[Piece], uses: &[Use], index: usize, frame: Frame) -> Frame
-    ensures { result ≡ spec.after_word source.now pieces.now uses.now index frame }
+fn after_word(source: &[u8], pieces: &[Piece], uses: Uses<'_>, index: usize, frame: Frame) -> Frame
+    requires { AreFurthest uses.list.now uses.furthest.now }
+    ensures { result ≡ spec.after_word source.now pieces.now uses.entry.list.now index frame }
 {
     let text = text_at(source, pieces, index);
     let before = text_before(source, pieces, index, 1);
@@ -137,8 +141,9 @@ fn after_word(source: &[u8], pieces: &[Piece], uses: &[Use], index: usize, frame
 }
 
 /// The innermost bracket after a token that neither opens nor closes one and isn't a comma.
-pub fn entered(source: &[u8], pieces: &[Piece], uses: &[Use], index: usize, frame: Frame) -> Frame
-    ensures { result ≡ spec.entered source.now pieces.now uses.now index frame }
+pub fn entered(source: &[u8], pieces: &[Piece], uses: Uses<'_>, index: usize, frame: Frame) -> Frame
+    requires { AreFurthest uses.list.now uses.furthest.now }
+    ensures { result ≡ spec.entered source.now pieces.now uses.entry.list.now index frame }
 {
     let text = text_at(source, pieces, index);
     if is(text, ";") {

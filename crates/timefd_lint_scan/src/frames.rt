@@ -2,13 +2,14 @@
 
 ghost use Rattle.std.specs.Prelude.{◌≡◌, OnOk};
 ghost use Rattle.timefd_lint_scan.specs.Frames as spec;
+ghost use Rattle.timefd_lint_scan.specs.Uses.{AreFurthest};
 
 use crate::alias::Alias;
 use crate::calls::{Argument, Frame};
 use crate::dialect::is;
 use crate::flow::{entered, opened, settled};
 use crate::piece::Piece;
-use crate::uses::Use;
+use crate::uses::Uses;
 use crate::word::{is_closing, is_opening, text_after, text_at};
 use std::alloc::AllocError;
 
@@ -54,8 +55,9 @@ fn is_end(source: &[u8], pieces: &[Piece], index: usize) -> bool
 }
 
 /// The innermost bracket after a token that doesn't open one.
-fn after_token(source: &[u8], pieces: &[Piece], uses: &[Use], index: usize, frame: Frame) -> Frame
-    ensures { result ≡ spec.after_token source.now pieces.now uses.now index frame }
+fn after_token(source: &[u8], pieces: &[Piece], uses: Uses<'_>, index: usize, frame: Frame) -> Frame
+    requires { AreFurthest uses.list.now uses.furthest.now }
+    ensures { result ≡ spec.after_token source.now pieces.now uses.entry.list.now index frame }
 {
     let text = text_at(source, pieces, index);
     if is(text, ",") {
@@ -76,11 +78,12 @@ fn replace(
     frames: &mut Vec<Frame>,
     source: &[u8],
     pieces: &[Piece],
-    uses: &[Use],
+    uses: Uses<'_>,
     index: usize,
 ) -> Result<(), AllocError>
+    requires { AreFurthest uses.list.now uses.furthest.now }
     ensures { OnOk result (frames.new.items
-        ≡ spec.replaced source.now pieces.now uses.now index frames.old.items) }
+        ≡ spec.replaced source.now pieces.now uses.entry.list.now index frames.old.items) }
 {
     match close(frames) {
         Some(frame) => {
@@ -98,11 +101,12 @@ pub fn pass(
     source: &[u8],
     pieces: &[Piece],
     aliases: &[Alias],
-    uses: &[Use],
+    uses: Uses<'_>,
     index: usize,
 ) -> Result<(), AllocError>
+    requires { AreFurthest uses.list.now uses.furthest.now }
     ensures { OnOk result (frames.new.items
-        ≡ spec.passed source.now pieces.now aliases.now uses.now index frames.old.items) }
+        ≡ spec.passed source.now pieces.now aliases.now uses.entry.list.now index frames.old.items) }
 {
     let text = text_at(source, pieces, index);
     if is_opening(text) {

@@ -7,13 +7,14 @@ ghost use Rattle.timefd_lint_scan.specs.Looks.{IsLook, IsSeen};
 ghost use Rattle.timefd_lint_scan.specs.Looks as spec;
 
 use crate::alias::aliases_of;
-use crate::candidate::significant;
 use crate::description::{Description, described_by};
 use crate::dialect::is;
+use crate::furthest::furthest_of;
+use crate::gathered::{Gathered, tokens_of};
 use crate::marks::{Mark, marks_of, unknown_marks};
 use crate::names::may_describe;
-use crate::piece::{Piece, pieces_of};
-use crate::uses::Use;
+use crate::piece::Piece;
+use crate::uses::{Use, Uses};
 use crate::using::uses_of;
 use crate::word::text_of;
 use std::alloc::{AllocError, Global};
@@ -26,7 +27,7 @@ pub struct Look {
     /// Where names begin that known calls take instead of a literal, and for which no text is found in the
     /// source. Byte indices.
     pub calls: Vec<usize>,
-    /// Where comments begin that should name a language, but don't. Byte indices.
+    /// Where the words of comments begin that should name a language, but don't. Byte indices.
     pub comments: Vec<usize>,
 }
 
@@ -127,7 +128,12 @@ fn seen_in(
     let bytes = source.as_bytes();
     let aliases = aliases_of(alloc, bytes, pieces)?;
     let uses = uses_of(alloc, bytes, pieces, &aliases)?;
-    let descriptions = described_by(alloc, source, pieces, &aliases, &uses, marks)?;
+    let furthest = furthest_of(alloc, &uses)?;
+    let named = Uses {
+        list: &uses,
+        furthest: &furthest,
+    };
+    let descriptions = described_by(alloc, source, pieces, &aliases, named, marks)?;
     let has_chrono = has_word(bytes, pieces, "chrono");
     let calls = unread_calls(alloc, &uses, &descriptions, has_chrono)?;
     Ok(Seen {
@@ -147,10 +153,9 @@ pub fn looked_at(alloc: Global, source: &str) -> Result<Look, AllocError>
             comments: Vec::new(alloc),
         });
     }
-    let all = pieces_of(alloc, source)?;
-    let marks = marks_of(alloc, source.as_bytes(), &all)?;
-    let comments = unknown_marks(alloc, source.as_bytes(), &all)?;
-    let pieces = significant(alloc, &all)?;
+    let Gathered { pieces, comments } = tokens_of(alloc, source)?;
+    let marks = marks_of(alloc, source.as_bytes(), &comments)?;
+    let words = unknown_marks(alloc, source.as_bytes(), &comments)?;
     let Seen {
         descriptions,
         calls,
@@ -158,7 +163,7 @@ pub fn looked_at(alloc: Global, source: &str) -> Result<Look, AllocError>
     Ok(Look {
         descriptions,
         calls,
-        comments,
+        comments: words,
     })
 }
 

@@ -85,41 +85,46 @@ fn is_unknown(text: &[u8]) -> bool
     }
 }
 
-/// Whether a comment should name a language, but doesn't: `// timefd: strftme`.
-fn names_none(comment: &[u8]) -> bool
-    ensures { result ≡ spec.names_none (Some comment.now) }
+/// A comment with `timefd:`, from the word on that follows that: `strftme` in `// timefd: strftme`.
+fn marked(comment: &[u8]) -> Option<&[u8]>
+    ensures { seen result ≡ spec.marked (Some comment.now) }
 {
     let Some(line) = after(comment, b"//") else {
-        return false;
+        return None;
     };
-    let Some(word) = after(after_run(Class::White, line), b"timefd:") else {
-        return false;
+    let Some(text) = after(after_run(Class::White, line), b"timefd:") else {
+        return None;
     };
-    is_unknown(after_run(Class::White, word))
+    Some(after_run(Class::White, text))
 }
 
-fn is_unknown_mark(source: &[u8], piece: Piece) -> bool
-    ensures { result ≡ spec.is_unknown_mark source.now piece }
+// Adds where a text begins that ends at `end`, if it should name a language, but doesn't.
+fn push_unnamed(
+    positions: &mut Vec<usize>,
+    text: Option<&[u8]>,
+    end: usize,
+) -> Result<(), AllocError>
+    ensures { OnOk result (positions.new.items ≡ positions.old.items ++ spec.unknown_in end (seen text.entry)) }
 {
-    if !is_comment(piece.token) {
-        return false;
-    }
-    match cut(source, piece) {
-        Some(comment) => names_none(comment),
-        None => false,
+    match text {
+        Some(text) if is_unknown(text) => Ok(positions.push(end.saturating_sub(text.len()))?),
+        Some(_) | None => Ok(()),
     }
 }
 
 fn push_unknown(positions: &mut Vec<usize>, source: &[u8], piece: Piece) -> Result<(), AllocError>
     ensures { OnOk result (positions.new.items ≡ positions.old.items ++ spec.unknown_mark source.now piece) }
 {
-    if is_unknown_mark(source, piece) {
-        positions.push(piece.start)?;
+    if !is_comment(piece.token) {
+        return Ok(());
     }
-    Ok(())
+    match cut(source, piece) {
+        Some(comment) => push_unnamed(positions, marked(comment), piece.end),
+        None => Ok(()),
+    }
 }
 
-/// Where comments begin that should name a language, but don't, as byte indices in order. An `Err` says
+/// Where the words of comments begin that should name a language, but don't, as byte indices in order. An `Err` says
 /// that memory ran out.
 pub fn unknown_marks(
     alloc: Global,
@@ -171,7 +176,8 @@ fn mark_of(source: &[u8], comment: Piece) -> Option<Mark>
     }
 }
 
-fn is_comment(token: Token) -> bool
+/// Whether a token is a comment.
+pub fn is_comment(token: Token) -> bool
     ensures { result ≡ spec.is_comment token }
 {
     match token {

@@ -1,6 +1,7 @@
 //! Names that are used instead of descriptions, and what their use says about the text that they denote.
 
-ghost use Rattle.std.specs.Prelude.{◌≡◌};
+ghost use Rattle.std.specs.Prelude.{◌≡◌, drop};
+ghost use Rattle.timefd_lint_scan.specs.Uses.{AreBefore, AreFurthest};
 ghost use Rattle.timefd_lint_scan.specs.Uses as spec;
 
 use crate::alias::after_first;
@@ -93,16 +94,80 @@ fn is_use_of(source: &[u8], pieces: &[Piece], declared: usize, used: Use) -> boo
         && is_meant(source, pieces, declared, used.name.start)
 }
 
+/// Uses of names, and how far the fronts of their list reach.
+#[derive(Clone, Copy)]
+pub struct Uses<'a> {
+    /// The uses, in the order in which they count.
+    pub list: &'a [Use],
+    /// For each of them a byte index, after which no use up to it in the list is.
+    pub furthest: &'a [usize],
+}
+
+// The start of the first of these tokens.
+fn first_start(pieces: &[Piece]) -> usize
+    ensures { result ≡ spec.first_start pieces.now }
+{
+    match pieces {
+        [first, ..] => first.start,
+        [] => 0,
+    }
+}
+
+// A position before which no use is of the name that a token declares with `let` or `for`.
+fn first_seen(source: &[u8], pieces: &[Piece], declared: usize) -> usize
+    ensures { result ≡ spec.first_seen source.now pieces.now declared }
+{
+    let before = text_before(source, pieces, declared, 1);
+    let after = tokens_after(pieces, declared);
+    if is(before, "let") {
+        first_start(after)
+    } else if is(before, "for") {
+        first_start(after_first(source, after, "{"))
+    } else {
+        0
+    }
+}
+
+// How many uses at the front are before a position, found by halves.
+#[tactic(auto, using(crate::proofs::UsesLemmas::none_before, crate::proofs::UsesLemmas::half_before))]
+fn count_before(uses: Uses<'_>, at: usize) -> usize
+    requires { AreFurthest uses.list.now uses.furthest.now }
+    ensures { AreBefore at result uses.entry.list.now }
+{
+    let furthest = uses.furthest;
+    let mut low: usize = 0;
+    let mut high = furthest.len();
+    'halves: while low < high {
+        let middle = low + (high - low) / 2;
+        if furthest[middle] < at {
+            low = middle + 1;
+        } else {
+            high = middle;
+        }
+    }
+    low
+}
+
+// The uses from an index on.
+fn uses_from(uses: &[Use], index: usize) -> &[Use]
+    ensures { result.now ≡ drop index uses.now }
+{
+    uses.get(index..).unwrap_or(&[])
+}
+
 /// What the first use says about the name that a token declares.
+#[tactic(auto, using(crate::proofs::UsesLemmas::skipped))]
 pub fn known_by_name(
     source: &[u8],
     pieces: &[Piece],
-    uses: &[Use],
+    uses: Uses<'_>,
     declared: usize,
 ) -> Option<Known>
-    ensures { result ≡ spec.known_by_name source.now pieces.now declared uses.now }
+    requires { AreFurthest uses.list.now uses.furthest.now }
+    ensures { result ≡ spec.known_by_name source.now pieces.now declared uses.entry.list.now }
 {
-    let mut rest = uses;
+    let before = count_before(uses, first_seen(source, pieces, declared));
+    let mut rest = uses_from(uses.list, before);
     'uses: while let [first, after @ ..] = rest {
         if is_use_of(source, pieces, declared, *first) {
             return Some(first.known);

@@ -1,7 +1,8 @@
 //! The names of a source that are used instead of descriptions.
 
-ghost use Rattle.std.specs.Prelude.{◌≡◌, ◌++◌, IfOk, OnOk};
+ghost use Rattle.std.specs.Prelude.{◌≡◌, ◌++◌, [], IfOk, OnOk};
 ghost use Rattle.std.specs.Option.{option_to_list};
+ghost use Rattle.timefd_lint_scan.specs.Uses.{AreFurthest};
 ghost use Rattle.timefd_lint_scan.specs.Using as spec;
 
 use crate::alias::Alias;
@@ -9,9 +10,10 @@ use crate::calls::Frame;
 use crate::dialect::is;
 use crate::flow::{outermost, pending_of};
 use crate::frames::{innermost, pass};
+use crate::furthest::furthest_of;
 use crate::known::Known;
 use crate::piece::Piece;
-use crate::uses::{Use, Way, known_by_name};
+use crate::uses::{Use, Uses, Way, known_by_name};
 use crate::value::{ends_value, is_begun};
 use crate::word::{is_word_token, text_after, text_at, text_before};
 use std::alloc::{AllocError, Global};
@@ -105,6 +107,17 @@ fn push_any(uses: &mut Vec<Use>, found: Option<Use>) -> Result<(), AllocError>
     }
 }
 
+// No use.
+fn no_uses() -> Uses<'static>
+    ensures none { result.list.now ≡ [] }
+    ensures furthest { AreFurthest result.list.now result.furthest.now }
+{
+    Uses {
+        list: &[],
+        furthest: &[],
+    }
+}
+
 /// The names that are used in known calls, in order.
 fn in_calls(
     alloc: Global,
@@ -118,7 +131,7 @@ fn in_calls(
     frames.push(outermost())?;
     let mut uses = Vec::new(alloc);
     for (index, piece) in pieces.iter().enumerate() {
-        pass(&mut frames, source, pieces, aliases, &[], index)?;
+        pass(&mut frames, source, pieces, aliases, no_uses(), index)?;
         let frame = innermost(&frames);
         push_any(&mut uses, use_at(source, pieces, index, *piece, frame))?;
     }
@@ -165,8 +178,9 @@ fn looped(source: &[u8], pieces: &[Piece], index: usize) -> Option<Piece>
 
 /// The list that a loop goes over by name, if this token is the loop's `in` and the loop's variable is used
 /// instead of a description. What is known about the variable is then known about the list.
-fn loop_at(source: &[u8], pieces: &[Piece], uses: &[Use], index: usize) -> Option<Use>
-    ensures { result ≡ spec.loop_at source.now pieces.now uses.now index }
+fn loop_at(source: &[u8], pieces: &[Piece], uses: Uses<'_>, index: usize) -> Option<Use>
+    requires { AreFurthest uses.list.now uses.furthest.now }
+    ensures { result ≡ spec.loop_at source.now pieces.now uses.entry.list.now index }
 {
     if is(text_at(source, pieces, index), "in")
         && is(text_before(source, pieces, index, 2), "for")
@@ -196,9 +210,10 @@ fn in_loops(
     alloc: Global,
     source: &[u8],
     pieces: &[Piece],
-    uses: &[Use],
+    uses: Uses<'_>,
 ) -> Result<Vec<Use>, AllocError>
-    ensures { IfOk result (λ lists. lists.items ≡ spec.in_loops source.now pieces.now uses.now) }
+    requires { AreFurthest uses.list.now uses.furthest.now }
+    ensures { IfOk result (λ lists. lists.items ≡ spec.in_loops source.now pieces.now uses.entry.list.now) }
 {
     let mut lists = Vec::new(alloc);
     for (index, _piece) in pieces.iter().enumerate() {
@@ -217,7 +232,12 @@ pub fn uses_of(
     ensures { IfOk result (λ uses. uses.items ≡ spec.uses_in source.now pieces.now aliases.now) }
 {
     let mut uses = in_calls(alloc, source, pieces, aliases)?;
-    let lists = in_loops(alloc, source, pieces, &uses)?;
+    let furthest = furthest_of(alloc, &uses)?;
+    let found = Uses {
+        list: &uses,
+        furthest: &furthest,
+    };
+    let lists = in_loops(alloc, source, pieces, found)?;
     uses.extend_from_slice(&lists)?;
     Ok(uses)
 }

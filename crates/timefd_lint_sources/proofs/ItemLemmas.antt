@@ -1,14 +1,13 @@
 -- Brackets with nested descriptions and nothing else.
-use Rattle.std.proofs.Common.{ℕ, ◌≡◌, true, false, List, [], ◌∷◌, ◌++◌, drop, refl, sym, ap, subst, ◌∙◌, arith, true≢false}
+use Rattle.std.proofs.Common.{ℕ, ◌≡◌, true, List, [], ◌∷◌, ◌++◌, refl, sym, ap, subst, ◌∙◌, arith, true≢false}
 use Rattle.std.specs.Prelude.{Option, None, Some, MatchOption}
 use Rattle.std.specs.Borrow.{Bor}
 use Rattle.timefd_lang_component.specs.Tree.{Text}
 use Rattle.timefd_language.proofs.Before.{head_before-is}
-use Rattle.timefd_language.specs.Bytes.{backslash, left, right, is_run_byte, is_white, is_word_byte, ZeroOrMore, StopsBefore}
+use Rattle.timefd_language.specs.Bytes.{backslash, left, right, is_run_byte, is_white, ZeroOrMore}
 use Rattle.timefd_language.specs.Cut.{IsCut, BeginsWith}
 use Rattle.timefd_language.specs.declared.text.Start.{Start}
 use Rattle.timefd_language.specs.declared.text.Start.TheVariants as starts
-use Rattle.timefd_language.specs.Head.{Head, IsHead, head_text}
 use Rattle.timefd_language.specs.declared.description_version.DescriptionVersion.{DescriptionVersion}
 use Rattle.timefd_language.specs.declared.description_version.DescriptionVersion.TheVariants.{Three}
 use Rattle.timefd_parse.proofs.BracketLemmas.{same_cut}

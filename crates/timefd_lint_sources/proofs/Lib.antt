@@ -1,4 +1,6 @@
 pub mod CodeLemmas
+pub mod CommentLemmas
+pub mod ReachLemmas
 mod ItemLemmas
 mod OpeningLemmas
 mod SearchLemmas

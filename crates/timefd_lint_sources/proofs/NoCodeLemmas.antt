@@ -1,21 +1,22 @@
 -- The remarks on what comments allow, one after another.
-use Rattle.std.proofs.Common.{ℕ, ◌≡◌, ◌≤◌, ◌-◌, true, false, List, [], ◌∷◌, ◌++◌, Option, Result, Ok, Err, append_assoc, append-nil, arith, codes, drop, get_or, inl, inr, refl, sym, ap, subst, take, ◌∙◌, length}
+use Rattle.std.proofs.Common.{ℕ, ◌≡◌, ◌≤◌, ◌-◌, true, false, List, [], ◌∷◌, ◌++◌, Result, Ok, Err, append_assoc, append-nil, arith, drop, get_or, inl, inr, refl, sym, ap, subst, take, ◌∙◌, length}
 use Rattle.std.proofs.Math.Seq.{take-length}
 use Rattle.std.specs.Prelude.{IfOk, option_map}
 use Rattle.std.specs.declared.alloc.Global.{Global}
 use Rattle.std.specs.declared.vec.Vec.{Vec}
 use Rattle.timefd_lang_component.specs.Tree.{Text}
+use Rattle.timefd_lint_diagnosis.specs.declared.span.Span.{Span}
 use Rattle.timefd_lint_diagnosis.specs.Nearest.{IsNearest}
 use Rattle.timefd_lint_drawing.specs.declared.draw.Style.{Style}
-use Rattle.timefd_lint_drawing.specs.Drawing.{note}
-use Rattle.timefd_lint_drawing.specs.Positions.{line_number}
 use Rattle.timefd_lint_sources.specs.declared.allowances.comment.Allowance.{Allowance}
 use Rattle.timefd_lint_sources.specs.declared.no_code.NoCode.{NoCode}
 use Rattle.timefd_lint_sources.specs.declared.remark.Remark.{Remark}
 use Rattle.timefd_lint_sources.specs.declared.remark.Remark.TheVariants.{Code}
 use Rattle.timefd_lint_sources.specs.declared.reported.Source.{Source}
+use Rattle.timefd_lint_sources.specs.AtWord.{message}
 use Rattle.timefd_lint_sources.specs.CodeNames.{description_codes, is_among}
-use Rattle.timefd_lint_sources.specs.Remarks.{AddsAll, AddsCode, AddsCodes, code_note, code_sentence, word_in}
+use Rattle.timefd_lint_sources.specs.Remarks as spec
+use Rattle.timefd_lint_sources.specs.Remarks.{AddsAll, AddsCode, AddsCodes, code_note, language_code, language_note, language_sentence, sentence_on, word_at, word_in}
 
 -- A code has no remark, and anything else has one.
 pub is_code : (source word : Text) (words : List Text) (a : Allowance) (old : List Remark)
@@ -24,16 +25,14 @@ is_code source word words a old same is =
     ([], inl (subst (λ w. is_among words w ≡ true) same is, refl), sym (append-nil old))
 
 pub no_code : (source word : Text) (words : List Text) (a : Allowance) (at : NoCode) (old new : List Remark)
-    → word ≡ word_in source a.start a.end → is_among words word ≡ false → at.at ≡ a.at → at.start ≡ a.start
-    → at.end ≡ a.end → IsNearest words word (option_map (λ w. w.now) at.nearest) → new ≡ old ++ Code at ∷ []
+    → word ≡ word_in source a.start a.end → is_among words word ≡ false → at.start ≡ a.start → at.end ≡ a.end → IsNearest words word (option_map (λ w. w.now) at.nearest) → new ≡ old ++ Code at ∷ []
     → AddsCode source words a old new
-no_code source word words a at old new same none place start end near pushed = (
+no_code source word words a at old new same none start end near pushed = (
   Code at ∷ [],
   inr (
     at,
     record {
-      no_code = subst (λ w. is_among words w ≡ false) same none;
-      at = place;
+      none = subst (λ w. is_among words w ≡ false) same none;
       start = start;
       end = end;
       nearest = subst (λ w. IsNearest words w (option_map (λ n. n.now) at.nearest)) same near;
@@ -81,16 +80,20 @@ pub none_allowed : (s : Source) (old : List Remark) → s.allowances.now ≡ [] 
 none_allowed s old none =
     subst (λ l. AddsAll s.text.now description_codes l old old) (sym none) ([], refl, sym (append-nil old))
 
--- The note on a word.
-pub noted : {E : Type 0} (style : Style) (s : Source) (word : NoCode) (line : ℕ) (shown sentence : Text)
-    (done : Result (Vec ℕ Global) E) → line ≡ line_number 1 s.text.now word.at
-    → shown ≡ word_in s.text.now word.start word.end
-    → sentence ≡ code_sentence shown (option_map (λ w. w.now) word.nearest)
-    → IfOk done (λ m. m.items ≡ note style (record { file = s.file; line = line }) (codes "unknown-code") sentence)
+-- The messages on words in comments.
+
+pub noted : {E : Type 0} (style : Style) (s : Source) (word : NoCode) (sentence : Text)
+    (done : Result (Vec ℕ Global) E) → sentence ≡ sentence_on s.text.now word
+    → IfOk done (λ m. m.items ≡ message style s (record { start = word.start; end = word.end }) spec.no_code sentence)
     → IfOk done (λ m. m.items ≡ code_note style s word)
-noted style s word line shown sentence (Ok m) at same told is =
-    is
-    ∙ (ap (λ l. note style (record { file = s.file; line = l }) (codes "unknown-code") sentence) at
-    ∙ ap (λ t. note style (record { file = s.file; line = line_number 1 s.text.now word.at }) (codes "unknown-code") t)
-    (told ∙ ap (λ x. code_sentence x (option_map (λ w. w.now) word.nearest)) same))
-noted style s word line shown sentence (Err e) at same told is = tt
+noted style s word sentence (Ok m) same is =
+    is ∙ ap (λ t. message style s (record { start = word.start; end = word.end }) spec.no_code t) same
+noted style s word sentence (Err e) same is = tt
+
+pub language_noted : {E : Type 0} (style : Style) (s : Source) (at : ℕ) (word : Span)
+    (done : Result (Vec ℕ Global) E) → word ≡ word_at s.text.now at
+    → IfOk done (λ m. m.items ≡ message style s word language_code language_sentence)
+    → IfOk done (λ m. m.items ≡ language_note style s at)
+language_noted style s at word (Ok m) same is =
+    is ∙ ap (λ w. message style s w language_code language_sentence) same
+language_noted style s at word (Err e) same is = tt

@@ -10,7 +10,7 @@ use Rattle.timefd_lang_dialect.specs.Traps.{AreTraps}
 use Rattle.timefd_lint_drawing.specs.declared.draw.Style.{Style}
 use Rattle.timefd_lint_scan.specs.declared.description.Description.{Description}
 use Rattle.timefd_lint_sources.specs.declared.reported.End.{End}
-use Rattle.timefd_lint_sources.specs.declared.reported.End.TheVariants.{PassedOver, Accepted, Converted, Refused, NotText, Allowed, UnreadCall, UnreadValue}
+use Rattle.timefd_lint_sources.specs.declared.reported.End.TheVariants.{PassedOver, Accepted, Converted, Refused, NotText, Allowed, UnreadCall, UnreadValue, WrongComment}
 use Rattle.timefd_lint_sources.specs.declared.reported.Reported.{Reported}
 use Rattle.timefd_lint_sources.specs.declared.reported.Reporting.{Reporting}
 use Rattle.timefd_lint_sources.specs.declared.reported.Source.{Source}
@@ -30,6 +30,7 @@ right reporting s d dialect NotText message is trapped = trapped
 right reporting s d dialect (Allowed left) message is trapped = trapped
 right reporting s d dialect UnreadCall message is trapped = trapped
 right reporting s d dialect UnreadValue message is trapped = trapped
+right reporting s d dialect WrongComment message is trapped = trapped
 
 -- A format that is right has its traps reported. The text is the description's.
 pub of_right : (reporting : Reporting) (s : Source) (d : Description) (dialect : Dialect) (text : Text)

@@ -1,5 +1,5 @@
 -- What is reported of a description that a comment is about.
-use Rattle.std.proofs.Common.{ℕ, ◌≡◌, ◌+◌, true, false, Bool, Option, None, Some, List, [], ◌∷◌, ◌++◌, Result, Ok, Err, inl, inr, flat_map, length, map, refl, sym, subst, ap, ◌∙◌}
+use Rattle.std.proofs.Common.{ℕ, ◌≡◌, true, false, Bool, Option, None, Some, List, [], ◌++◌, Result, Ok, Err, inl, inr, flat_map, length, sym, subst, ap, ◌∙◌}
 use Rattle.std.specs.Prelude.{IfOk, IfSome, IsUtf8, is_some}
 use Rattle.timefd_lang_component.specs.Tree.{Text, Tree}
 use Rattle.timefd_lint_diagnosis.specs.declared.diagnostic.Diagnostic.{Diagnostic}
@@ -24,10 +24,10 @@ use Rattle.timefd_lint_sources.specs.declared.reported.Source.{Source}
 use Rattle.timefd_lint_sources.specs.declared.reported.Reporting.{Reporting}
 use Rattle.timefd_lint_sources.specs.declared.reported.Reported.{Reported}
 use Rattle.timefd_lint_sources.specs.Allowed.{left_of_traps, traps_left, unless_trap}
-use Rattle.timefd_lint_sources.specs.Judged.{AreDiagnosedOf, language_in, other_of, text_of, reported_further}
+use Rattle.timefd_lint_sources.specs.Judged.{language_in, other_of, text_of, reported_further}
 use Rattle.timefd_lint_sources.specs.Others.{trap_in}
 use Rattle.timefd_lint_sources.specs.Search.{IsRefusedFirst, IsRight, IsSearched}
-use Rattle.timefd_lint_sources.specs.Remainder.{AreTrapsLeft, AreWarningsLeft, IsAcceptedLeft, IsFaultyLeft, IsLeftAs, IsNoTextLeft, IsOtherLeft, IsOwnLeft, IsRefusalLeft, IsReportedLeft}
+use Rattle.timefd_lint_sources.specs.Remainder.{AreTrapsLeft, AreWarningsLeft, IsFaultyLeft, IsLeftAs, IsNoTextLeft, IsOtherLeft, IsOwnLeft, IsRefusalLeft, IsReportedLeft}
 
 pub no_text : {E : Type 0} (reporting : Reporting) (s : Source) (d : Description) (done : Result Reported E)
     → ¬ IsUtf8 (text_of d) → IfOk done (λ t. IsNoTextLeft reporting.style s d t.end t.message.items)

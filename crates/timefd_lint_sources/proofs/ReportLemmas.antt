@@ -6,7 +6,9 @@ use Rattle.timefd_lint_scan.specs.declared.description.Description.{Description}
 use Rattle.timefd_lint_sources.specs.declared.reported.End.{End}
 use Rattle.timefd_lint_sources.specs.declared.reported.Source.{Source}
 use Rattle.timefd_lint_sources.specs.declared.reported.Reporting.{Reporting}
-use Rattle.timefd_lint_sources.specs.Reported.{AddsReported, AreReported, IsReported}
+use Rattle.timefd_lint_sources.specs.Items.{IsJudgedAs}
+use Rattle.timefd_lint_sources.specs.Reported.{AddsReported, AreReported, AreReportedAs, IsReported}
+use Rattle.timefd_lint_sources.proofs.JudgedLemmas as JudgedLemmas
 
 pub adds : (reporting : Reporting) (s : Source) (d : Description) (end : End) (one : Text)
     (ends ends' : List End) (message message' : Text) → IsReported reporting s d end one
@@ -52,3 +54,36 @@ at_last reporting s all i ends message none so_far =
     refl in
     subst (λ x. AreReported reporting s all x message) (append-nil ends)
     (subst (λ x. AreReported reporting s all (ends ++ []) x) (append-nil message) last)
+
+-- One more description, after those whose report is known.
+reported_more : (reporting : Reporting) (s : Source) (d : Description) (end : End) (one : Text)
+    → IsReported reporting s d end one → (ds : List Description) (ends : List End) (message : Text)
+    → AreReported reporting s ds ends message
+    → AreReported reporting s (ds ++ d ∷ []) (ends ++ end ∷ []) (message ++ one)
+reported_more reporting s d end one is [] [] message none =
+    (one, [], is, refl, ap (λ m. m ++ one) none ∙ sym (append-nil one))
+reported_more reporting s d end one is [] (e ∷ ends) message none = absurd none
+reported_more reporting s d end one is (c ∷ ds) [] message none = absurd none
+reported_more reporting s d end one is (c ∷ ds) (e ∷ ends) message (first, rest, here, others, whole) = (
+  first,
+  rest ++ one,
+  here,
+  reported_more reporting s d end one is ds ends rest others,
+  ap (λ m. m ++ one) whole ∙ append_assoc first rest one,
+)
+
+pub none_reported : (reporting : Reporting) (s : Source) → AreReportedAs reporting s [] [] []
+none_reported reporting s = record { judged = []; are = refl; reported = refl }
+
+pub one_more_reported : (reporting : Reporting) (s : Source) (ds : List Description) (d one : Description)
+    (ends ends' : List End) (message message' : Text) → IsJudgedAs d one
+    → AddsReported reporting s one ends message ends' message' → AreReportedAs reporting s ds ends message
+    → AreReportedAs reporting s (ds ++ d ∷ []) ends' message'
+one_more_reported reporting s ds d one ends ends' message message' is (end, said, reported, es, ms) so_far = record {
+  judged = so_far.judged ++ one ∷ [];
+  are = JudgedLemmas.one_more ds so_far.judged (so_far.judged ++ one ∷ []) d one so_far.are is refl;
+  reported =
+      subst (λ x. AreReported reporting s (so_far.judged ++ one ∷ []) x message') (sym es)
+      (subst (λ x. AreReported reporting s (so_far.judged ++ one ∷ []) (ends ++ end ∷ []) x) (sym ms)
+      (reported_more reporting s one end said reported so_far.judged ends message so_far.reported));
+}

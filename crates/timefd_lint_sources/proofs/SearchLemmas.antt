@@ -1,5 +1,5 @@
 -- The first part of a format of another language or library that is refused where the format stands.
-use Rattle.std.proofs.Common.{ℕ, ◌≡◌, ◌<◌, ◌≤◌, ◌-◌, cond, Bool, true, false, List, [], ◌∷◌, ◌++◌, drop, length, length-drop, refl, sym, ap, subst, ◌∙◌, arith}
+use Rattle.std.proofs.Common.{ℕ, ◌≡◌, ◌<◌, ◌≤◌, ◌-◌, cond, Bool, true, false, List, [], ◌∷◌, ◌++◌, drop, length, length-drop, refl, sym, ap, subst, arith}
 use Rattle.std.specs.List.{slice_index}
 use Rattle.timefd_lang_component.specs.Tree.{Text}
 use Rattle.timefd_lang_dialect.specs.declared.dialect.Dialect.{Dialect}
@@ -10,7 +10,7 @@ use Rattle.timefd_lang_dialect.specs.Reading.{RefusedAt}
 use Rattle.timefd_lint_drawing.specs.Positions.{after, goes_on}
 use Rattle.timefd_lint_sources.specs.declared.reported.Finder.{Finder}
 use Rattle.timefd_lint_sources.specs.Refusing.{is_refused}
-use Rattle.timefd_lint_sources.specs.Search.{IsRefusedFirst, IsRight, IsSearched, IsSpared, MeansAny, Passes, after_sign, moved}
+use Rattle.timefd_lint_sources.specs.Search.{IsSearched, IsSpared, MeansAny, Passes, after_sign, moved}
 use Rattle.std.specs.Prelude.{None, Some}
 
 pub has_meaning : (dialect : Dialect) (text : Text) (answer : Converted) → IsConverted dialect text answer

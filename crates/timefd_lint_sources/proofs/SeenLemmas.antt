@@ -1,5 +1,5 @@
 -- What is seen in a source, by how its descriptions are found.
-use Rattle.std.proofs.Common.{ℕ, ◌≡◌, ◌∙◌, List, [], ◌++◌, ap, refl, sym, subst}
+use Rattle.std.proofs.Common.{ℕ, ◌≡◌, ◌∙◌, List, ◌++◌, ap, refl, sym, subst}
 use denote.Ref.{Bor}
 use Rattle.timefd_lang_component.specs.Tree.{Text}
 use Rattle.timefd_lint_scan.specs.declared.keys.format.Format.{Format}
@@ -18,7 +18,7 @@ use Rattle.timefd_lint_sources.specs.declared.reported.Source.{Source}
 use Rattle.timefd_lint_sources.specs.declared.reported.Reporting.{Reporting}
 use Rattle.timefd_lint_sources.specs.Items.{AreJudgedAs}
 use Rattle.timefd_lint_sources.specs.Remarks.{AddsCodes, AreRemarksBy, AreSeenIn, AreValuesSeen, ends_of, messages_of, on_values, remarks_on}
-use Rattle.timefd_lint_sources.specs.Reported.{AreAllBy, AreSeen, AreSeenFirst, AreReported, IsFoundBy, IsSourceReported}
+use Rattle.timefd_lint_sources.specs.Reported.{AreJudgedIn, AreRemarksOn, AreSeen, AreSeenFirst, AreReportedAs, IsSourceReported}
 use Rattle.timefd_lint_sources.proofs.FinderLemmas.{all_by_keys, all_by_rust, by_keys, by_rust}
 
 pub of_look : (source : Text) (look : Look) (calls comments : List ℕ) (remarks : List Remark) → IsLook source look
@@ -67,19 +67,34 @@ with_codes s ds seen remarks first more = record {
   remarked = (seen, first.remarked, more);
 }
 
-pub source_reported : (reporting : Reporting) (s : Source) (found judged : List Description) (remarks : List Remark)
-    (ends : List End) (message : Text) (r : Report) → AreSeen s found remarks → AreJudgedAs found judged
-    → AreReported reporting s judged ends message → r.ends.items ≡ ends ++ ends_of remarks
+-- What is seen, with the descriptions as they are checked.
+pub judged_of : (s : Source) (found judged : List Description) (remarks : List Remark) → AreSeen s found remarks
+    → AreJudgedAs found judged → AreJudgedIn s judged
+judged_of s found judged remarks seen are = record {
+  found = found;
+  all = seen.all;
+  stand = seen.stand;
+  in_order = seen.in_order;
+  judged = are;
+}
+
+pub remarks_of : (s : Source) (found : List Description) (remarks : List Remark) → AreSeen s found remarks
+    → AreRemarksOn s remarks
+remarks_of s found remarks seen = (found, seen.remarked)
+
+pub source_reported : (reporting : Reporting) (s : Source) (found : List Description) (remarks : List Remark)
+    (ends : List End) (message : Text) (r : Report) → AreSeen s found remarks
+    → AreReportedAs reporting s found ends message → r.ends.items ≡ ends ++ ends_of remarks
     → r.message.items ≡ message ++ messages_of reporting.style s remarks → IsSourceReported reporting s r
-source_reported reporting s found judged remarks ends message r seen are reported all_ends all_messages = record {
+source_reported reporting s found remarks ends message r seen reported all_ends all_messages = record {
   found = found;
   remarks = remarks;
   seen = seen;
-  descriptions = judged;
-  judged = are;
+  descriptions = reported.judged;
+  judged = reported.are;
   ends = ends;
   message = message;
-  reported = reported;
+  reported = reported.reported;
   all_ends = all_ends;
   all_messages = all_messages;
 }

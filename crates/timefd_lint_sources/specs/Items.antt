@@ -1,21 +1,18 @@
 -- Brackets that `parse` refuses in versions 1 and 2, and that other places take: `[optional [..]]`,
 -- `[first [..] [..]]`. A description in such a place is checked as it is written: with the optional part,
 -- and with the first of its alternatives.
-use Rattle.std.specs.Prelude.{ℕ, zero, suc, ◌≡◌, ◌+◌, ◌-◌, ◌⊎◌, Bool, true, false, not, ◌&&◌, List, [], ◌∷◌, ◌++◌, codes, length, Option, None, Some, if◌then◌else◌, IsUtf8, IsTrue}
-use Rattle.std.specs.List.{flat_map, repeat}
+use Rattle.std.specs.Prelude.{ℕ, zero, suc, ◌≡◌, ◌+◌, ◌-◌, ◌⊎◌, Bool, true, false, List, [], ◌∷◌, ◌++◌, codes, length, Option, None, Some, IsUtf8}
+use Rattle.std.specs.List.{repeat}
 use Rattle.timefd_lang_component.specs.Tree.{Text}
 use Rattle.timefd_lang_fault.specs.declared.code.Code.{Code}
 use Rattle.timefd_lang_fault.specs.declared.code.Code.TheVariants.{UnclosedBracket, UnknownName, InvalidModifier, MissingName, MissingModifier, InvalidEscape, UnescapedBracket, MissingSpace, MissingDescription, MissingAlternative, NestedTooDeep, SeveralDescriptions, OptionalItem, FirstItem, UnsupportedFlag, UnsupportedLetter, NestedInComponent, DuplicateModifier, RefusedModifier}
-use Rattle.timefd_lint_diagnosis.specs.declared.diagnostic.Diagnostic.{Diagnostic}
 use Rattle.timefd_lang_fault.specs.Codes.{code_of}
-use Rattle.timefd_lint_diagnosis.specs.Further.{AreDiagnosed}
-use Rattle.timefd_lang_fault.specs.Faults.{Fault, fault_of}
+use Rattle.timefd_lang_fault.specs.Faults.{Fault}
 use Rattle.timefd_language.specs.Bytes.{right, is_white, ZeroOrMore}
 use Rattle.timefd_language.specs.Grammar.{nesting_limit}
 use Rattle.timefd_language.specs.declared.description_version.DescriptionVersion.{DescriptionVersion}
 use Rattle.timefd_language.specs.declared.description_version.DescriptionVersion.TheVariants as versions
 use Rattle.timefd_parse.specs.BracketParts.{BeginsNamed, BeginsNested}
-use Rattle.timefd_language.specs.declared.language.Language.{Language}
 use Rattle.timefd_language.specs.declared.language.Language.TheVariants as languages
 use Rattle.timefd_parse.specs.Language.{FaultIn}
 use Rattle.timefd_lint_scan.specs.declared.description.Description.{Description}

@@ -22,7 +22,7 @@ use Rattle.timefd_lang_warnings.specs.declared.levels.Levels.{Levels}
 use Rattle.timefd_lint_warnings.specs.Found.{found_by}
 use Rattle.timefd_lint_sources.specs.declared.reported.End.{End}
 use Rattle.timefd_lint_sources.specs.Items.{is_of_item}
-use Rattle.timefd_lint_sources.specs.declared.reported.End.TheVariants.{PassedOver, Accepted, Converted, Refused, NotText, Allowed, UnreadCall, UnreadValue}
+use Rattle.timefd_lint_sources.specs.declared.reported.End.TheVariants.{PassedOver, Accepted, Converted, Refused, NotText, Allowed, UnreadCall, UnreadValue, WrongComment}
 
 -- the other language or library whose formats these are; none if they are of `time`
 abbrev pub other_of : Dialect → Option other.Dialect
@@ -109,6 +109,7 @@ IsJudged levels language text NotText = ¬ IsUtf8 text
 IsJudged levels language text (Allowed left) = ⊥
 IsJudged levels language text UnreadCall = ⊥
 IsJudged levels language text UnreadValue = ⊥
+IsJudged levels language text WrongComment = ⊥
 
 -- The outcome of a description: it is passed over, or else judged by its text.
 abbrev pub IsEndOf : Option Levels → Description → End → Type 0
@@ -123,3 +124,4 @@ IsEndOf levels d NotText = IsFalse (is_passed_over d.dialect (text_of d))
 IsEndOf levels d (Allowed left) = ⊥
 IsEndOf levels d UnreadCall = ⊥
 IsEndOf levels d UnreadValue = ⊥
+IsEndOf levels d WrongComment = ⊥

@@ -1,6 +1,7 @@
 pub mod Items
 pub mod Judged
 pub mod Calls
+pub mod AtWord
 pub mod Refusing
 pub mod Search
 pub mod Others

@@ -12,7 +12,7 @@ use Rattle.timefd_lint_warnings.specs.Dialects.Judging.{refusal_drawn, trap_draw
 use Rattle.timefd_lint_scan.specs.declared.description.Description.{Description}
 use Rattle.timefd_lint_scan.specs.Found.{index_in_source}
 use Rattle.timefd_lint_sources.specs.declared.reported.End.{End}
-use Rattle.timefd_lint_sources.specs.declared.reported.End.TheVariants.{PassedOver, Accepted, Converted, Refused, NotText, Allowed, UnreadCall, UnreadValue}
+use Rattle.timefd_lint_sources.specs.declared.reported.End.TheVariants.{PassedOver, Accepted, Converted, Refused, NotText, Allowed, UnreadCall, UnreadValue, WrongComment}
 use Rattle.timefd_lint_sources.specs.declared.reported.Reporting.{Reporting}
 use Rattle.timefd_lint_sources.specs.declared.reported.Source.{Source}
 use Rattle.timefd_lint_sources.specs.Calls.{call_note}
@@ -55,6 +55,7 @@ IsTrappedIn reports style s d dialect text NotText message = ⊥
 IsTrappedIn reports style s d dialect text (Allowed left) message = ⊥
 IsTrappedIn reports style s d dialect text UnreadCall message = ⊥
 IsTrappedIn reports style s d dialect text UnreadValue message = ⊥
+IsTrappedIn reports style s d dialect text WrongComment message = ⊥
 
 -- A part of the format is refused, and that is reported.
 abbrev pub IsRefusalIn : Style → Source → Description → Dialect → Text → Text → Type 0
@@ -74,3 +75,4 @@ IsOtherJudged reporting s d dialect NotText message = ⊥
 IsOtherJudged reporting s d dialect (Allowed left) message = ⊥
 IsOtherJudged reporting s d dialect UnreadCall message = ⊥
 IsOtherJudged reporting s d dialect UnreadValue message = ⊥
+IsOtherJudged reporting s d dialect WrongComment message = ⊥

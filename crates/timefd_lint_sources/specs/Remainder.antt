@@ -1,5 +1,5 @@
 -- What the linter reports about a description that a comment is about: all that the comment doesn't allow.
-use Rattle.std.specs.Prelude.{ℕ, ◌≡◌, ◌⊎◌, ◌+◌, Bool, true, false, List, [], ◌∷◌, ◌++◌, Option, Some, None, IsUtf8, codes, flat_map, is_some, length, map}
+use Rattle.std.specs.Prelude.{◌≡◌, ◌⊎◌, ◌+◌, Bool, true, false, List, [], ◌∷◌, ◌++◌, Option, Some, None, IsUtf8, codes, flat_map, is_some, length, map}
 use Rattle.timefd_lang_component.specs.Tree.{Text, Tree}
 use Rattle.timefd_lint_diagnosis.specs.declared.diagnostic.Diagnostic.{Diagnostic}
 use Rattle.timefd_lang_dialect.specs.declared.dialect.Dialect.{Dialect}

@@ -1,34 +1,37 @@
 -- What the linter reports about a source besides its descriptions.
-use Rattle.std.specs.Prelude.{ℕ, ◌≡◌, ◌⊎◌, ◌-◌, true, false, List, [], ◌∷◌, ◌++◌, codes, Option, None, Some, option_map}
+use Rattle.std.specs.Prelude.{ℕ, ◌≡◌, ◌⊎◌, ◌-◌, true, false, List, [], ◌∷◌, ◌++◌, codes, Option, None, Some, drop, length, option_map}
 use Rattle.timefd_lang_component.specs.Tree.{Text}
 use Rattle.timefd_lint_drawing.specs.declared.draw.Style.{Style}
-use Rattle.timefd_lint_drawing.specs.Drawing.{note}
+use Rattle.timefd_lint_diagnosis.specs.declared.span.Span.{Span}
 use Rattle.timefd_lint_diagnosis.specs.Nearest.{IsNearest}
-use Rattle.timefd_lint_drawing.specs.Positions.{after, front, line_number}
+use Rattle.timefd_lint_drawing.specs.Positions.{after, front}
 use Rattle.timefd_lint_drawing.specs.Shown.{cut_end, most_of_a_word, safe}
 use Rattle.timefd_lint_scan.specs.declared.keys.format.Format.{Format}
 use Rattle.timefd_lint_scan.specs.declared.keys.key.Key.{Key}
 use Rattle.timefd_lint_scan.specs.Keys.Found.{AreValues}
 use Rattle.timefd_lint_scan.specs.declared.description.Description.{Description}
 use Rattle.timefd_lint_scan.specs.declared.look.Look.{Look}
+use Rattle.timefd_lint_scan.specs.After.{after_run}
+use Rattle.timefd_lint_scan.specs.Bytes.{is_word}
 use Rattle.timefd_lint_scan.specs.Looks.{IsLook}
 use Rattle.timefd_lint_sources.specs.declared.remark.Remark.{Remark}
 use Rattle.timefd_lint_sources.specs.declared.remark.Remark.TheVariants.{Call, Code, Language, Value}
 use Rattle.timefd_lint_sources.specs.declared.no_code.NoCode.{NoCode}
 use Rattle.timefd_lint_sources.specs.declared.allowances.comment.Allowance.{Allowance}
+use Rattle.timefd_lint_sources.specs.AtWord.{message}
 use Rattle.timefd_lint_sources.specs.CodeNames.{description_codes, is_among}
 use Rattle.timefd_lint_sources.specs.declared.reported.End.{End}
-use Rattle.timefd_lint_sources.specs.declared.reported.End.TheVariants.{Refused, UnreadCall, UnreadValue}
+use Rattle.timefd_lint_sources.specs.declared.reported.End.TheVariants.{UnreadCall, UnreadValue, WrongComment}
 use Rattle.timefd_lint_sources.specs.declared.reported.Finder.{Finder}
 use Rattle.timefd_lint_sources.specs.declared.reported.Finder.TheVariants.{Rust, Keys}
 use Rattle.timefd_lint_sources.specs.declared.reported.Source.{Source}
 
--- the outcome of a remark, counted like that of a description
+-- the outcome of a remark
 abbrev pub end_of : Remark → End
 end_of (Call at) = UnreadCall
 end_of (Value at) = UnreadValue
-end_of (Language at) = Refused
-end_of (Code word) = Refused
+end_of (Language at) = WrongComment
+end_of (Code word) = WrongComment
 
 abbrev pub one_end : Remark → List End
 one_end remark = end_of remark ∷ []
@@ -37,11 +40,27 @@ abbrev pub ends_of : List Remark → List End
 ends_of [] = []
 ends_of (remark ∷ remarks) = one_end remark ++ ends_of remarks
 
--- The note is on the line where the comment begins.
+-- where a remark is
+abbrev pub place_of : Remark → ℕ
+place_of (Call at) = at
+place_of (Value at) = at
+place_of (Language at) = at
+place_of (Code word) = word.start
+
+-- The word that begins at an index. It has no bytes if there is none.
+abbrev pub word_at : Text → ℕ → Span
+word_at text at = record { start = at; end = length text - length (after_run is_word (drop at text)) }
+
+abbrev pub language_code : Text
+language_code = codes "unknown-language"
+
+abbrev pub language_sentence : Text
+language_sentence =
+    codes "this comment names no language: there are 1, 2, 3, strftime, python, c, gnu, chrono, jiff, ruby, java, go and moment"
+
+-- The message is on the word that should name a language.
 abbrev pub language_note : Style → Source → ℕ → Text
-language_note style s at =
-    note style (record { file = s.file; line = line_number 1 s.text.now at }) (codes "unknown-language")
-    (codes "this comment names no language: there are 1, 2, 3, strftime, python, c, gnu, chrono, jiff, ruby, java, go and moment")
+language_note style s at = message style s (word_at s.text.now at) language_code language_sentence
 
 -- the bytes of a text from one index to another
 abbrev pub word_in : Text → ℕ → ℕ → Text
@@ -58,11 +77,17 @@ code_sentence word (Some code) =
 code_sentence word None =
     codes "there is no error or warning `" ++ (word_shown word ++ codes "` to allow")
 
--- The note is on the line where the comment begins.
+abbrev pub no_code : Text
+no_code = codes "unknown-code"
+
+-- what is said of a word that should be a code
+abbrev pub sentence_on : Text → NoCode → Text
+sentence_on text word = code_sentence (word_in text word.start word.end) (option_map (λ w. w.now) word.nearest)
+
+-- The message is on the word.
 abbrev pub code_note : Style → Source → NoCode → Text
 code_note style s word =
-    note style (record { file = s.file; line = line_number 1 s.text.now word.at }) (codes "unknown-code")
-    (code_sentence (word_in s.text.now word.start word.end) (option_map (λ w. w.now) word.nearest))
+    message style s (record { start = word.start; end = word.end }) no_code (sentence_on s.text.now word)
 
 -- A call or a value is counted, and nothing more is reported about it.
 abbrev pub message_of : Style → Source → Remark → Text
@@ -113,8 +138,7 @@ AreRemarks s ds remarks = AreRemarksBy s.finder s.text.now ds remarks
 
 -- The word that a comment allows is no code, and this is the nearest one.
 pub record IsNoCode (source : Text) (words : List Text) (a : Allowance) (word : NoCode) : Type 0 where
-  pub no_code : is_among words (word_in source a.start a.end) ≡ false
-  pub at : word.at ≡ a.at
+  pub none : is_among words (word_in source a.start a.end) ≡ false
   pub start : word.start ≡ a.start
   pub end : word.end ≡ a.end
   pub nearest : IsNearest words (word_in source a.start a.end) (option_map (λ w. w.now) word.nearest)

@@ -39,6 +39,13 @@ AreReported reporting s (d ∷ ds) [] message = ⊥
 AreReported reporting s (d ∷ ds) (e ∷ ends) message = (one : Text) × (rest : Text)
     × IsReported reporting s d e one × AreReported reporting s ds ends rest × (message ≡ one ++ rest)
 
+-- The outcomes of these descriptions as they are checked, and the messages on them.
+pub record AreReportedAs (reporting : Reporting) (s : Source) (ds : List Description) (ends : List End) (message : Text)
+    : Type 0 where
+  pub judged : List Description
+  pub are : AreJudgedAs ds judged
+  pub reported : AreReported reporting s judged ends message
+
 -- A description is a literal of a Rust source, or the value of a key, in the key's language.
 abbrev pub IsFoundBy : Finder → Text → Description → Type 0
 IsFoundBy Rust source d = StandsIn source d
@@ -84,6 +91,10 @@ pub record AreSeen (s : Source) (ds : List Description) (remarks : List Remark) 
   pub stand : AllFound s ds
   pub in_order : AreInOrder 0 ds
   pub remarked : AreAllRemarks s ds remarks
+
+-- These are all remarks on a source.
+abbrev pub AreRemarksOn : Source → List Remark → Type 0
+AreRemarksOn s remarks = (ds : List Description) × AreAllRemarks s ds remarks
 
 -- The report covers each description as it is checked, and then each remark.
 pub record IsSourceReported (reporting : Reporting) (s : Source) (r : Report) : Type 0 where

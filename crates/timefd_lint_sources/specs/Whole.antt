@@ -14,7 +14,7 @@ use Rattle.timefd_lint_scan.specs.Found.{index_in_source}
 use Rattle.timefd_lang_warnings.specs.declared.levels.Levels.{Levels}
 use Rattle.timefd_lint_warnings.specs.Messages.{messages_at}
 use Rattle.timefd_lint_sources.specs.declared.reported.End.{End}
-use Rattle.timefd_lint_sources.specs.declared.reported.End.TheVariants.{PassedOver, Accepted, Converted, Refused, NotText, Allowed, UnreadCall, UnreadValue}
+use Rattle.timefd_lint_sources.specs.declared.reported.End.TheVariants.{PassedOver, Accepted, Converted, Refused, NotText, Allowed, UnreadCall, UnreadValue, WrongComment}
 use Rattle.timefd_lint_sources.specs.declared.reported.Source.{Source}
 use Rattle.timefd_lint_sources.specs.declared.reported.Reporting.{Reporting}
 use Rattle.timefd_lint_sources.specs.Calls.{call_note}
@@ -84,6 +84,7 @@ IsMessageOn reporting s d NotText message = message ≡ note_of reporting.style 
 IsMessageOn reporting s d (Allowed left) message = ⊥
 IsMessageOn reporting s d UnreadCall message = ⊥
 IsMessageOn reporting s d UnreadValue message = ⊥
+IsMessageOn reporting s d WrongComment message = ⊥
 
 -- the outcome of a description of `time`, and the message on it
 pub record IsOwnReported (reporting : Reporting) (s : Source) (d : Description) (came : End) (said : Text)

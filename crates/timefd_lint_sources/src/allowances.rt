@@ -3,6 +3,7 @@
 mod comment;
 mod found;
 mod keyed;
+pub mod laws;
 mod rust;
 
 pub use comment::Allowance;

@@ -27,9 +27,9 @@ pub fn judged_all(
     Ok(judged)
 }
 
-// A description with the text that is checked for it.
+/// A description with the text that is checked for it. An `Err` says that memory ran out.
 #[tactic(auto, using(crate::proofs::JudgedLemmas::as_it_is, crate::proofs::JudgedLemmas::no_text, crate::proofs::JudgedLemmas::is_text))]
-fn judged_as(alloc: Global, description: Description) -> Result<Description, AllocError>
+pub fn judged_as(alloc: Global, description: Description) -> Result<Description, AllocError>
     ensures { IfOk result (IsJudgedAs description) }
 {
     let Some(version) = taking(description.items, description.dialect) else {

@@ -5,6 +5,7 @@
 mod accepted;
 mod allowed;
 mod at_call;
+mod at_word;
 mod codes;
 mod cut;
 mod further;
@@ -36,9 +37,12 @@ pub use further::further_of;
 pub use judged::holds_item;
 pub use language::{is_passed_over, language_of, other_of};
 pub use left::Left;
+pub use no_code::{NO_CODE, NoCode, sentence_on};
 pub use opening::is_of_item;
 pub use position::FIRST_LINE;
-pub use remark::Remark;
+pub use remark::{NO_LANGUAGE, NO_LANGUAGE_SENTENCE, Remark, place_of, word_at};
 pub use reported::{End, Finder, Reported, Reporting, Source};
 pub use search::first_refusal;
-pub use source::{Report, descriptions_in, judged_in, lint_source, report_all};
+pub use source::{
+    Judged, Report, descriptions_in, judged_in, judged_with_remarks, lint_source, report_all,
+};

@@ -2,25 +2,25 @@
 
 ghost use Rattle.std.specs.Prelude.{◌≡◌, IfOk, OnOk, option_map, string_bytes};
 ghost use Rattle.timefd_lint_diagnosis.specs.Words.{texts};
+ghost use Rattle.timefd_lint_drawing.specs.Counted.{IsCounted};
 ghost use Rattle.timefd_lint_sources.specs.Remarks as spec;
 
 use crate::allowances::Allowance;
+use crate::at_word::message_at;
 use crate::codes::{description_codes, is_code};
 use crate::cut::{after_index, before_index};
-use crate::position::FIRST_LINE;
 use crate::remark::Remark;
 use crate::reported::Source;
 use std::alloc::{AllocError, Global};
+use timefd_lint_diagnosis::Span;
 use timefd_lint_diagnosis::nearest::nearest;
 use timefd_lint_drawing::shown::{cut_end, safe_string};
-use timefd_lint_drawing::{Origin, Position, Style, note, position_of};
+use timefd_lint_drawing::{Counter, Style};
 
 /// A word in a comment that should be a code, but isn't.
 #[derive(Clone, Copy)]
 pub struct NoCode {
-    /// The byte index where the comment begins.
-    pub at: usize,
-    /// Where the word begins.
+    /// Where the word begins, as a byte index.
     pub start: usize,
     /// Where the word ends.
     pub end: usize,
@@ -28,29 +28,37 @@ pub struct NoCode {
     pub nearest: Option<&'static str>,
 }
 
-// The code of a word in a comment that should be a code.
-const NO_CODE: &str = "unknown-code";
+/// The code that is shown for a word in a comment that should be a code.
+pub const NO_CODE: &str = "unknown-code";
 
 // The most characters of such a word that are shown.
 const MOST_OF_A_WORD: usize = 80;
 
-/// The note on a word in a comment that should be a code. An `Err` says that memory ran out.
+/// The message on a word in a comment that should be a code. `from` says how far lines are counted. An `Err` says that
+/// memory ran out.
 pub fn code_note(
     alloc: Global,
     style: Style,
     source: Source<'_>,
+    from: Counter,
     word: NoCode,
 ) -> Result<Vec<u8>, AllocError>
+    requires { IsCounted 1 source.text.now from }
     ensures { IfOk result (λ message. message.items ≡ spec.code_note style source.entry word) }
 {
-    let Position { line, .. } = position_of(alloc, FIRST_LINE, source.text, word.at)?;
-    let origin = Origin {
-        file: source.file,
-        line,
+    let sentence = sentence_on(alloc, source.text, word)?;
+    let span = Span {
+        start: word.start,
+        end: word.end,
     };
-    let shown = word_in(source.text, word.start, word.end);
-    let sentence = code_sentence(alloc, shown, word.nearest)?;
-    note(alloc, style, origin, NO_CODE, &sentence)
+    message_at(alloc, style, source, from, span, NO_CODE, &sentence)
+}
+
+/// What is said of a word in a comment of this source that should be a code. An `Err` says that memory ran out.
+pub fn sentence_on(alloc: Global, source: &str, word: NoCode) -> Result<String, AllocError>
+    ensures { IfOk result (λ text. string_bytes text ≡ spec.sentence_on source.now word) }
+{
+    code_sentence(alloc, word_in(source, word.start, word.end), word.nearest)
 }
 
 fn word_in(text: &str, start: usize, end: usize) -> &str
@@ -85,14 +93,13 @@ fn push_code(
     ensures { OnOk result (spec.AddsCode source.now (texts codes.now) allowance remarks.old.items
         remarks.new.items) }
 {
-    let Allowance { at, start, end, .. } = allowance;
+    let Allowance { start, end, .. } = allowance;
     let word = word_in(source, start, end);
     if is_code(codes, word.as_bytes()) {
         return Ok(());
     }
     let nearest = nearest(alloc, codes, word)?;
     remarks.push(Remark::Code(NoCode {
-        at,
         start,
         end,
         nearest,

@@ -1,13 +1,18 @@
 //! What the linter reports about a source besides its descriptions.
 
 ghost use Rattle.std.specs.Prelude.{◌≡◌, ◌++◌, IfOk, OnOk};
+ghost use Rattle.timefd_lint_drawing.specs.Counted.{IsCounted};
 ghost use Rattle.timefd_lint_sources.specs.Remarks as spec;
 
+use crate::at_word::message_at;
+use crate::cut::after as rest_from;
 use crate::no_code::{NoCode, code_note};
 use crate::position::FIRST_LINE;
 use crate::reported::{End, Source};
 use std::alloc::{AllocError, Global};
-use timefd_lint_drawing::{Origin, Position, Style, note, position_of};
+use timefd_lint_diagnosis::Span;
+use timefd_lint_drawing::{Counter, Style, counted, none_counted};
+use timefd_lint_scan::class::{Class, after_run};
 
 /// What is seen in a source besides its descriptions.
 #[derive(Clone, Copy)]
@@ -16,26 +21,48 @@ pub enum Remark {
     Call(usize),
     /// The value of a key at this byte index isn't looked at.
     Value(usize),
-    /// The comment at this byte index should name a language, but doesn't.
+    /// The word at this byte index, in a comment, should name a language, but doesn't.
     Language(usize),
     /// A comment allows what isn't the code of an error or a warning.
     Code(NoCode),
 }
 
-/// The code of a fault in a comment.
-const CODE: &str = "unknown-language";
+/// The code that is shown for a comment that should name a language, but doesn't.
+pub const NO_LANGUAGE: &str = "unknown-language";
 
-const MESSAGE: &str =
+/// What is said of such a comment.
+pub const NO_LANGUAGE_SENTENCE: &str =
     "this comment names no language: there are 1, 2, 3, strftime, python, c, gnu, chrono, jiff, ruby, java, go and moment";
 
-/// The outcome of a remark, counted like that of a description.
+/// The outcome of a remark.
 pub fn end_of(remark: Remark) -> End
     ensures { result ≡ spec.end_of remark }
 {
     match remark {
         Remark::Call(_) => End::UnreadCall,
         Remark::Value(_) => End::UnreadValue,
-        Remark::Language(_) | Remark::Code(_) => End::Refused,
+        Remark::Language(_) | Remark::Code(_) => End::WrongComment,
+    }
+}
+
+/// Where a remark is, as a byte index.
+pub fn place_of(remark: Remark) -> usize
+    ensures { result ≡ spec.place_of remark }
+{
+    match remark {
+        Remark::Call(at) | Remark::Value(at) | Remark::Language(at) => at,
+        Remark::Code(word) => word.start,
+    }
+}
+
+/// The word of a source that begins at a byte index. It has no bytes if there is none.
+pub fn word_at(source: &str, at: usize) -> Span
+    ensures { result ≡ spec.word_at source.now at }
+{
+    let after = after_run(Class::Word, rest_from(source.as_bytes(), at));
+    Span {
+        start: at,
+        end: source.len().saturating_sub(after.len()),
     }
 }
 
@@ -43,32 +70,40 @@ fn message_of(
     alloc: Global,
     style: Style,
     source: Source<'_>,
+    from: Counter,
     remark: Remark,
 ) -> Result<Vec<u8>, AllocError>
+    requires { IsCounted 1 source.text.now from }
     ensures { IfOk result (λ message. message.items ≡ spec.message_of style source.entry remark) }
 {
     match remark {
         Remark::Call(_) | Remark::Value(_) => Ok(Vec::new(alloc)),
-        Remark::Language(at) => language_note(alloc, style, source, at),
-        Remark::Code(word) => code_note(alloc, style, source, word),
+        Remark::Language(at) => language_note(alloc, style, source, from, at),
+        Remark::Code(word) => code_note(alloc, style, source, from, word),
     }
 }
 
-// The note on a comment.
+// The message on the word of a comment that should name a language.
 fn language_note(
     alloc: Global,
     style: Style,
     source: Source<'_>,
+    from: Counter,
     at: usize,
 ) -> Result<Vec<u8>, AllocError>
+    requires { IsCounted 1 source.text.now from }
     ensures { IfOk result (λ message. message.items ≡ spec.language_note style source.entry at) }
 {
-    let Position { line, .. } = position_of(alloc, FIRST_LINE, source.text, at)?;
-    let origin = Origin {
-        file: source.file,
-        line,
-    };
-    note(alloc, style, origin, CODE, MESSAGE)
+    let word = word_at(source.text, at);
+    message_at(
+        alloc,
+        style,
+        source,
+        from,
+        word,
+        NO_LANGUAGE,
+        NO_LANGUAGE_SENTENCE,
+    )
 }
 
 // Reports one more remark.
@@ -76,15 +111,17 @@ fn push_remark(
     alloc: Global,
     style: Style,
     source: Source<'_>,
+    from: Counter,
     remark: Remark,
     ends: &mut Vec<End>,
     message: &mut Vec<u8>,
 ) -> Result<(), AllocError>
+    requires { IsCounted 1 source.text.now from }
     ensures ends { OnOk result (ends.new.items ≡ ends.old.items ++ spec.one_end remark) }
     ensures message { OnOk result (message.new.items
         ≡ message.old.items ++ spec.message_of style source.entry remark) }
 {
-    let reported = message_of(alloc, style, source, remark)?;
+    let reported = message_of(alloc, style, source, from, remark)?;
     ends.push(end_of(remark))?;
     message.extend_from_slice(&reported)
 }
@@ -103,15 +140,17 @@ pub fn push_remarks(
     ensures message { OnOk result (message.new.items
         ≡ message.old.items ++ spec.messages_of style source.entry remarks.now) }
 {
+    let mut from = none_counted(FIRST_LINE);
     let mut rest = remarks;
     'remarks: while let [remark, after @ ..] = rest {
-        push_remark(alloc, style, source, *remark, ends, message)?;
+        from = counted(FIRST_LINE, source.text, from, place_of(*remark));
+        push_remark(alloc, style, source, from, *remark, ends, message)?;
         rest = after;
     }
     Ok(())
 }
 
-/// The remarks on these calls, followed by those on these comments. An `Err` says that memory ran
+/// The remarks on these calls, followed by those on these words of comments. An `Err` says that memory ran
 /// out.
 pub fn remarks_on(
     alloc: Global,

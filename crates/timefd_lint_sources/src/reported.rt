@@ -62,7 +62,7 @@ pub struct Source<'a> {
     pub allowances: &'a [Allowance],
 }
 
-/// The outcome of a description.
+/// The outcome of a description, or of something else that is seen in a source.
 #[derive(Clone, Copy)]
 pub enum End {
     /// It is of another language or library, and an editor doesn't explain it.
@@ -81,6 +81,8 @@ pub enum End {
     UnreadCall,
     /// A value of a key isn't looked at.
     UnreadValue,
+    /// A comment names no language, or allows what isn't the code of an error or a warning.
+    WrongComment,
 }
 
 /// What the linter reports about a description.

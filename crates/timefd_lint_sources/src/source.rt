@@ -4,10 +4,10 @@ ghost use Rattle.std.specs.Prelude.{IfOk, OnOk};
 ghost use Rattle.timefd_lint_drawing.specs.Counted.{IsCounted};
 ghost use Rattle.timefd_lint_scan.specs.Keys.Found.{AllValues};
 ghost use Rattle.timefd_lint_sources.specs.Remarks.{AreSeenIn, AreValuesSeen};
-ghost use Rattle.timefd_lint_sources.specs.Reported.{AddsReported, AreSeen, AreSeenFirst, AllFound, AreAllOf, AreJudgedIn, AreReported, IsSourceReported};
+ghost use Rattle.timefd_lint_sources.specs.Reported.{AddsReported, AreSeen, AreSeenFirst, AllFound, AreAllOf, AreJudgedIn, AreRemarksOn, AreReported, AreReportedAs, IsSourceReported};
 ghost use Rattle.timefd_lint_scan.specs.Found.{AreInOrder};
 
-use crate::judged::judged_all;
+use crate::judged::{judged_all, judged_as};
 use crate::no_code::push_no_codes;
 use crate::position::FIRST_LINE;
 use crate::remark::{Remark, push_remarks, remarks_on, remarks_on_values};
@@ -40,11 +40,10 @@ pub fn lint_source(
         descriptions,
         remarks,
     } = seen_in(alloc, source)?;
-    let descriptions = judged_all(alloc, descriptions)?;
     let Report {
         mut ends,
         mut message,
-    } = report_all(alloc, reporting, source, &descriptions)?;
+    } = report_each(alloc, reporting, source, descriptions)?;
     push_remarks(
         alloc,
         reporting.style,
@@ -136,6 +135,33 @@ pub fn judged_in(alloc: Global, source: Source<'_>) -> Result<Vec<Description>, 
     judged_all(alloc, found)
 }
 
+/// The descriptions in a source, and what else is seen in it.
+#[derive(Drop)]
+pub struct Judged {
+    /// The descriptions in order, each with the text that is checked for it.
+    pub descriptions: Vec<Description>,
+    /// What else is seen: calls and values that aren't looked at, and errors in comments.
+    pub remarks: Vec<Remark>,
+}
+
+/// The descriptions in a source, in order, each with the text that is checked for it, and what else is seen. An `Err`
+/// says that memory ran out.
+#[tactic(auto, using(crate::proofs::SeenLemmas::judged_of, crate::proofs::SeenLemmas::remarks_of))]
+pub fn judged_with_remarks(alloc: Global, source: Source<'_>) -> Result<Judged, AllocError>
+    ensures judged { IfOk result (λ judged. AreJudgedIn source.entry judged.descriptions.items) }
+    ensures remarks { IfOk result (λ judged. AreRemarksOn source.entry judged.remarks.items) }
+{
+    let Seen {
+        descriptions,
+        remarks,
+    } = seen_in(alloc, source)?;
+    let descriptions = judged_all(alloc, descriptions)?;
+    Ok(Judged {
+        descriptions,
+        remarks,
+    })
+}
+
 /// The descriptions in a source, in order; they don't overlap. An `Err` says that memory ran out.
 #[tactic(auto, using(crate::proofs::FinderLemmas::by_rust, crate::proofs::FinderLemmas::all_by_rust, crate::proofs::FinderLemmas::all_by_keys))]
 pub fn descriptions_in(alloc: Global, source: Source<'_>) -> Result<Vec<Description>, AllocError>
@@ -172,6 +198,37 @@ pub fn report_all(
             source,
             from,
             description,
+            &mut ends,
+            &mut message,
+        )?;
+    }
+    Ok(Report { ends, message })
+}
+
+// Checks these descriptions of a source, one after another, each with the text that is checked for it, and reports on them.
+// One is kept only until it is reported.
+#[tactic(auto, using(crate::proofs::ReportLemmas::none_reported, crate::proofs::ReportLemmas::one_more_reported))]
+fn report_each(
+    alloc: Global,
+    reporting: Reporting,
+    source: Source<'_>,
+    descriptions: Vec<Description>,
+) -> Result<Report, AllocError>
+    ensures { IfOk result (λ report. AreReportedAs reporting source.entry descriptions.items
+        report.ends.items report.message.items) }
+{
+    let mut ends = Vec::new(alloc);
+    let mut message = Vec::new(alloc);
+    let mut counter = none_counted(FIRST_LINE);
+    for description in descriptions {
+        let judged = judged_as(alloc, description)?;
+        counter = counted(FIRST_LINE, source.text, counter, judged.piece.start);
+        push_reported(
+            alloc,
+            reporting,
+            source,
+            counter,
+            &judged,
             &mut ends,
             &mut message,
         )?;

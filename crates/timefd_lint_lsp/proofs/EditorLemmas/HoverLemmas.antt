@@ -14,7 +14,7 @@ use Rattle.timefd_lint_explain.specs.Examples.{Examples, HasExample}
 use Rattle.timefd_lang_fault.specs.Faults.{fault_of}
 use Rattle.timefd_language.specs.Grammar.{nesting_limit}
 use Rattle.timefd_lint_sources.specs.declared.reported.End.{End}
-use Rattle.timefd_lint_sources.specs.declared.reported.End.TheVariants.{PassedOver, Accepted, Converted, Refused, NotText, Allowed, UnreadCall, UnreadValue}
+use Rattle.timefd_lint_sources.specs.declared.reported.End.TheVariants.{PassedOver, Accepted, Converted, Refused, NotText, Allowed, UnreadCall, UnreadValue, WrongComment}
 use Rattle.timefd_lint_sources.specs.declared.reported.Source.{Source}
 use Rattle.timefd_lint_sources.specs.Judged.{is_passed_over, language_in, text_of}
 use Rattle.timefd_lint_sources.specs.Reported.{AllFound, AreAllOf, IsFound}
@@ -110,6 +110,7 @@ by_end s d index h NotText found stands shown = absurd (none_is_some (sym shown)
 by_end s d index h (Allowed left) found stands shown = absurd shown
 by_end s d index h UnreadCall found stands shown = absurd shown
 by_end s d index h UnreadValue found stands shown = absurd shown
+by_end s d index h WrongComment found stands shown = absurd shown
 
 by_description : (s : Source) (ds : List Description) (index : ℕ) (h : Hover) (o : Option Description) → AllFound s ds
     → first_at ds index ≡ o → IsShownOfAny s.text.now o index (Some h) → IsPartOrFault s index h

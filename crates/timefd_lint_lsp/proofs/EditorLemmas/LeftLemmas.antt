@@ -8,9 +8,11 @@ use Rattle.timefd_lint_scan.specs.declared.description.Description.{Description}
 use Rattle.timefd_lang_warnings.specs.declared.levels.Levels.{Levels}
 use Rattle.timefd_lint_sources.specs.declared.reported.Source.{Source}
 use Rattle.timefd_lint_sources.specs.Allowances.Found.{AreAllowances}
-use Rattle.timefd_lint_sources.specs.Reported.{AreJudgedIn}
+use Rattle.timefd_lint_sources.specs.declared.remark.Remark.{Remark}
+use Rattle.timefd_lint_sources.specs.Reported.{AreJudgedIn, AreRemarksOn}
 use Rattle.timefd_lint_lsp.specs.declared.editor.finding.Finding.{Finding}
 use Rattle.timefd_lint_lsp.specs.Editor.Each.{Adds, AreOf}
+use Rattle.timefd_lint_lsp.specs.Editor.Remarked.{IsRemarked}
 use Rattle.timefd_lint_lsp.specs.Editor.Findings.{AreFindingsLeft, AreFindingsOf, AreLeftOn, AreOn, unless_allowed}
 
 -- The findings on a description are filtered.
@@ -27,16 +29,24 @@ adds_left levels s d text none all before after (Ok x) here empty (more, are, is
 adds_left levels s d text none all before after (Err e) here empty adds added = tt
 
 -- Nothing was found before.
-pub none_before : (levels : Option Levels) (s : Source) (ds given : List Description) (none found : List Finding)
-    → AreJudgedIn s ds → given ≡ ds → none ≡ [] → Adds (AreOf (AreLeftOn levels s) given) none found
-    → AreFindingsLeft levels s found
-none_before levels s ds given none found judged same empty (more, are, is) = record {
-  descriptions = ds;
-  judged = judged;
-  reported =
-      subst (λ l. AreOf (AreLeftOn levels s) l found) same
-      (subst (AreOf (AreLeftOn levels s) given) (sym (is ∙ ap (λ n. n ++ more) empty)) are);
-}
+pub all_left : (levels : Option Levels) (s : Source) (text : Text) (ds given : List Description)
+    (remarks those : List Remark) (none some found : List Finding) → AreJudgedIn s ds → given ≡ ds → AreRemarksOn s remarks
+    → those ≡ remarks → text ≡ s.text.now → none ≡ [] → Adds (AreOf (AreLeftOn levels s) given) none some
+    → Adds (AreOf (IsRemarked text) those) some found → AreFindingsLeft levels s found
+all_left levels s text ds given remarks those none some found judged same remarked are_those here empty (one, are, is)
+    (rest, errors, then) = record {
+      descriptions = ds;
+      judged = judged;
+      remarks = remarks;
+      remarked = remarked;
+      on_descriptions = one;
+      on_comments = rest;
+      reported = subst (λ l. AreOf (AreLeftOn levels s) l one) same are;
+      errors =
+          subst (λ t. AreOf (IsRemarked t) remarks rest) here
+          (subst (λ l. AreOf (IsRemarked text) l rest) are_those errors);
+      all = then ∙ ap (λ l. l ++ rest) (is ∙ ap (λ n. n ++ one) empty);
+    }
 
 -- The comments are those of the source.
 pub of_source : {E : Type 0} (levels : Option Levels) (s here : Source) (r : Result (Vec Finding Global) E)

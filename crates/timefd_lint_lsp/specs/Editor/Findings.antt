@@ -12,15 +12,17 @@ use Rattle.timefd_lint_lsp.specs.declared.editor.finding.Severity.TheVariants.{E
 use Rattle.timefd_lint_lsp.specs.Editor.Each.{AreOf}
 use Rattle.timefd_lint_lsp.specs.Editor.Finding.{AreWarnings, IsNote, IsOne}
 use Rattle.timefd_lint_lsp.specs.Editor.Others.{AreOnOther}
+use Rattle.timefd_lint_lsp.specs.Editor.Remarked.{IsRemarked}
 use Rattle.timefd_lang_fault.specs.Faults.{fault_of}
 use Rattle.timefd_lint_sources.specs.declared.reported.End.{End}
-use Rattle.timefd_lint_sources.specs.declared.reported.End.TheVariants.{PassedOver, Accepted, Converted, Refused, NotText, Allowed, UnreadCall, UnreadValue}
+use Rattle.timefd_lint_sources.specs.declared.reported.End.TheVariants.{PassedOver, Accepted, Converted, Refused, NotText, Allowed, UnreadCall, UnreadValue, WrongComment}
 use Rattle.timefd_lint_sources.specs.declared.reported.Finder.{Finder}
 use Rattle.timefd_lint_sources.specs.declared.reported.Source.{Source}
 use Rattle.timefd_lint_sources.specs.Allowances.Found.{AreAllowances}
 use Rattle.timefd_lint_sources.specs.Allowed.{is_allowed}
 use Rattle.timefd_lint_sources.specs.Judged.{AreDiagnosedOf, IsJudged, language_in, other_of, text_of}
-use Rattle.timefd_lint_sources.specs.Reported.{AreJudgedIn}
+use Rattle.timefd_lint_sources.specs.declared.remark.Remark.{Remark}
+use Rattle.timefd_lint_sources.specs.Reported.{AreJudgedIn, AreRemarksOn}
 use Rattle.timefd_lint_scan.specs.declared.description.Description.{Description}
 use Rattle.timefd_lint_scan.specs.Found.{index_in_source}
 use Rattle.timefd_lang_warnings.specs.declared.levels.Levels.{Levels}
@@ -51,6 +53,7 @@ AreBy text d NotText found = IsNote text d found
 AreBy text d (Allowed left) found = ⊥
 AreBy text d UnreadCall found = ⊥
 AreBy text d UnreadValue found = ⊥
+AreBy text d WrongComment found = ⊥
 
 pub record AreOnOwn (levels : Option Levels) (text : Text) (d : Description) (found : List Finding) : Type 0 where
   pub end : End
@@ -76,11 +79,18 @@ abbrev pub AreLeftOn : Option Levels → Source → Description → List Finding
 AreLeftOn levels s d found = (all : List Finding) × AreOn levels s.finder s.text.now d all
     × (found ≡ flat_map (unless_allowed s d) all)
 
--- All that is wrong with the descriptions in a source and that its comments don't allow, one after another.
+-- All that is wrong with the descriptions in a source and that its comments don't allow, one after another, followed by
+-- all that is wrong in its comments.
 pub record AreFindingsLeft (levels : Option Levels) (s : Source) (found : List Finding) : Type 0 where
   pub descriptions : List Description
   pub judged : AreJudgedIn s descriptions
-  pub reported : AreOf (AreLeftOn levels s) descriptions found
+  pub remarks : List Remark
+  pub remarked : AreRemarksOn s remarks
+  pub on_descriptions : List Finding
+  pub on_comments : List Finding
+  pub reported : AreOf (AreLeftOn levels s) descriptions on_descriptions
+  pub errors : AreOf (IsRemarked s.text.now) remarks on_comments
+  pub all : found ≡ on_descriptions ++ on_comments
 
 -- The comments are those of the source itself.
 pub record AreFindingsOf (levels : Option Levels) (s : Source) (found : List Finding) : Type 0 where

@@ -14,7 +14,7 @@ use Rattle.timefd_lint_explain.specs.Parts.{AreParts, all_parts}
 use Rattle.timefd_lint_explain.specs.Stands.{NodesStand}
 use Rattle.timefd_language.specs.Grammar.{nesting_limit}
 use Rattle.timefd_lint_sources.specs.declared.reported.End.{End}
-use Rattle.timefd_lint_sources.specs.declared.reported.End.TheVariants.{PassedOver, Accepted, Converted, Refused, NotText, Allowed, UnreadCall, UnreadValue}
+use Rattle.timefd_lint_sources.specs.declared.reported.End.TheVariants.{PassedOver, Accepted, Converted, Refused, NotText, Allowed, UnreadCall, UnreadValue, WrongComment}
 use Rattle.timefd_lint_sources.specs.declared.reported.Source.{Source}
 use Rattle.timefd_lint_sources.specs.Judged.{IsEndOf, IsJudged, language_in, text_of}
 use Rattle.timefd_lint_sources.specs.Reported.{AllFound, AreAllOf, IsFound}
@@ -144,6 +144,7 @@ IsShownBy document d text index NotText found = found ≡ None
 IsShownBy document d text index (Allowed left) found = ⊥
 IsShownBy document d text index UnreadCall found = ⊥
 IsShownBy document d text index UnreadValue found = ⊥
+IsShownBy document d text index WrongComment found = ⊥
 
 abbrev pub IsShownWhere : Text → Description → Text → ℕ → Option Hover → Type 0
 IsShownWhere document d text index found = (end : End) × IsJudged None (language_in d) text end

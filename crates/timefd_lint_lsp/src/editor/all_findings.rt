@@ -10,6 +10,7 @@ use crate::editor::counter::{counted, none_counted};
 use crate::editor::faults::push_faults;
 use crate::editor::finding::{Finding, Spot};
 use crate::editor::other::push_other;
+use crate::editor::remarked::push_remarks;
 use crate::editor::warned::{push_note, push_warnings};
 use std::alloc::{AllocError, Global};
 use std::str;
@@ -18,14 +19,14 @@ use timefd_lint_diagnosis::diagnose;
 use timefd_lint_scan::Description;
 use timefd_lint_sources::allowances::allowances_in;
 use timefd_lint_sources::{
-    Finder, Source, further_of, is_allowed, judged_in, language_of, other_of,
+    Finder, Judged, Source, further_of, is_allowed, judged_with_remarks, language_of, other_of,
 };
 use timefd_lint_warnings::found_by;
 
 /// All that is wrong in a source, in order: the first fault of each description that its language refuses,
 /// its further faults, a description that isn't UTF-8, and the warnings that `levels` asks for. Of a format of another
 /// language or library it is the first part that is refused there, or else its traps if warnings are asked for. What the
-/// comments of the source allow is left out. An `Err` says that memory ran out.
+/// comments of the source allow is left out, and what is wrong in comments comes last. An `Err` says that memory ran out.
 #[tactic(auto, using(crate::proofs::EditorLemmas::LeftLemmas::of_source))]
 pub fn findings(
     alloc: Global,
@@ -44,7 +45,8 @@ pub fn findings(
     findings_left(alloc, source, levels)
 }
 
-// All that is wrong in a source and that its comments don't allow.
+// All that is wrong in a source and that its comments don't allow, and what is wrong in these.
+#[tactic(auto, using(crate::proofs::EditorLemmas::LeftLemmas::all_left))]
 fn findings_left(
     alloc: Global,
     source: Source<'_>,
@@ -52,9 +54,13 @@ fn findings_left(
 ) -> Result<Vec<Finding>, AllocError>
     ensures { IfOk result (λ found. AreFindingsLeft levels source.entry found.items) }
 {
-    let descriptions = judged_in(alloc, source)?;
+    let Judged {
+        descriptions,
+        remarks,
+    } = judged_with_remarks(alloc, source)?;
     let mut found = Vec::new(alloc);
     push_all(alloc, source, levels, &descriptions, &mut found)?;
+    push_remarks(alloc, source.text, &remarks, &mut found)?;
     Ok(found)
 }
 

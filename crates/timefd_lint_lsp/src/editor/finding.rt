@@ -43,7 +43,32 @@ pub struct Spot<'a> {
     pub counter: Counter,
 }
 
-/// Adds a finding for the bytes from one index up to another. An `Err` says that memory ran out.
+/// Adds a finding for the bytes of a document from one index up to another. An `Err` says that memory ran out.
+pub fn push_at(
+    found: &mut Vec<Finding>,
+    text: &str,
+    counter: Counter,
+    start: usize,
+    end: usize,
+    severity: Severity,
+    code: &'static str,
+    message: String,
+) -> Result<(), AllocError>
+    requires { IsCounted text.now counter }
+    ensures { OnOk result (Adds (IsOne text.now start end severity code.now (string_bytes message))
+        found.old.items found.new.items) }
+{
+    let range = range_from(text, counter, start, end);
+    Ok(found.push(Finding {
+        range,
+        severity,
+        code,
+        message,
+    })?)
+}
+
+/// Adds a finding for the bytes from one index up to another of a description's document. An `Err` says that memory ran
+/// out.
 pub fn push(
     found: &mut Vec<Finding>,
     spot: Spot<'_>,
@@ -57,11 +82,14 @@ pub fn push(
     ensures { OnOk result (Adds (IsOne spot.entry.text.now start end severity code.now (string_bytes message))
         found.old.items found.new.items) }
 {
-    let range = range_from(spot.text, spot.counter, start, end);
-    Ok(found.push(Finding {
-        range,
+    push_at(
+        found,
+        spot.text,
+        spot.counter,
+        start,
+        end,
         severity,
         code,
         message,
-    })?)
+    )
 }

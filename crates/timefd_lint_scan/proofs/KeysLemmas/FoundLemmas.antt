@@ -3,7 +3,6 @@ use Rattle.std.proofs.Common.{ℕ, ◌≡◌, ◌<◌, ◌≤◌, ◌+◌, List,
 use Rattle.std.proofs.lemmas.List.{drop_more, take-append-drop}
 use Rattle.std.specs.List.{All}
 use Rattle.std.specs.Option.{option_to_list}
-use Rattle.std.specs.Prelude.{Option, Some, None}
 use Rattle.timefd_lint_scan.specs.Bytes.{Text}
 use Rattle.timefd_lint_scan.proofs.FoundLemmas as found
 use Rattle.timefd_lint_scan.proofs.FoundLemmas.{AreUpTo}
@@ -15,7 +14,7 @@ use Rattle.timefd_lint_scan.specs.declared.keys.key.Key.{Key}
 use Rattle.timefd_lint_scan.specs.declared.keys.spot.Spot.{Spot}
 use Rattle.timefd_lint_scan.specs.declared.keys.step.Step.{Step}
 use Rattle.timefd_lint_scan.specs.Keys.Comments.{IsLineAt, first_line}
-use Rattle.timefd_lint_scan.specs.Keys.Found.{AllValues, AreAllValues, AreValues, IsStep, IsStop, IsValue, IsWay, StandsIn, Stop, found_at, unread_at}
+use Rattle.timefd_lint_scan.specs.Keys.Found.{AllValues, AreAllValues, AreValues, IsStep, IsStop, IsWay, StandsIn, Stop, found_at, unread_at}
 use Rattle.timefd_lint_scan.specs.Keys.Visits.{first_spot, moved, visit_at}
 
 pub none_yet : (format : Format) (source : Text) → AreUpTo (StandsIn format source) [] 0

@@ -15,7 +15,7 @@ use Rattle.timefd_lint_scan.specs.Escapes.{Placed, placed}
 use Rattle.timefd_lint_scan.specs.declared.version.VersionPosition.{VersionPosition}
 use Rattle.timefd_lint_scan.specs.declared.version.VersionPosition.TheVariants.{Digit, Unsaid, Call, Elsewhere}
 use Rattle.timefd_lint_scan.specs.Found.{AllStandIn, AreInOrder, StandsIn, begin_of}
-use Rattle.timefd_lint_scan.specs.Versions.{IsSaid, digit_of, first_position}
+use Rattle.timefd_lint_scan.specs.Versions.{IsSaid, first_position}
 use Rattle.timefd_lint_scan.specs.Literals.{EndsAt, body, body_end, body_text, cut, inside, inside_of, text_of}
 use Rattle.timefd_lint_sources.specs.declared.rewriting.answer.NewParts.{NewParts}
 use Rattle.timefd_lint_sources.specs.declared.rewriting.answer.Answer.{Answer}
@@ -23,7 +23,7 @@ use Rattle.timefd_lint_sources.specs.declared.rewriting.answer.Answer.TheVariant
 use Rattle.timefd_lint_sources.specs.declared.rewriting.outcome.Outcome.{Outcome}
 use Rattle.timefd_lint_sources.specs.declared.rewriting.outcome.Outcome.TheVariants.{PassedOver, Same, Rewritten, Refused, WithItems, NotText, NotALiteral, ByHand}
 use Rattle.timefd_lint_sources.specs.declared.rewriting.change.Change.{Change}
-use Rattle.timefd_lint_sources.specs.Rewriting.Written.{AddsRewritten, AreRewritten, IsRewritten, IsAnswer, IsOutcome, IsPlaced, IsPut, IsRenumbered, IsReplaced, IsRespelled, IsNewVersion, IsSpliced, Puts, Renumbers, Replaces, argument, can_say, is_rewriting, is_sayable, items_of}
+use Rattle.timefd_lint_sources.specs.Rewriting.Written.{AddsRewritten, AreRewritten, IsRewritten, IsAnswer, IsPlaced, IsRenumbered, IsReplaced, IsRespelled, IsNewVersion, IsSpliced, Puts, Renumbers, Replaces, argument, can_say, is_rewriting, is_sayable, items_of}
 
 -- A description's literal has a body.
 no_text : (kind : Kind) (end : ℕ) (p : Placed) (r : Option Text)

@@ -11,7 +11,7 @@ use Rattle.timefd_lint_scan.specs.declared.description.Description.{Description}
 use Rattle.timefd_lint_scan.specs.declared.keys.format.Format.{Format}
 use Rattle.timefd_lint_scan.specs.Keys.Spelled.{IsStringFor, string_end}
 use Rattle.timefd_lint_sources.specs.Judged.{text_of}
-use Rattle.timefd_lint_sources.specs.Rewriting.Values.{Adds, AreRewritten, IsAnswer, IsAnswerIn, front_of, next_of, value_change}
+use Rattle.timefd_lint_sources.specs.Rewriting.Values.{Adds, AreRewritten, IsAnswer, IsAnswerIn, front_of, value_change}
 use Rattle.timefd_lint_sources.specs.declared.rewriting.change.Change.{Change}
 use Rattle.timefd_lint_sources.specs.declared.rewriting.outcome.Outcome.{Outcome}
 use Rattle.timefd_lint_sources.specs.declared.rewriting.outcome.Outcome.TheVariants.{PassedOver, Same, Rewritten, Refused, NotText, NotALiteral}

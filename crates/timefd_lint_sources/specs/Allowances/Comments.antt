@@ -1,5 +1,5 @@
 -- What a comment allows: `// timefd: allow unknown-name`, or with `#`.
-use Rattle.std.specs.Prelude.{ℕ, ◌-◌, Bool, true, false, not, ◌&&◌, ◌||◌, ◌==◌, nat_lt, if◌then◌else◌, List, [], ◌∷◌, ◌++◌, bytes_eq, codes, drop, is_some, length, min, take, Option, Some, None}
+use Rattle.std.specs.Prelude.{ℕ, ◌≡◌, ◌<◌, ◌⊎◌, ◌-◌, Bool, true, false, not, ◌&&◌, ◌||◌, ◌==◌, nat_lt, if◌then◌else◌, List, [], ◌∷◌, ◌++◌, bytes_eq, codes, drop, is_some, length, min, take, Option, Some, None}
 use Rattle.timefd_lint_scan.specs.After.{after_run}
 use Rattle.timefd_lint_scan.specs.Bytes.{Text, is_blank, is_white, is_word, class_test, line_feed}
 use Rattle.timefd_lint_scan.specs.declared.class.Class.TheVariants.{Line}
@@ -51,7 +51,7 @@ is_separator b = is_white b || (b == 44)
 -- a word from one index of the source to another, if it isn't empty
 abbrev pub one_word : Reach → ℕ → ℕ → List Allowance
 one_word r start end =
-    if nat_lt start end then (record { at = r.at; from = r.from; to = r.to; start = start; end = end }) ∷ [] else []
+    if nat_lt start end then (record { from = r.from; to = r.to; start = start; end = end }) ∷ [] else []
 
 -- The words of a text that ends at an index of the source: the first one begins where `word` does, and `rest` is
 -- what is left of the text.
@@ -68,6 +68,25 @@ covered sign [] = []
 covered sign (b ∷ rest) =
     if (b == line_feed) && not (is_mark_line sign rest) then rest else covered sign rest
 
+-- A later line of a text, from its start to the end of the text.
+abbrev pub IsLaterLine : Text → Text → Type 0
+IsLaterLine text line = (front : Text) × (text ≡ front ++ line_feed ∷ line)
+
+-- It has something else than such a comment, and all later lines before it have only one.
+pub record IsFirstOther (sign : Sign) (text line : Text) : Type 0 where
+  pub is : IsLaterLine text line
+  pub other : is_mark_line sign line ≡ false
+  pub first : (l : Text) → IsLaterLine text l → length line < length l → is_mark_line sign l ≡ true
+
+-- What a comment alone in its line is about: the first later line with something else, and nothing if there is none.
+abbrev pub IsCovered : Sign → Text → Text → Type 0
+IsCovered sign text line =
+    IsFirstOther sign text line
+    ⊎ ((line ≡ []) × ((l : Text) → IsLaterLine text l → is_mark_line sign l ≡ true))
+
+abbrev pub ReachesFirstOther : Type 0
+ReachesFirstOther = (sign : Sign) → (text : Text) → IsCovered sign text (covered sign text)
+
 -- where the line of a position begins
 abbrev pub line_begin : Text → ℕ → ℕ
 line_begin source at = line_start source (min at (length source))
@@ -81,11 +100,10 @@ abbrev pub reach_of : Sign → Text → ℕ → ℕ → Reach
 reach_of sign source at end =
     if is_alone source at then
     record {
-      at = at;
       from = length source - length (covered sign (drop end source));
       to = length source - length (after_run (class_test Line) (covered sign (drop end source)));
     }
-    else record { at = at; from = line_begin source at; to = at }
+    else record { from = line_begin source at; to = at }
 
 abbrev pub in_words : Reach → ℕ → Option Text → List Allowance
 in_words r end None = []

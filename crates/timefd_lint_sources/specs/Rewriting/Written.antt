@@ -17,7 +17,6 @@ use Rattle.timefd_lint_sources.specs.Items.{HoldsItem, taking}
 use Rattle.timefd_lint_sources.specs.Judged.{text_of}
 use Rattle.timefd_lint_sources.specs.declared.rewriting.answer.Answer.{Answer}
 use Rattle.timefd_lint_sources.specs.declared.rewriting.answer.Answer.TheVariants.{Stays, Becomes}
-use Rattle.timefd_lint_sources.specs.declared.rewriting.answer.NewParts.{NewParts}
 use Rattle.timefd_lint_sources.specs.declared.rewriting.change.Change.{Change}
 use Rattle.timefd_lint_sources.specs.declared.rewriting.source.NewSource.{NewSource}
 use Rattle.timefd_lint_sources.specs.declared.rewriting.outcome.Outcome.{Outcome}

@@ -15,8 +15,6 @@ use timefd_lint_scan::marks::{after, first_word};
 /// before it in its line, or, if it is alone in its line, those of the next line with something else.
 #[derive(Clone, Copy)]
 pub struct Allowance {
-    /// Where the comment begins.
-    pub at: usize,
     pub from: usize,
     pub to: usize,
     /// Where the code begins.
@@ -25,10 +23,9 @@ pub struct Allowance {
     pub end: usize,
 }
 
-/// What a comment that begins at `at` is about: descriptions that begin in the bytes `from..to`.
+/// What a comment is about: descriptions that begin in the bytes `from..to`.
 #[derive(Clone, Copy)]
 pub struct Reach {
-    pub at: usize,
     pub from: usize,
     pub to: usize,
 }
@@ -110,7 +107,6 @@ fn push_word(
 {
     if start < end {
         found.push(Allowance {
-            at: reach.at,
             from: reach.from,
             to: reach.to,
             start,
@@ -194,7 +190,6 @@ fn reach_of(sign: Sign, source: &[u8], at: usize, end: usize) -> Reach
     if is_alone(source, at) {
         let line = covered(sign, from(source, end));
         Reach {
-            at,
             from: source.len().saturating_sub(line.len()),
             to: source
                 .len()
@@ -202,7 +197,6 @@ fn reach_of(sign: Sign, source: &[u8], at: usize, end: usize) -> Reach
         }
     } else {
         Reach {
-            at,
             from: line_begin(source, at),
             to: at,
         }

@@ -2,14 +2,12 @@
 
 ghost use Rattle.std.specs.Prelude.{◌≡◌, ◌++◌, IfOk, OnOk};
 ghost use Rattle.timefd_lint_scan.specs.Marks as marks;
-ghost use Rattle.timefd_lint_scan.specs.Sources.{AreTokens};
-ghost use Rattle.std.specs.Prelude.{length, List};
 ghost use Rattle.timefd_lint_sources.specs.declared.reported.Finder.TheVariants as finders;
 ghost use Rattle.timefd_lint_sources.specs.Allowances.Found as spec;
 
 use crate::allowances::comment::{Allowance, Sign, push_allowed};
 use std::alloc::{AllocError, Global};
-use timefd_lint_scan::{Piece, Token, pieces_of};
+use timefd_lint_scan::{Piece, Token, comments_of};
 
 fn is_comment(token: Token) -> bool
     ensures { result ≡ marks.is_comment token }
@@ -52,12 +50,13 @@ fn push_tokens(
     Ok(())
 }
 
-/// What the comments in a source of Rust allow, in order. An `Err` says that memory ran out.
+/// What the comments in a source of Rust allow, in order. Only its comments are kept in memory. An `Err` says that memory
+/// ran out.
 pub fn allowances_of_rust(alloc: Global, source: &str) -> Result<Vec<Allowance>, AllocError>
     ensures { IfOk result (λ found. spec.AreBy finders.Rust source.now found.items) }
 {
-    let pieces = pieces_of(alloc, source)?;
+    let comments = comments_of(alloc, source)?;
     let mut found = Vec::new(alloc);
-    push_tokens(&mut found, source.as_bytes(), &pieces)?;
+    push_tokens(&mut found, source.as_bytes(), &comments)?;
     Ok(found)
 }

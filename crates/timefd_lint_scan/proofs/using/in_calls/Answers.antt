@@ -1,4 +1,5 @@
-use Rattle.std.proofs.Common.{◌∙◌, refl, rules, arith}
+use Rattle.std.proofs.Common.{◌∙◌, ap, refl, rules, arith}
+use Rattle.timefd_lint_scan.specs.Frames.{passed}
 use Rattle.timefd_lint_scan.proofs.UsingLemmas.{at_last, one_more, used_at}
 use Rattle.timefd_lint_scan.proofs.using.in_calls.Goals as goal
 
@@ -9,7 +10,9 @@ loop-index-preserved c =
     c.push_any.new.uses.items
     (first_of (search rules, omega (arith, c.loop-index-test.true)))
     refl
-    c.in_ok-pass.ensures
+    (c.in_ok-pass.ensures
+    ∙ ap (λ u. passed c.args.source.now c.args.pieces.now c.args.aliases.now u c.loop-index.index c.loop-index.frames.items)
+    c.no_uses.ensures.none)
     (c.use_at.ensures
     ∙ used_at c.args.source.now c.args.pieces.now c.loop-index.index _ c.pass.new.frames.items c.deref.result.now
     c.innermost-frame.result c.deref.ensures.value c.innermost-frame.ensures)

@@ -1,4 +1,3 @@
-use Rattle.std.proofs.Common.{◌≡◌, ◌++◌, ap, sym, ◌∙◌, rules}
 use Rattle.timefd_lint_sources.proofs.OpeningLemmas.{no_item}
 use Rattle.timefd_lint_sources.proofs.opening.opened_once.Goals as goal
 

@@ -1,5 +1,4 @@
 use Rattle.std.proofs.Common.{ap, ◌∙◌}
-use Rattle.timefd_lint_drawing.specs.declared.position.Origin.{Origin}
 use Rattle.timefd_lint_sources.specs.Whole.{no_text_note}
 use Rattle.timefd_lint_sources.proofs.reported.not_text.Goals as goal
 

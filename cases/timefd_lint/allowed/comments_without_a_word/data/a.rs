@@ -1,0 +1,4 @@
+// timefd:
+// timefd: -
+/// timefd: strftme
+fn f() {}

@@ -1,0 +1,4 @@
+// timefd: allow abc
+fn f() {}
+// timefd: strftime
+const A: &str = "%H:%m";

@@ -1,0 +1,2 @@
+// timefd: allow abc
+fn f() {}

@@ -1,0 +1,12 @@
+use Rattle.std.proofs.Common.{◌≤◌, length}
+use Rattle.timefd_lint_scan.proofs.GatheredLemmas.{AreKept}
+use Rattle.timefd_lint_scan.proofs.gathered.tokens_of.Given as goal
+
+abbrev pub invariant-tokens : goal.invariant-tokens
+invariant-tokens l = record {
+  are : AreKept l.fn.source l.pieces.items l.comments.items l.rest;
+  within : length l.rest ≤ length l.fn.source;
+}
+
+abbrev pub decreases-tokens : goal.decreases-tokens
+decreases-tokens l = length l.rest
