@@ -25,3 +25,5 @@ pub mod NoCodes
 pub mod Limited
 pub mod Stores
 pub mod ValueNotes
+pub mod Projects
+pub mod Parts

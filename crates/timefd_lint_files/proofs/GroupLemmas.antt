@@ -1,0 +1,140 @@
+-- What is found upwards for names.
+use Rattle.std.proofs.Common.{◌≡◌, ◌≢◌, ℕ, ◌+◌, Bool, true, false, List, [], ◌∷◌, ◌++◌, length, take, drop, refl, sym, ap, subst, ◌∙◌, append_assoc, append-nil, length-append, arith}
+use Rattle.std.proofs.Math.Seq.{drop-append_seam, take-append_seam}
+use Rattle.std.specs.Prelude.{Option, Some, None, codes}
+use denote.Ref.{Bor}
+use Rattle.std.specs.declared.io.ErrorKind.{ErrorKind}
+use Rattle.timefd_lint_files.specs.declared.groups.Group.{Group}
+use Rattle.timefd_lint_files.specs.declared.upwards.Nearest.{Nearest}
+use Rattle.timefd_lint_files.specs.Around.{folders_around}
+use Rattle.timefd_lint_files.specs.Groups.{AllHave, AreGroups, AreGroupsOf, HaveSame, IsFoundFor, IsStart, IsStartOr, Site, folder_by, if_open, site_any, site_if}
+use Rattle.timefd_lint_files.specs.Matching.{Text}
+use Rattle.timefd_lint_files.specs.Upwards.{IsNearest, seen_any}
+use Rattle.timefd_lint_files.specs.Walks.{is_input}
+
+pub at_input : (tells : Text → Bool → Type 0) (name start : Text) → is_input name ≡ true → start ≡ []
+    → IsStart tells name start
+at_input tells name start is here = subst (IsStartOr tells name start) (sym is) here
+
+by_folder : (tells : Text → Bool → Type 0) (name start folder opened : Text) (is_folder is_open : Bool)
+    → is_input name ≡ false → tells name is_folder → folder ≡ folder_by is_folder name → opened ≡ folder
+    → tells (opened ++ codes ".") is_open → start ≡ if_open is_open folder → IsStart tells name start
+by_folder tells name start folder opened is_folder is_open is kind own same opens at =
+    subst (IsStartOr tells name start) (sym is) (
+      is_folder,
+      kind,
+      (
+        is_open,
+        subst (λ (f : Text). tells (f ++ codes ".") is_open) (same ∙ own) opens,
+        at ∙ ap (if_open is_open) own,
+      ),
+    )
+
+pub at_open : (tells : Text → Bool → Type 0) (name start folder opened : Text) (is_folder is_open : Bool)
+    → is_input name ≡ false → tells name is_folder → folder ≡ folder_by is_folder name → opened ≡ folder
+    → tells (opened ++ codes ".") is_open → is_open ≡ true → start ≡ folder → IsStart tells name start
+at_open tells name start folder opened is_folder is_open is kind own same opens yes at =
+    by_folder tells name start folder opened is_folder is_open is kind own same opens (at ∙ rw yes refl)
+
+pub at_closed : (tells : Text → Bool → Type 0) (name start folder opened : Text) (is_folder is_open : Bool)
+    → is_input name ≡ false → tells name is_folder → folder ≡ folder_by is_folder name → opened ≡ folder
+    → tells (opened ++ codes ".") is_open → is_open ≡ false → start ≡ [] → IsStart tells name start
+at_closed tells name start folder opened is_folder is_open is kind own same opens no at =
+    by_folder tells name start folder opened is_folder is_open is kind own same opens (at ∙ rw no refl)
+
+same_site : (found : Option Nearest) → site_any found ≡ site_if (seen_any found)
+same_site None = refl
+same_site (Some found) = refl
+
+pub found_from : (holds : Text → Text → Type 0) (fails : Text → ErrorKind → Type 0) (tells : Text → Bool → Type 0)
+    (file here name start begun : Text) (above : ℕ) (found : Option Nearest) → IsStart tells name start
+    → begun ≡ start → above ≡ folders_around here begun → IsNearest holds fails tells file above begun (seen_any found)
+    → IsFoundFor holds fails tells file here name (site_any found)
+found_from holds fails tells file here name start begun above found at same around near = (
+  begun,
+  seen_any found,
+  subst (IsStart tells name) (sym same) at,
+  subst (λ (k : ℕ). IsNearest holds fails tells file k begun (seen_any found)) around near,
+  same_site found,
+)
+
+-- None of the names was looked at yet.
+pub none_yet : (Found : Text → Option Site → Type 0) (answer : Option Site) (names : List (Bor Text))
+    → HaveSame Found answer names names 0
+none_yet Found answer names = record { front = []; whole = refl; counted = refl; each = tt }
+
+one_have : (Found : Text → Option Site → Type 0) (answer : Option Site) (front : List (Bor Text)) (name : Bor Text)
+    → AllHave Found answer front → Found name.now answer → AllHave Found answer (front ++ name ∷ [])
+one_have Found answer [] name each one = (one, tt)
+one_have Found answer (first ∷ front) name each one = (each.0, one_have Found answer front name each.1 one)
+
+-- one more name with the same
+pub one_more : (Found : Text → Option Site → Type 0) (answer other : Option Site) (names rest after : List (Bor Text))
+    (name : Bor Text) (count : ℕ) → rest ≡ name ∷ after → answer ≡ other → Found name.now other
+    → HaveSame Found answer names rest count → HaveSame Found answer names after (count + 1)
+one_more Found answer other names rest after name count split same found so_far = record {
+  front = so_far.front ++ name ∷ [];
+  whole = so_far.whole ∙ (ap (λ r. so_far.front ++ r) split ∙ sym (append_assoc so_far.front (name ∷ []) after));
+  counted = omega (arith, length-append so_far.front (name ∷ []), so_far.counted);
+  each = one_have Found answer so_far.front name so_far.each (subst (Found name.now) (sym same) found);
+}
+
+-- the groups so far: with those of the rest they are all groups
+abbrev pub AreGroupsTo : (Text → Option Site → Type 0) → List (Bor Text) → List (Bor Text) → List Group → Type 0
+AreGroupsTo Found names rest groups =
+    (more : List Group) → AreGroupsOf Found rest more → AreGroupsOf Found names (groups ++ more)
+
+pub no_group : (Found : Text → Option Site → Type 0) (names : List (Bor Text)) (groups : List Group) → groups ≡ []
+    → AreGroupsTo Found names names groups
+no_group Found names groups none more are = subst (λ gs. AreGroupsOf Found names (gs ++ more)) (sym none) are
+
+-- one more group
+pub one_group : (Found : Text → Option Site → Type 0) (names rest after own others left : List (Bor Text))
+    (name : Bor Text) (found : Option Nearest) (group : Group) (count : ℕ) (groups new : List Group)
+    → rest ≡ name ∷ after → Found name.now (site_any found) → HaveSame Found (site_any found) after left count
+    → own ≡ take (count + 1) rest → others ≡ drop (count + 1) rest → group.names.now ≡ own → group.found ≡ found
+    → new ≡ groups ++ group ∷ [] → AreGroupsTo Found names rest groups → AreGroupsTo Found names others new
+one_group Found names rest after own others left name found group count groups new split first same taken
+    dropped named is pushed so_far more are =
+    let front = name ∷ same.front in
+    let long : length front ≡ count + 1 = omega (arith, same.counted) in
+    let whole : rest ≡ front ++ left = split ∙ ap (λ r. name ∷ r) same.whole in
+    let here : own ≡ front =
+    taken ∙ (ap (λ k. take k rest) (sym long) ∙ (ap (take (length front)) whole ∙ take-append_seam front left)) in
+    let there : others ≡ left =
+    dropped ∙ (ap (λ k. drop k rest) (sym long) ∙ (ap (drop (length front)) whole ∙ drop-append_seam front left)) in
+    let names_are : group.names.now ≡ front = named ∙ here in
+    let have : AllHave Found (site_any group.found) group.names.now =
+    subst (λ (f : Option Nearest). AllHave Found (site_any f) group.names.now) (sym is)
+    (subst (AllHave Found (site_any found)) (sym names_are) (first, same.each)) in
+    let all : AreGroupsOf Found rest (group ∷ more) = (
+      others,
+      whole ∙ (ap (λ r. front ++ r) (sym there) ∙ ap (λ f. f ++ others) (sym names_are)),
+      λ none. absurd (not_none front (sym names_are ∙ none)),
+      have,
+      are,
+    ) in
+    subst (AreGroupsOf Found names) (sym (append_assoc groups (group ∷ []) more) ∙ ap (λ g. g ++ more) (sym pushed))
+    (so_far (group ∷ more) all)
+  where
+    not_none : (front : List (Bor Text)) → name ∷ same.front ≡ [] → ⊥
+    not_none front none = absurd cc
+
+pub all_groups : (Found : Text → Option Site → Type 0) (names rest : List (Bor Text)) (groups : List Group) → rest ≡ []
+    → AreGroupsTo Found names rest groups → AreGroupsOf Found names groups
+all_groups Found names rest groups none so_far =
+    subst (AreGroupsOf Found names) (append-nil groups) (so_far [] none)
+
+-- Some names are given.
+pub some_named : (Found : Text → Option Site → Type 0) (names : List (Bor Text)) (groups : List Group)
+    → length names ≢ 0 → AreGroupsOf Found names groups → AreGroups Found names groups
+some_named Found [] groups some are = absurd (some refl)
+some_named Found (name ∷ names) groups some are = are
+
+-- No name is given.
+pub none_named : (Found : Text → Option Site → Type 0) (names : List (Bor Text)) (group : Group)
+    (before groups : List Group) → length names ≡ 0 → group.names.now ≡ names → Found (codes "-") (site_any group.found)
+    → before ≡ [] → groups ≡ before ++ group ∷ [] → AreGroups Found names groups
+none_named Found [] group before groups none named found empty pushed =
+    (group, pushed ∙ ap (λ b. b ++ group ∷ []) empty, named, found)
+none_named Found (name ∷ names) group before groups none named found empty pushed = absurd (omega (arith, none))
