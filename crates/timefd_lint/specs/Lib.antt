@@ -27,3 +27,4 @@ pub mod Stores
 pub mod ValueNotes
 pub mod Projects
 pub mod Parts
+pub mod Roots
