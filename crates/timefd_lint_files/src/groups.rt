@@ -1,8 +1,9 @@
 //! What is found upwards for names, and which of them have the same.
 
-ghost use Rattle.std.specs.Prelude.{◌≡◌, ◌≤◌, IfOk, IsTrue, List, Some, length, string_bytes};
+ghost use Rattle.std.specs.Prelude.{◌≡◌, ◌≤◌, ◌++◌, ◌∷◌, [], IfOk, IsTrue, List, OnOk, Some, length, string_bytes};
 ghost use denote.Ref.{Bor};
 ghost use Rattle.timefd_lint_files.specs.Matching.{Text};
+ghost use Rattle.timefd_lint_files.specs.declared.groups.Group.{Group};
 ghost use Rattle.timefd_lint_files.specs.Groups as spec;
 
 use crate::around::folder_of;
@@ -131,6 +132,21 @@ fn same_count<S: FileSystem>(
     Ok(count)
 }
 
+/// Adds a group.
+fn push_group<'a>(
+    groups: &mut Vec<Group<'a>>,
+    names: &'a [&'a str],
+    found: Option<Nearest>,
+) -> Result<(), WalkError>
+    ensures { OnOk result ((group : Group) × (groups.new.items ≡ groups.old.items ++ group ∷ [])
+        × (group.names.now ≡ names.now) × (group.found ≡ found)) }
+{
+    match groups.push(Group { names, found }) {
+        Ok(()) => Ok(()),
+        Err(_) => Err(WalkError::Memory),
+    }
+}
+
 /// All names in groups.
 #[tactic(auto, using(crate::proofs::GroupLemmas::no_group, crate::proofs::GroupLemmas::one_group, crate::proofs::GroupLemmas::all_groups))]
 fn all_groups<'a, S: FileSystem>(
@@ -147,12 +163,9 @@ fn all_groups<'a, S: FileSystem>(
     let mut rest = names;
     'groups: while let [name, after @ ..] = rest {
         let found = found_for(system, alloc, file, here, name)?;
-        let more = same_count(system, alloc, file, here, &found, after)?;
-        let (own, others) = rest.split_at(more + 1);
-        groups
-            .push(Group { names: own, found })
-            .map_err(AllocError::from)?;
-        rest = others;
+        let count = same_count(system, alloc, file, here, &found, after)? + 1;
+        push_group(&mut groups, &rest[..count], found)?;
+        rest = &rest[count..];
     }
     Ok(groups)
 }
@@ -180,8 +193,6 @@ pub fn grouped<'a, S: FileSystem>(
     }
     let found = found_for(system, alloc, file, here, INPUT)?;
     let mut groups = Vec::new(alloc);
-    groups
-        .push(Group { names, found })
-        .map_err(AllocError::from)?;
+    push_group(&mut groups, names, found)?;
     Ok(groups)
 }

@@ -36,12 +36,6 @@ pub enum End {
     Memory,
 }
 
-/// What is set while an editor hasn't sent `initialize` yet: nothing, as nothing depends on it.
-const NOTHING: Settings<'static> = Settings {
-    keys: &[],
-    levels: None,
-};
-
 /// Answers an editor until it has sent `initialize`: the server then has the folder that the editor has open. `Some` if the
 /// session ends before. It writes whole frames, unless a write fails.
 #[tactic(auto, using(crate::proofs::SessionLemmas::none_written))]
@@ -59,8 +53,13 @@ pub fn greet<R: Source, W: Sink>(
     ensures unread { result ≡ Some End.Unread → IsTrue (R.has_failed source.new) }
     ensures unwritten { result ≡ Some End.Unwritten → IsTrue (W.has_failed sink.new) }
 {
+    // No answer before `initialize` depends on the settings.
+    let nothing = Settings {
+        keys: &[],
+        levels: None,
+    };
     'frames: for _ in 0..u64::MAX {
-        if let Some(end) = turn(alloc, NOTHING, server, source, sink) {
+        if let Some(end) = turn(alloc, nothing, server, source, sink) {
             return Some(end);
         }
         if server.phase != Phase::New {

@@ -8,6 +8,6 @@ abbrev pub invariant-frames : goal.invariant-frames
 invariant-frames g l = record {
   frames : WritesFrames (g.W.Sink.contents l.fn.sink) (g.W.Sink.contents l.sink);
   still : l.server.phase ≡ first;
-  served : AreServed l.consts.NOTHING l.fn.server (g.R.Source.remaining l.fn.source) (g.W.Sink.contents l.fn.sink)
+  served : AreServed l.nothing l.fn.server (g.R.Source.remaining l.fn.source) (g.W.Sink.contents l.fn.sink)
       (at (g.R.Source.remaining l.source) (g.W.Sink.contents l.sink) l.server) l.counter;
 }

@@ -1,1 +1,1 @@
-let a = format_description!("[optional[day]]");
+let a = parse_borrowed::<3>("[optional[day]]");
