@@ -1,6 +1,6 @@
 -- What is found upwards for names.
-use Rattle.std.proofs.Common.{◌≡◌, ◌≢◌, ℕ, ◌+◌, Bool, true, false, List, [], ◌∷◌, ◌++◌, length, take, drop, refl, sym, ap, subst, ◌∙◌, append_assoc, append-nil, length-append, arith}
-use Rattle.std.proofs.Math.Seq.{drop-append_seam, take-append_seam}
+use Rattle.std.proofs.Common.{◌≡◌, ◌≢◌, ◌≤◌, ℕ, ◌+◌, ◌-◌, get_or, Bool, true, false, List, [], ◌∷◌, ◌++◌, length, take, drop, refl, sym, ap, subst, ◌∙◌, append_assoc, append-nil, length-append, arith}
+use Rattle.std.proofs.Math.Seq.{drop-append_seam, take-append_seam, take-length}
 use Rattle.std.specs.Prelude.{Option, Some, None, codes}
 use denote.Ref.{Bor}
 use Rattle.std.specs.declared.io.ErrorKind.{ErrorKind}
@@ -33,14 +33,14 @@ by_folder tells name start folder opened is_folder is_open is kind own same open
 pub at_open : (tells : Text → Bool → Type 0) (name start folder opened : Text) (is_folder is_open : Bool)
     → is_input name ≡ false → tells name is_folder → folder ≡ folder_by is_folder name → opened ≡ folder
     → tells (opened ++ codes ".") is_open → is_open ≡ true → start ≡ folder → IsStart tells name start
-at_open tells name start folder opened is_folder is_open is kind own same opens yes at =
-    by_folder tells name start folder opened is_folder is_open is kind own same opens (at ∙ rw yes refl)
+at_open tells name start folder opened is_folder is_open is kind own same opens one at =
+    by_folder tells name start folder opened is_folder is_open is kind own same opens (at ∙ rw one refl)
 
 pub at_closed : (tells : Text → Bool → Type 0) (name start folder opened : Text) (is_folder is_open : Bool)
     → is_input name ≡ false → tells name is_folder → folder ≡ folder_by is_folder name → opened ≡ folder
     → tells (opened ++ codes ".") is_open → is_open ≡ false → start ≡ [] → IsStart tells name start
-at_closed tells name start folder opened is_folder is_open is kind own same opens no at =
-    by_folder tells name start folder opened is_folder is_open is kind own same opens (at ∙ rw no refl)
+at_closed tells name start folder opened is_folder is_open is kind own same opens none at =
+    by_folder tells name start folder opened is_folder is_open is kind own same opens (at ∙ rw none refl)
 
 same_site : (found : Option Nearest) → site_any found ≡ site_if (seen_any found)
 same_site None = refl
@@ -58,10 +58,18 @@ found_from holds fails tells file here name start begun above found at same arou
   same_site found,
 )
 
+-- Splits some names into the first and the rest, like a pattern does.
+pub split_names : (rest : List (Bor Text)) (n : ℕ) (d : Bor Text) → n ≡ length rest → 1 ≤ length rest
+    → rest ≡ get_or rest 0 d ∷ take (n - 1) (drop 1 rest)
+split_names [] n d same some = absurd (omega (arith, some))
+split_names (name ∷ rest) n d same some =
+    let few : n - 1 ≡ length rest = omega (arith, same) in
+    sym (ap (λ k. name ∷ take k rest) few ∙ ap (λ r. name ∷ r) (take-length rest))
+
 -- None of the names was looked at yet.
 pub none_yet : (Found : Text → Option Site → Type 0) (answer : Option Site) (names : List (Bor Text))
-    → HaveSame Found answer names names 0
-none_yet Found answer names = record { front = []; whole = refl; counted = refl; each = tt }
+    → HaveSame Found answer names names
+none_yet Found answer names = record { front = []; whole = refl; each = tt }
 
 one_have : (Found : Text → Option Site → Type 0) (answer : Option Site) (front : List (Bor Text)) (name : Bor Text)
     → AllHave Found answer front → Found name.now answer → AllHave Found answer (front ++ name ∷ [])
@@ -70,14 +78,18 @@ one_have Found answer (first ∷ front) name each one = (each.0, one_have Found 
 
 -- one more name with the same
 pub one_more : (Found : Text → Option Site → Type 0) (answer other : Option Site) (names rest after : List (Bor Text))
-    (name : Bor Text) (count : ℕ) → rest ≡ name ∷ after → answer ≡ other → Found name.now other
-    → HaveSame Found answer names rest count → HaveSame Found answer names after (count + 1)
-one_more Found answer other names rest after name count split same found so_far = record {
+    (name : Bor Text) → rest ≡ name ∷ after → answer ≡ other → Found name.now other
+    → HaveSame Found answer names rest → HaveSame Found answer names after
+one_more Found answer other names rest after name split same found so_far = record {
   front = so_far.front ++ name ∷ [];
   whole = so_far.whole ∙ (ap (λ r. so_far.front ++ r) split ∙ sym (append_assoc so_far.front (name ∷ []) after));
-  counted = omega (arith, length-append so_far.front (name ∷ []), so_far.counted);
   each = one_have Found answer so_far.front name so_far.each (subst (Found name.now) (sym same) found);
 }
+
+pub few_left : (Found : Text → Option Site → Type 0) (answer : Option Site) (names rest : List (Bor Text)) (left : ℕ)
+    → left ≡ length rest → HaveSame Found answer names rest → left ≤ length names
+few_left Found answer names rest left is same =
+    omega (arith, is, ap (λ (ns : List (Bor Text)). length ns) same.whole, length-append same.front rest)
 
 -- the groups so far: with those of the rest they are all groups
 abbrev pub AreGroupsTo : (Text → Option Site → Type 0) → List (Bor Text) → List (Bor Text) → List Group → Type 0
@@ -89,35 +101,41 @@ pub no_group : (Found : Text → Option Site → Type 0) (names : List (Bor Text
 no_group Found names groups none more are = subst (λ gs. AreGroupsOf Found names (gs ++ more)) (sym none) are
 
 -- one more group
-pub one_group : (Found : Text → Option Site → Type 0) (names rest after own others left : List (Bor Text))
-    (name : Bor Text) (found : Option Nearest) (group : Group) (count : ℕ) (groups new : List Group)
-    → rest ≡ name ∷ after → Found name.now (site_any found) → HaveSame Found (site_any found) after left count
-    → own ≡ take (count + 1) rest → others ≡ drop (count + 1) rest → group.names.now ≡ own → group.found ≡ found
-    → new ≡ groups ++ group ∷ [] → AreGroupsTo Found names rest groups → AreGroupsTo Found names others new
-one_group Found names rest after own others left name found group count groups new split first same taken
-    dropped named is pushed so_far more are =
+pub one_group : (Found : Text → Option Site → Type 0) (names rest after own others : List (Bor Text))
+    (name : Bor Text) (found : Option Nearest) (left count : ℕ) (groups new : List Group)
+    → rest ≡ name ∷ after → Found name.now (site_any found)
+    → ((last : List (Bor Text)) × (left ≡ length last) × HaveSame Found (site_any found) after last)
+    → count ≡ length rest - left → own ≡ take count rest → others ≡ drop count rest
+    → ((group : Group) × (new ≡ groups ++ group ∷ []) × (group.names.now ≡ own) × (group.found ≡ found))
+    → AreGroupsTo Found names rest groups → AreGroupsTo Found names others new
+one_group Found names rest after own others name found left count groups new split first run counted taken
+    dropped added so_far more are =
+    let last = run.0 in
+    let same = run.2 in
+    let group = added.0 in
     let front = name ∷ same.front in
-    let long : length front ≡ count + 1 = omega (arith, same.counted) in
-    let whole : rest ≡ front ++ left = split ∙ ap (λ r. name ∷ r) same.whole in
+    let whole : rest ≡ front ++ last = split ∙ ap (λ r. name ∷ r) same.whole in
+    let long : length front ≡ count =
+    omega (arith, counted, run.1, ap (λ (ns : List (Bor Text)). length ns) whole, length-append front last) in
     let here : own ≡ front =
-    taken ∙ (ap (λ k. take k rest) (sym long) ∙ (ap (take (length front)) whole ∙ take-append_seam front left)) in
-    let there : others ≡ left =
-    dropped ∙ (ap (λ k. drop k rest) (sym long) ∙ (ap (drop (length front)) whole ∙ drop-append_seam front left)) in
-    let names_are : group.names.now ≡ front = named ∙ here in
+    taken ∙ (ap (λ k. take k rest) (sym long) ∙ (ap (take (length front)) whole ∙ take-append_seam front last)) in
+    let there : others ≡ last =
+    dropped ∙ (ap (λ k. drop k rest) (sym long) ∙ (ap (drop (length front)) whole ∙ drop-append_seam front last)) in
+    let names_are : group.names.now ≡ front = added.2 ∙ here in
     let have : AllHave Found (site_any group.found) group.names.now =
-    subst (λ (f : Option Nearest). AllHave Found (site_any f) group.names.now) (sym is)
+    subst (λ (f : Option Nearest). AllHave Found (site_any f) group.names.now) (sym added.3)
     (subst (AllHave Found (site_any found)) (sym names_are) (first, same.each)) in
     let all : AreGroupsOf Found rest (group ∷ more) = (
       others,
       whole ∙ (ap (λ r. front ++ r) (sym there) ∙ ap (λ f. f ++ others) (sym names_are)),
-      λ none. absurd (not_none front (sym names_are ∙ none)),
+      λ none. not_none same.front (sym names_are ∙ none),
       have,
       are,
     ) in
-    subst (AreGroupsOf Found names) (sym (append_assoc groups (group ∷ []) more) ∙ ap (λ g. g ++ more) (sym pushed))
+    subst (AreGroupsOf Found names) (sym (append_assoc groups (group ∷ []) more) ∙ ap (λ g. g ++ more) (sym added.1))
     (so_far (group ∷ more) all)
   where
-    not_none : (front : List (Bor Text)) → name ∷ same.front ≡ [] → ⊥
+    not_none : (front : List (Bor Text)) → ◌≡◌ {A = List (Bor Text)} (name ∷ front) [] → ⊥
     not_none front none = absurd cc
 
 pub all_groups : (Found : Text → Option Site → Type 0) (names rest : List (Bor Text)) (groups : List Group) → rest ≡ []

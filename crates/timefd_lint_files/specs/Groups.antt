@@ -66,12 +66,10 @@ abbrev pub AllHave : (Text → Option Site → Type 0) → Option Site → List 
 AllHave Found answer [] = ⊤
 AllHave Found answer (name ∷ names) = Found name.now answer × AllHave Found answer names
 
--- These first names have this answer; `rest` are the others.
-pub record HaveSame (Found : Text → Option Site → Type 0) (answer : Option Site) (names rest : List (Bor Text)) (count : ℕ)
-    : Type 0 where
+-- The names in front of the rest have this answer.
+pub record HaveSame (Found : Text → Option Site → Type 0) (answer : Option Site) (names rest : List (Bor Text)) : Type 0 where
   pub front : List (Bor Text)
   pub whole : names ≡ front ++ rest
-  pub counted : length front ≡ count
   pub each : AllHave Found answer front
 
 -- The groups have these names, one after another, and each has what is found for all of its names.

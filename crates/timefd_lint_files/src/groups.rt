@@ -105,9 +105,9 @@ fn is_same(one: &Option<Nearest>, other: &Option<Nearest>) -> bool
     }
 }
 
-/// How many of these names, from the first on, have this found for them.
-#[tactic(auto, using(crate::proofs::GroupLemmas::none_yet, crate::proofs::GroupLemmas::one_more))]
-fn same_count<S: FileSystem>(
+/// How many names are left after the first ones that have this found for them.
+#[tactic(auto, using(crate::proofs::GroupLemmas::none_yet, crate::proofs::GroupLemmas::few_left))]
+fn left_after<S: FileSystem>(
     system: &S,
     alloc: Global,
     file: &str,
@@ -115,21 +115,20 @@ fn same_count<S: FileSystem>(
     found: &Option<Nearest>,
     names: &[&str],
 ) -> Result<usize, WalkError>
-    ensures few { IfOk result (λ count. count ≤ length names.now) }
-    ensures same { IfOk result (λ count. (others : List (Bor Text)) × spec.HaveSame (spec.IsFoundFor (S.holds system.now)
-        (S.fails system.now) (S.tells system.now) file.now here.now) (spec.site_any found.now) names.now others count) }
+    ensures few { IfOk result (λ left. left ≤ length names.now) }
+    ensures same { IfOk result (λ left. (rest : List (Bor Text)) × (left ≡ length rest)
+        × spec.HaveSame (spec.IsFoundFor (S.holds system.now) (S.fails system.now) (S.tells system.now) file.now here.now)
+        (spec.site_any found.now) names.now rest) }
 {
-    let mut count = 0;
     let mut rest = names;
     'names: while let [name, after @ ..] = rest {
         let other = found_for(system, alloc, file, here, name)?;
         if !is_same(found, &other) {
-            return Ok(count);
+            return Ok(rest.len());
         }
-        count += 1;
         rest = after;
     }
-    Ok(count)
+    Ok(0)
 }
 
 /// Adds a group.
@@ -148,7 +147,7 @@ fn push_group<'a>(
 }
 
 /// All names in groups.
-#[tactic(auto, using(crate::proofs::GroupLemmas::no_group, crate::proofs::GroupLemmas::one_group, crate::proofs::GroupLemmas::all_groups))]
+#[tactic(auto, using(crate::proofs::GroupLemmas::no_group, crate::proofs::GroupLemmas::all_groups))]
 fn all_groups<'a, S: FileSystem>(
     system: &S,
     alloc: Global,
@@ -163,9 +162,10 @@ fn all_groups<'a, S: FileSystem>(
     let mut rest = names;
     'groups: while let [name, after @ ..] = rest {
         let found = found_for(system, alloc, file, here, name)?;
-        let count = same_count(system, alloc, file, here, &found, after)? + 1;
-        push_group(&mut groups, &rest[..count], found)?;
-        rest = &rest[count..];
+        let left = left_after(system, alloc, file, here, &found, after)?;
+        let (own, others) = rest.split_at(rest.len() - left);
+        push_group(&mut groups, own, found)?;
+        rest = others;
     }
     Ok(groups)
 }
