@@ -7,7 +7,7 @@ use Rattle.std.specs.Str.{NoCharPasses}
 use Rattle.std.specs.Str.Pattern.{RFindsChar, SplitsAroundMatch}
 use Rattle.timefd_lint_files.specs.Around.{before_slash, folder_of}
 use Rattle.timefd_lint_files.specs.Lines.{has_slash}
-use Rattle.timefd_lint_files.specs.Matching.{Text, slash}
+use Rattle.timefd_lint_files.specs.Matching.{Text}
 
 abbrev pub is_slash : ℕ → Bool
 is_slash byte = byte == 47

@@ -1,13 +1,15 @@
 -- What is found upwards for names.
-use Rattle.std.proofs.Common.{◌≡◌, ◌≢◌, ◌≤◌, ℕ, ◌+◌, ◌-◌, get_or, Bool, true, false, List, [], ◌∷◌, ◌++◌, length, take, drop, refl, sym, ap, subst, ◌∙◌, append_assoc, append-nil, length-append, arith}
+use Rattle.std.proofs.Common.{◌≡◌, ◌≢◌, ◌≤◌, ◌<◌, ℕ, ◌-◌, get_or, Bool, true, false, List, [], ◌∷◌, ◌++◌, length, take, drop, refl, sym, ap, subst, ◌∙◌, append_assoc, append-nil, length-append, arith}
 use Rattle.std.proofs.Math.Seq.{drop-append_seam, take-append_seam, take-length}
 use Rattle.std.specs.Prelude.{Option, Some, None, codes}
 use denote.Ref.{Bor}
 use Rattle.std.specs.declared.io.ErrorKind.{ErrorKind}
 use Rattle.timefd_lint_files.specs.declared.groups.Group.{Group}
 use Rattle.timefd_lint_files.specs.declared.upwards.Nearest.{Nearest}
-use Rattle.timefd_lint_files.specs.Around.{folders_around}
-use Rattle.timefd_lint_files.specs.Groups.{AllHave, AreGroups, AreGroupsOf, HaveSame, IsFoundFor, IsStart, IsStartOr, Site, folder_by, if_open, site_any, site_if}
+use Rattle.timefd_lint_files.specs.declared.walk_error.WalkError.{WalkError}
+use Rattle.timefd_lint_files.specs.declared.walk_error.WalkError.TheVariants.{Memory, Failed}
+use Rattle.timefd_lint_files.specs.Around.{IsUnreadUpwards, folders_around}
+use Rattle.timefd_lint_files.specs.Groups.{AllHave, AreGroups, AreGroupsOf, HaveSame, IsFoundFor, IsStart, IsStartOr, IsUnreadFor, Site, folder_by, if_open, site_any, site_if}
 use Rattle.timefd_lint_files.specs.Matching.{Text}
 use Rattle.timefd_lint_files.specs.Upwards.{IsNearest, seen_any}
 use Rattle.timefd_lint_files.specs.Walks.{is_input}
@@ -58,6 +60,16 @@ found_from holds fails tells file here name start begun above found at same arou
   same_site found,
 )
 
+pub unread_from : (fails : Text → ErrorKind → Type 0) (tells : Text → Bool → Type 0) (file here name start begun : Text)
+    (above : ℕ) (e : WalkError) → IsStart tells name start → begun ≡ start → above ≡ folders_around here begun
+    → IsUnreadUpwards fails file above begun e → IsUnreadFor fails tells file here name e
+unread_from fails tells file here name start begun above Memory at same around is = tt
+unread_from fails tells file here name start begun above (Failed path reason) at same around is = (
+  begun,
+  subst (IsStart tells name) (sym same) at,
+  subst (λ (k : ℕ). IsUnreadUpwards fails file k begun (Failed path reason)) around is,
+)
+
 -- Splits some names into the first and the rest, like a pattern does.
 pub split_names : (rest : List (Bor Text)) (n : ℕ) (d : Bor Text) → n ≡ length rest → 1 ≤ length rest
     → rest ≡ get_or rest 0 d ∷ take (n - 1) (drop 1 rest)
@@ -65,6 +77,10 @@ split_names [] n d same some = absurd (omega (arith, some))
 split_names (name ∷ rest) n d same some =
     let few : n - 1 ≡ length rest = omega (arith, same) in
     sym (ap (λ k. name ∷ take k rest) few ∙ ap (λ r. name ∷ r) (take-length rest))
+
+pub none_left : (rest : List (Bor Text)) → length rest < 1 → rest ≡ []
+none_left [] few = refl
+none_left (name ∷ rest) few = absurd (omega (arith, few))
 
 -- None of the names was looked at yet.
 pub none_yet : (Found : Text → Option Site → Type 0) (answer : Option Site) (names : List (Bor Text))
@@ -102,21 +118,21 @@ no_group Found names groups none more are = subst (λ gs. AreGroupsOf Found name
 
 -- one more group
 pub one_group : (Found : Text → Option Site → Type 0) (names rest after own others : List (Bor Text))
-    (name : Bor Text) (found : Option Nearest) (left count : ℕ) (groups new : List Group)
+    (name : Bor Text) (found : Option Nearest) (left : ℕ) (groups new : List Group)
     → rest ≡ name ∷ after → Found name.now (site_any found)
     → ((last : List (Bor Text)) × (left ≡ length last) × HaveSame Found (site_any found) after last)
-    → count ≡ length rest - left → own ≡ take count rest → others ≡ drop count rest
+    → own ≡ take (length rest - left) rest → others ≡ drop (length rest - left) rest
     → ((group : Group) × (new ≡ groups ++ group ∷ []) × (group.names.now ≡ own) × (group.found ≡ found))
     → AreGroupsTo Found names rest groups → AreGroupsTo Found names others new
-one_group Found names rest after own others name found left count groups new split first run counted taken
-    dropped added so_far more are =
+one_group Found names rest after own others name found left groups new split first run taken dropped added so_far
+    more are =
     let last = run.0 in
     let same = run.2 in
     let group = added.0 in
     let front = name ∷ same.front in
     let whole : rest ≡ front ++ last = split ∙ ap (λ r. name ∷ r) same.whole in
-    let long : length front ≡ count =
-    omega (arith, counted, run.1, ap (λ (ns : List (Bor Text)). length ns) whole, length-append front last) in
+    let long : length front ≡ length rest - left =
+    omega (arith, run.1, ap (λ (ns : List (Bor Text)). length ns) whole, length-append front last) in
     let here : own ≡ front =
     taken ∙ (ap (λ k. take k rest) (sym long) ∙ (ap (take (length front)) whole ∙ take-append_seam front last)) in
     let there : others ≡ last =

@@ -1,5 +1,5 @@
 -- Names without the `./` that they begin with.
-use Rattle.std.proofs.Common.{◌≡◌, ℕ, ◌==◌, Bool, true, false, List, [], ◌∷◌, ◌++◌, drop, refl, sym, ap, subst, ◌∙◌, codes, inl, inr, eqb-true, if◌then◌else◌}
+use Rattle.std.proofs.Common.{◌≡◌, ◌==◌, [], ◌∷◌, ◌++◌, refl, sym, ap, ◌∙◌, codes, inl, inr, eqb-true}
 use Rattle.std.proofs.lemmas.Bool.{and_parts, cases_Bool}
 use Rattle.std.specs.Str.Pattern.{FindsTextPrefix, LacksTextAt, StripsPrefix}
 use Rattle.timefd_lint_files.specs.Matching.{Text}
@@ -19,7 +19,7 @@ same_name (first ∷ (second ∷ rest)) lacks = elim (cases_Bool (is_here first 
   | inl is ↦
       let parts = and_parts (first == 46) (second == 47) is in
       absurd (lacks rest (ap (λ b. b ∷ (second ∷ rest)) (eqb-true first 46 parts.0)
-          ∙ ap (λ b. 46 ∷ (b ∷ rest)) (eqb-true second 47 parts.1)))
+      ∙ ap (λ b. 46 ∷ (b ∷ rest)) (eqb-true second 47 parts.1)))
   | inr other ↦ rw other refl
 ]
 

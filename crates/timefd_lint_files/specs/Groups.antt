@@ -1,10 +1,12 @@
 -- What is found upwards for names, and which of them have the same.
-use Rattle.std.specs.Prelude.{ℕ, ◌≡◌, ◌≢◌, Bool, true, false, if◌then◌else◌, List, [], ◌∷◌, ◌++◌, length, codes, Option, Some, None, string_bytes, ⊤}
+use Rattle.std.specs.Prelude.{◌≡◌, ◌≢◌, Bool, true, false, if◌then◌else◌, List, [], ◌∷◌, ◌++◌, codes, Option, Some, None, string_bytes, ⊤}
 use denote.Ref.{Bor}
 use Rattle.std.specs.declared.io.ErrorKind.{ErrorKind}
 use Rattle.timefd_lint_files.specs.declared.groups.Group.{Group}
 use Rattle.timefd_lint_files.specs.declared.upwards.Nearest.{Nearest}
-use Rattle.timefd_lint_files.specs.Around.{folder_of, folders_around}
+use Rattle.timefd_lint_files.specs.declared.walk_error.WalkError.{WalkError}
+use Rattle.timefd_lint_files.specs.declared.walk_error.WalkError.TheVariants.{Memory, Failed}
+use Rattle.timefd_lint_files.specs.Around.{IsUnreadUpwards, folder_of, folders_around}
 use Rattle.timefd_lint_files.specs.Matching.{Text}
 use Rattle.timefd_lint_files.specs.Starts.{without_here}
 use Rattle.timefd_lint_files.specs.Upwards.{IsNearest, Near}
@@ -60,6 +62,12 @@ IsFoundFor holds fails tells file here name answer = (start : Text) × (near : O
     × IsStart tells name start
     × IsNearest holds fails tells file (folders_around here start) start near
     × (answer ≡ site_if near)
+
+-- The file can't be read in the folder of a name, or in one around it.
+abbrev pub IsUnreadFor : (Text → ErrorKind → Type 0) → (Text → Bool → Type 0) → Text → Text → Text → WalkError → Type 0
+IsUnreadFor fails tells file here name Memory = ⊤
+IsUnreadFor fails tells file here name (Failed path reason) = (start : Text) × IsStart tells name start
+    × IsUnreadUpwards fails file (folders_around here start) start (Failed path reason)
 
 -- Each of these names has this answer.
 abbrev pub AllHave : (Text → Option Site → Type 0) → Option Site → List (Bor Text) → Type 0

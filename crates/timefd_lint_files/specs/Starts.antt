@@ -1,5 +1,5 @@
 -- Where a name leads, seen from the folder that patterns are relative to.
-use Rattle.std.specs.Prelude.{ℕ, ◌≡◌, ◌-◌, Bool, true, false, not, ◌&&◌, ◌==◌, nat_eq, if◌then◌else◌, List, [], ◌∷◌, ◌++◌, length, take, drop, Option, Some, None}
+use Rattle.std.specs.Prelude.{ℕ, ◌-◌, Bool, false, not, ◌&&◌, ◌==◌, nat_eq, if◌then◌else◌, [], ◌∷◌, ◌++◌, length, take, drop, Option, Some, None}
 use Rattle.std.specs.List.{starts_with}
 use Rattle.timefd_lint_files.specs.declared.excluded.Excluded.{Excluded}
 use Rattle.timefd_lint_files.specs.declared.start.Start.{Start}

@@ -1,6 +1,6 @@
 //! What is found upwards for names, and which of them have the same.
 
-ghost use Rattle.std.specs.Prelude.{◌≡◌, ◌≤◌, ◌++◌, ◌∷◌, [], IfOk, IsTrue, List, OnOk, Some, length, string_bytes};
+ghost use Rattle.std.specs.Prelude.{◌≡◌, ◌≤◌, ◌-◌, ◌++◌, ◌∷◌, [], IfErr, IfOk, IsTrue, List, OnOk, Some, drop, length, string_bytes, take};
 ghost use denote.Ref.{Bor};
 ghost use Rattle.timefd_lint_files.specs.Matching.{Text};
 ghost use Rattle.timefd_lint_files.specs.declared.groups.Group.{Group};
@@ -62,7 +62,7 @@ fn start_for<S: FileSystem>(system: &S, alloc: Global, name: &str) -> Result<Str
 /// # Errors
 ///
 /// An `Err` says that memory ran out, or names a file that is there and can't be read.
-#[tactic(auto, using(crate::proofs::GroupLemmas::found_from))]
+#[tactic(auto, using(crate::proofs::GroupLemmas::found_from, crate::proofs::GroupLemmas::unread_from))]
 pub fn found_for<S: FileSystem>(
     system: &S,
     alloc: Global,
@@ -70,8 +70,9 @@ pub fn found_for<S: FileSystem>(
     here: &[u8],
     name: &str,
 ) -> Result<Option<Nearest>, WalkError>
-    ensures { IfOk result (λ found. spec.IsFoundFor (S.holds system.now) (S.fails system.now) (S.tells system.now)
+    ensures found { IfOk result (λ found. spec.IsFoundFor (S.holds system.now) (S.fails system.now) (S.tells system.now)
         file.now here.now name.now (spec.site_any found)) }
+    ensures error { IfErr result (spec.IsUnreadFor (S.fails system.now) (S.tells system.now) file.now here.now name.now) }
 {
     let start = start_for(system, alloc, name)?;
     let above = folders_around(alloc, here, &start)?;
@@ -131,6 +132,22 @@ fn left_after<S: FileSystem>(
     Ok(0)
 }
 
+/// All names but the last `left` ones.
+fn all_but<'a>(names: &'a [&'a str], left: usize) -> &'a [&'a str]
+    ensures { result.now ≡ take (length names.now - left) names.now }
+{
+    let (own, _) = names.split_at(names.len().saturating_sub(left));
+    own
+}
+
+/// The last `left` names.
+fn last_of<'a>(names: &'a [&'a str], left: usize) -> &'a [&'a str]
+    ensures { result.now ≡ drop (length names.now - left) names.now }
+{
+    let (_, others) = names.split_at(names.len().saturating_sub(left));
+    others
+}
+
 /// Adds a group.
 fn push_group<'a>(
     groups: &mut Vec<Group<'a>>,
@@ -163,9 +180,8 @@ fn all_groups<'a, S: FileSystem>(
     'groups: while let [name, after @ ..] = rest {
         let found = found_for(system, alloc, file, here, name)?;
         let left = left_after(system, alloc, file, here, &found, after)?;
-        let (own, others) = rest.split_at(rest.len() - left);
-        push_group(&mut groups, own, found)?;
-        rest = others;
+        push_group(&mut groups, all_but(rest, left), found)?;
+        rest = last_of(rest, left);
     }
     Ok(groups)
 }

@@ -140,11 +140,7 @@ pub fn start_below<'a>(excluded: Excluded<'a>, name: &'a str) -> Start<'a>
 }
 
 /// The path of what a name leads to, as these patterns match it. An `Err` says that memory ran out.
-pub fn path_below(
-    alloc: Global,
-    excluded: Excluded<'_>,
-    name: &str,
-) -> Result<Vec<u8>, AllocError>
+pub fn path_below(alloc: Global, excluded: Excluded<'_>, name: &str) -> Result<Vec<u8>, AllocError>
     ensures { IfOk result (λ path. path.items ≡ spec.path_below excluded.entry name.now) }
 {
     joined(alloc, start_below(excluded, name))
