@@ -3,6 +3,8 @@
 ghost use Rattle.std.specs.Prelude.{◌≡◌, IfOk, Ok, string_bytes};
 ghost use Rattle.timefd_lint_options.specs.Config.Config as says;
 ghost use Rattle.timefd_lint.specs.Projects as specs;
+ghost use Rattle.timefd_lint.specs.declared.config.ConfigFailure.TheVariants as failures;
+ghost use Rattle.timefd_lint_files.specs.declared.walk_error.WalkError.TheVariants as walks;
 ghost use Rattle.timefd_lint.specs.Rewriting.{rewriting_of};
 ghost use Rattle.timefd_lint.specs.Counted as spec;
 
@@ -105,7 +107,9 @@ fn project_found(alloc: Global, here: &str, found: &Nearest) -> Result<Project, 
 }
 
 /// Why no file of settings is found.
-pub fn unfound(alloc: Global, error: WalkError) -> ConfigFailure {
+pub fn unfound(alloc: Global, error: WalkError) -> ConfigFailure
+    ensures { error ≡ walks.Memory → result ≡ failures.Memory }
+{
     match error {
         WalkError::Memory => ConfigFailure::Memory,
         WalkError::Failed { path, reason } => wrong(alloc, &path, unreadable(reason)),

@@ -126,7 +126,10 @@ fn options_status(rt: &HostRuntime, words: &[&str]) -> u8 {
 // Runs over the named files and folders, and returns the status. The keys and levels of the arguments come first,
 // then those of each name's file of settings.
 fn keys_status(rt: &HostRuntime, settings: Settings<'_>, words: &[&str], names: &[&str]) -> u8 {
-    let (Ok(keys), Ok(here)) = (keys_of(rt.alloc(), words), working_directory(rt, rt.alloc())) else {
+    let (Ok(keys), Ok(here)) = (
+        keys_of(rt.alloc(), words),
+        working_directory(rt, rt.alloc()),
+    ) else {
         return no_memory(rt);
     };
     if settings.serves {

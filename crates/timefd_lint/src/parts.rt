@@ -48,7 +48,11 @@ impl Part<'_> {
     fn file_count(&self) -> usize
         ensures { result ≡ spec.file_count_of self.now }
     {
-        if self.reads_input { 1 } else { self.files.len() }
+        if self.reads_input {
+            1
+        } else {
+            self.files.len()
+        }
     }
 
     /// Whether something is read line by line, or as a whole text: a file that is no source, or the standard input.

@@ -3,7 +3,6 @@
 ghost use Rattle.std.specs.Prelude.{◌≡◌, ◌≢◌, [], IfErr, IfOk, IsTrue, OnOk};
 ghost use Rattle.timefd_lint.specs.Causes.{IsCausedBy};
 ghost use Rattle.timefd_lint.specs.Files.{IsNoted, IsOpenedBy, IsRunIn, IsRunOfFile, IsRunOfName, IsRunOfNames, input_name};
-ghost use Rattle.timefd_lint.specs.Parts.{AreRun, IsRunOfPart};
 ghost use Rattle.timefd_lint.specs.Sources.{IsRunWith, any_source};
 ghost use Rattle.timefd_lint.specs.Sources as sources;
 ghost use Rattle.timefd_lint.specs.Reported.{IsRun, tally_of};
@@ -12,58 +11,15 @@ use crate::failure::OpenError;
 use crate::line::RunError;
 use crate::lines::{failed, lint_lines, lint_whole};
 use crate::options::Options;
-use crate::parts::Part;
 use crate::rust::{is_source, lint_source};
 use crate::source::Source;
 use crate::tally::Tally;
 use std::alloc::Global;
-use timefd_bin_streams::{BufferedSource, Sink, borrowed};
+use timefd_bin_streams::{BufferedSource, Sink};
 use timefd_lint_options::is_input;
 
 /// The name that reports use for the standard input.
 const INPUT: &str = "<stdin>";
-
-/// Checks the files of each part by its settings, one part after another.
-#[tactic(auto, using(crate::proofs::PartLemmas::no_part, crate::proofs::PartLemmas::one_part, crate::proofs::PartLemmas::all_parts))]
-pub fn run_parts<S: Source, I: BufferedSource, W: Sink>(
-    source: &S,
-    alloc: Global,
-    is_colored: bool,
-    parts: &[Part<'_>],
-    input: &mut I,
-    writer: &mut W,
-) -> Result<Tally, RunError>
-    ensures reported { IfOk result (AreRun is_colored parts.now (W.contents writer.old) (W.contents writer.new)) }
-    ensures unwritten { IfErr result (IsCausedBy (W.has_failed writer.new)) }
-{
-    let mut tally = Tally::new();
-    let mut rest = parts;
-    'parts: while let [part, after @ ..] = rest {
-        tally = tally.and(run_part(source, alloc, is_colored, part, input, writer)?);
-        rest = after;
-    }
-    Ok(tally)
-}
-
-// Checks the files of a part. Without any nothing is read.
-#[tactic(auto, using(crate::proofs::PartLemmas::no_file, crate::proofs::PartLemmas::some_files))]
-fn run_part<S: Source, I: BufferedSource, W: Sink>(
-    source: &S,
-    alloc: Global,
-    is_colored: bool,
-    part: &Part<'_>,
-    input: &mut I,
-    writer: &mut W,
-) -> Result<Tally, RunError>
-    ensures reported { IfOk result (IsRunOfPart is_colored part.now (W.contents writer.old) (W.contents writer.new)) }
-    ensures unwritten { IfErr result (IsCausedBy (W.has_failed writer.new)) }
-{
-    if part.is_empty() {
-        return Ok(Tally::new());
-    }
-    let files = borrowed(alloc, &part.files)?;
-    run(source, alloc, part.options(is_colored, &files), input, writer)
-}
 
 /// Checks each file in order, or the standard input if no file is named, and writes what is wrong. A file
 /// that can't be read is noted, and the others are still checked. The name `-` means the standard input. A

@@ -4,7 +4,7 @@ ghost use Rattle.std.specs.Prelude.{◌≡◌, IfErr, IfOk, None, false};
 ghost use Rattle.timefd_lint_options.specs.Conflicts.{is_log};
 ghost use Rattle.timefd_lint.specs.Causes.{IsCausedBy};
 ghost use Rattle.timefd_lint.specs.Rewriting.{rewriting_of};
-ghost use Rattle.timefd_lint.specs.Parts.{AreRun};
+ghost use Rattle.timefd_lint.specs.Parts.{AreRun, IsRunOfPart};
 
 use crate::line::RunError;
 use crate::log::write_log;
@@ -13,11 +13,12 @@ use crate::parts::{Part, all_files, file_count};
 use crate::progress::Watched;
 use crate::rewriting::{Rewriting, rewriting_of};
 use crate::rewritten::rewrite_files;
-use crate::run::run_parts;
-use crate::source::BUFFER;
+use crate::run::run;
+use crate::source::{BUFFER, Source};
 use crate::tally::Tally;
+use std::alloc::Global;
 use std::io::BufReader;
-use timefd_bin_streams::{FromBufReader, Sink, ToWriter};
+use timefd_bin_streams::{BufferedSource, FromBufReader, Sink, ToWriter, borrowed};
 use timefd_lint_options::{Settings, is_log};
 
 /// Checks the files or rewrites them, and writes the report in the chosen format.
@@ -130,14 +131,55 @@ fn check_parts<W: Sink>(
     };
     let mut input = FromBufReader::new(reader);
     let watched = Watched::new(rt, file_count(parts));
-    let end = run_parts(
-        &watched,
-        rt.alloc(),
-        is_colored,
-        parts,
-        &mut input,
-        output,
-    );
+    let end = run_parts(&watched, rt.alloc(), is_colored, parts, &mut input, output);
     watched.end();
     end
+}
+
+// Checks the files of each part by its settings, one part after another.
+#[tactic(auto, using(crate::proofs::PartLemmas::no_part, crate::proofs::PartLemmas::one_part, crate::proofs::PartLemmas::all_parts))]
+fn run_parts<S: Source, I: BufferedSource, W: Sink>(
+    source: &S,
+    alloc: Global,
+    is_colored: bool,
+    parts: &[Part<'_>],
+    input: &mut I,
+    output: &mut W,
+) -> Result<Tally, RunError>
+    ensures reported { IfOk result (AreRun is_colored parts.now (W.contents output.old) (W.contents output.new)) }
+    ensures unwritten { IfErr result (IsCausedBy (W.has_failed output.new)) }
+{
+    let mut tally = Tally::new();
+    let mut rest = parts;
+    'parts: while let [part, after @ ..] = rest {
+        tally = tally.and(run_part(source, alloc, is_colored, part, input, output)?);
+        rest = after;
+    }
+    Ok(tally)
+}
+
+// Checks the files of a part. Without any nothing is read.
+#[tactic(auto, using(crate::proofs::PartLemmas::no_file, crate::proofs::PartLemmas::some_files))]
+fn run_part<S: Source, I: BufferedSource, W: Sink>(
+    source: &S,
+    alloc: Global,
+    is_colored: bool,
+    part: &Part<'_>,
+    input: &mut I,
+    output: &mut W,
+) -> Result<Tally, RunError>
+    ensures reported { IfOk result (IsRunOfPart is_colored part.now (W.contents output.old) (W.contents output.new)) }
+    ensures unwritten { IfErr result (IsCausedBy (W.has_failed output.new)) }
+{
+    if part.is_empty() {
+        return Ok(Tally::new());
+    }
+    let files = borrowed(alloc, &part.files)?;
+    run(
+        source,
+        alloc,
+        part.options(is_colored, &files),
+        input,
+        output,
+    )
 }

@@ -32,5 +32,5 @@ pub use message::{Message, Notification, Request, message_of};
 pub use reply::{Answer, Refusal, Reply, code_of, sentence_of};
 pub use server::{Phase, Server, Settings, Step, take, unanswered};
 pub use session::{End, greet, serve, serve_on};
-pub use uri::path_of;
 pub use text::text_of;
+pub use uri::path_of;

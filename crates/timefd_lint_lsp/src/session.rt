@@ -58,7 +58,7 @@ pub fn greet<R: Source, W: Sink>(
         keys: &[],
         levels: None,
     };
-    'frames: for _ in 0..u64::MAX {
+    'greeting: for _ in 0..u64::MAX {
         if let Some(end) = turn(alloc, nothing, server, source, sink) {
             return Some(end);
         }

@@ -13,6 +13,7 @@ struct Piece<'a> {
 }
 
 /// What follows `front`, if a text begins with it.
+#[tactic(auto, using(crate::proofs::UriLemmas::one_same, crate::proofs::UriLemmas::one_differs, crate::proofs::UriLemmas::text_ends, crate::proofs::UriLemmas::front_ends))]
 fn after_front<'a>(front: &[u8], text: &'a [u8]) -> Option<&'a [u8]>
     ensures { option_map (λ rest. rest.now) result ≡ spec.after_front front.now text.now }
 {
@@ -103,6 +104,7 @@ fn first_piece(text: &[u8]) -> Option<Piece<'_>>
 }
 
 /// The bytes that a text stands for: two digits after each percent sign are one.
+#[tactic(auto, using(crate::proofs::UriLemmas::one_piece, crate::proofs::UriLemmas::none_stand, crate::proofs::UriLemmas::all_stand))]
 fn decoded(alloc: Global, text: &[u8]) -> Result<Option<Vec<u8>>, AllocError>
     ensures { IfOk result (λ bytes. spec.items_any bytes ≡ spec.decoded text.now) }
 {

@@ -113,7 +113,12 @@ const EXCLUDED_BELOW: &[(&str, &str, &[&str], &str)] = &[
         &["src/a.rs", "./src/a.rs", "././src/a.rs", "src/b/a.rs"],
         "|src/b/a.rs",
     ),
-    ("/p/", "/b.txt\n", &["/p/b.txt", "/p/c/b.txt"], "|/p/c/b.txt"),
+    (
+        "/p/",
+        "/b.txt\n",
+        &["/p/b.txt", "/p/c/b.txt"],
+        "|/p/c/b.txt",
+    ),
     (
         "../",
         "/b.txt\n/top/c.txt\n",
@@ -190,7 +195,10 @@ fn neighbours_are_in_one_group(rt: HostRuntime) {
     ];
     let groups = grouped(&Fake, alloc, "exclude", b"home/u/", names).expect(&rt, "groups");
     let groups = shown_groups(alloc, &groups).expect(&rt, "memory");
-    assert_eq!(rt; groups.as_str(), " 2 made/.git/info/ 5 2 | 1 made/.git/info/ 5");
+    assert_eq!(rt;
+        groups.as_str(),
+        " 2 made/.git/info/ 5 2 | 1 made/.git/info/ 5"
+    );
     let groups = grouped(&Fake, alloc, "exclude", b"home/u/", &[]).expect(&rt, "groups");
     let groups = shown_groups(alloc, &groups).expect(&rt, "memory");
     assert_eq!(rt; groups.as_str(), " 0 |");

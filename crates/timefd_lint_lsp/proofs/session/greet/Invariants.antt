@@ -4,8 +4,8 @@ use Rattle.timefd_lint_lsp.specs.Sessions.{AreServed, WritesFrames, at}
 use Rattle.timefd_lint_lsp.proofs.session.greet.Given as goal
 
 -- Whole frames were written, one for each frame that was read and asked for it, and none was the first `initialize`.
-abbrev pub invariant-frames : goal.invariant-frames
-invariant-frames g l = record {
+abbrev pub invariant-greeting : goal.invariant-greeting
+invariant-greeting g l = record {
   frames : WritesFrames (g.W.Sink.contents l.fn.sink) (g.W.Sink.contents l.sink);
   still : l.server.phase ≡ first;
   served : AreServed l.nothing l.fn.server (g.R.Source.remaining l.fn.source) (g.W.Sink.contents l.fn.sink)
