@@ -1,6 +1,6 @@
 -- The words that may be written at a cursor.
-use Rattle.std.proofs.Common.{ℕ, ◌≡◌, List, Option, None, Some, inl, inr, refl, sym, subst, ◌∙◌, take, drop, IsUtf8}
-use Rattle.std.specs.Prelude.{IfOk, Result, Ok, Err}
+use Rattle.std.proofs.Common.{ℕ, ◌≡◌, Bool, true, false, List, Option, None, Some, inl, inr, refl, sym, subst, ap, ◌∙◌, ◌↔◌, take, drop, length, IsUtf8}
+use Rattle.std.specs.Prelude.{IfOk, IsSome, Result, Ok, Err}
 use Rattle.std.specs.Str.{IsCharBoundary}
 use Rattle.timefd_lang_component.specs.Tree.{Text}
 use Rattle.timefd_lint_diagnosis.specs.declared.slot.Slot.{Slot}
@@ -12,7 +12,7 @@ use Rattle.timefd_lint_sources.specs.declared.reported.Source.{Source}
 use Rattle.timefd_lint_sources.specs.Judged.{language_in, text_of}
 use Rattle.timefd_lint_sources.specs.Reported.{AllFound, AreAllOf}
 use Rattle.timefd_lint_lsp.specs.declared.editor.completed.Completion.{Completion}
-use Rattle.timefd_lint_lsp.specs.Editor.Completions.{IsCompletedAs, IsCompletedAt, IsCompletedFrom, IsCompletedIn, IsCompletedOfAny, IsCompletedOn, IsCompletedOver, IsCompletedWith, IsCompletion, first_touched}
+use Rattle.timefd_lint_lsp.specs.Editor.Completions.{IsCompletedAs, IsCompletedAt, IsCompletedBy, IsCompletedFrom, IsCompletedIn, IsCompletedOfAny, IsCompletedOn, IsCompletedOver, IsCompletedWith, IsCompletion, begun, first_touched}
 use Rattle.timefd_lint_lsp.specs.Editor.Cursors.{bytes_before, word_start}
 use Rattle.timefd_lint_lsp.specs.Editor.Offered.{Around}
 use Rattle.timefd_lint_lsp.specs.Editor.OpenSlots.{IsOpenSlot}
