@@ -6,5 +6,6 @@ pub mod LongestLemmas
 pub mod ReadingLemmas
 pub mod CompositeLemmas
 pub mod MomentLemmas
+pub mod FastLemmas
 pub mod WarningLemmas
 pub mod NodeDateLemmas

@@ -10,6 +10,7 @@ pub mod Numbers
 pub mod Moments
 pub mod Formats
 pub mod NodeFormats
+pub mod Fast
 pub mod Diagnoses
 pub mod Dates
 pub mod NodeDates

@@ -3,6 +3,7 @@
 ghost use Rattle.timefd_c.specs.NodeFormats.{FormatsNodes, FormatsNodesBy};
 
 use crate::answer::ACCEPTED;
+use crate::fast::write_at_once;
 use crate::format_answer::{FormatAnswer, NO_DESCRIPTION};
 use crate::moment::MomentFields;
 use timefd_c_nodes::Node;
@@ -13,6 +14,34 @@ use timefd_date_moment::Moment;
 /// the front of the buffer if all that they write fits. It takes no memory.
 #[unsafe(no_mangle)]
 pub extern "C" fn timefd_format_nodes(
+    nodes: &[Node],
+    literals: &[u8],
+    moment: &MomentFields,
+    buffer: &mut [u8],
+) -> FormatAnswer
+    ensures formats { FormatsNodes nodes.now literals.now moment.now buffer.old buffer.new result }
+{
+    // Most nodes are short numbers and literals.
+    if let Some(len) = write_at_once(nodes, literals, moment, buffer) {
+        return FormatAnswer {
+            written: len,
+            ..FormatAnswer::silent(ACCEPTED, len)
+        };
+    }
+    // The answer is taken apart, so that the quick way doesn't copy one.
+    let answer = format_exactly(nodes, literals, moment, buffer);
+    FormatAnswer {
+        status: answer.status,
+        reason: answer.reason,
+        component: answer.component,
+        value: answer.value,
+        written: answer.written,
+    }
+}
+
+/// Writes the moment by any nodes.
+#[inline(never)]
+fn format_exactly(
     nodes: &[Node],
     literals: &[u8],
     moment: &MomentFields,

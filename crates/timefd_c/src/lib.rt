@@ -20,6 +20,7 @@ mod date_answer;
 mod diagnose;
 mod diagnosis;
 mod exports;
+mod fast;
 mod format;
 mod format_answer;
 mod format_nodes;

@@ -1,0 +1,6 @@
+-- What is shown of a moment at once.
+pub mod CopyLemmas
+pub mod RangeLemmas
+pub mod SameLemmas
+pub mod StepLemmas
+pub mod WalkLemmas
