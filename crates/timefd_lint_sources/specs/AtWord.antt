@@ -5,6 +5,7 @@ use Rattle.timefd_lint_diagnosis.specs.declared.span.Span.{Span}
 use Rattle.timefd_lint_drawing.specs.declared.draw.Format.{Format}
 use Rattle.timefd_lint_drawing.specs.declared.draw.Format.TheVariants.{Human, Json, Short, Github, Sarif}
 use Rattle.timefd_lint_drawing.specs.declared.draw.Style.{Style}
+use Rattle.timefd_lint_drawing.specs.declared.lines.Paint.{Paint}
 use Rattle.timefd_lint_drawing.specs.declared.github.Command.TheVariants.{Error}
 use Rattle.timefd_lint_drawing.specs.Drawing.{margin, source}
 use Rattle.timefd_lint_drawing.specs.Github.{annotation}
@@ -19,7 +20,7 @@ abbrev pub human : Bool → Source → ℕ → ℕ → Span → Text → Text �
 human colored s line column span code sentence =
     error_line colored code sentence
     ++ (position_line colored (margin line) s.file.now line column
-    ++ (source colored line (before span.start s.text.now) (spanned span s.text.now) (after_span span s.text.now)
+    ++ (source colored Paint.Red line (before span.start s.text.now) (spanned span s.text.now) (after_span span s.text.now)
     ++ codes "\n"))
 
 abbrev pub message_in : Format → Bool → Source → ℕ → ℕ → Span → Text → Text → Text

@@ -10,7 +10,7 @@ use std::alloc::{AllocError, Global};
 use timefd_lint_diagnosis::Span;
 use timefd_lint_drawing::github::{Command, annotation};
 use timefd_lint_drawing::json::{Entry, note_object};
-use timefd_lint_drawing::lines::{push_error_line, push_position_line, short_line};
+use timefd_lint_drawing::lines::{Paint, push_error_line, push_position_line, short_line};
 use timefd_lint_drawing::sarif::note_result;
 use timefd_lint_drawing::source_line::{margin, push_source};
 use timefd_lint_drawing::{Counter, Format, Position, Style, line_of};
@@ -94,7 +94,15 @@ fn human(
     let mut out = String::new(alloc);
     push_error_line(&mut out, is_colored, code, sentence)?;
     push_position_line(alloc, &mut out, is_colored, &margin, source.file, position)?;
-    push_source(alloc, &mut out, is_colored, position.line, &margin, line)?;
+    push_source(
+        alloc,
+        &mut out,
+        is_colored,
+        Paint::Red,
+        position.line,
+        &margin,
+        line,
+    )?;
     out.push_str("\n")?;
     Ok(out)
 }
