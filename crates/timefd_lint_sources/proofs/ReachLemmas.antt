@@ -1,10 +1,10 @@
 -- Which line a comment alone in its line is about.
-use Rattle.std.proofs.Common.{ℕ, ◌≡◌, ◌⊎◌, ◌∙◌, ◌+◌, ◌<◌, Bool, true, false, not, ◌&&◌, ◌==◌, List, [], ◌∷◌, ◌++◌, ap, arith, inl, inr, length, length-append, refl, subst, sym}
+use Rattle.std.proofs.Common.{ℕ, ◌≡◌, ◌⊎◌, ◌∙◌, ◌+◌, ◌<◌, Bool, true, false, not, ◌&&◌, ◌==◌, [], ◌∷◌, ap, arith, inl, inr, length, length-append, refl, subst, sym}
 use Rattle.std.proofs.lemmas.Bool.{and_cases, and_parts, cases_Bool, false≢true}
 use Rattle.std.proofs.lemmas.Bool.Decides.{nat_tests}
 use Rattle.timefd_lint_scan.specs.Bytes.{Text, line_feed}
 use Rattle.timefd_lint_sources.specs.declared.allowances.comment.Sign.{Sign}
-use Rattle.timefd_lint_sources.specs.Allowances.Comments.{IsCovered, IsFirstOther, IsLaterLine, ReachesFirstOther, covered, is_mark_line}
+use Rattle.timefd_lint_sources.specs.Allowances.Comments.{IsCovered, IsLaterLine, ReachesFirstOther, covered, is_mark_line}
 
 -- The line after the first byte, or a later line of what follows it.
 later : (b : ℕ) (rest line : Text) → IsLaterLine (b ∷ rest) line

@@ -1,5 +1,5 @@
 -- What comments don't allow.
-use Rattle.std.proofs.Common.{◌≡◌, ◌++◌, List, [], Option, Result, Ok, Err, flat_map, refl, sym, ap, subst, ◌∙◌}
+use Rattle.std.proofs.Common.{◌≡◌, ◌++◌, List, [], Option, Result, Ok, Err, flat_map, refl, ap, subst, ◌∙◌}
 use Rattle.std.specs.Prelude.{IfOk, OnOk}
 use Rattle.std.specs.declared.alloc.Global.{Global}
 use Rattle.std.specs.declared.vec.Vec.{Vec}

@@ -48,18 +48,27 @@ allowed_words sign comment = allowing (after_mark sign comment)
 abbrev pub is_separator : ℕ → Bool
 is_separator b = is_white b || (b == 44)
 
--- a word from one index of the source to another, if it isn't empty
-abbrev pub one_word : Reach → ℕ → ℕ → List Allowance
-one_word r start end =
-    if nat_lt start end then (record { from = r.from; to = r.to; start = start; end = end }) ∷ [] else []
+-- what follows the bytes at the front of a text that are no separators
+abbrev pub after_word : Text → Text
+after_word [] = []
+after_word (b ∷ rest) = if is_separator b then b ∷ rest else after_word rest
 
--- The words of a text that ends at an index of the source: the first one begins where `word` does, and `rest` is
--- what is left of the text.
-abbrev pub words : Reach → ℕ → Text → Text → List Allowance
-words r end word [] = one_word r (end - length word) end
-words r end word (b ∷ rest) =
-    if is_separator b then one_word r (end - length word) (end - length (b ∷ rest)) ++ words r end rest rest
-    else words r end word rest
+-- the word that begins where this text does, which ends at an index of the source, after this byte
+abbrev pub word_here : Reach → ℕ → ℕ → Text → List Allowance
+word_here r end before text =
+    if is_separator before && nat_lt (length (after_word text)) (length text) then
+    (record {
+      from = r.from;
+      to = r.to;
+      start = end - length text;
+      end = end - length (after_word text);
+    }) ∷ []
+    else []
+
+-- A word begins at each byte of a text that isn't a separator and follows one, and ends before the next one.
+abbrev pub words : Reach → ℕ → ℕ → Text → List Allowance
+words r end before [] = []
+words r end before (b ∷ rest) = word_here r end before (b ∷ rest) ++ words r end b rest
 
 -- The first line after a comment at whose end the text begins that doesn't only have such a comment; from its start to
 -- the end of the source.
@@ -105,9 +114,13 @@ reach_of sign source at end =
     }
     else record { from = line_begin source at; to = at }
 
+-- what precedes the first word
+abbrev pub blank : ℕ
+blank = 32
+
 abbrev pub in_words : Reach → ℕ → Option Text → List Allowance
 in_words r end None = []
-in_words r end (Some text) = words r end text text
+in_words r end (Some text) = words r end blank text
 
 -- what the comment in the bytes `at..end` of a source allows
 abbrev pub in_comment : Sign → Text → ℕ → ℕ → List Allowance

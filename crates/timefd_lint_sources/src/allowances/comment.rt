@@ -1,6 +1,6 @@
 //! What one comment allows: `// timefd: allow unknown-name`, or with `#`.
 
-ghost use Rattle.std.specs.Prelude.{◌≡◌, ◌++◌, ◌∷◌, IfOk, OnOk};
+ghost use Rattle.std.specs.Prelude.{◌≡◌, ◌++◌, OnOk};
 ghost use Rattle.timefd_lint_scan.specs.Bytes.{seen};
 ghost use Rattle.timefd_lint_sources.specs.Allowances.Comments as spec;
 
@@ -96,45 +96,43 @@ fn is_separator(byte: u8) -> bool
     is_white(byte) || byte == b','
 }
 
-// Adds a word, if it isn't empty.
+// What follows the bytes at the front of a text that are no separators.
+fn after_word(text: &[u8]) -> &[u8]
+    ensures { result.now ≡ spec.after_word text.now }
+{
+    let mut left = text;
+    'bytes: while let [byte, rest @ ..] = left {
+        if is_separator(*byte) {
+            return left;
+        }
+        left = rest;
+    }
+    left
+}
+
+// Adds the word that begins where this text does, which ends at an index of the source, after this byte.
 fn push_word(
     found: &mut Vec<Allowance>,
     reach: Reach,
-    start: usize,
     end: usize,
+    before: u8,
+    text: &[u8],
 ) -> Result<(), AllocError>
-    ensures { OnOk result (found.new.items ≡ found.old.items ++ spec.one_word reach start end) }
+    ensures { OnOk result (found.new.items ≡ found.old.items ++ spec.word_here reach end before text.now) }
 {
-    if start < end {
+    if !is_separator(before) {
+        return Ok(());
+    }
+    let rest = after_word(text);
+    if rest.len() < text.len() {
         found.push(Allowance {
             from: reach.from,
             to: reach.to,
-            start,
-            end,
+            start: end.saturating_sub(text.len()),
+            end: end.saturating_sub(rest.len()),
         })?;
     }
     Ok(())
-}
-
-// Goes one byte on in a text that ends at an index of the source: adds the word that a separator ends. Returns the
-// text from the start of the word on that the next byte is in.
-fn push_step<'a>(
-    found: &mut Vec<Allowance>,
-    reach: Reach,
-    end: usize,
-    word: &'a [u8],
-    byte: u8,
-    rest: &'a [u8],
-) -> Result<&'a [u8], AllocError>
-    ensures { IfOk result (λ next. found.new.items ++ spec.words reach end next.now rest.now
-        ≡ found.old.items ++ spec.words reach end word.now (byte ∷ rest.now)) }
-{
-    if !is_separator(byte) {
-        return Ok(word);
-    }
-    let word_end = end.saturating_sub(rest.len() + 1);
-    push_word(found, reach, end.saturating_sub(word.len()), word_end)?;
-    Ok(rest)
 }
 
 // Adds the words of a text that ends at an index of the source.
@@ -144,15 +142,16 @@ fn push_words(
     end: usize,
     text: &[u8],
 ) -> Result<(), AllocError>
-    ensures { OnOk result (found.new.items ≡ found.old.items ++ spec.words reach end text.now text.now) }
+    ensures { OnOk result (found.new.items ≡ found.old.items ++ spec.words reach end spec.blank text.now) }
 {
-    let mut word = text;
+    let mut before = b' ';
     let mut left = text;
     'bytes: while let [byte, rest @ ..] = left {
-        word = push_step(found, reach, end, word, *byte, rest)?;
+        push_word(found, reach, end, before, left)?;
+        before = *byte;
         left = rest;
     }
-    push_word(found, reach, end.saturating_sub(word.len()), end)
+    Ok(())
 }
 
 // The first line that has something else than such a comment, after one that the text follows, and all that follows

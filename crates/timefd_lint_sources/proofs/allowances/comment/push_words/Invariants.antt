@@ -5,8 +5,8 @@ use Rattle.timefd_lint_sources.proofs.allowances.comment.push_words.Given as goa
 -- The words so far, followed by those of the rest, are all words.
 abbrev pub invariant-bytes : goal.invariant-bytes
 invariant-bytes l =
-    l.found.items ++ spec.words l.reach l.end l.word l.left
-    ≡ l.fn.found.items ++ spec.words l.reach l.end l.fn.text l.fn.text
+    l.found.items ++ spec.words l.reach l.end l.before l.left
+    ≡ l.fn.found.items ++ spec.words l.reach l.end spec.blank l.fn.text
 
 abbrev pub decreases-bytes : goal.decreases-bytes
 decreases-bytes l = length l.left
