@@ -13,8 +13,9 @@ use timefd_c_nodes::Node;
 use timefd_date_moment::Moment;
 use timefd_lang_component::Component;
 use timefd_modifier::{
-    CalendarYearFullExtendedRange, CalendarYearFullStandardRange, Day, Hour24, Minute,
-    MonthNumerical, MonthShort, OffsetHour, OffsetMinute, Second, Subsecond, WeekdayShort,
+    CalendarYearFullExtendedRange, CalendarYearFullStandardRange, Day, Hour24, Minute, MonthLong,
+    MonthNumerical, MonthShort, OffsetHour, OffsetMinute, Second, Subsecond, WeekdayLong,
+    WeekdayShort,
 };
 
 /// Appends what the component of a node shows of the moment with these numbers, and returns how many bytes it takes.
@@ -48,6 +49,12 @@ pub(crate) fn append_component(
             });
             append_shown(moment, fields, node, &component, literals, room, at)
         }
+        3 => {
+            let component = Component::MonthLong(MonthLong {
+                case_sensitive: case_of(node)?,
+            });
+            append_shown(moment, fields, node, &component, literals, room, at)
+        }
         4 => {
             let component = Component::MonthNumerical(MonthNumerical {
                 padding: zeros_of(node)?,
@@ -56,6 +63,12 @@ pub(crate) fn append_component(
         }
         6 => {
             let component = Component::WeekdayShort(WeekdayShort {
+                case_sensitive: case_of(node)?,
+            });
+            append_shown(moment, fields, node, &component, literals, room, at)
+        }
+        7 => {
+            let component = Component::WeekdayLong(WeekdayLong {
                 case_sensitive: case_of(node)?,
             });
             append_shown(moment, fields, node, &component, literals, room, at)
