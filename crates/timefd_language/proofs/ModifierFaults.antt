@@ -317,21 +317,21 @@ reported_key strict h n done m ms k is at none =
           (split h done m ms at.all ∙ ap (λ x. head_front h ++ (modifiers_text done ++ x)) (words m.white m.key m.value (modifiers_text ms)));
       index = omega (arith, at.index, front_length h done m.white);
       is = λ tail stops. (
-          inl (record {
-            name = Some n;
-            after = white_front strict h n done m ms k is at;
-            key = at.this.key;
-            more = colon ∷ (more ++ tail);
-            whole = append_assoc m.key (colon ∷ more) tail;
-            stops = refl;
-            unknown = λ later e. none;
-          }),
-          wanted_slot strict (head_text (up_to h done) ++ m.white) m.key (Some (slots.Key n)) (inl (record {
-            name = Some n;
-            after = white_front strict h n done m ms k is at;
-            some = some_bytes is_key_byte m.key at.this.key;
-            slot = refl;
-          })) (slots.Key n) refl,
+        inl (record {
+          name = Some n;
+          after = white_front strict h n done m ms k is at;
+          key = at.this.key;
+          more = colon ∷ (more ++ tail);
+          whole = append_assoc m.key (colon ∷ more) tail;
+          stops = refl;
+          unknown = λ later e. none;
+        }),
+        wanted_slot strict (head_text (up_to h done) ++ m.white) m.key (Some (slots.Key n)) (inl (record {
+          name = Some n;
+          after = white_front strict h n done m ms k is at;
+          some = some_bytes is_key_byte m.key at.this.key;
+          slot = refl;
+        })) (slots.Key n) refl,
       );
     }
   where
@@ -359,33 +359,33 @@ reported_value strict h n key done m ms k is known at bad =
         length-append m.key (colon ∷ []),
       );
       is = λ tail stops. (
-          inr (inl (record {
-            name = Some n;
-            at = head_text (up_to h done) ++ m.white;
-            after = white_front strict h n done m ms k is at;
-            key_word = m.key;
-            key_bytes = zero_from_one is_key_byte m.key at.this.key;
-            before = sym (append_assoc (head_text (up_to h done)) m.white (m.key ++ colon ∷ []));
-            value = at.this.value;
-            more = modifiers_text ms ++ tail;
-            whole = append_assoc m.value (modifiers_text ms) tail;
-            stops = stops_name ms tail at.later stops;
-            key = key;
-            known = known;
-            bad = bad;
-          })),
-          wanted_slot strict (head_text (up_to h done) ++ between) m.value (Some (slots.Value key)) (inr (record {
-            name = Some n;
-            at = head_text (up_to h done) ++ m.white;
-            after = white_front strict h n done m ms k is at;
-            key_word = m.key;
-            key_bytes = zero_from_one is_key_byte m.key at.this.key;
-            whole = sym (append_assoc (head_text (up_to h done)) m.white (m.key ++ colon ∷ []))
-                ∙ ap (λ t. (head_text (up_to h done) ++ m.white) ++ (m.key ++ t)) (sym (one_colon m.value at.this.value));
-            key = Some key;
-            known = sym known;
-            slot = refl;
-          })) (slots.Value key) refl,
+        inr (inl (record {
+          name = Some n;
+          at = head_text (up_to h done) ++ m.white;
+          after = white_front strict h n done m ms k is at;
+          key_word = m.key;
+          key_bytes = zero_from_one is_key_byte m.key at.this.key;
+          before = sym (append_assoc (head_text (up_to h done)) m.white (m.key ++ colon ∷ []));
+          value = at.this.value;
+          more = modifiers_text ms ++ tail;
+          whole = append_assoc m.value (modifiers_text ms) tail;
+          stops = stops_name ms tail at.later stops;
+          key = key;
+          known = known;
+          bad = bad;
+        })),
+        wanted_slot strict (head_text (up_to h done) ++ between) m.value (Some (slots.Value key)) (inr (record {
+          name = Some n;
+          at = head_text (up_to h done) ++ m.white;
+          after = white_front strict h n done m ms k is at;
+          key_word = m.key;
+          key_bytes = zero_from_one is_key_byte m.key at.this.key;
+          whole = sym (append_assoc (head_text (up_to h done)) m.white (m.key ++ colon ∷ []))
+              ∙ ap (λ t. (head_text (up_to h done) ++ m.white) ++ (m.key ++ t)) (sym (one_colon m.value at.this.value));
+          key = Some key;
+          known = sym known;
+          slot = refl;
+        })) (slots.Value key) refl,
       );
     }
   where

@@ -19,11 +19,8 @@ pub fn spelling(key: Key) -> &'static str
         Key::Padding => "padding",
         Key::TrailingInput => "trailing_input",
         Key::Count => "count",
-        Key::HourRepr
-        | Key::MonthRepr
-        | Key::WeekdayRepr
-        | Key::WeekNumberRepr
-        | Key::YearRepr => "repr",
+        Key::HourRepr | Key::MonthRepr | Key::WeekdayRepr | Key::WeekNumberRepr | Key::YearRepr =>
+            "repr",
         Key::CaseSensitive => "case_sensitive",
         Key::Sign => "sign",
         Key::Case => "case",

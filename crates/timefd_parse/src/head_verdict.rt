@@ -59,7 +59,8 @@ pub fn judged_head<'a>(
     inside: &'a str,
 ) -> Result<(JudgedHead<'a>, &'a str), Fault<'a>>
     ensures head { ReadsJudgedHead (is_version_three version) inside.now result }
-    ensures span { MatchResult result (λ x. SpansRefusal (is_version_three version) (91 ∷ inside.now) x.0.verdict)
+    ensures span { MatchResult result
+        (λ x. SpansRefusal (is_version_three version) (91 ∷ inside.now) x.0.verdict)
         (SpansVersion (is_version_three version) (91 ∷ inside.now)) }
 {
     if let Some(plain) = plain_head(version, inside) {
@@ -80,7 +81,8 @@ pub fn judged_head<'a>(
 fn plain_head<'a>(version: DescriptionVersion, inside: &'a str) -> Option<(JudgedHead<'a>, &'a str)>
     ensures head { MatchOption result ⊤ (λ x. BeginsJudged (is_version_three version) inside.now x.0
         x.1.now) }
-    ensures span { (text : Text) → MatchOption result ⊤ (λ x. SpansRefusal (is_version_three version) text x.0.verdict) }
+    ensures span { (text : Text) → MatchOption result ⊤
+        (λ x. SpansRefusal (is_version_three version) text x.0.verdict) }
 {
     match inside.as_bytes() {
         [b'o', b'p', ..] => plainly(version, inside, "optional ", HeadVerdict::Optional(true)),
@@ -101,7 +103,8 @@ fn plainly<'a>(
     requires { IsPlain word.now verdict }
     ensures head { MatchOption result ⊤ (λ x. BeginsJudged (is_version_three version) inside.now x.0
         x.1.now) }
-    ensures span { (text : Text) → MatchOption result ⊤ (λ x. SpansRefusal (is_version_three version) text x.0.verdict) }
+    ensures span { (text : Text) → MatchOption result ⊤
+        (λ x. SpansRefusal (is_version_three version) text x.0.verdict) }
 {
     let rest = after_word(inside, word)?;
     let Start::Opening(_) = start_of(rest) else {
@@ -136,7 +139,8 @@ fn head_verdict<'a>(
         → IsVerdict (is_version_three version) total h (judging.nests head.now.name) result }
     ensures span { (text rest : Text) (h : spec.Head)
         → BeginsWithHead (is_version_three version) text head.now modifiers.now rest h
-        → IfSome modifiers.now.fault (SpansVersion (is_version_three version) text) → SpansRefusal (is_version_three version) text result }
+        → IfSome modifiers.now.fault (SpansVersion (is_version_three version) text)
+        → SpansRefusal (is_version_three version) text result }
 {
     let Some(name) = head.name else {
         return HeadVerdict::Refused(Fault {
@@ -205,7 +209,8 @@ fn component<'a>(
     ensures modern { IfOk result (λ c. modern c ≡ c) }
     ensures span { (text rest : Text) (h : spec.Head)
         → BeginsWithHead (is_version_three version) text head.now modifiers.now rest h
-        → IfSome modifiers.now.fault (SpansVersion (is_version_three version) text) → IfErr result (SpansVersion (is_version_three version) text) }
+        → IfSome modifiers.now.fault (SpansVersion (is_version_three version) text)
+        → IfErr result (SpansVersion (is_version_three version) text) }
 {
     if let Some(fault) = modifiers.fault {
         return Err(fault);

@@ -53,7 +53,8 @@ impl<'a> Modifiers<'a> {
             → IsPlaced total modifier.entry p → Checks (is_version_three version) name total
             self.new (ps ++ p ∷ []) }
         ensures span { (text : Text) → StandsIn (is_version_three version) text name modifier.entry
-            → IfSome self.old.fault (SpansVersion (is_version_three version) text) → IfSome self.new.fault (SpansVersion (is_version_three version) text) }
+            → IfSome self.old.fault (SpansVersion (is_version_three version) text)
+            → IfSome self.new.fault (SpansVersion (is_version_three version) text) }
     {
         if self.fault.is_some() {
             return;
@@ -78,7 +79,8 @@ impl<'a> Modifiers<'a> {
             name total self.now ps
             → self.now.fault ≡ None → IsPlaced total modifier.entry p
             → ChecksOne (is_version_three version) name total result ps p }
-        ensures span { (text : Text) → StandsIn (is_version_three version) text name modifier.entry → IfErr result (SpansVersion (is_version_three version) text) }
+        ensures span { (text : Text) → StandsIn (is_version_three version) text name modifier.entry
+            → IfErr result (SpansVersion (is_version_three version) text) }
     {
         let Some(key) = known_key(version, name, modifier.key) else {
             return Err(Fault {

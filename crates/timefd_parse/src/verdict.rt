@@ -174,7 +174,8 @@ pub fn verdict<'a, const BUILDS: bool>(
         (rules.verdict (is_version_three version) h parts position) }
     ensures invalid { IsFalse BUILDS → IfErr result IsInvalid }
     ensures span { (text : Text) → BracketStands text nested span
-        → SpansRefusal (is_version_three version) text head.now.verdict → IfErr result (MemoryOr (SpansVersion (is_version_three version) text)) }
+        → SpansRefusal (is_version_three version) text head.now.verdict
+        → IfErr result (MemoryOr (SpansVersion (is_version_three version) text)) }
 {
     if let Some(fault) = placing_fault(head.nests, nested, span) {
         return Err(ReadError::Invalid(fault));

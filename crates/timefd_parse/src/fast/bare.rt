@@ -11,8 +11,8 @@ ghost use Rattle.timefd_parse.specs.Read.{IsBare};
 
 use crate::fast::words::after_word;
 use timefd_items::Component;
-use timefd_language::description_version::DescriptionVersion;
 use timefd_lang_fault::ComponentName;
+use timefd_language::description_version::DescriptionVersion;
 use timefd_modifier::{
     CalendarYearFullExtendedRange, CalendarYearFullStandardRange, Day, End, Hour24, Minute,
     MonthNumerical, OffsetHour, OffsetMinute, OffsetSecond, Ordinal, Period, Second, Subsecond,
