@@ -116,7 +116,6 @@ fn known_key(version: DescriptionVersion, name: Option<Name>, word: &str) -> Opt
 }
 
 /// What a key should have been in a bracket with this name.
-#[cold]
 #[inline(never)]
 pub fn key_slot(name: Option<Name>) -> Option<Slot>
     ensures { result ≡ option_map spec_slot.Slot.Key name }
@@ -125,8 +124,6 @@ pub fn key_slot(name: Option<Name>) -> Option<Slot>
 }
 
 /// What the value of a word should have been, if the word is a key that the name takes.
-#[cold]
-#[inline(never)]
 pub fn value_slot(version: DescriptionVersion, name: Option<Name>, word: &str) -> Option<Slot>
     ensures { (key : Option spec_key.Key)
         × (option_map key_for key ≡ key_in (is_version_three version) word.now (keys_of name))
