@@ -1,12 +1,10 @@
 //! One modifier of a head.
 
-ghost use Rattle.std.specs.Prelude.{◌≡◌, ◌<◌, ◌++◌, [], Bool, length};
+ghost use Rattle.std.specs.Prelude.{◌++◌};
 ghost use Rattle.std.specs.Result.{IfErr};
 ghost use Rattle.timefd_lang_component.specs.Tree.{Text};
-ghost use Rattle.timefd_lang_fault.specs.Faults.{invalid_modifier};
-ghost use Rattle.timefd_lang_fault.specs.RuleKinds.{rule_kind};
-ghost use Rattle.timefd_language.specs.Bytes.{ZeroOrMore, is_key_byte, is_version_three};
-ghost use Rattle.timefd_language.specs.Slots.{EndsAfterHead, WantsIn};
+ghost use Rattle.timefd_language.specs.Bytes.{is_version_three};
+ghost use Rattle.timefd_language.specs.Slots.{EndsAfterHead};
 ghost use Rattle.timefd_language.specs.Spans.{SpansVersion};
 ghost use Rattle.timefd_parse.specs.ReadModifiers.{ReadsModifier};
 
@@ -42,14 +40,26 @@ pub fn read_modifier<'a>(
         if key.is_empty() {
             return Ok(None);
         }
-        return Err(no_colon(name, key, text.len()));
+        return Err(Fault {
+            rule: Rule::InvalidModifier(key, key_slot(name)),
+            remaining: text.len(),
+            len: key.len(),
+        });
     };
     let (value, rest) = cut(assigned, Class::Word);
     if key.is_empty() {
-        return Err(at_colon(version, name, key, text.len()));
+        return Err(Fault {
+            rule: Rule::InvalidModifier("", value_slot(version, name, key)),
+            remaining: text.len(),
+            len: 1,
+        });
     }
     if value.is_empty() {
-        return Err(at_colon(version, name, key, after.len()));
+        return Err(Fault {
+            rule: Rule::InvalidModifier("", value_slot(version, name, key)),
+            remaining: after.len(),
+            len: 1,
+        });
     }
     let modifier = Modifier {
         key,
@@ -58,44 +68,4 @@ pub fn read_modifier<'a>(
         value_remaining: assigned.len(),
     };
     Ok(Some((modifier, rest)))
-}
-
-/// The fault of a word without a colon, where a key was expected.
-#[cold]
-#[inline(never)]
-fn no_colon<'a>(name: Option<Name>, key: &'a str, remaining: usize) -> Fault<'a>
-    ensures kind { rule_kind result.rule ≡ invalid_modifier key.now }
-    ensures position { result.remaining ≡ remaining }
-    ensures len { result.len ≡ length key.now }
-    ensures wanted { (strict : Bool) (front : Text) → EndsAfterHead strict front name → 0 < length key.now
-        → WantsIn strict front result.rule }
-{
-    Fault {
-        rule: Rule::InvalidModifier(key, key_slot(name)),
-        remaining,
-        len: key.len(),
-    }
-}
-
-/// The fault of a colon that no key precedes, or no value follows. `key` is what precedes it.
-#[cold]
-#[inline(never)]
-fn at_colon<'a>(
-    version: DescriptionVersion,
-    name: Option<Name>,
-    key: &str,
-    remaining: usize,
-) -> Fault<'a>
-    ensures kind { rule_kind result.rule ≡ invalid_modifier [] }
-    ensures position { result.remaining ≡ remaining }
-    ensures len { result.len ≡ 1 }
-    ensures wanted { (front at : Text) → EndsAfterHead (is_version_three version) at name
-        → ZeroOrMore is_key_byte key.now → front ≡ at ++ key.now
-        → WantsIn (is_version_three version) front result.rule }
-{
-    Fault {
-        rule: Rule::InvalidModifier("", value_slot(version, name, key)),
-        remaining,
-        len: 1,
-    }
 }

@@ -124,6 +124,7 @@ pub fn key_slot(name: Option<Name>) -> Option<Slot>
 }
 
 /// What the value of a word should have been, if the word is a key that the name takes.
+#[inline(never)]
 pub fn value_slot(version: DescriptionVersion, name: Option<Name>, word: &str) -> Option<Slot>
     ensures { (key : Option spec_key.Key)
         × (option_map key_for key ≡ key_in (is_version_three version) word.now (keys_of name))

@@ -126,7 +126,8 @@ pub fn bare<'a>(version: DescriptionVersion, inside: &'a str) -> Option<(Compone
             plain_year(version),
             plain_year_bytes(version),
         ),
-        _ => seldom(version, inside),
+        [b'e' | b'o' | b'p' | b's' | b'u' | b'w', ..] => seldom(version, inside),
+        _ => None,
     }
 }
 
