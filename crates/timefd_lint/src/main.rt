@@ -56,6 +56,7 @@ use output::{standard_error, standard_output};
 use page::{Subject, explained_in, page_on, unexplained_in};
 use parts::{Part, file_count, have_lines, parts_of, warn};
 use projects::{Named, projects_of, working_directory};
+use rewriting::rewriting_of;
 use running::run_in_form;
 use session::session_status;
 use sought::named_or_here;
@@ -172,25 +173,33 @@ fn run_status(rt: &HostRuntime, settings: Settings<'_>, parts: &[Part<'_>]) -> u
     let mut sink = ToWriter::new(output);
     let end = run_in_form(rt, settings, is_colored, parts, audience, &mut sink);
     match (end, sink.flush()) {
-        (Ok(tally), Ok(())) => end_of(rt, settings.is_quiet, parts, tally),
+        (Ok(tally), Ok(())) => end_of(rt, settings, parts, tally),
         (Err(RunError::Memory), _) => no_memory(rt),
         (Err(RunError::Write), _) | (Ok(_), Err(_)) => write_failed(rt),
     }
 }
 
 // Reports why the status of a finished run is no verdict, and returns it.
-fn end_status(rt: &HostRuntime, status: u8) -> u8 {
+fn end_status(rt: &HostRuntime, settings: Settings<'_>, status: u8) -> u8 {
     match status {
-        FAILED => reported(rt, status, "a file can't be read, or not be written back"),
+        FAILED => reported(rt, status, failed_sentence(settings)),
         NOT_TEXT => reported(rt, status, "a line isn't UTF-8"),
         _ => status,
     }
 }
 
+// What fails of a file: only a run that rewrites files writes any.
+fn failed_sentence(settings: Settings<'_>) -> &'static str {
+    match rewriting_of(settings) {
+        Some(_) => "a file can't be read, or not be written back",
+        None => "a file can't be read",
+    }
+}
+
 // Reports what `end_status` does, then writes the summary line: how much was checked.
-fn end_of(rt: &HostRuntime, is_quiet: bool, parts: &[Part<'_>], tally: Tally) -> u8 {
-    let status = end_status(rt, tally.status());
-    if is_quiet {
+fn end_of(rt: &HostRuntime, settings: Settings<'_>, parts: &[Part<'_>], tally: Tally) -> u8 {
+    let status = end_status(rt, settings, tally.status());
+    if settings.is_quiet {
         return status;
     }
     match summary(rt.alloc(), warn(parts), tally, file_count(parts)) {
