@@ -1,5 +1,5 @@
 -- The parts of a run, one after another.
-use Rattle.std.proofs.Common.{ℕ, ◌≡◌, ◌^◌, ◌-◌, ◌+◌, Bool, true, false, List, [], ◌∷◌, ◌++◌, Option, map, refl, sym, ap, subst, ◌∙◌, append_assoc, append-nil, string_bytes}
+use Rattle.std.proofs.Common.{ℕ, ◌≡◌, ◌<◌, length, arith, ◌^◌, ◌-◌, ◌+◌, Bool, true, false, List, [], ◌∷◌, ◌++◌, Option, map, refl, sym, ap, subst, ◌∙◌, append_assoc, append-nil, string_bytes}
 use Rattle.std.specs.Prelude.{min, String}
 use Rattle.std.proofs.lemmas.List.{map-append}
 use denote.Ref.{Bor}
@@ -128,3 +128,7 @@ one_counted count sum all part after rest split is so_far =
 
 pub all_counted : (count all : ℕ) (rest : List Part) → rest ≡ [] → count_from count rest ≡ all → count ≡ all
 all_counted count all rest none so_far = ap (count_from count) (sym none) ∙ so_far
+
+pub none_left : (rest : List Named) → length rest < 1 → rest ≡ []
+none_left [] few = refl
+none_left (named ∷ rest) few = absurd (omega (arith, few))
