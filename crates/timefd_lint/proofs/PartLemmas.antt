@@ -13,7 +13,7 @@ use Rattle.timefd_lint.specs.declared.options.Options.{Options}
 use Rattle.timefd_lint.specs.declared.parts.Part.{Part}
 use Rattle.timefd_lint.specs.declared.projects.Named.{Named}
 use Rattle.timefd_lint.specs.declared.tally.Tally.{Tally}
-use Rattle.timefd_lint.specs.Parts.{AreOptions, ArePartsOf, AreRun, AreRunFrom, IsPartOf, IsReportedBy, IsRunOfPart, IsRunOfPartIf, all_files, count_from, file_count, file_count_of, is_empty}
+use Rattle.timefd_lint.specs.Parts.{AreOptions, ArePartsOf, AreRun, AreRunFrom, IsPartOf, IsRunOfPart, IsRunOfPartIf, all_files, count_from, file_count_of, is_empty}
 use Rattle.timefd_lint.specs.Reported.{both, tally_of}
 use Rattle.timefd_lint.specs.Sources.{IsRunWith, any_source}
 
