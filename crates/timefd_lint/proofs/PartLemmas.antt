@@ -1,5 +1,5 @@
 -- The parts of a run, one after another.
-use Rattle.std.proofs.Common.{ℕ, ◌≡◌, ◌^◌, ◌-◌, ◌+◌, Bool, true, false, List, [], ◌∷◌, ◌++◌, Option, map, refl, sym, ap, subst, ◌∙◌, append_assoc, append-nil, string_bytes}
+use Rattle.std.proofs.Common.{ℕ, ◌≡◌, ◌<◌, length, arith, ◌^◌, ◌-◌, ◌+◌, Bool, true, false, List, [], ◌∷◌, ◌++◌, Option, map, refl, sym, ap, subst, ◌∙◌, append_assoc, append-nil, string_bytes}
 use Rattle.std.specs.Prelude.{min, String}
 use Rattle.std.proofs.lemmas.List.{map-append}
 use denote.Ref.{Bor}
@@ -13,7 +13,7 @@ use Rattle.timefd_lint.specs.declared.options.Options.{Options}
 use Rattle.timefd_lint.specs.declared.parts.Part.{Part}
 use Rattle.timefd_lint.specs.declared.projects.Named.{Named}
 use Rattle.timefd_lint.specs.declared.tally.Tally.{Tally}
-use Rattle.timefd_lint.specs.Parts.{AreOptions, ArePartsOf, AreRun, AreRunFrom, IsPartOf, IsReportedBy, IsRunOfPart, IsRunOfPartIf, all_files, count_from, file_count, file_count_of, is_empty}
+use Rattle.timefd_lint.specs.Parts.{AreOptions, ArePartsOf, AreRun, AreRunFrom, IsPartOf, IsRunOfPart, IsRunOfPartIf, all_files, count_from, file_count_of, is_empty}
 use Rattle.timefd_lint.specs.Reported.{both, tally_of}
 use Rattle.timefd_lint.specs.Sources.{IsRunWith, any_source}
 
@@ -128,3 +128,7 @@ one_counted count sum all part after rest split is so_far =
 
 pub all_counted : (count all : ℕ) (rest : List Part) → rest ≡ [] → count_from count rest ≡ all → count ≡ all
 all_counted count all rest none so_far = ap (count_from count) (sym none) ∙ so_far
+
+pub none_left : (rest : List Named) → length rest < 1 → rest ≡ []
+none_left [] few = refl
+none_left (named ∷ rest) few = absurd (omega (arith, few))

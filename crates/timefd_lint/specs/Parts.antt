@@ -2,7 +2,6 @@
 use Rattle.std.specs.Prelude.{ℕ, ◌≡◌, ◌==◌, ◌+◌, ◌-◌, ◌^◌, ◌&&◌, ◌||◌, codes, is_some, min, nat_eq, Bool, true, false, not, if◌then◌else◌, List, [], ◌∷◌, ◌++◌, Option, Some, None, is_none, length, map, string_bytes, ⊤}
 use denote.Ref.{Bor}
 use Rattle.std.specs.List.{ends_with, list_all}
-use Rattle.std.specs.declared.io.ErrorKind.{ErrorKind}
 use Rattle.timefd_lang_component.specs.Tree.{Text}
 use Rattle.timefd_lint_diagnosis.specs.Words.{texts}
 use Rattle.timefd_lint_files.specs.declared.entry.Entry.{Entry}

@@ -1,5 +1,5 @@
 -- What the files of settings say that are found for names.
-use Rattle.std.specs.Prelude.{◌≡◌, List, [], ◌∷◌, ◌++◌, Option, Some, None, Ok, codes, string_bytes, Bool, ⊤}
+use Rattle.std.specs.Prelude.{◌≡◌, List, [], ◌∷◌, Option, Some, None, Ok, codes, string_bytes, Bool, ⊤}
 use denote.Ref.{Bor}
 use Rattle.timefd_lang_component.specs.Tree.{Text}
 use Rattle.std.specs.declared.io.ErrorKind.{ErrorKind}

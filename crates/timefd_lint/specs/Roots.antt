@@ -10,6 +10,7 @@ use Rattle.timefd_lint_lsp.specs.Sessions.{IsServedFrom}
 use Rattle.timefd_lint_lsp.specs.Uris as uris
 use Rattle.timefd_lint_options.specs.declared.settings.Settings.{Settings}
 use Rattle.timefd_lint_options.specs.Config.Config as configs
+use Rattle.timefd_lint_options.specs.Config.Levels.{Levels}
 use Rattle.timefd_lint_options.specs.Config.Over.{with_levels}
 use Rattle.timefd_lint_scan.specs.declared.keys.key.Key.{Key}
 use Rattle.timefd_lint_scan.specs.Keys.Keys.{named_all}
@@ -43,7 +44,7 @@ abbrev pub IsRootProject : (Text → Text → Type 0) → (Text → ErrorKind �
 IsRootProject holds fails tells here root project = (path : Option (String Global)) × IsRootPath root path
     × IsProjectFor holds fails tells here (name_of path) project
 
-abbrev pub levels_of : Settings → Option configs.Levels
+abbrev pub levels_of : Settings → Option Levels
 levels_of settings = if settings.warns then Some settings.levels else None
 
 -- An editor that has a folder open is served by the keys and levels of the command line, and those of that file after them.
