@@ -7,6 +7,7 @@
 //! searched for their comma.
 
 mod batch;
+mod day;
 mod line;
 mod line_end;
 mod moment;

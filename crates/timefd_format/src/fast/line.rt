@@ -7,7 +7,7 @@ ghost use Rattle.timefd_format.specs.ReadBack.{IsMadeOf};
 ghost use Rattle.timefd_format.specs.Sources.{AreLeavesIn};
 ghost use Rattle.timefd_format.specs.Written.{written_of};
 
-use crate::fast::moment::moment_found;
+use crate::fast::moment::{date_found, moment_found};
 use crate::source::Source;
 use timefd_date_format::{append_leaves, append_literal};
 use timefd_date_moment::Moment;
@@ -32,6 +32,10 @@ pub fn append_line(
     requires within { at ≤ length room.old }
     ensures { TriesToAppendLine source.now description.now line.now room.old at room.new result }
 {
+    // Most lines are a date. Its moment is made where it is appended from.
+    if let Some(date) = date_found(source, source_leaves, description, line) {
+        return append_moment(&date, description, leaves, room, at);
+    }
     let moment = moment_found(source, source_leaves, description, line)?;
     append_moment(&moment, description, leaves, room, at)
 }

@@ -4,6 +4,7 @@ ghost use Rattle.std.specs.Prelude.{IfSome, Ok, Some};
 ghost use Rattle.timefd_format.specs.Moments.{IsNamed};
 ghost use Rattle.timefd_format.specs.Sources.{AreLeavesIn, IsFoundIn, IsMomentIn};
 
+use crate::fast::day::date_shown;
 use crate::fast::spelled::moment_spelled;
 use crate::names::Names;
 use crate::read_back::moment_shown;
@@ -12,6 +13,44 @@ use std::str;
 use timefd_date_moment::Moment;
 use timefd_lang_node_list::Leaf;
 use timefd_parse::BorrowedOutput;
+
+/// The moment of a line without its newline that is a date, where no time zone changes it. `None` says nothing about
+/// the line.
+#[inline(always)]
+pub fn date_found(
+    source: &Source<'_>,
+    source_leaves: Option<&[Leaf<'_>]>,
+    description: &BorrowedOutput<'_>,
+    line: &[u8],
+) -> Option<Moment>
+    requires { AreLeavesIn source.now source_leaves }
+    ensures { IfSome result (λ moment. IsMomentIn source.now description.now line.now (Ok moment)) }
+{
+    match &source.zone {
+        Some(_zone) => None,
+        None => date_shown_by(source, source_leaves, description, line),
+    }
+}
+
+#[inline(always)]
+#[tactic(auto, using(crate::proofs::ReadBackLemmas::whole))]
+fn date_shown_by(
+    source: &Source<'_>,
+    source_leaves: Option<&[Leaf<'_>]>,
+    description: &BorrowedOutput<'_>,
+    line: &[u8],
+) -> Option<Moment>
+    requires { AreLeavesIn source.now source_leaves }
+    ensures { IfSome result (λ moment. IsFoundIn source.now (Some description.now) line.now (Ok moment)) }
+{
+    match &source.kind {
+        SourceKind::Names(_names) => None,
+        SourceKind::Texts(read) => {
+            let moment = date_shown(read, source_leaves, line)?;
+            Some(moment)
+        }
+    }
+}
 
 /// The moment that a line without its newline names or shows. `None` says nothing about the line.
 #[inline(always)]
