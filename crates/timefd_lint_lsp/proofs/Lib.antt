@@ -8,3 +8,4 @@ pub mod ClosedLemmas
 pub mod ChangedLemmas
 pub mod AnswerLemmas
 pub mod EditorLemmas
+pub mod UriLemmas

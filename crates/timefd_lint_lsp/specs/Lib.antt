@@ -4,6 +4,7 @@ pub mod Contents
 pub mod Frames
 pub mod Envelopes
 pub mod Params
+pub mod Uris
 pub mod WantedKinds
 pub mod Changes
 pub mod Messages

@@ -1,5 +1,6 @@
 -- The message of an editor that a value of JSON is.
-use Rattle.std.specs.Prelude.{◌≡◌, ℕ, List, Option, Some, None, codes, bytes_eq, map, string_bytes, if◌then◌else◌, IsUtf8, ◌⊎◌, ⊤}
+use Rattle.std.specs.Prelude.{◌≡◌, ℕ, List, Option, Some, None, codes, bytes_eq, map, String, string_bytes, if◌then◌else◌, IsUtf8, ◌⊎◌, ⊤}
+use Rattle.std.specs.declared.alloc.Global.{Global}
 use Rattle.serde_json.specs.Data.{Data}
 use Rattle.serde_json.specs.Read.{read}
 use Rattle.timefd_lint_lsp.specs.declared.editor.action.Wanted.{Wanted}
@@ -8,7 +9,7 @@ use Rattle.timefd_lint_lsp.specs.declared.editor.position.Range.{Range}
 use Rattle.timefd_lint_lsp.specs.Changes.{Seen, changes_in, seen}
 use Rattle.timefd_lint_lsp.specs.Envelopes.{seen_id, Shape, envelope_of}
 use Rattle.timefd_lint_lsp.specs.Envelopes as shapes
-use Rattle.timefd_lint_lsp.specs.Params.{position_in, range_of, text_by, uri_of}
+use Rattle.timefd_lint_lsp.specs.Params.{position_in, range_of, root_of, text_by, uri_of}
 use Rattle.timefd_lint_lsp.specs.WantedKinds.{wanted_in}
 use Rattle.timefd_lint_lsp.specs.declared.message.Message.{Message}
 use Rattle.timefd_lint_lsp.specs.declared.message.Message.TheVariants as messages
@@ -19,7 +20,7 @@ use Rattle.timefd_lint_lsp.specs.declared.message.Request.TheVariants as asked
 
 -- what is asked for, without the addresses of its texts in memory
 pub data Asked : Type 0 where
-  initialize : Asked
+  initialize : Option (List ℕ) → Asked
   hover : List ℕ → Position → Asked
   completion : List ℕ → Position → Asked
   actions : List ℕ → Range → Wanted → Asked
@@ -27,14 +28,21 @@ pub data Asked : Type 0 where
   unknown : Asked
   wrong_params : Asked
 
+abbrev pub seen_root : Option (String Global) → Option (List ℕ)
+seen_root None = None
+seen_root (Some uri) = Some (string_bytes uri)
+
 abbrev pub seen_request : Request → Asked
-seen_request asked.Initialize = initialize
+seen_request (asked.Initialize root) = initialize (seen_root root)
 seen_request (asked.Hover uri position) = hover (string_bytes uri) position
 seen_request (asked.Completion uri position) = completion (string_bytes uri) position
 seen_request (asked.Actions uri range wanted) = actions (string_bytes uri) range wanted
 seen_request asked.Shutdown = shutdown
 seen_request asked.Unknown = unknown
 seen_request asked.WrongParams = wrong_params
+
+abbrev pub initialize_of : Data → Asked
+initialize_of d = initialize (root_of d)
 
 abbrev pub hover_from : Option (List ℕ) → Option Position → Asked
 hover_from (Some uri) (Some position) = hover uri position
@@ -62,7 +70,7 @@ actions_of d = actions_from (uri_of d) (range_of d) (wanted_in d)
 
 abbrev pub request_of : List ℕ → Data → Asked
 request_of method d =
-    if bytes_eq method (codes "initialize") then initialize
+    if bytes_eq method (codes "initialize") then initialize_of d
     else if bytes_eq method (codes "shutdown") then shutdown
     else if bytes_eq method (codes "textDocument/hover") then hover_of d
     else if bytes_eq method (codes "textDocument/codeAction") then actions_of d

@@ -41,5 +41,13 @@ position_in d = position_by (codes "/params/position/line") (codes "/params/posi
 abbrev pub uri_of : Data → Option (List ℕ)
 uri_of d = text_by (codes "/params/textDocument/uri") d
 
+abbrev pub root_or : Option (List ℕ) → Option (List ℕ) → Option (List ℕ)
+root_or (Some uri) first = Some uri
+root_or None first = first
+
+-- the root of an editor, or else the first of its folders
+abbrev pub root_of : Data → Option (List ℕ)
+root_of d = root_or (text_by (codes "/params/rootUri") d) (text_by (codes "/params/workspaceFolders/0/uri") d)
+
 abbrev pub changes_of : Data → Option Items
 changes_of d = option_and_then as_array (pointer (codes "/params/contentChanges") d)

@@ -48,7 +48,7 @@ first = New
 
 -- At first only `initialize` is served.
 abbrev pub first_refusal : Request → Option Refusal
-first_refusal asked.Initialize = None
+first_refusal (asked.Initialize root) = None
 first_refusal (asked.Hover uri position) = Some refusals.NotInitialized
 first_refusal (asked.Completion uri position) = Some refusals.NotInitialized
 first_refusal (asked.Actions uri range wanted) = Some refusals.NotInitialized
@@ -58,7 +58,7 @@ first_refusal asked.WrongParams = Some refusals.NotInitialized
 
 -- After `initialize` a second one is refused.
 abbrev pub running_refusal : Request → Option Refusal
-running_refusal asked.Initialize = Some refusals.InvalidRequest
+running_refusal (asked.Initialize root) = Some refusals.InvalidRequest
 running_refusal (asked.Hover uri position) = None
 running_refusal (asked.Completion uri position) = None
 running_refusal (asked.Actions uri range wanted) = None
@@ -73,7 +73,7 @@ refusal Running request = running_refusal request
 refusal ShutDown request = Some refusals.InvalidRequest
 
 abbrev pub first_phase : Phase → Request → Phase
-first_phase phase asked.Initialize = Running
+first_phase phase (asked.Initialize root) = Running
 first_phase phase (asked.Hover uri position) = phase
 first_phase phase (asked.Completion uri position) = phase
 first_phase phase (asked.Actions uri range wanted) = phase
@@ -82,7 +82,7 @@ first_phase phase asked.Unknown = phase
 first_phase phase asked.WrongParams = phase
 
 abbrev pub running_phase : Phase → Request → Phase
-running_phase phase asked.Initialize = phase
+running_phase phase (asked.Initialize root) = phase
 running_phase phase (asked.Hover uri position) = phase
 running_phase phase (asked.Completion uri position) = phase
 running_phase phase (asked.Actions uri range wanted) = phase
@@ -94,6 +94,27 @@ abbrev pub phase_after_request : Phase → Request → Phase
 phase_after_request New request = first_phase New request
 phase_after_request Running request = running_phase Running request
 phase_after_request ShutDown request = ShutDown
+
+-- the folder that the editor has open, after a message
+abbrev pub first_root : Request → Option (String Global) → Option (String Global)
+first_root (asked.Initialize root) before = root
+first_root (asked.Hover uri position) before = before
+first_root (asked.Completion uri position) before = before
+first_root (asked.Actions uri range wanted) before = before
+first_root asked.Shutdown before = before
+first_root asked.Unknown before = before
+first_root asked.WrongParams before = before
+
+abbrev pub root_after_request : Phase → Request → Option (String Global) → Option (String Global)
+root_after_request New request before = first_root request before
+root_after_request Running request before = before
+root_after_request ShutDown request before = before
+
+abbrev pub root_after : Phase → Message → Option (String Global) → Option (String Global)
+root_after phase (messages.Request id request) before = root_after_request phase request before
+root_after phase (messages.Notification notification) before = before
+root_after phase messages.NotJson before = before
+root_after phase messages.NotMessage before = before
 
 -- how far the session is after a message
 abbrev pub phase_after : Phase → Message → Phase
@@ -165,7 +186,7 @@ IsActionsAnswer settings (Some document) uri range wanted answer = (source : Sou
 
 -- The answer to a first request that isn't refused.
 abbrev pub IsFirstAnswer : Request → Answer → Type 0
-IsFirstAnswer asked.Initialize answer = answer ≡ answers.Capabilities
+IsFirstAnswer (asked.Initialize root) answer = answer ≡ answers.Capabilities
 IsFirstAnswer (asked.Hover uri position) answer = ⊤
 IsFirstAnswer (asked.Completion uri position) answer = ⊤
 IsFirstAnswer (asked.Actions uri range wanted) answer = ⊤
@@ -174,7 +195,7 @@ IsFirstAnswer asked.Unknown answer = ⊤
 IsFirstAnswer asked.WrongParams answer = ⊤
 
 abbrev pub IsRunningAnswer : Settings → BTreeMap (String Global) Document → Request → Answer → Type 0
-IsRunningAnswer settings documents asked.Initialize answer = ⊤
+IsRunningAnswer settings documents (asked.Initialize root) answer = ⊤
 IsRunningAnswer settings documents (asked.Hover uri position) answer =
     IsHoverAnswer settings (get_by_text documents (string_bytes uri)) position answer
 IsRunningAnswer settings documents (asked.Completion uri position) answer =

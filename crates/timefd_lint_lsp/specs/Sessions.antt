@@ -1,11 +1,11 @@
 -- A session with an editor.
-use Rattle.std.specs.Prelude.{◌≡◌, ◌⊎◌, ℕ, ◌-◌, ◌^◌, List, [], ◌∷◌, ◌++◌, Option, Some, None, length}
+use Rattle.std.specs.Prelude.{◌≡◌, ◌≢◌, ◌⊎◌, ℕ, ◌-◌, ◌^◌, List, [], ◌∷◌, ◌++◌, Option, Some, None, length}
 use Rattle.std.specs.Io.KnownBytes.{Appends}
 use Rattle.serde_json.specs.Written.{compact_text}
 use Rattle.timefd_lint_lsp.specs.Documents.{AreAfter, NoneOpen}
 use Rattle.timefd_lint_lsp.specs.Frames.{framed, IsFrame}
 use Rattle.timefd_lint_lsp.specs.Messages.{IsMessageOf}
-use Rattle.timefd_lint_lsp.specs.Servers.{IsStep, first, phase_after, unanswered}
+use Rattle.timefd_lint_lsp.specs.Servers.{IsStep, first, phase_after, root_after, unanswered}
 use Rattle.timefd_lint_lsp.specs.Texts.{reply_data}
 use Rattle.timefd_lint_lsp.specs.declared.frame.Frame.{Frame}
 use Rattle.timefd_lint_lsp.specs.declared.frame.Frame.TheVariants as got
@@ -57,6 +57,7 @@ abbrev pub IsStepOn : Settings → Server → Server → List ℕ → Step → T
 IsStepOn settings before after content step = (message : Message) × IsMessageOf message content
     × IsStep settings before.phase before.documents message step
     × (after.phase ≡ phase_after before.phase message)
+    × (after.root ≡ root_after before.phase message before.root)
     × AreAfter before.phase message before.documents after.documents
 
 -- The text of a reply is written as one frame, or the write fails.
@@ -125,19 +126,39 @@ IsEnd settings count a left written end =
     ((known : Server) × IsStepped settings a (at left written known) (Some end))
     ⊎ ((count ≡ 2 ^ 64 - 1) × (end ≡ InputEnded) × (left ≡ a.input) × (written ≡ a.output))
 
--- The first `count` frames of a session are read and answered, and none of them ends it.
-pub record AreServed (settings : Settings) (left written : Option (List ℕ)) (b : At) (count : ℕ) : Type 0 where
-  pub start : Server
-  pub fresh : start.phase ≡ first
-  pub none_open : NoneOpen start.documents
+-- The next `count` frames of a session are read and answered, and none of them ends it.
+pub record AreServed (settings : Settings) (start : Server) (left written : Option (List ℕ)) (b : At) (count : ℕ)
+    : Type 0 where
   pub turns : List At
   pub counted : length turns ≡ count
   pub each : AreStepped settings (at left written start) turns b
 
+-- From a server on, the frames of the input are read and answered one after another, until one ends the session.
+pub record IsServedFrom (settings : Settings) (start : Server) (left written left_then written_then : Option (List ℕ))
+    (end : End) : Type 0 where
+  pub count : ℕ
+  pub last : At
+  pub served : AreServed settings start left written last count
+  pub ends : IsEnd settings count last left_then written_then end
+
 -- The frames of the input are read and answered one after another, until one ends the session.
 pub record IsServed (settings : Settings) (left written left_then written_then : Option (List ℕ)) (end : End)
     : Type 0 where
-  pub count : ℕ
+  pub start : Server
+  pub fresh : start.phase ≡ first
+  pub none_open : NoneOpen start.documents
+  pub from : IsServedFrom settings start left written left_then written_then end
+
+-- Some frames were read and answered, and the last of them was the first `initialize`.
+pub record IsBegun (settings : Settings) (a b : At) : Type 0 where
+  pub turns : List At
   pub last : At
-  pub served : AreServed settings left written last count
-  pub ends : IsEnd settings count last left_then written_then end
+  pub each : AreStepped settings a turns last
+  pub still : last.server.phase ≡ New
+  pub one : IsStepped settings last b None
+  pub begun : b.server.phase ≢ New
+
+-- An editor is answered up to its first `initialize`, or the session ends before.
+abbrev pub IsGreeted : Settings → At → At → Option End → Type 0
+IsGreeted settings a b None = IsBegun settings a b
+IsGreeted settings a b (Some end) = IsServedFrom settings a.server a.input a.output b.input b.output end

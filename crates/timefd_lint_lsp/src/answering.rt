@@ -23,25 +23,28 @@ pub fn answer_to(
         ≡ spec.refusal server.old.phase request) }
     ensures answer { IfOk result (spec.IsAnswer settings.entry server.old.phase server.old.documents request) }
     ensures phase { OnOk result (server.new.phase ≡ spec.phase_after_request server.old.phase request) }
+    ensures root { OnOk result (server.new.root ≡ spec.root_after_request server.old.phase request server.old.root) }
     ensures documents { server.new.documents ≡ server.old.documents }
 {
     match server.phase {
-        Phase::New => Ok(first_answer(server, &request)),
+        Phase::New => Ok(first_answer(server, request)),
         Phase::Running => running_answer(alloc, settings, server, request),
         Phase::ShutDown => Ok(Answer::Refused(Refusal::InvalidRequest)),
     }
 }
 
 // The answer to the first request.
-fn first_answer(server: &mut Server, request: &Request) -> Answer
-    ensures refusal { refusal_of result ≡ spec.first_refusal request.now }
-    ensures answer { spec.IsFirstAnswer request.now result }
-    ensures phase { server.new.phase ≡ spec.first_phase server.old.phase request.now }
+fn first_answer(server: &mut Server, request: Request) -> Answer
+    ensures refusal { refusal_of result ≡ spec.first_refusal request }
+    ensures answer { spec.IsFirstAnswer request result }
+    ensures phase { server.new.phase ≡ spec.first_phase server.old.phase request }
+    ensures root { server.new.root ≡ spec.first_root request server.old.root }
     ensures documents { server.new.documents ≡ server.old.documents }
 {
     match request {
-        Request::Initialize => {
+        Request::Initialize { root } => {
             server.phase = Phase::Running;
+            server.root = root;
             Answer::Capabilities
         }
         Request::Hover { .. }
@@ -62,10 +65,11 @@ fn running_answer(
     ensures refusal { IfOk result (λ answer. refusal_of answer ≡ spec.running_refusal request) }
     ensures answer { IfOk result (spec.IsRunningAnswer settings.entry server.old.documents request) }
     ensures phase { OnOk result (server.new.phase ≡ spec.running_phase server.old.phase request) }
+    ensures root { OnOk result (server.new.root ≡ server.old.root) }
     ensures documents { server.new.documents ≡ server.old.documents }
 {
     match request {
-        Request::Initialize => Ok(Answer::Refused(Refusal::InvalidRequest)),
+        Request::Initialize { .. } => Ok(Answer::Refused(Refusal::InvalidRequest)),
         Request::Hover { uri, position } => {
             hover_at(alloc, settings, &server.documents, &uri, position)
         }

@@ -18,6 +18,7 @@ mod server;
 mod session;
 mod shown;
 mod text;
+mod uri;
 mod wanted;
 
 // What an editor shows: findings, actions, what hovers, and words that may be written.
@@ -30,5 +31,6 @@ pub use frame::{Frame, MOST_CONTENT, WriteError, read_frame, write_frame};
 pub use message::{Message, Notification, Request, message_of};
 pub use reply::{Answer, Refusal, Reply, code_of, sentence_of};
 pub use server::{Phase, Server, Settings, Step, take, unanswered};
-pub use session::{End, serve};
+pub use session::{End, greet, serve, serve_on};
 pub use text::text_of;
+pub use uri::path_of;

@@ -7,7 +7,7 @@ ghost use Rattle.timefd_lint_lsp.specs.Messages as spec;
 use crate::changes::{Change, changes_in};
 use crate::editor::{Position, Range, Wanted};
 use crate::envelope::{Envelope, Id, envelope_of};
-use crate::params::{position_in, range_of, text_by, uri_of};
+use crate::params::{position_in, range_of, root_of, text_by, uri_of};
 use crate::wanted::wanted_in;
 use serde_json::Value;
 use std::alloc::{AllocError, Global};
@@ -15,7 +15,10 @@ use std::alloc::{AllocError, Global};
 /// What a request asks for.
 #[derive(Drop)]
 pub enum Request {
-    Initialize,
+    /// Begin. The editor may have a folder open, whose URI this is.
+    Initialize {
+        root: Option<String>,
+    },
     /// What does the part of a document at this position mean?
     Hover {
         uri: String,
@@ -69,6 +72,17 @@ pub enum Message {
     NotJson,
     /// It is JSON, but not a message.
     NotMessage,
+}
+
+fn initialize_of(alloc: Global, value: &Value) -> Result<Request, AllocError>
+    ensures { IfOk result (λ request. spec.seen_request request ≡ spec.initialize_of (view value.now)) }
+{
+    let Some(uri) = root_of(value) else {
+        return Ok(Request::Initialize { root: None });
+    };
+    Ok(Request::Initialize {
+        root: Some(String::from_str(alloc, uri)?),
+    })
 }
 
 fn hover_of(alloc: Global, value: &Value) -> Result<Request, AllocError>
@@ -125,7 +139,7 @@ pub fn request_of(alloc: Global, method: &str, value: &Value) -> Result<Request,
         ≡ spec.request_of method.now (view value.now)) }
 {
     match method {
-        "initialize" => Ok(Request::Initialize),
+        "initialize" => initialize_of(alloc, value),
         "shutdown" => Ok(Request::Shutdown),
         "textDocument/hover" => hover_of(alloc, value),
         "textDocument/codeAction" => actions_of(alloc, value),

@@ -94,6 +94,16 @@ pub fn uri_of(value: &Value) -> Option<&str>
     text_by(value, "/params/textDocument/uri")
 }
 
+/// The URI of the folder that an editor has open: its root, or else the first of its folders.
+pub fn root_of(value: &Value) -> Option<&str>
+    ensures { option_map (λ uri. uri.now) result ≡ spec.root_of (view value.now) }
+{
+    match text_by(value, "/params/rootUri") {
+        Some(uri) => Some(uri),
+        None => text_by(value, "/params/workspaceFolders/0/uri"),
+    }
+}
+
 /// The list of a document's changes.
 pub fn changes_of(value: &Value) -> Option<&Vec<Value>>
     ensures { option_map (λ changes. items_view changes.now.items) result ≡ spec.changes_of (view value.now) }

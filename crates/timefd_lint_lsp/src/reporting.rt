@@ -22,6 +22,7 @@ pub fn reported(
 ) -> Result<Step, AllocError>
     ensures step { IfOk result (spec.IsReported settings.entry server.old.phase server.old.documents notification) }
     ensures phase { OnOk result (server.new.phase ≡ server.old.phase) }
+    ensures root { OnOk result (server.new.root ≡ server.old.root) }
     ensures documents { OnOk result (opening.AreReported server.old.phase notification server.old.documents
         server.new.documents) }
 {
@@ -51,6 +52,7 @@ fn heard(
 ) -> Result<Step, AllocError>
     ensures step { IfOk result (spec.IsHeard settings.entry server.old.documents notification) }
     ensures phase { OnOk result (server.new.phase ≡ server.old.phase) }
+    ensures root { OnOk result (server.new.root ≡ server.old.root) }
     ensures documents { OnOk result (opening.AreHeard notification server.old.documents server.new.documents) }
 {
     match notification {

@@ -1,6 +1,6 @@
 //! The server: it takes one message after another, and says what each leads to.
 
-ghost use Rattle.std.specs.Prelude.{◌≡◌, IfOk, OnOk};
+ghost use Rattle.std.specs.Prelude.{◌≡◌, IfOk, None, OnOk};
 ghost use Rattle.timefd_lint_lsp.specs.Documents as opening;
 ghost use Rattle.timefd_lint_lsp.specs.Servers as spec;
 
@@ -37,6 +37,8 @@ pub enum Phase {
 #[derive(Drop)]
 pub struct Server {
     pub phase: Phase,
+    /// The URI of the folder that the editor has open, if it has named one.
+    pub root: Option<String>,
     pub documents: Documents,
 }
 
@@ -52,10 +54,12 @@ impl Server {
     /// A server that hasn't taken a message yet.
     pub fn new(alloc: Global) -> Server
         ensures phase { result.phase ≡ spec.first }
+        ensures root { result.root ≡ None }
         ensures documents { opening.NoneOpen result.documents }
     {
         Server {
             phase: Phase::New,
+            root: None,
             documents: Documents::new(alloc),
         }
     }
@@ -70,6 +74,7 @@ pub fn take(
 ) -> Result<Step, AllocError>
     ensures step { IfOk result (spec.IsStep settings.entry server.old.phase server.old.documents message) }
     ensures phase { OnOk result (server.new.phase ≡ spec.phase_after server.old.phase message) }
+    ensures root { OnOk result (server.new.root ≡ spec.root_after server.old.phase message server.old.root) }
     ensures documents { OnOk result (opening.AreAfter server.old.phase message server.old.documents
         server.new.documents) }
 {

@@ -1,8 +1,10 @@
 //! A session with an editor, from its first byte to its last.
 
 ghost use Rattle.std.specs.Prelude.{◌≡◌, Some, IfOk, IsTrue};
+ghost use Rattle.timefd_lint_lsp.specs.Servers.{first};
 ghost use Rattle.timefd_lint_lsp.specs.Sessions as spec;
 ghost use Rattle.timefd_lint_lsp.specs.declared.session.End.{End};
+ghost use Rattle.timefd_lint_lsp.specs.declared.server.Settings.{Settings};
 
 use crate::frame::{Frame, WriteError, read_frame, write_frame};
 use crate::message::message_of;
@@ -34,8 +36,41 @@ pub enum End {
     Memory,
 }
 
-/// Serves an editor until the session ends, and returns how. It writes whole frames, unless a write fails.
+/// Answers an editor until it has sent `initialize`: the server then has the folder that the editor has open. `Some` if the
+/// session ends before. It writes whole frames, unless a write fails.
 #[tactic(auto, using(crate::proofs::SessionLemmas::none_written))]
+pub fn greet<R: Source, W: Sink>(
+    alloc: Global,
+    server: &mut Server,
+    source: &mut R,
+    sink: &mut W,
+) -> Option<End>
+    requires { server.old.phase ≡ first }
+    ensures frames { spec.IsTurn (W.contents sink.old) (W.contents sink.new) result }
+    ensures greeted { (settings : Settings) × spec.IsGreeted settings
+        (spec.at (R.remaining source.old) (W.contents sink.old) server.old)
+        (spec.at (R.remaining source.new) (W.contents sink.new) server.new) result }
+    ensures unread { result ≡ Some End.Unread → IsTrue (R.has_failed source.new) }
+    ensures unwritten { result ≡ Some End.Unwritten → IsTrue (W.has_failed sink.new) }
+{
+    // No answer before `initialize` depends on the settings.
+    let nothing = Settings {
+        keys: &[],
+        levels: None,
+    };
+    'greeting: for _ in 0..u64::MAX {
+        if let Some(end) = turn(alloc, nothing, server, source, sink) {
+            return Some(end);
+        }
+        if server.phase != Phase::New {
+            return None;
+        }
+    }
+    Some(End::InputEnded)
+}
+
+/// Serves an editor until the session ends, and returns how. It writes whole frames, unless a write fails.
+#[tactic(auto, using(crate::proofs::ServedLemmas::from_new))]
 pub fn serve<R: Source, W: Sink>(
     alloc: Global,
     settings: Settings<'_>,
@@ -49,8 +84,26 @@ pub fn serve<R: Source, W: Sink>(
     ensures unwritten { result ≡ End.Unwritten → IsTrue (W.has_failed sink.new) }
 {
     let mut server = Server::new(alloc);
+    serve_on(alloc, settings, &mut server, source, sink)
+}
+
+/// Serves an editor from here on until the session ends, and returns how. It writes whole frames, unless a write fails.
+#[tactic(auto, using(crate::proofs::SessionLemmas::none_written))]
+pub fn serve_on<R: Source, W: Sink>(
+    alloc: Global,
+    settings: Settings<'_>,
+    server: &mut Server,
+    source: &mut R,
+    sink: &mut W,
+) -> End
+    ensures frames { spec.IsSession (W.contents sink.old) (W.contents sink.new) result }
+    ensures served { spec.IsServedFrom settings.entry server.old (R.remaining source.old) (W.contents sink.old)
+        (R.remaining source.new) (W.contents sink.new) result }
+    ensures unread { result ≡ End.Unread → IsTrue (R.has_failed source.new) }
+    ensures unwritten { result ≡ End.Unwritten → IsTrue (W.has_failed sink.new) }
+{
     'frames: for _ in 0..u64::MAX {
-        match turn(alloc, settings, &mut server, source, sink) {
+        match turn(alloc, settings, server, source, sink) {
             Some(end) => return end,
             None => {}
         }
