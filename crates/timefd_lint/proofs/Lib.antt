@@ -16,3 +16,5 @@ pub mod FateLemmas
 pub mod LiteralLemmas
 pub mod HandLemmas
 pub mod StoreLemmas
+pub mod ProjectLemmas
+pub mod PartLemmas

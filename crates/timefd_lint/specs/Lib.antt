@@ -25,3 +25,6 @@ pub mod NoCodes
 pub mod Limited
 pub mod Stores
 pub mod ValueNotes
+pub mod Projects
+pub mod Parts
+pub mod Roots

@@ -1,6 +1,10 @@
-//! The file of settings: in the working directory, or in the nearest folder around it that has one.
+//! A file of settings: what it says, and what of it counts.
 
-ghost use Rattle.std.specs.Prelude.{◌≡◌, string_bytes};
+ghost use Rattle.std.specs.Prelude.{◌≡◌, IfOk, Ok, string_bytes};
+ghost use Rattle.timefd_lint_options.specs.Config.Config as says;
+ghost use Rattle.timefd_lint.specs.Projects as specs;
+ghost use Rattle.timefd_lint.specs.declared.config.ConfigFailure.TheVariants as failures;
+ghost use Rattle.timefd_lint_files.specs.declared.walk_error.WalkError.TheVariants as walks;
 ghost use Rattle.timefd_lint.specs.Rewriting.{rewriting_of};
 ghost use Rattle.timefd_lint.specs.Counted as spec;
 
@@ -8,17 +12,16 @@ use crate::no_code::{no_level_sentence, no_warning_sentence};
 use crate::rewriting::rewriting_of;
 use std::alloc::{AllocError, Global};
 use std::io::ErrorKind;
-use std::{env, str};
+use std::str;
 use timefd_lang_warnings::Levels;
 use timefd_lint_drawing::shown::safe;
-use timefd_lint_files::{
-    Excluded, Nearest, Reason, WalkError, first_upwards, folders_above, front_below,
-};
+use timefd_lint_files::{Excluded, Nearest, Reason, WalkError, front_below};
 use timefd_lint_options::Settings;
 use timefd_lint_options::config::{Config, ConfigError, OwnedKey, config_of};
 use toml::de;
 
-const NAME: &str = ".timefd.toml";
+/// The name of a file of settings.
+pub const NAME: &str = ".timefd.toml";
 
 /// Why the file of settings can't be used.
 #[derive(Drop)]
@@ -40,7 +43,10 @@ impl From<AllocError> for ConfigFailure {
 pub struct Project {
     /// What the file says.
     pub config: Config,
-    /// The path of the working directory from the folder of the file: empty, or names that each end in `/`.
+    /// The path of its folder, each name with `/` at its end.
+    pub folder: String,
+    /// The path of the working directory from that folder, if it is that one or below it: empty, or names that each end in
+    /// `/`.
     pub front: Vec<u8>,
 }
 
@@ -48,47 +54,66 @@ impl Project {
     /// What the file excludes.
     pub fn excluded(&self) -> Excluded<'_>
         ensures patterns { result.patterns.now ≡ string_bytes self.now.config.exclude }
+        ensures folder { result.folder.now ≡ string_bytes self.now.folder }
         ensures front { result.front.now ≡ self.now.front.items }
     {
         Excluded {
             patterns: self.config.exclude.as_str(),
+            folder: self.folder.as_str().as_bytes(),
             front: self.front.as_slice(),
         }
     }
 }
 
 // What an empty file of settings in the working directory says.
-fn no_project(alloc: Global) -> Project {
+fn no_project(alloc: Global) -> Project
+    ensures { specs.SaysNothing result }
+{
     Project {
         config: Config {
             keys: Vec::new(alloc),
             exclude: String::new(alloc),
             levels: None,
         },
+        folder: String::new(alloc),
         front: Vec::new(alloc),
     }
 }
 
-/// Reads the file of settings in the working directory, or in the nearest folder around it that has one. The first
-/// folder that has `.git` is the last that is looked at. If there is no file, nothing is set.
-pub fn read_project(rt: &HostRuntime, alloc: Global) -> Result<Project, ConfigFailure> {
-    let here = env::current_dir(rt).ok();
-    let here = here.as_ref().map_or("", |path| path.as_str());
-    let here = here.strip_prefix('/').unwrap_or("");
-    match first_upwards(rt, alloc, NAME, "", folders_above(here)) {
-        Ok(Some(found)) => project_of(alloc, here, &found),
-        Ok(None) => Ok(no_project(alloc)),
-        Err(WalkError::Memory) => Err(ConfigFailure::Memory),
-        Err(WalkError::Failed { path, reason }) => Err(wrong(alloc, &path, unreadable(reason))),
+/// What the file of settings says that was found. If there is none, nothing is set. `here` is the path of the working
+/// directory, without a `/` at either end.
+pub fn project_of(
+    alloc: Global,
+    here: &str,
+    found: &Option<Nearest>,
+) -> Result<Project, ConfigFailure>
+    ensures { IfOk result (specs.IsProject here.now found.now) }
+{
+    match found {
+        Some(found) => project_found(alloc, here, found),
+        None => Ok(no_project(alloc)),
     }
 }
 
-// What this file says. `here` is the path of the working directory, without a `/` at either end.
-fn project_of(alloc: Global, here: &str, found: &Nearest) -> Result<Project, ConfigFailure> {
-    let front = front_below(alloc, here, found.above)?;
+fn project_found(alloc: Global, here: &str, found: &Nearest) -> Result<Project, ConfigFailure>
+    ensures { IfOk result (specs.IsProjectOf here.now found.now) }
+{
     let name = format!(in alloc; "{}{NAME}", found.folder)?;
-    let config = config_of_bytes(alloc, &name, &found.text)?;
-    Ok(Project { config, front })
+    Ok(Project {
+        config: config_of_bytes(alloc, &name, &found.text)?,
+        folder: String::from_str(alloc, &found.folder)?,
+        front: front_below(alloc, here, found.above)?,
+    })
+}
+
+/// Why no file of settings is found.
+pub fn unfound(alloc: Global, error: WalkError) -> ConfigFailure
+    ensures { error ≡ walks.Memory → result ≡ failures.Memory }
+{
+    match error {
+        WalkError::Memory => ConfigFailure::Memory,
+        WalkError::Failed { path, reason } => wrong(alloc, &path, unreadable(reason)),
+    }
 }
 
 /// The keys of the file of settings that count in a run: none if files are mended or rewritten.
@@ -111,7 +136,9 @@ pub fn counted_levels(settings: Settings<'_>, config: &Config) -> Option<Levels>
     }
 }
 
-fn config_of_bytes(alloc: Global, file: &str, bytes: &[u8]) -> Result<Config, ConfigFailure> {
+fn config_of_bytes(alloc: Global, file: &str, bytes: &[u8]) -> Result<Config, ConfigFailure>
+    ensures { IfOk result (λ config. says.config_of bytes.now ≡ Ok (says.said config)) }
+{
     let Ok(text) = str::from_utf8(bytes) else {
         return Err(wrong(alloc, file, "the bytes aren't UTF-8"));
     };

@@ -27,7 +27,9 @@ mod options;
 mod other_rules;
 mod output;
 mod page;
+mod parts;
 mod progress;
+mod projects;
 mod rewrite_report;
 mod rewriting;
 mod rewritten;
@@ -48,31 +50,28 @@ mod usage;
 mod value_notes;
 
 use color::is_colored;
-use config::{ConfigFailure, counted_keys, counted_levels, read_project};
 use identity::is_there;
 use line::RunError;
-use log::write_log;
-use options::{Options, run_options};
 use output::{standard_error, standard_output};
 use page::{Subject, explained_in, page_on, unexplained_in};
+use parts::{Part, file_count, have_lines, parts_of, warn};
+use projects::{Named, projects_of, working_directory};
 use running::run_in_form;
-use rust::are_sources;
 use session::session_status;
-use sought::{named_or_here, sought};
+use sought::named_or_here;
 use status::{
-    FAILED, NOT_TEXT, WRONG_ARGUMENTS, no_code, no_memory, reported, walk_failed, write_failed,
-    wrong_arguments,
+    FAILED, NOT_TEXT, WRONG_ARGUMENTS, no_code, no_memory, reported, unset, walk_failed,
+    write_failed, wrong_arguments,
 };
-use std::alloc::{AllocError, Global};
+use std::alloc::AllocError;
 use std::io::{BufWriter, IsTerminal, Write};
 use std::process::ExitCode;
 use summary::summary;
 use tally::Tally;
 use timefd_bin_streams::{Sink, ToWriter, WordsError, all_words, borrowed};
-use timefd_lint_files::{Excluded, WalkError, expanded};
-use timefd_lint_options::config::{OwnedKey, same_keys, with_keys, with_levels};
+use timefd_lint_files::WalkError;
 use timefd_lint_options::{
-    Asked, OptionError, Settings, is_log, keys_of, lines_conflict, options_of, ordered,
+    Asked, OptionError, Settings, keys_of, lines_conflict, options_of, ordered,
 };
 use timefd_lint_scan::keys::Key;
 
@@ -125,92 +124,55 @@ fn options_status(rt: &HostRuntime, words: &[&str]) -> u8 {
 }
 
 // Runs over the named files and folders, and returns the status. The keys and levels of the arguments come first,
-// then those of the file of settings.
+// then those of each name's file of settings.
 fn keys_status(rt: &HostRuntime, settings: Settings<'_>, words: &[&str], names: &[&str]) -> u8 {
-    let project = match read_project(rt, rt.alloc()) {
-        Ok(project) => project,
-        Err(ConfigFailure::Memory) => return no_memory(rt),
-        Err(ConfigFailure::Wrong(sentence)) => return reported(rt, WRONG_ARGUMENTS, &sentence),
-    };
-    let Ok(keys) = keys_of(rt.alloc(), words) else {
+    let (Ok(keys), Ok(here)) = (
+        keys_of(rt.alloc(), words),
+        working_directory(rt, rt.alloc()),
+    ) else {
         return no_memory(rt);
     };
-    let settings = with_levels(settings, counted_levels(settings, &project.config));
-    match all_keys(rt.alloc(), &keys, counted_keys(settings, &project.config)) {
-        Ok(keys) if settings.serves => session_status(rt, settings, &keys),
-        Ok(keys) => names_status(rt, settings, &keys, project.excluded(), names),
-        Err(AllocError) => no_memory(rt),
+    if settings.serves {
+        return session_status(rt, settings, &keys, &here);
+    }
+    match projects_of(rt, rt.alloc(), &here, names) {
+        Ok(projects) => projects_status(rt, settings, &keys, &projects),
+        Err(failure) => unset(rt, failure),
     }
 }
 
-fn all_keys<'a>(
-    alloc: Global,
-    keys: &'a [Key<'_>],
-    more: &'a [OwnedKey],
-) -> Result<Vec<Key<'a>>, AllocError> {
-    with_keys(same_keys(alloc, keys)?, more)
-}
-
-// Runs over the named files and folders, and returns the status. A folder means all sources below it, except
-// those that are excluded.
-fn names_status(
+// A folder means all sources below it, except those that are excluded.
+fn projects_status(
     rt: &HostRuntime,
     settings: Settings<'_>,
     keys: &[Key<'_>],
-    excluded: Excluded<'_>,
-    names: &[&str],
+    projects: &[Named<'_>],
 ) -> u8 {
-    let files = match expanded(rt, rt.alloc(), sought(settings, keys, excluded), names) {
-        Ok(files) => files,
-        Err(WalkError::Memory) => return no_memory(rt),
-        Err(WalkError::Failed { path, reason }) => return walk_failed(rt, &path, reason),
-    };
-    if files.is_empty() && !names.is_empty() {
-        return nothing_status(rt, settings);
-    }
-    match borrowed(rt.alloc(), &files) {
-        Ok(files) => files_status(rt, settings, keys, &files),
-        Err(AllocError) => no_memory(rt),
+    match parts_of(rt, rt.alloc(), settings, keys, projects) {
+        Ok(parts) => parts_status(rt, settings, &parts),
+        Err(WalkError::Memory) => no_memory(rt),
+        Err(WalkError::Failed { path, reason }) => walk_failed(rt, &path, reason),
     }
 }
 
-// The status of a run that checks no file.
-fn nothing_status(rt: &HostRuntime, settings: Settings<'_>) -> u8 {
-    if !is_log(settings.format) {
-        return end_of(rt, settings, 0, Tally::new());
-    }
-    let mut sink = ToWriter::new(standard_output(rt, false, rt.stdout()));
-    match write_log(rt.alloc(), &[], &mut sink) {
-        Ok(()) => end_of(rt, settings, 0, Tally::new()),
-        Err(RunError::Memory) => no_memory(rt),
-        Err(RunError::Write) => write_failed(rt),
-    }
-}
-
-// Whether something is read line by line, or as a whole text: a file that is no source, or the standard input.
-fn has_lines(options: Options<'_>) -> bool {
-    !are_sources(options) || (options.files.is_empty() && !options.is_source)
-}
-
-fn files_status(rt: &HostRuntime, settings: Settings<'_>, keys: &[Key<'_>], files: &[&str]) -> u8 {
-    let colored = is_colored(rt, settings.color);
-    let options = run_options(settings, colored, keys, files);
+fn parts_status(rt: &HostRuntime, settings: Settings<'_>, parts: &[Part<'_>]) -> u8 {
     match lines_conflict(settings) {
-        Some(why) if has_lines(options) => wrong_arguments(rt, OptionError::Conflict(why)),
-        Some(_) | None => run_status(rt, settings, options),
+        Some(why) if have_lines(parts) => wrong_arguments(rt, OptionError::Conflict(why)),
+        Some(_) | None => run_status(rt, settings, parts),
     }
 }
 
-fn run_status(rt: &HostRuntime, settings: Settings<'_>, options: Options<'_>) -> u8 {
+fn run_status(rt: &HostRuntime, settings: Settings<'_>, parts: &[Part<'_>]) -> u8 {
     let Ok(writer) = BufWriter::new(rt.alloc(), rt.stdout()) else {
         return no_memory(rt);
     };
-    let output = standard_output(rt, options.reporting.style.is_colored, writer);
+    let is_colored = is_colored(rt, settings.color);
+    let output = standard_output(rt, is_colored, writer);
     let audience = output.audience;
     let mut sink = ToWriter::new(output);
-    let end = run_in_form(rt, settings, options, audience, &mut sink);
+    let end = run_in_form(rt, settings, is_colored, parts, audience, &mut sink);
     match (end, sink.flush()) {
-        (Ok(tally), Ok(())) => end_of(rt, settings, options.file_count(), tally),
+        (Ok(tally), Ok(())) => end_of(rt, settings.is_quiet, parts, tally),
         (Err(RunError::Memory), _) => no_memory(rt),
         (Err(RunError::Write), _) | (Ok(_), Err(_)) => write_failed(rt),
     }
@@ -225,13 +187,13 @@ fn end_status(rt: &HostRuntime, status: u8) -> u8 {
     }
 }
 
-// Reports what `end_status` does, then writes the summary line: how much was checked, in `file_count` files.
-fn end_of(rt: &HostRuntime, settings: Settings<'_>, file_count: usize, tally: Tally) -> u8 {
+// Reports what `end_status` does, then writes the summary line: how much was checked.
+fn end_of(rt: &HostRuntime, is_quiet: bool, parts: &[Part<'_>], tally: Tally) -> u8 {
     let status = end_status(rt, tally.status());
-    if settings.is_quiet {
+    if is_quiet {
         return status;
     }
-    match summary(rt.alloc(), settings.warns, tally, file_count) {
+    match summary(rt.alloc(), warn(parts), tally, file_count(parts)) {
         Ok(line) => {
             let _ = standard_error(rt).writeln(format_args!("{line}"));
             status

@@ -4,41 +4,41 @@ ghost use Rattle.std.specs.Prelude.{◌≡◌, IfErr, IfOk, None, false};
 ghost use Rattle.timefd_lint_options.specs.Conflicts.{is_log};
 ghost use Rattle.timefd_lint.specs.Causes.{IsCausedBy};
 ghost use Rattle.timefd_lint.specs.Rewriting.{rewriting_of};
-ghost use Rattle.timefd_lint.specs.Sources.{IsRunWith, any_source};
+ghost use Rattle.timefd_lint.specs.Parts.{AreRun, IsRunOfPart};
 
 use crate::line::RunError;
 use crate::log::write_log;
-use crate::options::Options;
 use crate::output::{Audience, standard_error};
+use crate::parts::{Part, all_files, file_count};
 use crate::progress::Watched;
-use crate::rewriting::rewriting_of;
+use crate::rewriting::{Rewriting, rewriting_of};
 use crate::rewritten::rewrite_files;
 use crate::run::run;
-use crate::source::BUFFER;
+use crate::source::{BUFFER, Source};
 use crate::tally::Tally;
+use std::alloc::Global;
 use std::io::BufReader;
-use timefd_bin_streams::{FromBufReader, Sink, ToWriter};
+use timefd_bin_streams::{BufferedSource, FromBufReader, Sink, ToWriter, borrowed};
 use timefd_lint_options::{Settings, is_log};
 
 /// Checks the files or rewrites them, and writes the report in the chosen format.
 pub fn run_in_form<W: Sink>(
     rt: &HostRuntime,
     settings: Settings<'_>,
-    options: Options<'_>,
+    is_colored: bool,
+    parts: &[Part<'_>],
     audience: Audience,
     output: &mut W,
 ) -> Result<Tally, RunError>
     // What is only checked, and not reported in a log, is reported text by text.
     ensures reported { is_log settings.entry.format ≡ false → rewriting_of settings.entry ≡ None
-        → IfOk result (IsRunWith (any_source options.entry options.entry.files.now)
-        options.entry.is_whole options.entry.language options.entry.comment options.entry.reporting
-        (W.contents output.old) (W.contents output.new)) }
+        → IfOk result (AreRun is_colored parts.now (W.contents output.old) (W.contents output.new)) }
     ensures unwritten { IfErr result (IsCausedBy (W.has_failed output.new)) }
 {
     if is_log(settings.format) {
-        run_logged(rt, settings, options, output)
+        run_logged(rt, settings, is_colored, parts, output)
     } else {
-        run_and_rewrite(rt, settings, options, audience, output)
+        run_and_rewrite(rt, settings, is_colored, parts, audience, output)
     }
 }
 
@@ -46,13 +46,21 @@ pub fn run_in_form<W: Sink>(
 fn run_logged<W: Sink>(
     rt: &HostRuntime,
     settings: Settings<'_>,
-    options: Options<'_>,
+    is_colored: bool,
+    parts: &[Part<'_>],
     output: &mut W,
 ) -> Result<Tally, RunError>
     ensures unwritten { IfErr result (IsCausedBy (W.has_failed output.new)) }
 {
     let mut results = ToWriter::new(Vec::new(rt.alloc()));
-    match run_and_rewrite(rt, settings, options, Audience::Program, &mut results) {
+    match run_and_rewrite(
+        rt,
+        settings,
+        is_colored,
+        parts,
+        Audience::Program,
+        &mut results,
+    ) {
         Ok(tally) => {
             write_log(rt.alloc(), &results.into_inner(), output)?;
             Ok(tally)
@@ -65,35 +73,113 @@ fn run_logged<W: Sink>(
 fn run_and_rewrite<W: Sink>(
     rt: &HostRuntime,
     settings: Settings<'_>,
-    options: Options<'_>,
+    is_colored: bool,
+    parts: &[Part<'_>],
     audience: Audience,
     output: &mut W,
 ) -> Result<Tally, RunError>
     ensures reported { rewriting_of settings.entry ≡ None
-        → IfOk result (IsRunWith (any_source options.entry options.entry.files.now)
-        options.entry.is_whole options.entry.language options.entry.comment options.entry.reporting
-        (W.contents output.old) (W.contents output.new)) }
+        → IfOk result (AreRun is_colored parts.now (W.contents output.old) (W.contents output.new)) }
     ensures unwritten { IfErr result (IsCausedBy (W.has_failed output.new)) }
 {
-    if let Some(rewriting) = rewriting_of(settings) {
-        let mut store = rt;
-        let mut errors = ToWriter::new(standard_error(rt));
-        return rewrite_files(
-            &mut store,
-            rt.alloc(),
-            options,
-            rewriting,
-            audience,
-            &mut errors,
-            output,
-        );
+    match rewriting_of(settings) {
+        Some(rewriting) => rewrite_parts(rt, rewriting, is_colored, parts, audience, output),
+        None => check_parts(rt, is_colored, parts, output),
     }
+}
+
+// Rewrites the files of all parts in one go, so that a file with names in several parts is taken once. Nothing else of
+// their settings counts.
+fn rewrite_parts<W: Sink>(
+    rt: &HostRuntime,
+    rewriting: Rewriting,
+    is_colored: bool,
+    parts: &[Part<'_>],
+    audience: Audience,
+    output: &mut W,
+) -> Result<Tally, RunError>
+    ensures unwritten { IfErr result (IsCausedBy (W.has_failed output.new)) }
+{
+    let [first, ..] = parts else {
+        return Ok(Tally::new());
+    };
+    let files = all_files(rt.alloc(), parts)?;
+    let mut store = rt;
+    let mut errors = ToWriter::new(standard_error(rt));
+    rewrite_files(
+        &mut store,
+        rt.alloc(),
+        first.options(is_colored, &files),
+        rewriting,
+        audience,
+        &mut errors,
+        output,
+    )
+}
+
+fn check_parts<W: Sink>(
+    rt: &HostRuntime,
+    is_colored: bool,
+    parts: &[Part<'_>],
+    output: &mut W,
+) -> Result<Tally, RunError>
+    ensures reported { IfOk result (AreRun is_colored parts.now (W.contents output.old) (W.contents output.new)) }
+    ensures unwritten { IfErr result (IsCausedBy (W.has_failed output.new)) }
+{
     let Ok(reader) = BufReader::with_capacity(rt.alloc(), BUFFER, rt.stdin()) else {
         return Err(RunError::Memory);
     };
     let mut input = FromBufReader::new(reader);
-    let watched = Watched::new(rt, options.file_count());
-    let end = run(&watched, rt.alloc(), options, &mut input, output);
+    let watched = Watched::new(rt, file_count(parts));
+    let end = run_parts(&watched, rt.alloc(), is_colored, parts, &mut input, output);
     watched.end();
     end
+}
+
+// Checks the files of each part by its settings, one part after another.
+#[tactic(auto, using(crate::proofs::PartLemmas::no_part, crate::proofs::PartLemmas::one_part, crate::proofs::PartLemmas::all_parts))]
+fn run_parts<S: Source, I: BufferedSource, W: Sink>(
+    source: &S,
+    alloc: Global,
+    is_colored: bool,
+    parts: &[Part<'_>],
+    input: &mut I,
+    output: &mut W,
+) -> Result<Tally, RunError>
+    ensures reported { IfOk result (AreRun is_colored parts.now (W.contents output.old) (W.contents output.new)) }
+    ensures unwritten { IfErr result (IsCausedBy (W.has_failed output.new)) }
+{
+    let mut tally = Tally::new();
+    let mut rest = parts;
+    'parts: while let [part, after @ ..] = rest {
+        tally = tally.and(run_part(source, alloc, is_colored, part, input, output)?);
+        rest = after;
+    }
+    Ok(tally)
+}
+
+// Checks the files of a part. Without any nothing is read.
+#[tactic(auto, using(crate::proofs::PartLemmas::no_file, crate::proofs::PartLemmas::some_files))]
+fn run_part<S: Source, I: BufferedSource, W: Sink>(
+    source: &S,
+    alloc: Global,
+    is_colored: bool,
+    part: &Part<'_>,
+    input: &mut I,
+    output: &mut W,
+) -> Result<Tally, RunError>
+    ensures reported { IfOk result (IsRunOfPart is_colored part.now (W.contents output.old) (W.contents output.new)) }
+    ensures unwritten { IfErr result (IsCausedBy (W.has_failed output.new)) }
+{
+    if part.is_empty() {
+        return Ok(Tally::new());
+    }
+    let files = borrowed(alloc, &part.files)?;
+    run(
+        source,
+        alloc,
+        part.options(is_colored, &files),
+        input,
+        output,
+    )
 }

@@ -1,6 +1,6 @@
 //! Sources of Rust, and files with keys.
 
-ghost use Rattle.std.specs.Prelude.{◌≡◌, IfErr, IfOk, IsTrue, OnOk};
+ghost use Rattle.std.specs.Prelude.{◌≡◌, IfErr, IfOk, IsTrue, OnOk, string_bytes};
 ghost use Rattle.std.specs.List.{list_all};
 ghost use Rattle.timefd_lint.specs.Causes.{IsCausedBy};
 ghost use Rattle.timefd_lint.specs.Sources.{IsNotText, IsReported, IsRunOfSource, IsSaid};
@@ -40,11 +40,11 @@ pub fn is_source(options: Options<'_>, name: &str) -> bool
     is_rust(options, name) || has_keys(options, name)
 }
 
-/// Whether all files of a run are read as sources.
-pub fn are_sources(options: Options<'_>) -> bool
-    ensures { result ≡ list_all (λ name. spec.is_source options.entry name.now) options.entry.files.now }
+/// Whether all files with these names are read as sources.
+pub fn are_sources(options: Options<'_>, files: &[String]) -> bool
+    ensures { result ≡ list_all (λ name. spec.is_source options.entry (string_bytes name)) files.now }
 {
-    options.files.iter().all(|name| is_source(options, name))
+    files.iter().all(|name| is_source(options, name))
 }
 
 /// How the descriptions are found in a file with this name that is read as a source.

@@ -2,6 +2,7 @@
 
 ghost use Rattle.std.specs.Prelude.{◌≡◌, ◌⊎◌};
 
+use crate::config::ConfigFailure;
 use crate::no_code::no_code_sentence;
 use crate::output::standard_error;
 use crate::{arguments, folders};
@@ -71,5 +72,15 @@ pub fn walk_failed(rt: &HostRuntime, path: &str, reason: Reason) -> u8
     match folders::sentence(rt.alloc(), path, reason) {
         Ok(sentence) => reported(rt, FAILED, &sentence),
         Err(AllocError) => no_memory(rt),
+    }
+}
+
+/// Reports why a file of settings can't be used, and returns the status.
+pub fn unset(rt: &HostRuntime, failure: ConfigFailure) -> u8
+    ensures { (result ≡ 2) ⊎ (result ≡ 3) }
+{
+    match failure {
+        ConfigFailure::Memory => no_memory(rt),
+        ConfigFailure::Wrong(sentence) => reported(rt, WRONG_ARGUMENTS, &sentence),
     }
 }

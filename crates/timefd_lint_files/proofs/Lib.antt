@@ -13,4 +13,7 @@ pub mod NameLemmas
 pub mod ErrorLemmas
 pub mod OutLemmas
 pub mod StartLemmas
+pub mod HereLemmas
+pub mod AroundLemmas
 pub mod UpwardLemmas
+pub mod GroupLemmas

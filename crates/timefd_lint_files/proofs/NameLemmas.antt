@@ -7,7 +7,7 @@ use Rattle.timefd_lint_files.specs.declared.ignore_file.IgnoreFile.{IgnoreFile}
 use Rattle.timefd_lint_files.specs.IgnoreFiles.{IsReadFrom}
 use Rattle.timefd_lint_files.specs.declared.entry.Entry.{Entry}
 use Rattle.timefd_lint_files.specs.Walks.{AreExcluded, AreExpanded, IsExpanded, IsWalk, IsAlone, IsWalkBut, as_folder, is_input}
-use Rattle.timefd_lint_files.specs.Starts.{Begun, seen, start_of}
+use Rattle.timefd_lint_files.specs.Starts.{Begun, seen, start_below}
 use Rattle.timefd_lint_files.specs.declared.excluded.Excluded.{Excluded}
 use Rattle.timefd_lint_files.specs.declared.start.Start.{Start}
 use Rattle.timefd_lint_files.proofs.WalkLemmas.{GoesOn}
@@ -21,13 +21,12 @@ alone front text spelled folder_len file before files read same none is =
     (file, subst (λ (t : Text). IsReadFrom front folder_len t file) same read, is ∙ ap (λ fs. fs ++ file ∷ []) none)
 
 -- a single file that is read for a folder
-pub alone_below : (excluded : Excluded) (folder bytes : Text) (start : Start) (cut : ℕ) (files : List IgnoreFile)
-    → bytes ≡ folder → seen start ≡ start_of excluded.front.now bytes
+pub alone_below : (excluded : Excluded) (folder : Text) (start : Start) (cut : ℕ) (files : List IgnoreFile)
+    → seen start ≡ start_below excluded folder
     → cut ≡ length folder - length start.rest.now → IsAlone start.front.now cut excluded.patterns.now files
     → AreExcluded excluded folder files
-alone_below excluded folder bytes start cut files same is long are =
-    let begun : seen start ≡ start_of excluded.front.now folder = is ∙ ap (start_of excluded.front.now) same in
-    subst (λ (b : Begun). IsAlone b.front (length folder - length b.rest) excluded.patterns.now files) begun
+alone_below excluded folder start cut files is long are =
+    subst (λ (b : Begun). IsAlone b.front (length folder - length b.rest) excluded.patterns.now files) is
     (subst (λ (k : ℕ). IsAlone start.front.now k excluded.patterns.now files) long are)
 
 -- names below a folder, where these files say what is excluded

@@ -3,7 +3,7 @@ use Rattle.std.proofs.Common.{◌≡◌, ℕ, Bool, true, false, List, [], ◌�
 use Rattle.timefd_lint_files.specs.Matching.{Text}
 use Rattle.timefd_lint_files.specs.declared.ignore_file.IgnoreFile.{IgnoreFile}
 use Rattle.timefd_lint_files.specs.declared.excluded.Excluded.{Excluded}
-use Rattle.timefd_lint_files.specs.Starts.{path_of}
+use Rattle.timefd_lint_files.specs.Starts.{path_below}
 use Rattle.timefd_lint_files.specs.Rules.{is_ignored}
 use Rattle.timefd_lint_files.specs.Walks.{IsAlone, IsKept, front_of, is_out, is_out_from, is_out_here, unless_out}
 
@@ -37,42 +37,41 @@ same_out name bytes excluded borrowed out answer same spelled is answered =
     sym (is ∙ (λ i. is_out (same i) (spelled i))) ∙ answered
 
 -- whether the file of a name is excluded
-named_out : (excluded : Excluded) (name spelled path bytes : Text) (files borrowed : List IgnoreFile) (out answer : Bool)
-    → borrowed ≡ files → bytes ≡ path → spelled ≡ name → path ≡ path_of excluded.front.now spelled
-    → out ≡ is_out borrowed bytes → out ≡ answer → is_out files (path_of excluded.front.now name) ≡ answer
-named_out excluded name spelled path bytes files borrowed out answer same read named at is answered =
-    ap (is_out files) (sym (at ∙ ap (path_of excluded.front.now) named))
-    ∙ same_out path bytes files borrowed out answer same read is answered
+named_out : (excluded : Excluded) (name path bytes : Text) (files borrowed : List IgnoreFile) (out answer : Bool)
+    → borrowed ≡ files → bytes ≡ path → path ≡ path_below excluded name
+    → out ≡ is_out borrowed bytes → out ≡ answer → is_out files (path_below excluded name) ≡ answer
+named_out excluded name path bytes files borrowed out answer same read at is answered =
+    ap (is_out files) (sym at) ∙ same_out path bytes files borrowed out answer same read is answered
 
 -- A file that is kept adds its name, and one that is excluded adds none.
-pub kept : (excluded : Excluded) (name spelled path bytes : Text) (files borrowed : List IgnoreFile) (out : Bool)
+pub kept : (excluded : Excluded) (name path bytes : Text) (files borrowed : List IgnoreFile) (out : Bool)
     (old new : List Text) → IsAlone [] 0 excluded.patterns.now files → borrowed ≡ files → bytes ≡ path
-    → spelled ≡ name → path ≡ path_of excluded.front.now spelled → out ≡ is_out borrowed bytes
+    → path ≡ path_below excluded name → out ≡ is_out borrowed bytes
     → out ≡ false → new ≡ old ++ name ∷ []
     → (names : List Text) × (new ≡ old ++ names) × IsKept excluded name names
-kept excluded name spelled path bytes files borrowed out old new are same read named at is stays more = (
+kept excluded name path bytes files borrowed out old new are same read at is stays more = (
   name ∷ [],
   more,
   (
     files,
     are,
     sym (ap (λ o. unless_out o name)
-        (named_out excluded name spelled path bytes files borrowed out false same read named at is stays)),
+        (named_out excluded name path bytes files borrowed out false same read at is stays)),
   ),
 )
 
-pub out : (excluded : Excluded) (name spelled path bytes : Text) (files borrowed : List IgnoreFile) (gone : Bool)
+pub out : (excluded : Excluded) (name path bytes : Text) (files borrowed : List IgnoreFile) (gone : Bool)
     (old new : List Text) → IsAlone [] 0 excluded.patterns.now files → borrowed ≡ files → bytes ≡ path
-    → spelled ≡ name → path ≡ path_of excluded.front.now spelled → gone ≡ is_out borrowed bytes
+    → path ≡ path_below excluded name → gone ≡ is_out borrowed bytes
     → gone ≡ true → new ≡ old
     → (names : List Text) × (new ≡ old ++ names) × IsKept excluded name names
-out excluded name spelled path bytes files borrowed gone old new are same read named at is one unchanged = (
+out excluded name path bytes files borrowed gone old new are same read at is one unchanged = (
   [],
   unchanged ∙ sym (append-nil old),
   (
     files,
     are,
     sym (ap (λ o. unless_out o name)
-        (named_out excluded name spelled path bytes files borrowed gone true same read named at is one)),
+        (named_out excluded name path bytes files borrowed gone true same read at is one)),
   ),
 )

@@ -1,8 +1,16 @@
 -- A file that is sought upwards.
-use Rattle.std.proofs.Common.{◌≡◌, ◌≢◌, ℕ, ◌-◌, zero, suc, Bool, true, false, List, [], ◌∷◌, ◌++◌, refl, sym, ap, ◌∙◌, codes, subst, arith}
+use Rattle.std.proofs.Common.{◌≡◌, ◌≢◌, ℕ, ◌-◌, zero, suc, Bool, true, false, [], ◌∷◌, ◌++◌, refl, sym, ap, ◌∙◌, codes, subst, arith}
 use Rattle.std.proofs.lemmas.Bool.{ne_eqb}
 use Rattle.std.specs.Prelude.{Option, Some, None}
 use Rattle.std.specs.declared.io.ErrorKind.{ErrorKind}
+use Rattle.timefd_lint_files.specs.declared.system.ReadError.{ReadError}
+use Rattle.timefd_lint_files.specs.declared.system.ReadError.TheVariants as unread
+use Rattle.timefd_lint_files.specs.declared.walk_error.Reason.{Reason}
+use Rattle.timefd_lint_files.specs.declared.walk_error.Reason.TheVariants.{Unread, TooDeep}
+use Rattle.timefd_lint_files.specs.declared.walk_error.WalkError.{WalkError}
+use Rattle.timefd_lint_files.specs.declared.walk_error.WalkError.TheVariants.{Memory, Failed}
+use Rattle.timefd_lint_files.specs.Around.{IsUnreadUpwards, around, up}
+use Rattle.timefd_lint_files.specs.Errors.{IsReadError, IsUnreadOf}
 use Rattle.timefd_lint_files.specs.Matching.{Text}
 use Rattle.timefd_lint_files.specs.Upwards.{IsAbsent, IsAround, IsBeyond, IsNearest, IsThereOr, Near, after_slashes, left_after}
 
@@ -52,7 +60,7 @@ in_repository holds fails tells name above folder has answer absent some there i
 around_it : (holds : Text → Text → Type 0) (fails : Text → ErrorKind → Type 0) (tells : Text → Bool → Type 0)
     (name : Text) (above : ℕ) (folder : Text) (has : Bool) (answer : Option Near) → IsAbsent fails (folder ++ name)
     → above ≢ 0 → IsThereOr holds fails (folder ++ codes ".git") has → has ≡ false
-    → IsAround tells (IsNearest holds fails tells name (above - 1)) (folder ++ codes "../") answer
+    → IsAround tells (IsNearest holds fails tells name (above - 1)) (around folder) answer
     → IsNearest holds fails tells name above folder answer
 around_it holds fails tells name above folder has answer absent some there is around =
     beyond holds fails tells name above folder answer absent some
@@ -60,33 +68,68 @@ around_it holds fails tells name above folder has answer absent some there is ar
 
 -- No name in the folder around can be looked up.
 pub at_closed : (holds : Text → Text → Type 0) (fails : Text → ErrorKind → Type 0) (tells : Text → Bool → Type 0)
-    (name : Text) (above : ℕ) (folder around : Text) (has answers : Bool) (answer : Option Near)
+    (name : Text) (above : ℕ) (folder outer : Text) (has answers : Bool) (answer : Option Near)
     → IsAbsent fails (folder ++ name) → above ≢ 0 → IsThereOr holds fails (folder ++ codes ".git") has → has ≡ false
-    → around ≡ folder ++ codes "../" → tells (around ++ codes ".") answers → answers ≡ false → answer ≡ None
+    → outer ≡ around folder → tells (outer ++ codes ".") answers → answers ≡ false → answer ≡ None
     → IsNearest holds fails tells name above folder answer
-at_closed holds fails tells name above folder around has answers answer absent some there is at reported closed none =
+at_closed holds fails tells name above folder outer has answers answer absent some there is at reported closed none =
     around_it holds fails tells name above folder has answer absent some there is (
       false,
       subst (λ (f : Text). tells (f ++ codes ".") false) at
-          (subst (λ (b : Bool). tells (around ++ codes ".") b) closed reported),
+          (subst (λ (b : Bool). tells (outer ++ codes ".") b) closed reported),
       none,
     )
 
 -- The folder around has the answer.
 pub above_it : (holds : Text → Text → Type 0) (fails : Text → ErrorKind → Type 0) (tells : Text → Bool → Type 0)
-    (name : Text) (above : ℕ) (folder around named : Text) (has answers : Bool) (answer : Option Near)
+    (name : Text) (above : ℕ) (folder outer named : Text) (has answers : Bool) (answer : Option Near)
     → IsAbsent fails (folder ++ name) → above ≢ 0 → IsThereOr holds fails (folder ++ codes ".git") has → has ≡ false
-    → around ≡ folder ++ codes "../" → named ≡ around → tells (named ++ codes ".") answers → answers ≡ true
+    → outer ≡ around folder → named ≡ outer → tells (named ++ codes ".") answers → answers ≡ true
     → IsNearest holds fails tells name (above - 1) named answer
     → IsNearest holds fails tells name above folder answer
-above_it holds fails tells name above folder around named has answers answer absent some there is at same reported open_ below =
-    let here : named ≡ folder ++ codes "../" = same ∙ at in
+above_it holds fails tells name above folder outer named has answers answer absent some there is at same reported open_ below =
+    let here : named ≡ around folder = same ∙ at in
     around_it holds fails tells name above folder has answer absent some there is (
       true,
       subst (λ (f : Text). tells (f ++ codes ".") true) here
           (subst (λ (b : Bool). tells (named ++ codes ".") b) open_ reported),
       subst (λ (f : Text). IsNearest holds fails tells name (above - 1) f answer) here below,
     )
+
+same_kind : {one other : ErrorKind} → ◌≡◌ {A = Reason} (Unread one) (Unread other) → one ≡ other
+same_kind e = cc
+
+-- The file of the folder can't be read.
+pub unread_here : (fails : Text → ErrorKind → Type 0) (folder name path : Text) (error : ReadError) (e : WalkError)
+    → path ≡ folder ++ name → IsReadError (fails path) error → IsUnreadOf path error e
+    → IsUnreadUpwards fails name 0 folder e
+unread_here fails folder name path unread.Memory Memory same why is = tt
+unread_here fails folder name path unread.Memory (Failed named reason) same why is = absurd cc
+unread_here fails folder name path (unread.Failed kind) Memory same why is = tt
+unread_here fails folder name path (unread.Failed kind) (Failed named (Unread reported)) same why is = (
+  subst (λ (p : Text). fails p reported) (sym is.0)
+      (subst (λ (k : ErrorKind). fails path k) (sym (same_kind is.1)) why),
+  (0, omega arith, is.0 ∙ same),
+)
+unread_here fails folder name path (unread.Failed kind) (Failed named TooDeep) same why is = absurd cc
+
+pub unread_at_all : (fails : Text → ErrorKind → Type 0) (name folder : Text) (above : ℕ) (e : WalkError)
+    → IsUnreadUpwards fails name 0 folder e → IsUnreadUpwards fails name above folder e
+unread_at_all fails name folder above Memory is = tt
+unread_at_all fails name folder above (Failed path (Unread kind)) is =
+    (is.0, (is.1.0, omega (arith, is.1.1), is.1.2))
+unread_at_all fails name folder above (Failed path TooDeep) is = absurd is
+
+-- One folder more is around it.
+pub unread_above : (fails : Text → ErrorKind → Type 0) (name folder outer named : Text) (above : ℕ) (e : WalkError)
+    → above ≢ 0 → outer ≡ around folder → named ≡ outer → IsUnreadUpwards fails name (above - 1) named e
+    → IsUnreadUpwards fails name above folder e
+unread_above fails name folder outer named above Memory some at same is = tt
+unread_above fails name folder outer named above (Failed path (Unread kind)) some at same is = (
+  is.0,
+  (suc is.1.0, omega (arith, some, is.1.1), is.1.2 ∙ ap (λ f. up is.1.0 f ++ name) (same ∙ at)),
+)
+unread_above fails name folder outer named above (Failed path TooDeep) some at same is = absurd is
 
 -- one more byte
 pub one_byte : (count left : ℕ) (rest after all : Text) (byte : ℕ) → rest ≡ byte ∷ after → count ≢ 0

@@ -11,4 +11,6 @@ pub mod IgnoreFiles
 pub mod Rules
 pub mod Entries
 pub mod Walks
+pub mod Around
 pub mod Upwards
+pub mod Groups

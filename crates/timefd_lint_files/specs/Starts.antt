@@ -1,5 +1,7 @@
--- Where a name leads, seen from a folder around the working directory.
-use Rattle.std.specs.Prelude.{ℕ, ◌≡◌, ◌-◌, Bool, true, false, not, ◌&&◌, ◌==◌, if◌then◌else◌, List, [], ◌∷◌, ◌++◌, length, take, Option, Some, None}
+-- Where a name leads, seen from the folder that patterns are relative to.
+use Rattle.std.specs.Prelude.{ℕ, ◌-◌, Bool, false, not, ◌&&◌, ◌==◌, nat_eq, if◌then◌else◌, [], ◌∷◌, ◌++◌, length, take, drop, Option, Some, None}
+use Rattle.std.specs.List.{starts_with}
+use Rattle.timefd_lint_files.specs.declared.excluded.Excluded.{Excluded}
 use Rattle.timefd_lint_files.specs.declared.start.Start.{Start}
 use Rattle.timefd_lint_files.specs.FileNames.{file_name}
 use Rattle.timefd_lint_files.specs.Matching.{Text, slash}
@@ -78,3 +80,26 @@ joined start = start.front ++ start.rest
 -- the path of what a name leads to, if the working directory has the path `front`
 abbrev pub path_of : Text → Text → Text
 path_of front name = joined (start_of front name)
+
+-- a name without the `./` that it begins with
+abbrev pub without_here : Text → Text
+without_here [] = []
+without_here (first ∷ []) = first ∷ []
+without_here (first ∷ (second ∷ rest)) =
+    if is_here first second then without_here rest else first ∷ second ∷ rest
+
+-- whether a name begins with the path of a folder, which isn't empty
+abbrev pub is_inside : Text → Text → Bool
+is_inside folder name = not (length folder == 0) && starts_with nat_eq (without_here name) folder
+
+abbrev pub start_inside : Text → Text → Text → Begun
+start_inside folder front name =
+    if is_inside folder name then begun [] (drop (length folder) (without_here name)) else start_of front name
+
+-- The parts of a name as it is matched: what follows the path of the folder, or else from the working directory.
+abbrev pub start_below : Excluded → Text → Begun
+start_below excluded name = start_inside excluded.folder.now excluded.front.now name
+
+-- the path of what a name leads to, from the folder that the patterns are relative to
+abbrev pub path_below : Excluded → Text → Text
+path_below excluded name = joined (start_below excluded name)

@@ -1,9 +1,10 @@
 -- A file that is sought from a folder upwards.
-use Rattle.std.specs.Prelude.{ℕ, zero, suc, ◌≡◌, ◌⊎◌, ◌+◌, ◌-◌, ◌==◌, Bool, true, false, if◌then◌else◌, List, [], ◌∷◌, ◌++◌, length, codes, Option, Some, None, Vec, string_bytes}
+use Rattle.std.specs.Prelude.{ℕ, zero, suc, ◌≡◌, ◌⊎◌, ◌+◌, ◌-◌, ◌==◌, Bool, true, false, if◌then◌else◌, [], ◌∷◌, ◌++◌, length, codes, Option, Some, None, Vec, string_bytes}
 use Rattle.std.specs.declared.alloc.Global.{Global}
 use Rattle.std.specs.declared.io.ErrorKind.{ErrorKind}
 use Rattle.std.specs.declared.io.ErrorKind.TheVariants.{NotFound}
 use Rattle.timefd_lint_files.specs.declared.upwards.Nearest.{Nearest}
+use Rattle.timefd_lint_files.specs.Around.{around, slash_count}
 use Rattle.timefd_lint_files.specs.Matching.{Text, slash}
 
 abbrev pub is_absent : ErrorKind → Bool
@@ -51,8 +52,8 @@ IfClosed Above answer true = Above
 
 -- in the folder around, unless no name in it can be looked up
 abbrev pub IsAround : (Text → Bool → Type 0) → (Text → Option Near → Type 0) → Text → Option Near → Type 0
-IsAround tells Above around answer = (answers : Bool) × tells (around ++ codes ".") answers
-    × IfClosed (Above around answer) answer answers
+IsAround tells Above outer answer = (answers : Bool) × tells (outer ++ codes ".") answers
+    × IfClosed (Above outer answer) answer answers
 
 abbrev pub Unless : Type 0 → Option Near → Bool → Type 0
 Unless Around answer true = answer ≡ None
@@ -62,7 +63,7 @@ Unless Around answer false = Around
 abbrev pub IsBeyond : (Text → Text → Type 0) → (Text → ErrorKind → Type 0) → (Text → Bool → Type 0)
     → (Text → Option Near → Type 0) → Text → Option Near → Type 0
 IsBeyond holds fails tells Above folder answer = (has : Bool) × IsThereOr holds fails (folder ++ codes ".git") has
-    × Unless (IsAround tells Above (folder ++ codes "../") answer) answer has
+    × Unless (IsAround tells Above (around folder) answer) answer has
 
 abbrev pub IfAbsent : Type 0 → ℕ → Text → Option Near → Option Text → Type 0
 IfAbsent Beyond above folder answer None = Beyond
@@ -101,13 +102,6 @@ with_slash text = if length text == 0 then text else text ++ slash ∷ []
 -- The path of a folder from one that has `above` folders around it, by its path from the system's root.
 abbrev pub front_below : Text → ℕ → Text
 front_below here above = with_slash (after_slashes above here)
-
-abbrev pub one_if_slash : ℕ → ℕ
-one_if_slash byte = if byte == slash then 1 else 0
-
-abbrev pub slash_count : Text → ℕ
-slash_count [] = 0
-slash_count (byte ∷ bytes) = one_if_slash byte + slash_count bytes
 
 -- how many folders are around a folder, by its path from the system's root
 abbrev pub folders_above : Text → ℕ

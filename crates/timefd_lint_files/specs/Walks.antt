@@ -17,7 +17,7 @@ use Rattle.timefd_lint_files.specs.IgnoreFiles.{IsReadAs, IsReadFrom}
 use Rattle.timefd_lint_files.specs.Lines.{last}
 use Rattle.timefd_lint_files.specs.Matching.{Text, slash}
 use Rattle.timefd_lint_files.specs.Rules.{is_ignored, is_passed_over}
-use Rattle.timefd_lint_files.specs.Starts.{path_of, start_of}
+use Rattle.timefd_lint_files.specs.Starts.{path_below, start_below}
 
 abbrev pub texts : List (String Global) → List Text
 texts names = map string_bytes names
@@ -136,8 +136,8 @@ IsAlone front folder_len text files =
 
 -- The single file of what is excluded below a folder of this name.
 abbrev pub AreExcluded : Excluded → Text → List IgnoreFile → Type 0
-AreExcluded excluded folder files = IsAlone (start_of excluded.front.now folder).front
-    (length folder - length (start_of excluded.front.now folder).rest) excluded.patterns.now files
+AreExcluded excluded folder files = IsAlone (start_below excluded folder).front
+    (length folder - length (start_below excluded folder).rest) excluded.patterns.now files
 
 -- The names of the sources below a folder, except what is excluded, where up to 255 folders are nested in one
 -- another.
@@ -179,7 +179,7 @@ unless_out out name = if out then [] else name ∷ []
 -- A file that is excluded gives no name. Any other gives its own.
 abbrev pub IsKept : Excluded → Text → List Text → Type 0
 IsKept excluded name names = (files : List IgnoreFile) × IsAlone [] 0 excluded.patterns.now files
-    × (names ≡ unless_out (is_out files (path_of excluded.front.now name)) name)
+    × (names ≡ unless_out (is_out files (path_below excluded name)) name)
 
 abbrev pub AreOfName : (Text → List Text → Type 0) → (Text → List Text → Type 0) → Text → Bool → List Text
     → Type 0

@@ -1,8 +1,10 @@
 //! Paths from the root of the system, and from a folder between it and the working directory.
 
 ghost use Rattle.std.specs.Prelude.{◌≡◌, ◌≤◌, IfOk, length};
+ghost use Rattle.timefd_lint_files.specs.Around as paths;
 ghost use Rattle.timefd_lint_files.specs.Upwards as spec;
 
+use crate::start::path_of;
 use std::alloc::{AllocError, Global};
 
 /// How many slashes are still to come after this byte.
@@ -48,14 +50,14 @@ pub fn front_below(alloc: Global, here: &str, above: usize) -> Result<Vec<u8>, A
 }
 
 fn one_if_slash(byte: u8) -> usize
-    ensures count { result ≡ spec.one_if_slash byte }
+    ensures count { result ≡ paths.one_if_slash byte }
     ensures bound { result ≤ 1 }
 {
     if byte == b'/' { 1 } else { 0 }
 }
 
 fn slash_count(text: &[u8]) -> usize
-    ensures count { result ≡ spec.slash_count text.now }
+    ensures count { result ≡ paths.slash_count text.now }
     ensures bound { result ≤ length text.now }
 {
     let mut count = 0;
@@ -74,4 +76,19 @@ pub fn folders_above(here: &str) -> usize
         return 0;
     }
     slash_count(here) + 1
+}
+
+/// How many folders are around a folder of this path, if the working directory has the path `here` from the root of the
+/// system, each name with `/` at its end. An `Err` says that memory ran out.
+pub fn folders_around(alloc: Global, here: &[u8], folder: &str) -> Result<usize, AllocError>
+    ensures { IfOk result (λ above. above ≡ paths.folders_around here.now folder.now) }
+{
+    let folder = folder.as_bytes();
+    match folder {
+        [b'/', ..] => Ok(slash_count(folder).saturating_sub(1)),
+        _ => {
+            let path = path_of(alloc, here, folder)?;
+            Ok(slash_count(&path))
+        }
+    }
 }

@@ -2,11 +2,13 @@
 #![tactic(auto)]
 
 mod applying;
+mod around;
 mod class;
 mod ends;
 mod entry;
 mod excluded;
 mod front;
+mod groups;
 mod ignore_file;
 mod last_name;
 mod line;
@@ -28,7 +30,8 @@ mod walk_error;
 pub use class::{ByteRange, Class};
 pub use entry::{Entry, Kind, Role};
 pub use excluded::Excluded;
-pub use front::{folders_above, front_below};
+pub use front::{folders_above, folders_around, front_below};
+pub use groups::{Group, found_for, grouped};
 pub use ignore_file::IgnoreFile;
 pub use matching::matches;
 pub use names::{Sought, expanded};

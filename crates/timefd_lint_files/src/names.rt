@@ -11,7 +11,7 @@ ghost use Rattle.timefd_lint_files.specs.Walks.{AreExcluded, AreExpanded, IsAlon
 use crate::excluded::Excluded;
 use crate::ignore_file::IgnoreFile;
 use crate::rules::is_ignored;
-use crate::start::{path_of, start_of};
+use crate::start::{path_below, start_below};
 use crate::system::FileSystem;
 use crate::walk::{Choice, DEPTH_LIMIT, Walk, walk_folder};
 use crate::walk_error::WalkError;
@@ -27,14 +27,14 @@ pub struct Sought<'a> {
 }
 
 /// Whether a name means the standard input.
-fn is_input(name: &str) -> bool
+pub fn is_input(name: &str) -> bool
     ensures { result ≡ spec.is_input name.now }
 {
     name == "-"
 }
 
 /// The name of a folder, with a `/` at its end.
-fn as_folder(alloc: Global, name: &str) -> Result<String, AllocError>
+pub fn as_folder(alloc: Global, name: &str) -> Result<String, AllocError>
     ensures { IfOk result (λ folder. string_bytes folder ≡ spec.as_folder name.now) }
 {
     let mut folder = String::from_str(alloc, name)?;
@@ -87,7 +87,7 @@ fn excluded_below(
 ) -> Result<Vec<IgnoreFile>, AllocError>
     ensures { IfOk result (λ files. AreExcluded excluded.entry folder.now files.items) }
 {
-    let start = start_of(excluded.front, folder.as_bytes());
+    let start = start_below(excluded, folder);
     let cut = folder.len().saturating_sub(start.rest.len());
     let files = alone(alloc, start.front, cut, excluded.patterns)?;
     Ok(files)
@@ -163,7 +163,7 @@ fn expand_file(
     ensures error { IfErr result (λ e. e ≡ errors.Memory) }
 {
     let excluded = alone(alloc, &[], 0, sought.excluded.patterns)?;
-    let path = path_of(alloc, sought.excluded.front, name.as_bytes())?;
+    let path = path_below(alloc, sought.excluded, name)?;
     if is_out(&excluded, &path, &mut walk.row)? {
         return Ok(());
     }

@@ -1,9 +1,10 @@
-//! Where a name leads, seen from a folder around the working directory.
+//! Where a name leads, seen from the folder that patterns are relative to.
 
-ghost use Rattle.std.specs.Prelude.{◌≡◌, ◌≤◌, ◌+◌, IfOk, IfSome, length};
+ghost use Rattle.std.specs.Prelude.{◌≡◌, ◌≤◌, ◌+◌, IfOk, IfSome, IsUtf8, length};
 ghost use Rattle.timefd_lint_files.specs.Starts as spec;
 ghost use Rattle.timefd_lint_files.specs.Starts.{seen, seen_any};
 
+use crate::excluded::Excluded;
 use crate::last_name::file_name;
 use std::alloc::{AllocError, Global};
 
@@ -100,8 +101,47 @@ pub fn start_of<'a>(front: &'a [u8], name: &'a [u8]) -> Start<'a>
 pub fn path_of(alloc: Global, front: &[u8], name: &[u8]) -> Result<Vec<u8>, AllocError>
     ensures { IfOk result (λ path. path.items ≡ spec.path_of front.now name.now) }
 {
-    let start = start_of(front, name);
+    joined(alloc, start_of(front, name))
+}
+
+fn joined(alloc: Global, start: Start<'_>) -> Result<Vec<u8>, AllocError>
+    ensures { IfOk result (λ path. path.items ≡ spec.joined (seen start.entry)) }
+{
     let mut path = start.front.to_vec(alloc)?;
     path.extend_from_slice(start.rest)?;
     Ok(path)
+}
+
+/// A name without the `./` that it begins with.
+#[tactic(auto, using(crate::proofs::HereLemmas::goes_on, crate::proofs::HereLemmas::stops))]
+pub fn without_here(name: &str) -> &str
+    ensures value { result.now ≡ spec.without_here name.now }
+    ensures utf8 { IsUtf8 result.now }
+{
+    let mut rest = name;
+    'names: while let Some(after) = rest.strip_prefix("./") {
+        rest = after;
+    }
+    rest
+}
+
+/// The parts of a name as these patterns match it.
+pub fn start_below<'a>(excluded: Excluded<'a>, name: &'a str) -> Start<'a>
+    ensures { seen result ≡ spec.start_below excluded.entry name.now }
+{
+    let inner = without_here(name).as_bytes();
+    if !excluded.folder.is_empty() && inner.starts_with(excluded.folder) {
+        return Start {
+            front: &[],
+            rest: &inner[excluded.folder.len()..],
+        };
+    }
+    start_of(excluded.front, name.as_bytes())
+}
+
+/// The path of what a name leads to, as these patterns match it. An `Err` says that memory ran out.
+pub fn path_below(alloc: Global, excluded: Excluded<'_>, name: &str) -> Result<Vec<u8>, AllocError>
+    ensures { IfOk result (λ path. path.items ≡ spec.path_below excluded.entry name.now) }
+{
+    joined(alloc, start_below(excluded, name))
 }

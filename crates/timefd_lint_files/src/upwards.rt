@@ -1,21 +1,23 @@
-//! A file that is sought from the working directory upwards.
+//! A file that is sought from a folder upwards.
 
 ghost use Rattle.std.specs.Prelude.{◌≡◌, ◌++◌, IfOk, codes};
 ghost use Rattle.std.specs.Result.{IfErr};
-ghost use Rattle.timefd_lint_files.specs.Errors.{IsUnread};
+ghost use Rattle.timefd_lint_files.specs.Around.{IsUnreadUpwards};
 ghost use Rattle.timefd_lint_files.specs.Upwards as spec;
 ghost use Rattle.timefd_lint_files.specs.Upwards.{IsNearest, IsThereOr, IsTextOr, items_any, seen_any};
 
+use crate::around::around;
 use crate::entry::joined;
 use crate::system::{FileSystem, ReadError};
 use crate::walk_error::{WalkError, unread};
 use std::alloc::{AllocError, Global};
 use std::io::ErrorKind;
 
-/// A file that was found in the working directory, or in a folder around it.
+/// A file that was found in a folder, or in one around it.
 #[derive(Drop)]
 pub struct Nearest {
-    /// The name of its folder: `../` once for each folder from the working directory up to it.
+    /// The path of its folder, each name with `/` at its end: `../` once for each folder from the working directory up
+    /// to it, if it is that one or around it.
     pub folder: String,
     /// How many folders are around that folder.
     pub above: usize,
@@ -34,7 +36,7 @@ fn is_absent(kind: ErrorKind) -> bool
 }
 
 /// Reads a file of a folder. `None` if it is absent.
-#[tactic(auto, using(crate::proofs::ErrorLemmas::unread_in))]
+#[tactic(auto, using(crate::proofs::UpwardLemmas::unread_here))]
 fn text_any<S: FileSystem>(
     system: &S,
     alloc: Global,
@@ -43,7 +45,7 @@ fn text_any<S: FileSystem>(
 ) -> Result<Option<Vec<u8>>, WalkError>
     ensures text { IfOk result (λ text.
         IsTextOr (S.holds system.now) (S.fails system.now) (folder.now ++ name.now) (items_any text)) }
-    ensures error { IfErr result (IsUnread (S.fails system.now) folder.now) }
+    ensures error { IfErr result (IsUnreadUpwards (S.fails system.now) name.now 0 folder.now) }
 {
     let path = joined(alloc, folder, name)?;
     match system.text(alloc, &path) {
@@ -78,7 +80,7 @@ fn has_repository<S: FileSystem>(
 }
 
 /// Whether names in a folder can be looked up.
-fn is_open<S: FileSystem>(system: &S, alloc: Global, folder: &str) -> Result<bool, AllocError>
+pub fn is_open<S: FileSystem>(system: &S, alloc: Global, folder: &str) -> Result<bool, AllocError>
     ensures { IfOk result (λ answer. S.tells system.now (folder.now ++ codes ".") answer) }
 {
     let path = joined(alloc, folder, ".")?;
@@ -92,7 +94,7 @@ fn is_open<S: FileSystem>(system: &S, alloc: Global, folder: &str) -> Result<boo
 /// # Errors
 ///
 /// An `Err` says that memory ran out, or names a file that is there and can't be read.
-#[tactic(auto, using(crate::proofs::UpwardLemmas::at_top, crate::proofs::UpwardLemmas::in_repository, crate::proofs::UpwardLemmas::at_closed, crate::proofs::UpwardLemmas::above_it, crate::proofs::ErrorLemmas::unread_below))]
+#[tactic(auto, using(crate::proofs::UpwardLemmas::at_top, crate::proofs::UpwardLemmas::in_repository, crate::proofs::UpwardLemmas::at_closed, crate::proofs::UpwardLemmas::above_it, crate::proofs::UpwardLemmas::unread_at_all, crate::proofs::UpwardLemmas::unread_above))]
 pub fn first_upwards<S: FileSystem>(
     system: &S,
     alloc: Global,
@@ -102,7 +104,7 @@ pub fn first_upwards<S: FileSystem>(
 ) -> Result<Option<Nearest>, WalkError>
     ensures found { IfOk result (λ found. IsNearest (S.holds system.now) (S.fails system.now) (S.tells system.now)
         name.now above folder.now (seen_any found)) }
-    ensures error { IfErr result (IsUnread (S.fails system.now) folder.now) }
+    ensures error { IfErr result (IsUnreadUpwards (S.fails system.now) name.now above folder.now) }
 {
     if let Some(text) = text_any(system, alloc, folder, name)? {
         let folder = String::from_str(alloc, folder)?;
@@ -118,9 +120,9 @@ pub fn first_upwards<S: FileSystem>(
     if has_repository(system, alloc, folder)? {
         return Ok(None);
     }
-    let around = joined(alloc, folder, "../")?;
-    if !is_open(system, alloc, &around)? {
+    let outer = around(alloc, folder)?;
+    if !is_open(system, alloc, &outer)? {
         return Ok(None);
     }
-    first_upwards(system, alloc, name, &around, above - 1)
+    first_upwards(system, alloc, name, &outer, above - 1)
 }

@@ -125,5 +125,6 @@ impl FileSystem for Fake {
             || name == "made"
             || name == "young"
             || name == "linked"
+            || (name.starts_with("made/.git/info/") && name.ends_with("/."))
     }
 }

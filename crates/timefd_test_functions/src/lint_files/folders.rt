@@ -4,7 +4,8 @@ use crate::lint_files::fake::Fake;
 use std::alloc::{AllocError, Global};
 use std::io::ErrorKind;
 use timefd_lint_files::{
-    Excluded, Reason, Sought, WalkError, expanded, first_upwards, folders_above, front_below,
+    Excluded, Group, Nearest, Reason, Sought, WalkError, expanded, first_upwards, folders_above,
+    found_for, front_below, grouped,
 };
 
 /// Sources of Rust, and nothing excluded.
@@ -12,6 +13,7 @@ const RUST: Sought<'static> = Sought {
     endings: &[".rs"],
     excluded: Excluded {
         patterns: "",
+        folder: b"",
         front: b"",
     },
 };
@@ -86,6 +88,7 @@ fn folders_around_exclude_files(rt: HostRuntime) {
             endings: &[".rs"],
             excluded: Excluded {
                 patterns,
+                folder: b"",
                 front: front.as_bytes(),
             },
         };
@@ -93,6 +96,112 @@ fn folders_around_exclude_files(rt: HostRuntime) {
         let found = shown(rt.alloc(), &found).expect(&rt, "memory");
         assert_eq!(rt; found.as_str(), all);
     }
+}
+
+/// What a folder of this path excludes, by patterns, of these names, and the files that these mean.
+const EXCLUDED_BELOW: &[(&str, &str, &[&str], &str)] = &[
+    ("src/", "/a\n", &["src"], "|src/a.rs|src/z.rs"),
+    (
+        "src/",
+        "/src/a\n",
+        &["src/"],
+        "|src/a/generated.rs|src/a/kept.rs|src/a.rs|src/z.rs",
+    ),
+    (
+        "src/",
+        "/a.rs\n",
+        &["src/a.rs", "./src/a.rs", "././src/a.rs", "src/b/a.rs"],
+        "|src/b/a.rs",
+    ),
+    (
+        "/p/",
+        "/b.txt\n",
+        &["/p/b.txt", "/p/c/b.txt"],
+        "|/p/c/b.txt",
+    ),
+    (
+        "../",
+        "/b.txt\n/top/c.txt\n",
+        &["../b.txt", "./../b.txt", "b.txt", "c.txt"],
+        "|b.txt",
+    ),
+];
+
+#[test]
+fn named_folders_exclude_files(rt: HostRuntime) {
+    for &(folder, patterns, names, all) in EXCLUDED_BELOW {
+        let sought = Sought {
+            endings: &[".rs"],
+            excluded: Excluded {
+                patterns,
+                folder: folder.as_bytes(),
+                front: b"top/",
+            },
+        };
+        let found = expanded(&Fake, rt.alloc(), sought, names).expect(&rt, "names");
+        let found = shown(rt.alloc(), &found).expect(&rt, "memory");
+        assert_eq!(rt; found.as_str(), all);
+    }
+}
+
+/// A name, how many folders are around its folder, and where `exclude` is found upwards from there.
+const FOUND: &[(&str, &str)] = &[
+    ("made/.git/info/a.rs", "made/.git/info/ 5"),
+    ("made/.git/info/deep/a.rs", "made/.git/info/ 5"),
+    ("./made/.git/info/deep/er/", "made/.git/info/ 5"),
+    ("/made/.git/info/a.rs", "|"),
+    ("made/a.rs", "|"),
+    ("a.rs", "|"),
+    ("-", "|"),
+];
+
+fn shown_found(alloc: Global, found: &Option<Nearest>) -> Result<String, AllocError> {
+    match found {
+        Some(found) => format!(in alloc; "{} {}", found.folder, found.above),
+        None => String::from_str(alloc, "|"),
+    }
+}
+
+#[test]
+fn a_file_is_found_for_a_name(rt: HostRuntime) {
+    let alloc = rt.alloc();
+    for &(name, wanted) in FOUND {
+        let found = found_for(&Fake, alloc, "exclude", b"home/u/", name).expect(&rt, "found");
+        let found = shown_found(alloc, &found).expect(&rt, "memory");
+        assert_eq!(rt; found.as_str(), wanted);
+    }
+}
+
+/// How many names each group has, and what is found for it, each after a space.
+fn shown_groups(alloc: Global, groups: &[Group<'_>]) -> Result<String, AllocError> {
+    let mut all = String::new(alloc);
+    for group in groups {
+        let found = shown_found(alloc, &group.found)?;
+        let one = format!(in alloc; " {} {found}", group.names.len())?;
+        all.push_str(&one)?;
+    }
+    Ok(all)
+}
+
+#[test]
+fn neighbours_are_in_one_group(rt: HostRuntime) {
+    let alloc = rt.alloc();
+    let names = &[
+        "made/.git/info/a.rs",
+        "made/.git/info/deep/b.rs",
+        "x.rs",
+        "y.rs",
+        "made/.git/info/c.rs",
+    ];
+    let groups = grouped(&Fake, alloc, "exclude", b"home/u/", names).expect(&rt, "groups");
+    let groups = shown_groups(alloc, &groups).expect(&rt, "memory");
+    assert_eq!(rt;
+        groups.as_str(),
+        " 2 made/.git/info/ 5 2 | 1 made/.git/info/ 5"
+    );
+    let groups = grouped(&Fake, alloc, "exclude", b"home/u/", &[]).expect(&rt, "groups");
+    let groups = shown_groups(alloc, &groups).expect(&rt, "memory");
+    assert_eq!(rt; groups.as_str(), " 0 |");
 }
 
 /// Where `.gitignore` is found from a folder upwards, and how many folders are around it there; a bar if it

@@ -1,5 +1,5 @@
 use Rattle.std.proofs.Common.{◌≡◌, ◌≤◌, ◌+◌, drop}
-use Rattle.timefd_lint_files.specs.Upwards.{slash_count}
+use Rattle.timefd_lint_files.specs.Around.{slash_count}
 use Rattle.timefd_lint_files.proofs.front.slash_count.Given as goal
 
 -- Those so far, and those of the rest.

@@ -5,8 +5,8 @@ use Rattle.timefd_lint_files.proofs.names.excluded_below.Goals as goal
 
 pub returns : goal.returns
 returns c =
-    let long : c.saturating_sub-cut.result ≡ length c.args.folder.now - length c.start_of-start.result.rest.now =
+    let long : c.saturating_sub-cut.result ≡ length c.args.folder.now - length c.start_below-start.result.rest.now =
     first_of (search rules, omega arith, grind (arith, common_steps)) in
-    alone_below c.args.excluded c.args.folder.now c.as_bytes.result.now c.start_of-start.result
-    c.saturating_sub-cut.result c.in_ok-files.files.items c.as_bytes.ensures.value c.start_of-start.ensures long
+    alone_below c.args.excluded c.args.folder.now c.start_below-start.result c.saturating_sub-cut.result
+    c.in_ok-files.files.items c.start_below-start.ensures long
     c.in_ok-files.ensures

@@ -1,0 +1,1 @@
+let a = parse_borrowed::<3>("[optional[day]]");

@@ -1,0 +1,12 @@
+use Rattle.std.proofs.Common.{length}
+use Rattle.timefd_lint_files.specs.Groups.{IsFoundFor}
+use Rattle.timefd_lint_files.proofs.GroupLemmas.{AreGroupsTo}
+use Rattle.timefd_lint_files.proofs.groups.all_groups.Given as goal
+
+-- The groups of the remaining names are still to come.
+abbrev pub invariant-groups : goal.invariant-groups
+invariant-groups g l = AreGroupsTo (IsFoundFor (g.S.FileSystem.holds l.system) (g.S.FileSystem.fails l.system)
+    (g.S.FileSystem.tells l.system) l.file l.here) l.fn.names l.rest l.groups.items
+
+abbrev pub decreases-groups : goal.decreases-groups
+decreases-groups g l = length l.rest
