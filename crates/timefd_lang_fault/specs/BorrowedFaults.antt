@@ -6,6 +6,7 @@ use Rattle.timefd_lang_fault.specs.declared.read_error.ReadError.{ReadError}
 use Rattle.timefd_lang_fault.specs.declared.read_error.ReadError.TheVariants as errors
 use Rattle.timefd_lang_fault.specs.declared.parse_error.ParseError.{ParseError}
 use Rattle.timefd_lang_fault.specs.RuleKinds.{rule_kind}
+use Rattle.timefd_lang_fault.specs.Slots.{wanted_by}
 use Rattle.timefd_lang_fault.specs.ReadErrors.{IsFault}
 use Rattle.timefd_lang_fault.specs.Reported.{IsFaultOrMemory, MemoryAlone}
 use Rattle.timefd_lang_fault.specs.declared.borrowed_fault.BorrowedFault.{BorrowedFault}
@@ -64,6 +65,7 @@ Borrows len (errors.Invalid f) borrowed = (g : Fault) → IsFault len f g → Is
 -- text
 pub record IsBorrowedFault (len : ℕ) (f : code_fault.Fault) (g : BorrowedFault) : Type 0 where
   pub kind : rule_kind g.rule ≡ rule_kind f.rule
+  pub wanted : wanted_by g.rule ≡ wanted_by f.rule
   pub start : g.start + f.remaining ≡ len
   pub end : g.end ≡ g.start + min f.len f.remaining
 

@@ -1,5 +1,6 @@
 pub mod Faults
 pub mod Words
+pub mod Slots
 pub mod RuleKinds
 pub mod Codes
 pub mod Sentences

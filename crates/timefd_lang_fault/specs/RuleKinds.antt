@@ -1,6 +1,7 @@
 -- The kind of fault that a broken rule makes.
 use Rattle.timefd_lang_fault.specs.Faults.{Kind, unclosed_bracket, invalid_name, invalid_modifier, missing_name, missing_modifier, expected, not_supported, duplicate_modifier, invalid_combination}
 use Rattle.timefd_lang_fault.specs.Words.{expected_escape, expected_closing_escape, expected_white, expected_nested, expected_alternative, too_highly_nested, many_nested, optional_item, first_item, nested_here, unsupported_flag, unsupported_letter}
+use Rattle.timefd_lang_fault.specs.Slots.{context_of}
 use Rattle.timefd_lang_fault.specs.declared.rule.FaultKind.{FaultKind}
 use Rattle.timefd_lang_fault.specs.declared.rule.FaultKind.TheVariants as kinds
 use Rattle.timefd_lang_fault.specs.declared.rule.Rule.{Rule}
@@ -21,7 +22,8 @@ kind_of (kinds.InvalidCombination key context) = invalid_combination key.now con
 abbrev pub rule_kind : Rule → Kind
 rule_kind rules.UnclosedBracket = unclosed_bracket
 rule_kind (rules.UnknownName name) = invalid_name name.now
-rule_kind (rules.InvalidModifier value) = invalid_modifier value.now
+rule_kind (rules.UnknownLetter letter) = invalid_name letter.now
+rule_kind (rules.InvalidModifier value wanted) = invalid_modifier value.now
 rule_kind rules.MissingName = missing_name
 rule_kind (rules.MissingModifier key) = missing_modifier key.now
 rule_kind rules.InvalidEscape = expected_escape
@@ -37,4 +39,4 @@ rule_kind rules.UnsupportedFlag = unsupported_flag
 rule_kind rules.UnsupportedLetter = unsupported_letter
 rule_kind rules.NestedInComponent = nested_here
 rule_kind (rules.DuplicateModifier key) = duplicate_modifier key.now
-rule_kind (rules.RefusedModifier key context) = invalid_combination key.now context.now
+rule_kind (rules.RefusedModifier key refuser) = invalid_combination key.now (context_of refuser)

@@ -56,8 +56,8 @@ impl Code {
     {
         match rule {
             Rule::UnclosedBracket => Code::UnclosedBracket,
-            Rule::UnknownName(_) => Code::UnknownName,
-            Rule::InvalidModifier(_) => Code::InvalidModifier,
+            Rule::UnknownName(_) | Rule::UnknownLetter(_) => Code::UnknownName,
+            Rule::InvalidModifier(_, _) => Code::InvalidModifier,
             Rule::MissingName => Code::MissingName,
             Rule::MissingModifier(_) => Code::MissingModifier,
             Rule::InvalidEscape => Code::InvalidEscape,

@@ -2,17 +2,23 @@
 
 ghost use Rattle.std.specs.Prelude.{◌≡◌};
 ghost use Rattle.timefd_lang_fault.specs.RuleKinds.{kind_of, rule_kind};
+ghost use Rattle.timefd_lang_fault.specs.Slots.{wanted_by};
+
+use crate::refuser::Refuser;
+use crate::slot::Slot;
 
 /// The rule that a text breaks, with the word or the key that its sentence quotes.
 #[derive(Clone, Copy)]
 pub enum Rule<'a> {
     /// A bracket has to be closed.
     UnclosedBracket,
-    /// A bracket begins with the name of a component, and a letter of strftime is one of its table.
-    /// This is the word that is there instead.
+    /// A bracket begins with the name of a component. This is the word that is there instead.
     UnknownName(&'a str),
-    /// A modifier is a key of its component, a colon and a value. This is what isn't.
-    InvalidModifier(&'a str),
+    /// A letter of strftime is one of its table. This is what is there instead.
+    UnknownLetter(&'a str),
+    /// A modifier is a key of its component, a colon and a value. This is what isn't, and what it
+    /// should have been, if the name before it and the key of a value are known.
+    InvalidModifier(&'a str, Option<Slot>),
     /// A bracket has a name.
     MissingName,
     /// A component has each modifier that it needs. This is the key of the missing one.
@@ -44,7 +50,7 @@ pub enum Rule<'a> {
     /// In version 3 a key is given only once. This one is given twice.
     DuplicateModifier(&'static str),
     /// A key isn't used with a value that refuses it: the key, and with what it is used.
-    RefusedModifier(&'static str, &'static str),
+    RefusedModifier(&'static str, Refuser),
 }
 
 impl<'a> Rule<'a> {
@@ -55,7 +61,8 @@ impl<'a> Rule<'a> {
         match self {
             Rule::UnclosedBracket => FaultKind::UnclosedBracket,
             Rule::UnknownName(name) => FaultKind::InvalidName(name),
-            Rule::InvalidModifier(word) => FaultKind::InvalidModifier(word),
+            Rule::UnknownLetter(letter) => FaultKind::InvalidName(letter),
+            Rule::InvalidModifier(word, _) => FaultKind::InvalidModifier(word),
             Rule::MissingName => FaultKind::MissingName,
             Rule::MissingModifier(key) => FaultKind::MissingModifier(key),
             Rule::InvalidEscape => FaultKind::Expected("valid escape sequence"),
@@ -84,7 +91,37 @@ impl<'a> Rule<'a> {
                 FaultKind::NotSupported("nested format descriptions", "on this component")
             }
             Rule::DuplicateModifier(key) => FaultKind::DuplicateModifier(key),
-            Rule::RefusedModifier(key, context) => FaultKind::InvalidCombination(key, context),
+            Rule::RefusedModifier(key, refuser) => {
+                FaultKind::InvalidCombination(key, refuser.context())
+            }
+        }
+    }
+
+    /// What should have been there, if that is known: a name, a key or a value.
+    pub fn wanted(self) -> Option<Slot>
+        ensures { result ≡ wanted_by self.entry }
+    {
+        match self {
+            Rule::UnknownName(_) => Some(Slot::Name),
+            Rule::InvalidModifier(_, wanted) => wanted,
+            Rule::UnknownLetter(_)
+            | Rule::UnclosedBracket
+            | Rule::MissingName
+            | Rule::MissingModifier(_)
+            | Rule::InvalidEscape
+            | Rule::UnescapedBracket
+            | Rule::MissingSpace
+            | Rule::MissingDescription
+            | Rule::MissingAlternative
+            | Rule::NestedTooDeep
+            | Rule::SeveralDescriptions
+            | Rule::OptionalItem
+            | Rule::FirstItem
+            | Rule::UnsupportedFlag
+            | Rule::UnsupportedLetter
+            | Rule::NestedInComponent
+            | Rule::DuplicateModifier(_)
+            | Rule::RefusedModifier(_, _) => None,
         }
     }
 }

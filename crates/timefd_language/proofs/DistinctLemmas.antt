@@ -1,8 +1,8 @@
 -- No two names, keys or values are the same, even if case is ignored.
 use Rattle.std.proofs.Common.{map, refl, IsTrue}
-use Rattle.timefd_language.specs.declared.key.Key.{Key}
-use Rattle.timefd_language.specs.declared.name.ComponentName.{ComponentName}
-use Rattle.timefd_language.specs.declared.name.Name.{Name}
+use Rattle.timefd_lang_fault.specs.declared.key.Key.{Key}
+use Rattle.timefd_lang_fault.specs.declared.name.ComponentName.{ComponentName}
+use Rattle.timefd_lang_fault.specs.declared.name.Name.{Name}
 use Rattle.timefd_language.specs.Distinct.{are_distinct, words_in}
 use Rattle.timefd_language.specs.Lookup.{key_for, keys_for}
 

@@ -35,6 +35,11 @@ pub mod VerdictPositions
 pub mod PositionsBetween
 pub mod DistinctLemmas
 pub mod ShortWords
+pub mod SlotLemmas
 pub mod SpanLemmas
 pub mod PlacedLemmas
+pub mod LieLemmas
+pub mod ModifierFaults
+pub mod FaultShapes
+pub mod SlotLackLemmas
 pub mod DirectiveLemmas

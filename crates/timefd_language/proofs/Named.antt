@@ -3,7 +3,7 @@ use Rattle.std.proofs.Common.{ℕ, ◌≡◌, ◌≢◌, ◌==◌, Bool, true, f
 use Rattle.std.proofs.lemmas.Bool.{both_ways}
 use Rattle.std.proofs.lemmas.List.{length-map}
 use Rattle.timefd_lang_component.specs.Tree.{Text}
-use Rattle.timefd_language.specs.declared.name.ComponentName.{ComponentName}
+use Rattle.timefd_lang_fault.specs.declared.name.ComponentName.{ComponentName}
 use Rattle.timefd_language.specs.Bytes.{lowered, same, named}
 use Rattle.timefd_language.specs.Names.{row_for, rows, row_of}
 use Rattle.timefd_language.proofs.Lookup.{Each, equal-true}

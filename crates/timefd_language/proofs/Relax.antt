@@ -27,7 +27,7 @@ use Rattle.timefd_language.specs.declared.setting.Setting.{Setting}
 use Rattle.timefd_language.specs.declared.setting.Settings.{Settings}
 use Rattle.timefd_language.specs.Settings.{defaults, with}
 use Rattle.timefd_language.specs.Values.{format, Value, Values, words, numbers, Key, sets_of, setting_in, key_in}
-use Rattle.timefd_language.specs.declared.name.ComponentName.{ComponentName}
+use Rattle.timefd_lang_fault.specs.declared.name.ComponentName.{ComponentName}
 use Rattle.timefd_language.specs.Names.{Row, rows, row_of, row_for, component_names, ignored, day, end, hour, minute, month, offset_hour, offset_minute, offset_second, ordinal, period, second, subsecond, unix_timestamp, weekday, week_number, year}
 use Rattle.timefd_language.specs.Verdict.{refuse, bad_value, bad_modifier, bad_modifiers, is_set, setting_of, with_option, settings_from, settings, made, any_modifier, is_formatted, only, optional_verdict, first_verdict, component_verdict, verdict}
 use Rattle.timefd_language.specs.Grammar.{Pieces, no_pieces, run, escape, closing, bracket, no_nested, nested, nested_text, spelling, ArePieces, BeginsNoRun}

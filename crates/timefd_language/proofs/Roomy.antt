@@ -27,7 +27,7 @@ use Rattle.timefd_language.specs.declared.setting.Setting.{Setting}
 use Rattle.timefd_language.specs.declared.setting.Settings.{Settings}
 use Rattle.timefd_language.specs.Settings.{defaults, with}
 use Rattle.timefd_language.specs.Values.{Value, Values, words, numbers, Key, sets_of, setting_in, key_in}
-use Rattle.timefd_language.specs.declared.name.ComponentName.{ComponentName}
+use Rattle.timefd_lang_fault.specs.declared.name.ComponentName.{ComponentName}
 use Rattle.timefd_language.specs.Names.{Row, row, rows, row_of, row_for, component_names, ignored, day, end, hour, minute, month, offset_hour, offset_minute, offset_second, ordinal, period, second, subsecond, unix_timestamp, weekday, week_number, year}
 use Rattle.timefd_language.proofs.Lookup.{Each, each-map, each-passes, named-found, count_of-sets}
 use Rattle.timefd_language.specs.Verdict.{PlacedDescription, touching, nested_refused, is_formatted, only, optional_verdict, first_verdict, verdict, unless, after, bad_modifiers, setting_of, with_option, settings_from, settings, combination, made, component_verdict}

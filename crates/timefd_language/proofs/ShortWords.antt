@@ -7,8 +7,8 @@ use Rattle.timefd_lang_component.specs.declared.component.Component.TheVariants.
 use Rattle.timefd_lang_component.specs.Tree.{Text, Tree, component, first, optional, pack, trees}
 use Rattle.timefd_lang_fault.specs.Faults.{Kind, Fault, fault, unclosed_bracket, invalid_name, invalid_modifier, missing_name, missing_modifier, expected, not_supported, duplicate_modifier, invalid_combination}
 use Rattle.timefd_language.specs.declared.description_version.DescriptionVersion.{DescriptionVersion}
-use Rattle.timefd_language.specs.declared.name.ComponentName.{ComponentName}
-use Rattle.timefd_language.specs.declared.name.ComponentName.TheVariants as names
+use Rattle.timefd_lang_fault.specs.declared.name.ComponentName.{ComponentName}
+use Rattle.timefd_lang_fault.specs.declared.name.ComponentName.TheVariants as names
 use Rattle.timefd_language.specs.declared.setting.Settings.{Settings}
 use Rattle.timefd_language.specs.Broken.{Broken, before_inner, IsBroken, FaultOf, broken_fault, bare_closing, half_escape, nameless, ill_modified, too_deep, broken_inside, cut_off, unclosed, refused, no_colon, no_key, no_value}
 use Rattle.timefd_language.specs.Bytes.{is_version_three, equal, named, same}

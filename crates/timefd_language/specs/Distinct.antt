@@ -1,8 +1,8 @@
 -- Each word of the tables, and each letter of strftime, means one thing.
 use Rattle.std.specs.Prelude.{Bool, true, false, not, ◌&&◌, codes, List, [], ◌∷◌, ◌++◌, map, IsTrue}
 use Rattle.timefd_lang_component.specs.Tree.{Text}
-use Rattle.timefd_language.specs.declared.key.Key.{Key}
-use Rattle.timefd_language.specs.declared.name.Name.{Name}
+use Rattle.timefd_lang_fault.specs.declared.key.Key.{Key}
+use Rattle.timefd_lang_fault.specs.declared.name.Name.{Name}
 use Rattle.timefd_language.specs.Bytes.{same}
 use Rattle.timefd_language.specs.Letters.{Letter, letters, is_one_of}
 use Rattle.timefd_language.specs.Lookup.{key_for, keys_for}

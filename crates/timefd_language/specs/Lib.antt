@@ -18,6 +18,7 @@ pub mod Strings
 pub mod Rewritten
 pub mod Recased
 pub mod Relaxed
+pub mod Slots
 pub mod Spans
 pub mod Cut
 pub mod FaultMeaning
@@ -25,4 +26,5 @@ pub mod Laws
 pub mod Settled
 pub mod Positions
 pub mod Distinct
+pub mod FaultSpans
 pub mod Directives

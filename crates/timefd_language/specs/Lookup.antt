@@ -2,9 +2,10 @@
 use Rattle.std.specs.Prelude.{◌≡◌, Bool, true, false, codes, List, [], ◌∷◌, Option, Some, None}
 use Rattle.timefd_lang_component.specs.Tree.{Text}
 use Rattle.timefd_language.specs.declared.combination.Refusal as code_refusal
-use Rattle.timefd_language.specs.declared.key.Key as code_key
-use Rattle.timefd_language.specs.declared.key.Key.TheVariants as keys
-use Rattle.timefd_language.specs.declared.name.Name.{Name}
+use Rattle.timefd_lang_fault.specs.declared.key.Key as code_key
+use Rattle.timefd_lang_fault.specs.declared.key.Key.TheVariants as keys
+use Rattle.timefd_lang_fault.specs.declared.name.Name.{Name}
+use Rattle.timefd_lang_fault.specs.Slots.{context_of}
 use Rattle.timefd_language.specs.Bytes.{same}
 use Rattle.timefd_language.specs.Values.{Key, padding, trailing_input, hour_repr, count, month_repr, case_sensitive, sign, case, digits, precision, weekday_repr, one_indexed, week_number_repr, year_repr, range, base, format}
 use Rattle.timefd_language.specs.Names.{row_for, row_of}
@@ -48,6 +49,11 @@ keys_for Name.Optional = format ∷ []
 keys_for Name.First = []
 keys_for (Name.Component name) = (row_for name).keys
 
+-- the keys of a name; an unknown name has none
+abbrev pub keys_of : Option Name → List Key
+keys_of None = []
+keys_of (Some name) = keys_for name
+
 -- the refusal of the rules for one of the code
 abbrev pub refusal_for : code_refusal.Refusal → Refusal
-refusal_for r = (key_for r.key).key refused r.context.now
+refusal_for r = (key_for r.key).key refused context_of r.refuser

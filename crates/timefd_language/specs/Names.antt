@@ -6,7 +6,7 @@ use Rattle.timefd_lang_fault.specs.Faults.{Kind, missing_modifier}
 use Rattle.timefd_lang_component.specs.Modern.{modern}
 use Rattle.timefd_lang_component.specs.declared.component.Component.{Component}
 use Rattle.timefd_lang_component.specs.declared.component.Component.TheVariants.{Day, End, Hour, Ignore, Minute, Month, OffsetHour, OffsetMinute, OffsetSecond, Ordinal, Period, Second, Subsecond, UnixTimestamp, Weekday, WeekNumber, Year}
-use Rattle.timefd_language.specs.declared.name.ComponentName.{ComponentName}
+use Rattle.timefd_lang_fault.specs.declared.name.ComponentName.{ComponentName}
 use Rattle.timefd_language.specs.Bytes.{named}
 use Rattle.timefd_language.specs.declared.setting.Settings.{Settings}
 use Rattle.timefd_language.specs.Values.{Key, padding, trailing_input, hour_repr, count, month_repr, case_sensitive, sign, case, digits, precision, weekday_repr, one_indexed, week_number_repr, year_repr, range, base}

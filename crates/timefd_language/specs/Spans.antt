@@ -1,16 +1,21 @@
 -- Which bytes of a text are at fault.
 use Rattle.std.specs.Char.{len_utf8}
-use Rattle.std.specs.Prelude.{ℕ, ◌≡◌, ◌+◌, ◌≤◌, List, [], ◌∷◌, ◌++◌, chars, length, drop, min, ⊤}
+use Rattle.std.specs.Prelude.{ℕ, Bool, None, ◌≡◌, ◌+◌, ◌≤◌, List, [], ◌∷◌, ◌++◌, chars, length, drop, min, ⊤}
 use Rattle.std.specs.List.{prefix_len}
 use Rattle.timefd_lang_component.specs.Tree.{Text}
-use Rattle.timefd_lang_fault.specs.Faults.{Kind, Fault, unclosed_bracket, invalid_name, invalid_modifier, missing_name, missing_modifier, expected, not_supported, duplicate_modifier, invalid_combination}
+use Rattle.timefd_lang_fault.specs.Faults.{Kind, Fault, fault_of, unclosed_bracket, invalid_name, invalid_modifier, missing_name, missing_modifier, expected, not_supported, duplicate_modifier, invalid_combination}
 use Rattle.timefd_lang_fault.specs.BorrowedFaults.{to_borrowed_fault}
 use Rattle.timefd_lang_fault.specs.RuleKinds.{rule_kind}
+use Rattle.timefd_lang_fault.specs.Slots.{wanted_by}
 use Rattle.timefd_lang_fault.specs.declared.read_error.Fault as code_fault
 use Rattle.timefd_lang_fault.specs.declared.borrowed_fault.BorrowedFault.{BorrowedFault}
+use Rattle.timefd_lang_fault.specs.declared.rule.Rule.{Rule}
 use Rattle.timefd_lang_fault.specs.declared.borrowed_parse_error.BorrowedParseError.{BorrowedParseError}
 use Rattle.timefd_lang_fault.specs.declared.borrowed_parse_error.BorrowedParseError.TheVariants.{Invalid, Memory}
+use Rattle.timefd_lang_fault.specs.declared.parse_error.ParseError.{ParseError}
+use Rattle.timefd_lang_fault.specs.declared.parse_error.ParseError.TheVariants as reported
 use Rattle.timefd_language.specs.Bytes.{is_word_byte, is_key_byte}
+use Rattle.timefd_language.specs.Slots.{IsWanted, WantsIn}
 use Rattle.timefd_language.specs.declared.language.Language.{Language}
 use Rattle.timefd_language.specs.declared.language.Language.TheVariants.{Version, Strftime}
 
@@ -65,31 +70,50 @@ measured (this_many most) rest = min most (length rest)
 abbrev pub end_of : Language → Text → Fault → ℕ
 end_of language text f = f.index + measured (extent_of language f.kind) (drop f.index text)
 
--- The fault ends where the bytes at fault end, and no later than the text.
+-- The fault ends where the bytes at fault end, and no later than the text. Its rule says what should
+-- have been there.
 pub record IsSpanned (language : Language) (text : Text) (f : BorrowedFault) : Type 0 where
   pub end : f.end ≡ end_of language text (to_borrowed_fault f)
   pub order : f.start ≤ f.end
   pub within : f.end ≤ length text
+  pub slot : IsWanted language text (to_borrowed_fault f) (wanted_by f.rule)
 
 -- such a fault, or out of memory
 abbrev pub HasSpan : Language → Text → BorrowedParseError → Type 0
 HasSpan language text (Invalid f) = IsSpanned language text f
 HasSpan language text (Memory e) = ⊤
 
--- How that is known of a reader's fault: it is in the last bytes of the text, and has as many bytes
--- as are at fault there. What holds of a text's end, holds of the text.
-pub record SpansIn (extent : Kind → Extent) (text : Text) (f : code_fault.Fault) : Type 0 where
+-- The bytes at fault, from the index of a fault on, lie within the text.
+abbrev pub SpansWithin : Language → Text → Fault → Type 0
+SpansWithin language text f =
+    (f.index ≤ end_of language text f) × (end_of language text f ≤ length text)
+
+-- such a fault, or out of memory
+abbrev pub HasSpanWithin : Language → Text → ParseError → Type 0
+HasSpanWithin language text (reported.Invalid f) = SpansWithin language text (fault_of f)
+HasSpanWithin language text (reported.Memory e) = ⊤
+
+-- How that is known of a reader's fault: it is in the last bytes of the text, has as many bytes as
+-- are at fault there, and what is wanted there is known by what precedes it. What holds of a text's
+-- end, holds of the text.
+pub record SpansIn (extent : Kind → Extent) (wants : Text → Rule → Type 0) (text : Text)
+    (f : code_fault.Fault) : Type 0 where
   pub before : Text
   pub rest : Text
   pub whole : text ≡ before ++ rest
   pub start : f.remaining ≡ length rest
   pub len : f.len ≡ measured (extent (rule_kind f.rule)) rest
   pub within : f.len ≤ length rest
+  pub wanted : wants before f.rule
 
 -- of a text of a version
-abbrev pub SpansVersion : Text → code_fault.Fault → Type 0
-SpansVersion = SpansIn version_extent
+abbrev pub SpansVersion : Bool → Text → code_fault.Fault → Type 0
+SpansVersion strict = SpansIn version_extent (WantsIn strict)
+
+-- No name, key or value belongs where a fault of strftime is.
+abbrev pub WantsNothing : Text → Rule → Type 0
+WantsNothing front rule = wanted_by rule ≡ None
 
 -- of a text of strftime
 abbrev pub SpansStrftime : Text → code_fault.Fault → Type 0
-SpansStrftime = SpansIn strftime_extent
+SpansStrftime = SpansIn strftime_extent WantsNothing

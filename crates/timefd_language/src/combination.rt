@@ -4,24 +4,24 @@ ghost use Rattle.std.specs.Prelude.{◌≡◌, map};
 ghost use Rattle.timefd_language.specs.Combinations as spec;
 ghost use Rattle.timefd_language.specs.Lookup.{refusal_for};
 
-use crate::key::Key;
 use timefd_lang_component::Component;
+use timefd_lang_fault::{Key, Refuser};
 
-/// A key that is refused, and the words that say when.
+/// A key that is refused, and what refuses it.
 #[derive(Clone, Copy)]
 pub struct Refusal {
     pub key: Key,
-    pub context: &'static str,
+    pub refuser: Refuser,
 }
 
 static OF_LAST_TWO: [Refusal; 2] = [
     Refusal {
         key: Key::Range,
-        context: "when `repr:last_two` is used",
+        refuser: Refuser::LastTwo,
     },
     Refusal {
         key: Key::Sign,
-        context: "when `repr:last_two` is used",
+        refuser: Refuser::LastTwo,
     },
 ];
 
@@ -32,27 +32,27 @@ pub fn refusals(component: Component) -> &'static [Refusal]
     match component {
         Component::MonthNumerical(_) => &[Refusal {
             key: Key::CaseSensitive,
-            context: "for numerical month",
+            refuser: Refuser::NumericalMonth,
         }],
         Component::MonthLong(_) => &[Refusal {
             key: Key::Padding,
-            context: "for long month",
+            refuser: Refuser::LongMonth,
         }],
         Component::MonthShort(_) => &[Refusal {
             key: Key::Padding,
-            context: "for short month",
+            refuser: Refuser::ShortMonth,
         }],
         Component::WeekdayShort(_) => &[Refusal {
             key: Key::OneIndexed,
-            context: "for short weekday",
+            refuser: Refuser::ShortWeekday,
         }],
         Component::WeekdayLong(_) => &[Refusal {
             key: Key::OneIndexed,
-            context: "for long weekday",
+            refuser: Refuser::LongWeekday,
         }],
         Component::WeekdaySunday(_) | Component::WeekdayMonday(_) => &[Refusal {
             key: Key::CaseSensitive,
-            context: "for numerical weekday",
+            refuser: Refuser::NumericalWeekday,
         }],
         Component::CalendarYearLastTwo(_) | Component::IsoYearLastTwo(_) => &OF_LAST_TWO,
         _ => &[],

@@ -5,9 +5,9 @@ ghost use Rattle.timefd_lang_fault.specs.Faults.{missing_modifier};
 ghost use Rattle.timefd_language.specs.Names as spec;
 ghost use Rattle.timefd_language.specs.Names.{row_for};
 
-use crate::name::ComponentName;
 use crate::setting::Settings;
 use timefd_lang_component::Component;
+use timefd_lang_fault::ComponentName;
 use timefd_modifier as modifier;
 
 /// The component with this name and these settings. `None` only for `ignore` without a count.

@@ -1,6 +1,7 @@
 //! The laws of the languages. Each law is the contract of a function with an empty body.
 
 ghost use Rattle.timefd_language.specs.Distinct.{DistinctLetters, DistinctWords};
+ghost use Rattle.timefd_language.specs.FaultSpans.{FaultsLieBetween, SlotsLack, StrftimeFaultsLieBetween};
 ghost use Rattle.timefd_language.specs.Settled.{Settled};
 ghost use Rattle.timefd_language.specs.Positions.{PlacedWithin, PlacedBetween, StrftimePlacedBetween};
 ghost use Rattle.timefd_language.specs.Laws.{OneAnswer, OneCut, OneReading, Joining, Shift, OneStrftimeAnswer, OneStrftimeCut, StrftimeJoining, StrftimeShift, GreaterLimit, Lifting, ReservesWithin, Recasing, Relaxing, Modernity, StrftimeModernity};
@@ -119,4 +120,20 @@ pub fn distinct_words()
 /// No letter of strftime is listed twice, so each means one item.
 pub fn distinct_letters()
     ensures { DistinctLetters }
+{}
+
+/// The bytes at fault lie in the text, and begin and end between two of its characters.
+pub fn faults_lie_between()
+    ensures { FaultsLieBetween }
+{}
+
+/// The bytes at fault of a text of strftime lie in it, and begin and end between two of its characters.
+pub fn strftime_faults_lie_between()
+    ensures { StrftimeFaultsLieBetween }
+{}
+
+/// Where a fault is, none of the words stands that should have been there: no name, no key with its colon,
+/// no value.
+pub fn slots_lack()
+    ensures { SlotsLack }
 {}

@@ -8,66 +8,32 @@ ghost use Rattle.timefd_language.specs.Lookup.{IsNameOf};
 
 use crate::description_version::DescriptionVersion;
 use crate::same::same;
+use timefd_lang_fault::{ComponentName, Name};
 
-/// The name of a component.
-#[derive(Clone, Copy)]
-pub enum ComponentName {
-    Day,
-    End,
-    Hour,
-    Ignore,
-    Minute,
-    Month,
-    OffsetHour,
-    OffsetMinute,
-    OffsetSecond,
-    Ordinal,
-    Period,
-    Second,
-    Subsecond,
-    UnixTimestamp,
-    Weekday,
-    WeekNumber,
-    Year,
-}
-
-impl ComponentName {
-    /// The name as it is written.
-    #[inline(always)]
-    pub fn spelling(self) -> &'static str
-        ensures { result.now ≡ (row_for self).name }
-    {
-        match self {
-            ComponentName::Day => "day",
-            ComponentName::End => "end",
-            ComponentName::Hour => "hour",
-            ComponentName::Ignore => "ignore",
-            ComponentName::Minute => "minute",
-            ComponentName::Month => "month",
-            ComponentName::OffsetHour => "offset_hour",
-            ComponentName::OffsetMinute => "offset_minute",
-            ComponentName::OffsetSecond => "offset_second",
-            ComponentName::Ordinal => "ordinal",
-            ComponentName::Period => "period",
-            ComponentName::Second => "second",
-            ComponentName::Subsecond => "subsecond",
-            ComponentName::UnixTimestamp => "unix_timestamp",
-            ComponentName::Weekday => "weekday",
-            ComponentName::WeekNumber => "week_number",
-            ComponentName::Year => "year",
-        }
+/// The name as it is written.
+#[inline(always)]
+pub fn name_spelling(name: ComponentName) -> &'static str
+    ensures { result.now ≡ (row_for name).name }
+{
+    match name {
+        ComponentName::Day => "day",
+        ComponentName::End => "end",
+        ComponentName::Hour => "hour",
+        ComponentName::Ignore => "ignore",
+        ComponentName::Minute => "minute",
+        ComponentName::Month => "month",
+        ComponentName::OffsetHour => "offset_hour",
+        ComponentName::OffsetMinute => "offset_minute",
+        ComponentName::OffsetSecond => "offset_second",
+        ComponentName::Ordinal => "ordinal",
+        ComponentName::Period => "period",
+        ComponentName::Second => "second",
+        ComponentName::Subsecond => "subsecond",
+        ComponentName::UnixTimestamp => "unix_timestamp",
+        ComponentName::Weekday => "weekday",
+        ComponentName::WeekNumber => "week_number",
+        ComponentName::Year => "year",
     }
-}
-
-/// What kind of bracket a name begins.
-#[derive(Clone, Copy)]
-pub enum Name {
-    /// An optional item.
-    Optional,
-    /// The first of several descriptions that matches.
-    First,
-    /// A component.
-    Component(ComponentName),
 }
 
 /// The name that a word spells.
@@ -120,5 +86,5 @@ fn component_name_of(version: DescriptionVersion, word: &str) -> Option<Componen
 fn names(name: ComponentName, version: DescriptionVersion, word: &str) -> bool
     ensures { result ≡ spec.same (is_version_three version) (row_for name).name word.now }
 {
-    same(version, name.spelling(), word)
+    same(version, name_spelling(name), word)
 }

@@ -8,10 +8,10 @@ ghost use Rattle.timefd_language.specs.Lookup.{key_for};
 ghost use Rattle.timefd_language.specs.declared.setting.Setting.{Setting};
 
 use crate::description_version::DescriptionVersion;
-use crate::key::Key;
 use crate::same::same;
 use crate::setting::Setting;
 use std::num::NonZero;
+use timefd_lang_fault::Key;
 use timefd_modifier::{
     MonthRepr, Padding, SubsecondDigits, TrailingInput, UnixTimestampPrecision, WeekNumberRepr,
     WeekdayRepr, YearRange, YearRepr,

@@ -4,7 +4,7 @@ use Rattle.timefd_lang_component.specs.Tree.{Text, optional, first, trees, pack}
 use Rattle.timefd_lang_fault.specs.Faults.{fault}
 use Rattle.timefd_language.specs.declared.description_version.DescriptionVersion.{DescriptionVersion}
 use Rattle.timefd_language.specs.declared.description_version.DescriptionVersion.TheVariants.{Three}
-use Rattle.timefd_language.specs.declared.name.Name.{Name}
+use Rattle.timefd_lang_fault.specs.declared.name.Name.{Name}
 use Rattle.timefd_language.specs.Bytes.{is_version_three}
 use Rattle.timefd_lang_fault.specs.Words.{expected_white, expected_nested, expected_alternative, optional_item, first_item}
 use Rattle.timefd_language.specs.Head.{Head, placed, placed_from, name_index, head_text}

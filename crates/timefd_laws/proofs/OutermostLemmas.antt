@@ -6,7 +6,7 @@ use Rattle.timefd_lang_component.specs.Tree.{Text, Tree, component, optional, fi
 use Rattle.timefd_lang_component.specs.declared.component.Component.{Component}
 use Rattle.timefd_lang_fault.specs.Faults.{Kind, Fault, fault, unclosed_bracket, invalid_name, invalid_modifier, missing_name, missing_modifier, expected, not_supported, duplicate_modifier, invalid_combination}
 use Rattle.timefd_language.specs.declared.description_version.DescriptionVersion.{DescriptionVersion}
-use Rattle.timefd_language.specs.declared.name.ComponentName.{ComponentName}
+use Rattle.timefd_lang_fault.specs.declared.name.ComponentName.{ComponentName}
 use Rattle.timefd_language.specs.declared.setting.Settings.{Settings}
 use Rattle.timefd_language.specs.Bytes.{left, equal, same, is_version_three}
 use Rattle.timefd_language.specs.Fault.{enclosed}

@@ -3,8 +3,8 @@ use Rattle.std.specs.Prelude.{◌≡◌, ◌+◌, true, List, [], ◌∷◌, ◌
 use Rattle.timefd_lang_component.specs.Tree.{Text, Tree, optional, first, trees, pack}
 use Rattle.timefd_language.specs.declared.description_version.DescriptionVersion.{DescriptionVersion}
 use Rattle.timefd_language.specs.declared.description_version.DescriptionVersion.TheVariants.{Three}
-use Rattle.timefd_language.specs.declared.name.ComponentName.{ComponentName}
-use Rattle.timefd_language.specs.declared.name.Name.{Name}
+use Rattle.timefd_lang_fault.specs.declared.name.ComponentName.{ComponentName}
+use Rattle.timefd_lang_fault.specs.declared.name.Name.{Name}
 use Rattle.timefd_language.specs.Bytes.{is_version_three}
 use Rattle.timefd_lang_fault.specs.Words.{expected_white, expected_nested, expected_alternative, many_nested, optional_item, first_item, nested_here}
 use Rattle.timefd_language.specs.Head.{Head, head_text, placed}

@@ -12,7 +12,7 @@ use Rattle.timefd_lang_fault.specs.Words.{expected_nested, optional_item, first_
 use Rattle.timefd_language.specs.Head.{Head, Placed, placed}
 use Rattle.timefd_language.specs.declared.setting.Setting.{Setting}
 use Rattle.timefd_language.specs.declared.setting.Settings.{Settings}
-use Rattle.timefd_language.specs.declared.name.ComponentName.{ComponentName}
+use Rattle.timefd_lang_fault.specs.declared.name.ComponentName.{ComponentName}
 use Rattle.timefd_language.specs.Settings.{defaults}
 use Rattle.timefd_language.specs.Values.{count, format, digits_of, counted, count_of, not_zero, key_in}
 use Rattle.timefd_language.specs.Names.{Row, rows, row_for, row_of, component_names, ignored}

@@ -7,7 +7,7 @@ use Rattle.timefd_language.specs.declared.description_version.DescriptionVersion
 use Rattle.timefd_parse.specs.declared.modifier.Modifier as code
 use Rattle.timefd_parse.specs.declared.modifiers.Modifiers as code_modifiers
 use Rattle.timefd_parse.specs.declared.head.Head as code_head
-use Rattle.timefd_language.specs.declared.name.Name.{Name}
+use Rattle.timefd_lang_fault.specs.declared.name.Name.{Name}
 use Rattle.timefd_lang_fault.specs.declared.read_error.Fault as code_fault
 use Rattle.timefd_lang_fault.specs.declared.rule.Rule.TheVariants as broken
 use Rattle.timefd_language.specs.Bytes.{left, is_white, is_word_byte, OneOrMore, StopsBefore}
@@ -70,7 +70,7 @@ placed_more k (x ∷ ms) m =
     ap (λ l. placed_at k x ∷ l) (placed_more (k + length (modifier_text x)) ms m ∙
     ap (λ j. placed_from (k + length (modifier_text x)) ms ++ placed_at j m ∷ []) same)
 
-white_between : (rest white after word after_word : Text) → StopsBefore is_word_byte rest
+pub white_between : (rest white after word after_word : Text) → StopsBefore is_word_byte rest
     → IsCut is_white rest white after → IsCut is_word_byte after word after_word → 0 < length word
     → OneOrMore is_white white
 white_between rest (b ∷ white) after word after_word stops w u some = w.passes

@@ -2,6 +2,8 @@
 use Rattle.std.proofs.Common.{◌≡◌, ℕ, Bool, true, false, not, if◌then◌else◌, codes, List, [], ◌∷◌, ◌++◌, length, map, Option, Some, None, option_map, Result, Ok, Err, IsUtf8, refl, sym, ap, ◌∙◌, subst, append_assoc}
 use Rattle.std.specs.Borrow.{Bor}
 use Rattle.timefd_lang_component.specs.declared.component.Component.{Component}
+use Rattle.timefd_lang_fault.specs.Slots.{context_of}
+use Rattle.timefd_lang_fault.specs.declared.refuser.Refuser.{Refuser}
 use Rattle.timefd_lang_fault.specs.Faults.{Kind, Fault, fault, missing_modifier, invalid_combination, invalid_name}
 use Rattle.timefd_lang_component.specs.Tree.{Text, Tree, component, optional, first, trees, pack}
 use Rattle.timefd_lang_fault.specs.declared.read_error.Fault as code_fault
@@ -10,12 +12,12 @@ use Rattle.timefd_parse.specs.declared.head.Head as code_head
 use Rattle.timefd_parse.specs.declared.head_verdict.HeadVerdict.{HeadVerdict}
 use Rattle.timefd_parse.specs.declared.head_verdict.HeadVerdict.TheVariants as verdicts
 use Rattle.timefd_parse.specs.declared.modifiers.Modifiers as code_modifiers
-use Rattle.timefd_language.specs.declared.name.ComponentName.{ComponentName}
-use Rattle.timefd_language.specs.declared.name.Name.{Name}
-use Rattle.timefd_language.specs.declared.name.Name.TheVariants as names
+use Rattle.timefd_lang_fault.specs.declared.name.ComponentName.{ComponentName}
+use Rattle.timefd_lang_fault.specs.declared.name.Name.{Name}
+use Rattle.timefd_lang_fault.specs.declared.name.Name.TheVariants as names
 use Rattle.timefd_parse.specs.declared.positions.Positions.{Positions}
 use Rattle.timefd_language.specs.declared.combination.Refusal as code_refusal
-use Rattle.timefd_language.specs.declared.key.Key as code_key
+use Rattle.timefd_lang_fault.specs.declared.key.Key as code_key
 use Rattle.timefd_language.specs.Bytes.{equal, same, left, is_white, is_word_byte, OneOrMore, StopsBefore}
 use Rattle.timefd_lang_fault.specs.Words.{expected_white, expected_nested, expected_alternative, optional_item, first_item, nested_here}
 use Rattle.timefd_language.specs.Head.{Head, Placed, placed, name_index}
@@ -74,7 +76,7 @@ pub refused_here : (total : ℕ) (positions : Positions) (ps : List Placed) (r :
     → position positions r.key ≡ Some remaining → spelling.now ≡ (key_for r.key).key
     → all ≡ combined (refusal_for r ∷ rest) ps
     → ShowsFault total
-    (Some (record { rule = broken.RefusedModifier spelling r.context; remaining = remaining; len = len }))
+    (Some (record { rule = broken.RefusedModifier spelling r.refuser; remaining = remaining; len = len }))
     all
 refused_here total positions ps r rest remaining len spelling all shows at spelled e =
     by (first_position (key_for r.key).key ps) refl
@@ -83,17 +85,17 @@ refused_here total positions ps r rest remaining len spelling all shows at spell
     by : (o : Option ℕ) → first_position (key_for r.key).key ps ≡ o
         → ShowsPosition total (Some remaining) o
         → ShowsFault total
-        (Some (record { rule = broken.RefusedModifier spelling r.context; remaining = remaining; len = len }))
+        (Some (record { rule = broken.RefusedModifier spelling r.refuser; remaining = remaining; len = len }))
         all
     by None f is = absurd is
     by (Some i) f is =
-        let g : Fault = fault (invalid_combination (key_for r.key).key r.context.now) i in
+        let g : Fault = fault (invalid_combination (key_for r.key).key (context_of r.refuser)) i in
         subst (ShowsFault total (Some
-        (record { rule = broken.RefusedModifier spelling r.context; remaining = remaining; len = len })))
+        (record { rule = broken.RefusedModifier spelling r.refuser; remaining = remaining; len = len })))
         (sym (e ∙ ap (λ x. x or combined rest ps) (misplaced_at (refusal_for r) ps ∙
-        ap (option_map (λ j. fault (invalid_combination (key_for r.key).key r.context.now) j))
+        ap (option_map (λ j. fault (invalid_combination (key_for r.key).key (context_of r.refuser)) j))
         f)))
-        (record { kind = ap (λ k. invalid_combination k r.context.now) (sym spelled); position = is })
+        (record { kind = ap (λ k. invalid_combination k (context_of r.refuser)) (sym spelled); position = is })
 
 pub refused_later : (total : ℕ) (positions : Positions) (ps : List Placed) (r : code_refusal.Refusal)
     (rest : List Refusal) (all : Option Fault) → ShowsPositions total positions ps
@@ -105,7 +107,7 @@ refused_later total positions ps r rest all shows none e =
     by : (o : Option ℕ) → first_position (key_for r.key).key ps ≡ o → ShowsPosition total None o
         → all ≡ combined rest ps
     by None f is = e ∙ ap (λ x. x or combined rest ps) (misplaced_at (refusal_for r) ps ∙
-        ap (option_map (λ j. fault (invalid_combination (key_for r.key).key r.context.now) j)) f)
+        ap (option_map (λ j. fault (invalid_combination (key_for r.key).key (context_of r.refuser)) j)) f)
     by (Some i) f is = absurd is
 
 module _ (strict : Bool) (total : ℕ) (head : code_head.Head) (modifiers : code_modifiers.Modifiers)
@@ -404,8 +406,4 @@ none_nested total nested (p ∷ ps) o lax shows none =
 
 -- what a slice of refusals is read as past its end
 abbrev pub no_refusal : code_refusal.Refusal
-no_refusal = record {
-  key = code_key.TheVariants.Padding;
-  context =
-      record { ref_ptr = (0, 0); now = [] };
-}
+no_refusal = record { key = code_key.TheVariants.Padding; refuser = Refuser.NumericalMonth }

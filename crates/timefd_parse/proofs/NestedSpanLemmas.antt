@@ -1,13 +1,15 @@
 -- Which bytes of a bracket are at fault, while its nested descriptions are read.
-use Rattle.std.proofs.Common.{◌≡◌, ℕ, ◌+◌, ◌<◌, List, [], ◌∷◌, ◌++◌, length, lit<, refl, sym, ap, ◌∙◌, subst, arith, append_assoc}
+use Rattle.std.proofs.Common.{◌≡◌, ℕ, Bool, ◌+◌, ◌<◌, List, [], ◌∷◌, ◌++◌, length, lit<, refl, sym, ap, ◌∙◌, subst, arith, append_assoc}
 use Rattle.timefd_lang_component.specs.Tree.{Text, Tree}
 use Rattle.timefd_lang_fault.specs.ReadErrors.{MemoryOr}
 use Rattle.timefd_lang_fault.specs.declared.read_error.ReadError.{ReadError}
-use Rattle.timefd_language.specs.Bytes.{left, right}
+use Rattle.timefd_language.specs.Bytes.{is_version_three, left, right}
 use Rattle.timefd_language.specs.Grammar.{Nested, no_nested, nested, no_pieces, nested_text, parts_from, spelling}
 use Rattle.timefd_language.specs.Head.{head_text}
 use Rattle.timefd_language.specs.Spans.{SpansVersion, version_extent}
 use Rattle.timefd_language.specs.declared.description_version.DescriptionVersion.{DescriptionVersion}
+use Rattle.timefd_language.specs.Slots.{WantsIn}
+use Rattle.timefd_language.proofs.SlotLemmas.{wants_after}
 use Rattle.timefd_language.proofs.SpanLemmas.{spans_after}
 use Rattle.timefd_parse.specs.declared.head_verdict.JudgedHead.{JudgedHead}
 use Rattle.timefd_parse.specs.FirstPiece.{EndsWith}
@@ -18,19 +20,19 @@ use Rattle.timefd_parse.proofs.ReadLemmas.{Continues, memory_or}
 use Rattle.timefd_parse.proofs.SpanLemmas.{byte_at}
 
 -- a fault of a text's end is one of the text
-pub error_after : (text front rest : Text) (e : ReadError) → text ≡ front ++ rest
-    → MemoryOr (SpansVersion rest) e → MemoryOr (SpansVersion text) e
-error_after text front rest e joined is =
-    memory_or (SpansVersion rest) (SpansVersion text)
-    (λ f s. spans_after version_extent text front rest f joined s) e is
+pub error_after : (strict : Bool) (text front rest : Text) (e : ReadError) → text ≡ front ++ rest
+    → MemoryOr (SpansVersion strict rest) e → MemoryOr (SpansVersion strict text) e
+error_after strict text front rest e joined is =
+    memory_or (SpansVersion strict rest) (SpansVersion strict text)
+    (λ f s. spans_after version_extent (WantsIn strict) (wants_after strict) text front rest f joined s) e is
 
 -- the fault of what follows some pieces
 pub continues_spans : (v : DescriptionVersion) (limit n : ℕ) (text rest : Text) (done : List Tree)
-    (e : ReadError) → Continues v limit n text done rest → MemoryOr (SpansVersion rest) e
-    → MemoryOr (SpansVersion text) e
+    (e : ReadError) → Continues v limit n text done rest
+    → MemoryOr (SpansVersion (is_version_three v) rest) e → MemoryOr (SpansVersion (is_version_three v) text) e
 continues_spans v limit n text rest done e before is =
     let w = before no_pieces rest tt refl in
-    error_after text (spelling w.0) rest e w.2 is
+    error_after (is_version_three v) text (spelling w.0) rest e w.2 is
 
 -- where a bracket begins
 pub bracket_at : (inside : Text) (start : ℕ) → start ≡ length inside + 1
@@ -45,10 +47,10 @@ nested_at whole text ends =
     byte_at whole ends.0 left text (length text + 1) ends.1 (lit< tt) (omega arith)
 
 -- the fault of what a nested description has inside
-pub inside_spans : (whole text : Text) (e : ReadError) → EndsWith whole (left ∷ text)
-    → MemoryOr (SpansVersion text) e → MemoryOr (SpansVersion whole) e
-inside_spans whole text e ends is =
-    error_after whole (ends.0 ++ left ∷ []) text e
+pub inside_spans : (strict : Bool) (whole text : Text) (e : ReadError) → EndsWith whole (left ∷ text)
+    → MemoryOr (SpansVersion strict text) e → MemoryOr (SpansVersion strict whole) e
+inside_spans strict whole text e ends is =
+    error_after strict whole (ends.0 ++ left ∷ []) text e
     (ends.1 ∙ sym (append_assoc ends.0 (left ∷ []) text)) is
 
 module _ {v : DescriptionVersion} {limit n : ℕ} {inside : Text} {judged : JudgedHead}

@@ -33,7 +33,9 @@ use Rattle.timefd_language.specs.Strings.{AreItems}
 use Rattle.timefd_parse.specs.Answers.{IsOutput, IsAssigned}
 use Rattle.timefd_parse.specs.Language.{IsAmount, amount}
 use Rattle.timefd_language.specs.Laws.{HasOneAnswer}
+use Rattle.timefd_language.specs.Slots.{WantsIn}
 use Rattle.timefd_language.specs.Spans.{HasSpan, SpansVersion, version_extent}
+use Rattle.timefd_language.proofs.SlotLemmas.{version_slot}
 use Rattle.timefd_language.proofs.SpanLemmas.{spanned}
 use Rattle.timefd_language.proofs.LawLemmas.{one_answer_law}
 use Rattle.timefd_language.proofs.Reserved.{reserves_within_law}
@@ -133,11 +135,12 @@ borrowed_refusal v limit text e r h =
 
 -- the borrowed fault ends after what is at fault
 pub spanned_version : (v : DescriptionVersion) (text : Text) (e : ReadError) (r : BorrowedParseError)
-    → MemoryOr (SpansVersion text) e → BorrowsSpan (length text) e r → HasSpan (Version v) text r
+    → MemoryOr (SpansVersion (is_version_three v) text) e → BorrowsSpan (length text) e r → HasSpan (Version v) text r
 spanned_version v text e (answers.Memory m) h borrows = tt
 spanned_version v text errors.Memory (answers.Invalid g) h borrows = absurd borrows
 spanned_version v text (errors.Invalid f) (answers.Invalid g) h borrows =
-    spanned version_extent (Version v) text f g (λ k. refl) h borrows
+    spanned version_extent (WantsIn (is_version_three v)) (Version v) text f g (λ k. refl)
+    (λ before rest e wanted. version_slot v text f.rule before rest e wanted) h borrows
 
 -- Faults that the caller owns.
 

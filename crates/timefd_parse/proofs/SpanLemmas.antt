@@ -1,5 +1,5 @@
 -- Which bytes are at fault, for each reader.
-use Rattle.std.proofs.Common.{◌≡◌, ℕ, ◌+◌, ◌<◌, ◌≤◌, Bool, true, false, List, [], ◌∷◌, ◌++◌, length, Option, Some, None, IfSome, lit<, refl, sym, ap, ◌∙◌, subst, arith, append_assoc, length-append}
+use Rattle.std.proofs.Common.{◌≡◌, ℕ, ◌+◌, ◌<◌, ◌≤◌, Bool, true, false, List, [], ◌∷◌, ◌++◌, length, Option, Some, None, IfSome, option_map, lit<, refl, sym, ap, ◌∙◌, subst, arith, append_assoc, append-nil, inl, inr, ◌⊎◌, length-append}
 use Rattle.std.specs.List.{list_all}
 use Rattle.std.proofs.lemmas.Bool.{and_parts}
 use Rattle.std.proofs.lemmas.Bool.Decides.{nat_tests}
@@ -7,11 +7,16 @@ use Rattle.timefd_lang_component.specs.Tree.{Text}
 use Rattle.timefd_lang_fault.specs.Faults.{Fault}
 use Rattle.timefd_lang_fault.specs.RuleKinds.{rule_kind}
 use Rattle.timefd_lang_fault.specs.declared.read_error.Fault as code_fault
-use Rattle.timefd_language.specs.declared.key.Key as code_key
+use Rattle.timefd_lang_fault.specs.declared.key.Key as code_key
+use Rattle.timefd_lang_fault.specs.declared.name.Name.{Name}
+use Rattle.timefd_lang_fault.specs.declared.slot.Slot.{Slot}
+use Rattle.timefd_lang_fault.specs.declared.slot.Slot.TheVariants as slots
 use Rattle.timefd_language.specs.Bytes.{left, colon, equal, is_white, is_word_byte, is_key_byte, ZeroOrMore, OneOrMore, StopsBefore}
 use Rattle.timefd_language.specs.Cut.{IsCut}
 use Rattle.timefd_language.specs.Head.{Modifier, AreModifiers, modifier_text, modifiers_text, Head, head_text, placed, placed_from}
-use Rattle.timefd_language.specs.Lookup.{key_for}
+use Rattle.timefd_language.specs.Lookup.{IsNameOf, key_for, keys_of}
+use Rattle.timefd_language.specs.Slots.{EndsAfterHead, WantsIn, WantsKey, WantsValue, colon_before}
+use Rattle.timefd_language.specs.Values.{key_in}
 use Rattle.timefd_language.specs.Spans.{one_character, whole_word, whole_key, modifier_extent, version_extent, SpansVersion}
 use Rattle.timefd_language.proofs.Lookup.{equal-true}
 use Rattle.timefd_language.proofs.Spans.{zero_from_one, white-not_word}
@@ -28,6 +33,7 @@ use Rattle.timefd_parse.specs.HeadVerdicts.{IsPlain}
 use Rattle.timefd_parse.specs.Heads.{BeginsWithHead}
 use Rattle.timefd_parse.specs.Judged.{ShowsPositions}
 use Rattle.timefd_parse.specs.Positions.{position}
+use Rattle.timefd_parse.proofs.ModifierLemmas.{one_or_more}
 use Rattle.timefd_parse.specs.ReadModifiers.{BeginsWithWord, IsWord, StandsIn}
 use Rattle.timefd_parse.specs.Spans.{HasByteAt, HasKeyAt, HaveKeys, SpansRefusal}
 
@@ -37,11 +43,13 @@ some_bytes test (b ∷ text) some = omega arith
 
 -- one byte
 
-pub byte_spans : (text : Text) (remaining : ℕ) (f : code_fault.Fault) → HasByteAt text remaining
-    → f.remaining ≡ remaining → f.len ≡ 1 → version_extent (rule_kind f.rule) ≡ one_character
-    → SpansVersion text f
-byte_spans text remaining f h at len is =
-    spans_byte version_extent text h.before h.byte h.rest f h.whole h.ascii is (at ∙ h.position) len
+pub byte_spans : (strict : Bool) (text : Text) (remaining : ℕ) (f : code_fault.Fault)
+    → HasByteAt text remaining → f.remaining ≡ remaining → f.len ≡ 1
+    → version_extent (rule_kind f.rule) ≡ one_character
+    → ((front : Text) → WantsIn strict front f.rule) → SpansVersion strict text f
+byte_spans strict text remaining f h at len is wanted =
+    spans_byte version_extent (WantsIn strict) text h.before h.byte h.rest f h.whole h.ascii is
+    (at ∙ h.position) len (wanted h.before)
 
 pub byte_at : (text before : Text) (b : ℕ) (rest : Text) (remaining : ℕ) → text ≡ before ++ b ∷ rest
     → b < 128 → remaining ≡ length (b ∷ rest) → HasByteAt text remaining
@@ -52,48 +60,106 @@ white_ascii : (b : ℕ) → is_white b ≡ true → b < 128
 white_ascii b white = grind (arith, nat_tests)
 
 -- the first white byte after a `[`
-pub white_spans : (inside white named : Text) (f : code_fault.Fault) → IsCut is_white inside white named
-    → 0 < length white → f.remaining ≡ length inside → f.len ≡ 1
-    → version_extent (rule_kind f.rule) ≡ one_character → SpansVersion (left ∷ inside) f
-white_spans inside [] named f cut some at len is = absurd (omega arith)
-white_spans inside (b ∷ white) named f cut some at len is =
-    spans_byte version_extent (left ∷ inside) (left ∷ []) b (white ++ named) f
+pub white_spans : (strict : Bool) (inside white named : Text) (f : code_fault.Fault)
+    → IsCut is_white inside white named → 0 < length white → f.remaining ≡ length inside → f.len ≡ 1
+    → version_extent (rule_kind f.rule) ≡ one_character
+    → ((front : Text) → WantsIn strict front f.rule) → SpansVersion strict (left ∷ inside) f
+white_spans strict inside [] named f cut some at len is wanted = absurd (omega arith)
+white_spans strict inside (b ∷ white) named f cut some at len is wanted =
+    spans_byte version_extent (WantsIn strict) (left ∷ inside) (left ∷ []) b (white ++ named) f
     (ap (λ t. left ∷ t) cut.whole)
     (white_ascii b (and_parts (is_white b) (list_all is_white white) cut.passes).0) is
-    (at ∙ ap length cut.whole) len
+    (at ∙ ap length cut.whole) len (wanted (left ∷ []))
 
 -- Modifiers.
 
-module _ (text : Text) (m : code_modifier.Modifier) (stands : StandsIn text m) (f : code_fault.Fault) where
+module _ (strict : Bool) (text : Text) (name : Option Name) (m : code_modifier.Modifier)
+    (stands : StandsIn strict text name m) (f : code_fault.Fault) where
   pub key_spans : f.remaining ≡ m.key_remaining → f.len ≡ length m.key.now
-      → version_extent (rule_kind f.rule) ≡ modifier_extent m.key.now → SpansVersion text f
-  key_spans at len is =
-      spans_bytes text stands.before m.key.now (colon ∷ (m.value.now ++ stands.rest)) f stands.whole
-      (at ∙ stands.key_position) len
+      → version_extent (rule_kind f.rule) ≡ modifier_extent m.key.now
+      → WantsIn strict stands.before f.rule → SpansVersion strict text f
+  key_spans at len is wanted =
+      spans_bytes strict text stands.before m.key.now (colon ∷ (m.value.now ++ stands.rest)) f stands.whole
+      (at ∙ stands.key_position) len wanted
       (is ∙ some_extent m.key.now (some_bytes is_key_byte m.key.now stands.key))
 
   pub again_spans : f.remaining ≡ m.key_remaining → f.len ≡ length m.key.now
-      → version_extent (rule_kind f.rule) ≡ whole_key → SpansVersion text f
-  again_spans at len is =
-      spans_key text stands.before m.key.now (colon ∷ (m.value.now ++ stands.rest)) f stands.whole
-      (at ∙ stands.key_position) len (zero_from_one is_key_byte m.key.now stands.key) refl is
+      → version_extent (rule_kind f.rule) ≡ whole_key → WantsIn strict stands.before f.rule
+      → SpansVersion strict text f
+  again_spans at len is wanted =
+      spans_key strict text stands.before m.key.now (colon ∷ (m.value.now ++ stands.rest)) f stands.whole
+      (at ∙ stands.key_position) len wanted (zero_from_one is_key_byte m.key.now stands.key) refl is
 
   pub value_spans : f.remaining ≡ m.value_remaining → f.len ≡ length m.value.now
-      → version_extent (rule_kind f.rule) ≡ modifier_extent m.value.now → SpansVersion text f
-  value_spans at len is =
-      spans_bytes text (stands.before ++ (m.key.now ++ colon ∷ [])) m.value.now stands.rest f
-      (stands.whole ∙ simp append_assoc) (at ∙ stands.value_position) len
+      → version_extent (rule_kind f.rule) ≡ modifier_extent m.value.now
+      → WantsIn strict (stands.before ++ (m.key.now ++ colon ∷ [])) f.rule
+      → SpansVersion strict text f
+  value_spans at len is wanted =
+      spans_bytes strict text (stands.before ++ (m.key.now ++ colon ∷ [])) m.value.now stands.rest f
+      (stands.whole ∙ simp append_assoc) (at ∙ stands.value_position) len wanted
       (is ∙ some_extent m.value.now (some_bytes is_word_byte m.value.now stands.value))
 
-pub stands_in : (text front after word rest : Text) (m : code_modifier.Modifier)
-    → text ≡ front ++ after → BeginsWithWord after word rest → IsWord word (length after) m
-    → StandsIn text m
-stands_in text front after word rest m e begins is =
+-- what should have been there in place of a modifier's key or value
+
+pub key_wanted : (strict : Bool) (text : Text) (name : Option Name) (m : code_modifier.Modifier)
+    (stands : StandsIn strict text name m) (wanted : Option Slot)
+    → wanted ≡ option_map slots.Key name → WantsKey strict stands.before m.key.now wanted
+key_wanted strict text name m stands wanted is = record {
+  name = name;
+  after = stands.after;
+  some = some_bytes is_key_byte m.key.now stands.key;
+  slot = is;
+}
+
+one_colon : (value : Text) → OneOrMore is_word_byte value → colon_before value ≡ colon ∷ []
+one_colon [] some = absurd some
+one_colon (b ∷ value) some = refl
+
+pub value_wanted : (strict : Bool) (text : Text) (name : Option Name) (m : code_modifier.Modifier)
+    (stands : StandsIn strict text name m) (key : code_key.Key)
+    → Some (key_for key) ≡ key_in strict m.key.now (keys_of name)
+    → WantsValue strict (stands.before ++ (m.key.now ++ colon ∷ [])) m.value.now (Some (slots.Value key))
+value_wanted strict text name m stands key known = record {
+  name = name;
+  at = stands.before;
+  after = stands.after;
+  key_word = m.key.now;
+  key_bytes = zero_from_one is_key_byte m.key.now stands.key;
+  whole = ap (λ t. stands.before ++ (m.key.now ++ t)) (sym (one_colon m.value.now stands.value));
+  key = Some key;
+  known = known;
+  slot = refl;
+}
+
+-- at a colon before which there is no key, or after which there is no value
+pub no_value : (strict : Bool) (front at : Text) (name : Option Name) (key : Text)
+    (wanted : Option Slot) → EndsAfterHead strict at name → ZeroOrMore is_key_byte key
+    → front ≡ at ++ key
+    → (k : Option code_key.Key) × (option_map key_for k ≡ key_in strict key (keys_of name))
+    × (wanted ≡ option_map slots.Value k)
+    → WantsKey strict front [] wanted ⊎ WantsValue strict front [] wanted
+no_value strict front at name key wanted after keys whole found = inr (record {
+  name = name;
+  at = at;
+  after = after;
+  key_word = key;
+  key_bytes = keys;
+  whole = whole ∙ ap (λ t. at ++ t) (sym (append-nil key));
+  key = found.0;
+  known = found.1;
+  slot = found.2;
+})
+
+pub stands_in : (strict : Bool) (text front after word rest : Text) (name : Option Name)
+    (m : code_modifier.Modifier) → text ≡ front ++ after → EndsAfterHead strict front name
+    → BeginsWithWord after word rest → IsWord word (length after) m → StandsIn strict text name m
+stands_in strict text front after word rest name m e head begins is =
     let whole : after ≡ m.key.now ++ colon ∷ (m.value.now ++ rest) =
     begins.cut.whole ∙ ap (λ t. t ++ rest) is.whole
     ∙ append_assoc m.key.now (colon ∷ m.value.now) rest in
     record {
       before = front;
+      after = head;
       rest = rest;
       key = is.key;
       value = is.value;
@@ -119,6 +185,30 @@ head_joined inside white named word start before rest white' after a b c d =
     ap (λ t. left ∷ t) (a ∙ ap (λ t. white ++ t) (b ∙ ap (λ t. word ++ t)
     (c ∙ ap (λ t. before ++ t) d))) ∙ simp append_assoc
 
+pub spans_there : (strict : Bool) (whole text : Text) (f : code_fault.Fault) → whole ≡ text
+    → SpansVersion strict text f → SpansVersion strict whole f
+spans_there strict whole text f e is = subst (λ t. SpansVersion strict t f) (sym e) is
+
+-- what precedes a modifier is a head and white bytes
+pub head_before : (strict : Bool) (inside white named word start white' : Text)
+    (name : Option Name) (ms : List Modifier) → IsCut is_white inside white named
+    → IsCut is_word_byte named word start → 0 < length word → IsNameOf strict word name
+    → AreModifiers ms → OneOrMore is_white white'
+    → EndsAfterHead strict (before_rest white word (modifiers_text ms) white') name
+unfolding before_rest
+head_before strict inside white named word start white' name ms w n some is are spaced = record {
+  head = record { white = white; name = word; modifiers = ms };
+  white = white';
+  ends = record {
+    before = [];
+    is = record { white = w.passes; name = one_or_more is_word_byte word some n.passes; modifiers = are };
+    whole = ap (λ t. left ∷ t) (sym (append_assoc (white ++ word) (modifiers_text ms) white'
+        ∙ append_assoc white word (modifiers_text ms ++ white')));
+  };
+  all_white = spaced;
+  named = is;
+}
+
 -- no modifier was taken yet, so there is no fault
 pub unfaulted : (total : ℕ) (o : Option code_fault.Fault) (P : code_fault.Fault → Type 0)
     → ShowsFault total o None → IfSome o P
@@ -143,12 +233,13 @@ name_stops (m ∷ ms) white rest are all stops = by m.white are.0.white
 module _ (strict : Bool) (text : Text) (head : code_head.Head) (modifiers : code_modifiers.Modifiers)
     (rest : Text) (h : Head) (begins : BeginsWithHead strict text head modifiers rest h) where
   pub name_spans : (f : code_fault.Fault) → f.remaining ≡ head.remaining
-      → f.len ≡ length head.word.now → version_extent (rule_kind f.rule) ≡ whole_word → SpansVersion text f
-  name_spans f at len is =
+      → f.len ≡ length head.word.now → version_extent (rule_kind f.rule) ≡ whole_word
+      → ((front : Text) → WantsIn strict front f.rule) → SpansVersion strict text f
+  name_spans f at len is wanted =
       let more : Text = modifiers_text h.modifiers ++ (head.white.now ++ rest) in
       let whole : text ≡ (left ∷ h.white) ++ (h.name ++ more) =
       begins.whole ∙ simp append_assoc in
-      spans_word text (left ∷ h.white) h.name more f whole
+      spans_word strict text (left ∷ h.white) h.name more f whole
       (omega (
         arith,
         at,
@@ -156,7 +247,7 @@ module _ (strict : Bool) (text : Text) (head : code_head.Head) (modifiers : code
         ap length whole,
         length-append (left ∷ h.white) (h.name ++ more),
       ))
-      (len ∙ ap length (sym begins.shows.word))
+      (len ∙ ap length (sym begins.shows.word)) (wanted (left ∷ h.white))
       (zero_from_one is_word_byte h.name begins.is.name)
       (name_stops h.modifiers head.white.now rest begins.is.modifiers begins.all_white
       begins.stops_word) is
@@ -226,23 +317,24 @@ module _ (strict : Bool) (text : Text) (head : code_head.Head) (modifiers : code
       }
 
 -- a key that is refused with a component
-pub refused_spans : (text : Text) (positions : Positions) (ps : List Placed) (k : code_key.Key)
+pub refused_spans : (strict : Bool) (text : Text) (positions : Positions) (ps : List Placed) (k : code_key.Key)
     (o : Option ℕ) (remaining : ℕ) (spelling : Text) (f : code_fault.Fault)
     → ShowsPositions (length text) positions ps → o ≡ position positions k → o ≡ Some remaining
     → spelling ≡ (key_for k).key → HaveKeys text ps → f.remaining ≡ remaining
-    → f.len ≡ length spelling → version_extent (rule_kind f.rule) ≡ whole_key → SpansVersion text f
-refused_spans text positions ps k o remaining spelling f shows of is spelled have at len extent =
+    → f.len ≡ length spelling → version_extent (rule_kind f.rule) ≡ whole_key
+    → ((front : Text) → WantsIn strict front f.rule) → SpansVersion strict text f
+refused_spans strict text positions ps k o remaining spelling f shows of is spelled have at len extent wanted =
     by (first_position (key_for k).key ps) refl
     (subst (λ x. ShowsPosition (length text) x (first_position (key_for k).key ps)) (sym of ∙ is)
     (shows k))
   where
     by : (i : Option ℕ) → first_position (key_for k).key ps ≡ i
-        → ShowsPosition (length text) (Some remaining) i → SpansVersion text f
+        → ShowsPosition (length text) (Some remaining) i → SpansVersion strict text f
     by None e shown = absurd shown
     by (Some index) e shown =
         let h = have (key_for k).key index e in
         let after : Text = colon ∷ h.rest in
-        spans_key text h.before (key_for k).key after f h.whole
+        spans_key strict text h.before (key_for k).key after f h.whole
         (omega (
           arith,
           at,
@@ -251,12 +343,12 @@ refused_spans text positions ps k o remaining spelling f shows of is spelled hav
           ap length h.whole,
           length-append h.before ((key_for k).key ++ after),
         ))
-        (len ∙ ap length spelled) (zero_from_one is_key_byte (key_for k).key h.is) refl extent
+        (len ∙ ap length spelled) (wanted h.before) (zero_from_one is_key_byte (key_for k).key h.is) refl extent
 
 -- `optional` and `first` without modifiers
-pub plain_spans : (text spelled : Text) (verdict : HeadVerdict) → IsPlain spelled verdict
-    → SpansRefusal text verdict
-plain_spans text spelled (verdicts.Component c) is = tt
-plain_spans text spelled (verdicts.Optional formatted) is = tt
-plain_spans text spelled verdicts.First is = tt
-plain_spans text spelled (verdicts.Refused f) is = absurd is
+pub plain_spans : (strict : Bool) (text spelled : Text) (verdict : HeadVerdict)
+    → IsPlain spelled verdict → SpansRefusal strict text verdict
+plain_spans strict text spelled (verdicts.Component c) is = tt
+plain_spans strict text spelled (verdicts.Optional formatted) is = tt
+plain_spans strict text spelled verdicts.First is = tt
+plain_spans strict text spelled (verdicts.Refused f) is = absurd is

@@ -3,22 +3,17 @@ use Rattle.std.specs.Prelude.{ℕ, ◌≡◌, ◌+◌, Bool, true, false, List, 
 use Rattle.timefd_lang_component.specs.Tree.{Text}
 use Rattle.timefd_lang_fault.specs.Faults.{Fault}
 use Rattle.timefd_lang_fault.specs.declared.read_error.Fault as code_fault
-use Rattle.timefd_language.specs.declared.key.Key as code_key
-use Rattle.timefd_language.specs.declared.name.Name.{Name}
+use Rattle.timefd_lang_fault.specs.declared.key.Key as code_key
+use Rattle.timefd_lang_fault.specs.declared.name.Name.{Name}
 use Rattle.timefd_language.specs.declared.setting.Setting.{Setting}
 use Rattle.timefd_parse.specs.declared.modifiers.Modifiers.{Modifiers}
 use Rattle.timefd_language.specs.Bytes.{equal}
 use Rattle.timefd_language.specs.Head.{Placed}
 use Rattle.timefd_language.specs.Values.{Key, key_in, setting_in}
-use Rattle.timefd_language.specs.Lookup.{key_for, keys_for}
+use Rattle.timefd_language.specs.Lookup.{key_for, keys_of}
 use Rattle.timefd_parse.specs.Positions.{position}
 use Rattle.timefd_language.specs.Verdict.{bad_modifier, bad_modifiers, settings}
 use Rattle.timefd_lang_fault.specs.ReadErrors.{IsFault}
-
--- the keys of a name; an unknown name has none
-abbrev pub keys_of : Option Name → List Key
-keys_of None = []
-keys_of (Some name) = keys_for name
 
 -- the position of the first modifier with a key
 abbrev pub first_position : Text → List Placed → Option ℕ

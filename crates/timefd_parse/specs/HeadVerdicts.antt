@@ -7,8 +7,8 @@ use Rattle.timefd_lang_component.specs.Tree.{Text, Tree, component}
 use Rattle.timefd_lang_fault.specs.Faults.{Fault}
 use Rattle.timefd_language.specs.declared.description_version.DescriptionVersion.{DescriptionVersion}
 use Rattle.timefd_lang_fault.specs.declared.read_error.Fault as code_fault
-use Rattle.timefd_language.specs.declared.name.Name.{Name}
-use Rattle.timefd_language.specs.declared.name.Name.TheVariants as names
+use Rattle.timefd_lang_fault.specs.declared.name.Name.{Name}
+use Rattle.timefd_lang_fault.specs.declared.name.Name.TheVariants as names
 use Rattle.timefd_parse.specs.declared.head_verdict.HeadVerdict.{HeadVerdict}
 use Rattle.timefd_parse.specs.declared.head_verdict.HeadVerdict.TheVariants as verdicts
 use Rattle.timefd_parse.specs.declared.head_verdict.JudgedHead.{JudgedHead}

@@ -5,7 +5,7 @@ use Rattle.timefd_lang_fault.specs.Faults.{Fault}
 use Rattle.timefd_lang_component.specs.Tree.{Tree, component, pack}
 use Rattle.timefd_lang_fault.specs.declared.read_error.Fault as code_fault
 use Rattle.timefd_lang_fault.specs.declared.read_error.ReadError as code_error
-use Rattle.timefd_language.specs.declared.key.Key as code_key
+use Rattle.timefd_lang_fault.specs.declared.key.Key as code_key
 use Rattle.timefd_parse.specs.declared.piece.Piece.{Piece}
 use Rattle.timefd_parse.specs.declared.positions.Positions.{Positions}
 use Rattle.timefd_parse.specs.declared.verdict.Nested as code_nested

@@ -2,9 +2,9 @@
 use Rattle.std.specs.Prelude.{ℕ, ◌≡◌, ◌+◌, Bool, true, false, List, ◌∷◌, ◌++◌, length, Some, None, is_some}
 use Rattle.std.specs.Str.{IsUtf8}
 use Rattle.timefd_lang_component.specs.Tree.{Text}
-use Rattle.timefd_language.specs.declared.key.Key as code_key
-use Rattle.timefd_language.specs.declared.name.ComponentName.{ComponentName}
-use Rattle.timefd_language.specs.declared.name.Name.{Name}
+use Rattle.timefd_lang_fault.specs.declared.key.Key as code_key
+use Rattle.timefd_lang_fault.specs.declared.name.ComponentName.{ComponentName}
+use Rattle.timefd_lang_fault.specs.declared.name.Name.{Name}
 use Rattle.timefd_language.specs.declared.setting.Setting.{Setting}
 use Rattle.timefd_language.specs.declared.setting.Settings.{Settings}
 use Rattle.timefd_parse.specs.declared.positions.Positions.{Positions}

@@ -2,13 +2,15 @@
 use Rattle.timefd_lang_fault.specs.ReadErrors.{IsFault}
 use Rattle.timefd_language.specs.Broken.{Misfit, IsMisfit, misfit_text, misfit_fault}
 use Rattle.timefd_language.specs.Bytes.{colon, is_word_byte, is_key_byte, OneOrMore, StopsBefore}
-use Rattle.std.specs.Prelude.{ℕ, ◌≡◌, ◌+◌, ◌<◌, List, ◌∷◌, ◌++◌, length, Option, Some, None, Result, MatchResult}
+use Rattle.std.specs.Prelude.{ℕ, Bool, ◌≡◌, ◌+◌, ◌<◌, List, ◌∷◌, ◌++◌, length, Option, Some, None, Result, MatchResult}
 use Rattle.std.specs.Borrow.{Bor}
 use Rattle.std.specs.Str.{IsUtf8}
 use Rattle.timefd_lang_component.specs.Tree.{Text}
 use Rattle.timefd_lang_fault.specs.declared.read_error.Fault as code_fault
 use Rattle.timefd_parse.specs.declared.modifier.Modifier as code_modifier
+use Rattle.timefd_lang_fault.specs.declared.name.Name.{Name}
 use Rattle.timefd_language.specs.Head.{Placed}
+use Rattle.timefd_language.specs.Slots.{EndsAfterHead}
 use Rattle.timefd_language.specs.Cut.{IsCut}
 
 pub record IsPlaced (total : ℕ) (m : code_modifier.Modifier) (p : Placed) : Type 0 where
@@ -17,9 +19,11 @@ pub record IsPlaced (total : ℕ) (m : code_modifier.Modifier) (p : Placed) : Ty
   pub value : p.value ≡ m.value.now
   pub value_position : p.value_index + m.value_remaining ≡ total
 
--- The text has this modifier, and its key and value stand where it says.
-pub record StandsIn (text : Text) (m : code_modifier.Modifier) : Type 0 where
+-- The text has this modifier in a bracket with this name, and its key and value stand where it says.
+pub record StandsIn (strict : Bool) (text : Text) (name : Option Name) (m : code_modifier.Modifier)
+    : Type 0 where
   pub before : Text
+  pub after : EndsAfterHead strict before name
   pub rest : Text
   pub key : OneOrMore is_key_byte m.key.now
   pub value : OneOrMore is_word_byte m.value.now

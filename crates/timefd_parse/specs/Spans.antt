@@ -1,5 +1,5 @@
 -- How it is known of the readers' faults which bytes are at fault.
-use Rattle.std.specs.Prelude.{ℕ, ◌≡◌, ◌<◌, List, ◌∷◌, ◌++◌, length, Some, ⊤}
+use Rattle.std.specs.Prelude.{ℕ, Bool, ◌≡◌, ◌<◌, List, ◌∷◌, ◌++◌, length, Some, ⊤}
 use Rattle.timefd_lang_component.specs.Tree.{Text}
 use Rattle.timefd_language.specs.Bytes.{colon, is_key_byte, OneOrMore}
 use Rattle.timefd_language.specs.Head.{Placed}
@@ -39,8 +39,8 @@ pub record BracketStands (text : Text) (nested : Nested) (span : Span) : Type 0 
   pub first : 0 < nested.count → HasByteAt text nested.remaining
 
 -- If a head is refused, its fault says which bytes are at fault.
-abbrev pub SpansRefusal : Text → HeadVerdict → Type 0
-SpansRefusal text (verdicts.Component c) = ⊤
-SpansRefusal text (verdicts.Optional formatted) = ⊤
-SpansRefusal text verdicts.First = ⊤
-SpansRefusal text (verdicts.Refused f) = SpansVersion text f
+abbrev pub SpansRefusal : Bool → Text → HeadVerdict → Type 0
+SpansRefusal strict text (verdicts.Component c) = ⊤
+SpansRefusal strict text (verdicts.Optional formatted) = ⊤
+SpansRefusal strict text verdicts.First = ⊤
+SpansRefusal strict text (verdicts.Refused f) = SpansVersion strict text f

@@ -45,7 +45,7 @@ pub fn first_modifier(text: &str) -> Option<(Modifier<'_>, &str)>
     if white.is_empty() {
         return None;
     }
-    match read_modifier(word) {
+    match read_modifier(DescriptionVersion::Three, None, word) {
         Ok(modifier) => modifier,
         Err(_) => None,
     }

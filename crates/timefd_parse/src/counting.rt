@@ -82,7 +82,7 @@ pub fn error_of<'a>(
     ensures fault { IsBorrowedOf (FaultOf version limit text.now) result }
     ensures spelled { (list : List Tree) → Spells version limit 0 text.now list → IsMemory result }
     ensures refused { (f : Fault) → FaultOf version limit text.now f → IsBorrowed f result }
-    ensures span { MemoryOr (SpansVersion text.now) error.entry
+    ensures span { MemoryOr (SpansVersion (is_version_three version) text.now) error.entry
         → HasSpan (spec_language.Language.Version version) text.now result }
 {
     match error {
@@ -123,7 +123,7 @@ fn count_pieces<'a>(
         × PiecesToEnd version limit 0 text.now list [] × (n ≡ length list))
         (MemoryOr (IsFaultIn version limit 0 text.now)) }
     ensures invalid { IfErr result IsInvalid }
-    ensures span { IfErr result (MemoryOr (SpansVersion text.now)) }
+    ensures span { IfErr result (MemoryOr (SpansVersion (is_version_three version) text.now)) }
     ensures some { IfErr result (λ _. 0 < length text.now) }
 {
     let mut count = 0;
@@ -147,7 +147,7 @@ fn bytes_beside<'a>(
     requires { built builder.old ≡ [] }
     ensures bytes { MatchResult result (AreCounted limit text.now (built builder.new))
         (MemoryOr (IsFaultIn Three limit 0 text.now)) }
-    ensures span { IfErr result (MemoryOr (SpansVersion text.now)) }
+    ensures span { IfErr result (MemoryOr (SpansVersion (is_version_three Three) text.now)) }
     ensures some { IfErr result (λ _. 0 < length text.now) }
 {
     let mut bytes = 0;

@@ -10,9 +10,9 @@ ghost use Rattle.timefd_parse.specs.Heads.{ReadsHead};
 
 use crate::modifier::read_modifier;
 use crate::modifiers::Modifiers;
-use timefd_lang_fault::{Fault, Rule};
+use timefd_lang_fault::{Fault, Name, Rule};
 use timefd_language::description_version::DescriptionVersion;
-use timefd_language::name::{Name, name_of};
+use timefd_language::name::name_of;
 use timefd_language::text::{Class, cut};
 
 /// What a bracket holds before its first nested description, or before its end.
@@ -37,8 +37,8 @@ pub fn read_head<'a>(
     requires { (name : Option Name) (total : ℕ) → Checks (is_version_three version) name total
         modifiers.old [] }
     ensures head { ReadsHead (is_version_three version) inside.now modifiers.new result }
-    ensures span { IfErr result (SpansVersion (91 ∷ inside.now)) }
-    ensures fault { IfSome modifiers.new.fault (SpansVersion (91 ∷ inside.now)) }
+    ensures span { IfErr result (SpansVersion (is_version_three version) (91 ∷ inside.now)) }
+    ensures fault { IfSome modifiers.new.fault (SpansVersion (is_version_three version) (91 ∷ inside.now)) }
 {
     let (white, named) = cut(inside, Class::White);
     let (word, after_word) = cut(named, Class::Word);
@@ -58,7 +58,7 @@ pub fn read_head<'a>(
     let mut rest = after_word;
     'modifiers: loop {
         let (white, after) = cut(rest, Class::White);
-        let Some((modifier, after_modifier)) = read_modifier(after)? else {
+        let Some((modifier, after_modifier)) = read_modifier(version, name, after)? else {
             let head = Head {
                 word,
                 remaining: named.len(),

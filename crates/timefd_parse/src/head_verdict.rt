@@ -10,7 +10,7 @@ ghost use Rattle.timefd_language.specs.Head.{Placed};
 ghost use Rattle.timefd_language.specs.Names.{row_for};
 ghost use Rattle.timefd_language.specs.Spans.{SpansVersion};
 ghost use Rattle.timefd_language.specs.Verdict as rules;
-ghost use Rattle.timefd_language.specs.declared.name.Name as spec_name;
+ghost use Rattle.timefd_lang_fault.specs.declared.name.Name as spec_name;
 ghost use Rattle.timefd_parse.specs.Checked.{ShowsFault};
 ghost use Rattle.timefd_parse.specs.Heads.{BeginsWithHead, ShowsHead};
 ghost use Rattle.timefd_parse.specs.Spans.{HaveKeys, SpansRefusal};
@@ -23,11 +23,11 @@ use crate::head::{Head, read_head};
 use crate::modifiers::Modifiers;
 use crate::positions::Positions;
 use timefd_items::Component;
-use timefd_lang_fault::{Fault, Rule};
+use timefd_lang_fault::{ComponentName, Fault, Name, Rule};
 use timefd_language::combination::refusals;
 use timefd_language::component::component_of;
 use timefd_language::description_version::DescriptionVersion;
-use timefd_language::name::{ComponentName, Name};
+use timefd_language::key::spelling;
 use timefd_language::text::{Start, start_of};
 
 /// What a head is by itself.
@@ -59,8 +59,9 @@ pub fn judged_head<'a>(
     inside: &'a str,
 ) -> Result<(JudgedHead<'a>, &'a str), Fault<'a>>
     ensures head { ReadsJudgedHead (is_version_three version) inside.now result }
-    ensures span { MatchResult result (λ x. SpansRefusal (91 ∷ inside.now) x.0.verdict)
-        (SpansVersion (91 ∷ inside.now)) }
+    ensures span { MatchResult result
+        (λ x. SpansRefusal (is_version_three version) (91 ∷ inside.now) x.0.verdict)
+        (SpansVersion (is_version_three version) (91 ∷ inside.now)) }
 {
     if let Some(plain) = plain_head(version, inside) {
         return Ok(plain);
@@ -80,7 +81,8 @@ pub fn judged_head<'a>(
 fn plain_head<'a>(version: DescriptionVersion, inside: &'a str) -> Option<(JudgedHead<'a>, &'a str)>
     ensures head { MatchOption result ⊤ (λ x. BeginsJudged (is_version_three version) inside.now x.0
         x.1.now) }
-    ensures span { (text : Text) → MatchOption result ⊤ (λ x. SpansRefusal text x.0.verdict) }
+    ensures span { (text : Text) → MatchOption result ⊤
+        (λ x. SpansRefusal (is_version_three version) text x.0.verdict) }
 {
     match inside.as_bytes() {
         [b'o', b'p', ..] => plainly(version, inside, "optional ", HeadVerdict::Optional(true)),
@@ -101,7 +103,8 @@ fn plainly<'a>(
     requires { IsPlain word.now verdict }
     ensures head { MatchOption result ⊤ (λ x. BeginsJudged (is_version_three version) inside.now x.0
         x.1.now) }
-    ensures span { (text : Text) → MatchOption result ⊤ (λ x. SpansRefusal text x.0.verdict) }
+    ensures span { (text : Text) → MatchOption result ⊤
+        (λ x. SpansRefusal (is_version_three version) text x.0.verdict) }
 {
     let rest = after_word(inside, word)?;
     let Start::Opening(_) = start_of(rest) else {
@@ -136,7 +139,8 @@ fn head_verdict<'a>(
         → IsVerdict (is_version_three version) total h (judging.nests head.now.name) result }
     ensures span { (text rest : Text) (h : spec.Head)
         → BeginsWithHead (is_version_three version) text head.now modifiers.now rest h
-        → IfSome modifiers.now.fault (SpansVersion text) → SpansRefusal text result }
+        → IfSome modifiers.now.fault (SpansVersion (is_version_three version) text)
+        → SpansRefusal (is_version_three version) text result }
 {
     let Some(name) = head.name else {
         return HeadVerdict::Refused(Fault {
@@ -172,16 +176,16 @@ pub fn combination_fault(
         → ShowsFault total result (rules.combination (is_version_three version) component ps) }
     ensures span { (text : Text) (ps : List Placed) → (IsTrue (is_version_three version) → ShowsPositions
         (length text) positions.now ps)
-        → HaveKeys text ps → IfSome result (SpansVersion text) }
+        → HaveKeys text ps → IfSome result (SpansVersion (is_version_three version) text) }
 {
     if !version.is_strict() {
         return None;
     }
     'refusals: for refusal in refusals(component) {
         if let Some(remaining) = positions.of(refusal.key) {
-            let key = refusal.key.spelling();
+            let key = spelling(refusal.key);
             return Some(Fault {
-                rule: Rule::RefusedModifier(key, refusal.context),
+                rule: Rule::RefusedModifier(key, refusal.refuser),
                 remaining,
                 len: key.len(),
             });
@@ -205,7 +209,8 @@ fn component<'a>(
     ensures modern { IfOk result (λ c. modern c ≡ c) }
     ensures span { (text rest : Text) (h : spec.Head)
         → BeginsWithHead (is_version_three version) text head.now modifiers.now rest h
-        → IfSome modifiers.now.fault (SpansVersion text) → IfErr result (SpansVersion text) }
+        → IfSome modifiers.now.fault (SpansVersion (is_version_three version) text)
+        → IfErr result (SpansVersion (is_version_three version) text) }
 {
     if let Some(fault) = modifiers.fault {
         return Err(fault);

@@ -9,7 +9,7 @@ ghost use Rattle.timefd_lang_fault.specs.Placed.{HasPlacedFault, IsPlaced};
 ghost use Rattle.timefd_lang_fault.specs.Reported.{IsFaultOrMemory, MemoryAlone};
 ghost use Rattle.timefd_language.specs.Bytes.{is_version_three};
 ghost use Rattle.timefd_language.specs.Grammar.{nesting_limit};
-ghost use Rattle.timefd_language.specs.Spans.{HasSpan};
+ghost use Rattle.timefd_language.specs.Spans.{HasSpan, HasSpanWithin};
 ghost use Rattle.timefd_parse.specs.Language.{SpellsIn, FaultIn, amount, takes_memory, IsAmount, IsAssignedIn};
 
 use crate::counting::{count_bytes, count_items};
@@ -49,6 +49,9 @@ pub fn amount_within(
 
     // The fault's index lies in the text or at its end, between two characters.
     ensures position { IfErr result (HasPlacedFault text.now) }
+
+    // The bytes at fault, from that index on, lie in the text.
+    ensures span { IfErr result (HasSpanWithin language text.now) }
 
     // The empty text takes no memory.
     ensures empty { text.now ≡ [] → IsOk result }

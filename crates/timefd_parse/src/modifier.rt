@@ -1,10 +1,16 @@
 //! One modifier of a head.
 
+ghost use Rattle.std.specs.Prelude.{◌++◌};
 ghost use Rattle.std.specs.Result.{IfErr};
+ghost use Rattle.timefd_lang_component.specs.Tree.{Text};
+ghost use Rattle.timefd_language.specs.Bytes.{is_version_three};
+ghost use Rattle.timefd_language.specs.Slots.{EndsAfterHead};
 ghost use Rattle.timefd_language.specs.Spans.{SpansVersion};
 ghost use Rattle.timefd_parse.specs.ReadModifiers.{ReadsModifier};
 
-use timefd_lang_fault::{Fault, Rule};
+use crate::modifiers::{key_slot, value_slot};
+use timefd_lang_fault::{Fault, Name, Rule};
+use timefd_language::description_version::DescriptionVersion;
 use timefd_language::text::{Class, after_colon, cut};
 
 /// A key and its value. A position is given as the number of bytes from there to the end of the
@@ -17,12 +23,17 @@ pub struct Modifier<'a> {
     pub value_remaining: usize,
 }
 
-/// The modifier that a text begins with, and the rest. `None` if the text begins with neither a key
-/// nor a colon.
+/// The modifier that a text begins with in a bracket with this name, and the rest. `None` if the
+/// text begins with neither a key nor a colon.
 #[inline(always)]
-pub fn read_modifier<'a>(text: &'a str) -> Result<Option<(Modifier<'a>, &'a str)>, Fault<'a>>
+pub fn read_modifier<'a>(
+    version: DescriptionVersion,
+    name: Option<Name>,
+    text: &'a str,
+) -> Result<Option<(Modifier<'a>, &'a str)>, Fault<'a>>
     ensures modifier { ReadsModifier text.now result }
-    ensures span { IfErr result (SpansVersion text.now) }
+    ensures span { (front : Text) → EndsAfterHead (is_version_three version) front name
+        → IfErr result (SpansVersion (is_version_three version) (front ++ text.now)) }
 {
     let (key, after) = cut(text, Class::Key);
     let Some(assigned) = after_colon(after) else {
@@ -30,7 +41,7 @@ pub fn read_modifier<'a>(text: &'a str) -> Result<Option<(Modifier<'a>, &'a str)
             return Ok(None);
         }
         return Err(Fault {
-            rule: Rule::InvalidModifier(key),
+            rule: Rule::InvalidModifier(key, key_slot(name)),
             remaining: text.len(),
             len: key.len(),
         });
@@ -38,14 +49,14 @@ pub fn read_modifier<'a>(text: &'a str) -> Result<Option<(Modifier<'a>, &'a str)
     let (value, rest) = cut(assigned, Class::Word);
     if key.is_empty() {
         return Err(Fault {
-            rule: Rule::InvalidModifier(""),
+            rule: Rule::InvalidModifier("", value_slot(version, name, key)),
             remaining: text.len(),
             len: 1,
         });
     }
     if value.is_empty() {
         return Err(Fault {
-            rule: Rule::InvalidModifier(""),
+            rule: Rule::InvalidModifier("", value_slot(version, name, key)),
             remaining: after.len(),
             len: 1,
         });

@@ -10,6 +10,8 @@ ghost use Rattle.timefd_language.specs.declared.description_version.DescriptionV
 ghost use Rattle.timefd_language.specs.Bytes.{is_version_three};
 ghost use Rattle.timefd_language.specs.Grammar.{Spells, nesting_limit};
 ghost use Rattle.timefd_language.specs.Broken.{FaultOf};
+ghost use Rattle.timefd_language.specs.Spans.{HasSpanWithin};
+ghost use Rattle.timefd_language.specs.declared.language.Language as spec_language;
 ghost use Rattle.timefd_lang_fault.specs.Placed.{HasPlacedFault};
 ghost use Rattle.timefd_parse.specs.Answers.{IsOutput, IsAssigned, ReservesAtMost, HasStrings};
 ghost use Rattle.timefd_lang_fault.specs.Reported.{IsFaultOrMemory, MemoryAlone};
@@ -60,6 +62,9 @@ pub fn parse_borrowed<'a>(
     // The fault's index lies in the text or at its end, between two characters.
     ensures position { IfErr result (HasPlacedFault s.now) }
 
+    // The bytes at fault, from that index on, lie in the text.
+    ensures span { IfErr result (HasSpanWithin (spec_language.Language.Version version) s.now) }
+
     // No item is a literal of bytes, and a description reserves no more bytes than the text has.
     ensures strings { IfOk result HasStrings }
     ensures reserved { IfOk result (ReservesAtMost (length s.now)) }
@@ -100,6 +105,9 @@ pub fn parse_borrowed_within<'a>(
     // The fault's index lies in the text or at its end, between two characters.
     ensures position { IfErr result (HasPlacedFault s.now) }
 
+    // The bytes at fault, from that index on, lie in the text.
+    ensures span { IfErr result (HasSpanWithin (spec_language.Language.Version version) s.now) }
+
     // No item is a literal of bytes, and a description reserves no more bytes than the text has.
     ensures strings { IfOk result HasStrings }
     ensures reserved { IfOk result (ReservesAtMost (length s.now)) }
@@ -133,6 +141,9 @@ pub fn parse<'a>(alloc: Global, s: &'a str) -> Result<Vec<BorrowedFormatItem<'a>
 
     // The fault's index lies in the text or at its end, between two characters.
     ensures position { IfErr result (HasPlacedFault s.now) }
+
+    // The bytes at fault, from that index on, lie in the text.
+    ensures span { IfErr result (HasSpanWithin (spec_language.Language.Version One) s.now) }
 
     // The empty text takes no memory.
     ensures empty { s.now ≡ [] → IsOk result }

@@ -3,7 +3,7 @@
 ghost use Rattle.std.specs.Prelude.{◌≡◌};
 ghost use Rattle.timefd_parse.specs.Positions as spec;
 
-use timefd_language::key::Key;
+use timefd_lang_fault::Key;
 
 /// The position of each key, by its spelling, as the number of bytes from there to the end of the
 /// text.

@@ -1,6 +1,6 @@
 //! The pieces of a text, one following another.
 
-ghost use Rattle.std.specs.Prelude.{ℕ, ◌≡◌, ◌+◌, ◌*◌, ◌≤◌, ◌<◌, ◌∷◌, [], length, IsFalse, IsTrue, MatchOption};
+ghost use Rattle.std.specs.Prelude.{ℕ, Bool, ◌≡◌, ◌+◌, ◌*◌, ◌≤◌, ◌<◌, ◌∷◌, [], length, IsFalse, IsTrue, MatchOption};
 ghost use Rattle.std.specs.Result.{IfErr};
 ghost use Rattle.std.specs.Str.{IsUtf8};
 ghost use Rattle.timefd_language.specs.declared.description_version.DescriptionVersion as spec_version;
@@ -42,7 +42,7 @@ fn run<'a>(version: DescriptionVersion, text: &'a str) -> (&'a str, &'a str)
 fn closing<'a>(version: DescriptionVersion, text: &'a str) -> Result<(&'a str, &'a str), Fault<'a>>
     requires { BeginsClosing text.now }
     ensures escape { (limit : ℕ) → ReadsEscape version limit 0 text.now result }
-    ensures span { IfErr result (SpansVersion text.now) }
+    ensures span { IfErr result (SpansVersion (is_version_three version) text.now) }
 {
     if let DescriptionVersion::Three = version {
         return Err(Fault {
@@ -62,7 +62,7 @@ fn backslash<'a>(
 ) -> Result<(&'a str, &'a str), Fault<'a>>
     requires { text.now ≡ 92 ∷ following.now }
     ensures escape { (limit n : ℕ) → ReadsEscape version limit n text.now result }
-    ensures span { IfErr result (SpansVersion text.now) }
+    ensures span { IfErr result (SpansVersion (is_version_three version) text.now) }
 {
     if let DescriptionVersion::One = version {
         return Ok(run(version, text));
@@ -100,8 +100,8 @@ fn doubled<'a>(version: DescriptionVersion, inside: &'a str) -> Option<(&'a str,
 /// bracket.
 fn enclosed<'a>(error: ReadError<'a>, start: usize) -> ReadError<'a>
     ensures fault { IsEnclosed start error.entry result }
-    ensures span { (text : Text) → HasByteAt text start → MemoryOr (SpansVersion text) error.entry
-        → MemoryOr (SpansVersion text) result }
+    ensures span { (strict : Bool) (text : Text) → HasByteAt text start → MemoryOr (SpansVersion strict text) error.entry
+        → MemoryOr (SpansVersion strict text) result }
     ensures invalid { IsInvalid error.entry → IsInvalid result }
 {
     match error {
@@ -118,7 +118,7 @@ fn enclosed<'a>(error: ReadError<'a>, start: usize) -> ReadError<'a>
 /// The fault of a bracket that is never closed.
 fn unclosed<'a>(start: usize) -> ReadError<'a>
     ensures fault { MemoryOr (λ f. IsFault start f (fault unclosed_bracket 0)) result }
-    ensures span { (text : Text) → HasByteAt text start → MemoryOr (SpansVersion text) result }
+    ensures span { (strict : Bool) (text : Text) → HasByteAt text start → MemoryOr (SpansVersion strict text) result }
     ensures invalid { IsInvalid result }
 {
     ReadError::Invalid(Fault {
@@ -131,7 +131,7 @@ fn unclosed<'a>(start: usize) -> ReadError<'a>
 /// The fault of an opening bracket that would nest a description too deep.
 fn too_deep<'a>(remaining: usize) -> ReadError<'a>
     ensures fault { MemoryOr (λ f. IsFault remaining f (fault too_highly_nested 0)) result }
-    ensures span { (text : Text) → HasByteAt text remaining → MemoryOr (SpansVersion text) result }
+    ensures span { (strict : Bool) (text : Text) → HasByteAt text remaining → MemoryOr (SpansVersion strict text) result }
     ensures invalid { IsInvalid result }
 {
     ReadError::Invalid(Fault {
@@ -161,7 +161,7 @@ pub fn next_piece<'a, const BUILDS: bool>(
     ensures next { ReadsNext version BUILDS limit around text.now (built builder.old)
         (built builder.new) result }
     ensures invalid { IsFalse BUILDS → IfErr result IsInvalid }
-    ensures span { IfErr result (MemoryOr (SpansVersion text.now)) }
+    ensures span { IfErr result (MemoryOr (SpansVersion (is_version_three version) text.now)) }
     ensures some { IfErr result (λ _. 0 < length text.now) }
 {
     match start_of(text) {
@@ -206,7 +206,7 @@ pub fn members<'a, const BUILDS: bool>(
     ensures members { ReadsMembers version BUILDS limit around text.now (built builder.old)
         (built builder.new) result }
     ensures invalid { IsFalse BUILDS → IfErr result IsInvalid }
-    ensures span { IfErr result (MemoryOr (SpansVersion text.now)) }
+    ensures span { IfErr result (MemoryOr (SpansVersion (is_version_three version) text.now)) }
     ensures some { IfErr result (λ _. 0 < length text.now) }
 {
     let mut count = 0;
@@ -240,7 +240,7 @@ fn nested<'a, const BUILDS: bool>(
         (built builder.new) result }
     ensures invalid { IsFalse BUILDS → IfErr result IsInvalid }
     ensures span { (whole : Text) → HasByteAt whole start → EndsWith whole (91 ∷ text.now)
-        → IfErr result (MemoryOr (SpansVersion whole)) }
+        → IfErr result (MemoryOr (SpansVersion (is_version_three version) whole)) }
 {
     if around == limit {
         return Err(too_deep(text.len() + 1));
@@ -271,7 +271,7 @@ fn bracket<'a, const BUILDS: bool>(
     ensures piece { ReadsPiece version BUILDS limit around (91 ∷ inside.now) (built builder.old)
         (built builder.new) result }
     ensures invalid { IsFalse BUILDS → IfErr result IsInvalid }
-    ensures span { IfErr result (MemoryOr (SpansVersion (91 ∷ inside.now))) }
+    ensures span { IfErr result (MemoryOr (SpansVersion (is_version_three version) (91 ∷ inside.now))) }
 {
     if let Some((component, rest)) = with_modifiers(version, inside) {
         return Ok((component_piece::<BUILDS>(component), rest));
@@ -332,7 +332,7 @@ pub fn items<'a>(
 ) -> Result<Vec<BorrowedFormatItem<'a>>, ReadError<'a>>
     requires { IsFalse (is_version_three version) }
     ensures items { ReadsItems version limit text.now result }
-    ensures span { IfErr result (MemoryOr (SpansVersion text.now)) }
+    ensures span { IfErr result (MemoryOr (SpansVersion (is_version_three version) text.now)) }
     ensures some { IfErr result (λ _. 0 < length text.now) }
 {
     let mut builder = DescriptionBuilder::new(alloc);

@@ -1,6 +1,6 @@
 //! What a closed bracket is, or the fault of the first rule that it breaks.
 
-ghost use Rattle.std.specs.Prelude.{ℕ, ◌≡◌, ◌+◌, ◌≤◌, ◌∷◌, [], List, None, length, IfErr, IfSome, IsFalse, IsTrue};
+ghost use Rattle.std.specs.Prelude.{ℕ, Bool, ◌≡◌, ◌+◌, ◌≤◌, ◌∷◌, [], List, None, length, IfErr, IfSome, IsFalse, IsTrue};
 ghost use Rattle.timefd_language.specs.Bytes.{is_version_three};
 ghost use Rattle.timefd_items.specs.Builder.{built};
 ghost use Rattle.timefd_lang_component.specs.Tree.{Text, Tree};
@@ -61,7 +61,7 @@ fn optional<'a, const BUILDS: bool>(
         (rules.optional_verdict (is_version_three version) h parts position) }
     ensures invalid { IsFalse BUILDS → IfErr result IsInvalid }
     ensures span { (text : Text) → BracketStands text nested span
-        → IfErr result (MemoryOr (SpansVersion text)) }
+        → IfErr result (MemoryOr (SpansVersion (is_version_three version) text)) }
 {
     if nested.count == 0 {
         return Err(ReadError::Invalid(Fault {
@@ -107,7 +107,7 @@ fn first<'a, const BUILDS: bool>(
         (rules.first_verdict (is_version_three version) h parts position) }
     ensures invalid { IsFalse BUILDS → IfErr result IsInvalid }
     ensures span { (text : Text) → BracketStands text nested span
-        → IfErr result (MemoryOr (SpansVersion text)) }
+        → IfErr result (MemoryOr (SpansVersion (is_version_three version) text)) }
 {
     if !version.is_strict() {
         return Err(ReadError::Invalid(Fault {
@@ -134,8 +134,8 @@ fn first<'a, const BUILDS: bool>(
 fn placing_fault(nests: bool, nested: Nested, span: Span) -> Option<Fault<'static>>
     ensures fault { (parts : List PlacedDescription) → ShowsNested span.start nested parts
         → ShowsFault span.start result (placing nests parts) }
-    ensures span { (text : Text) → BracketStands text nested span
-        → IfSome result (SpansVersion text) }
+    ensures span { (strict : Bool) (text : Text) → BracketStands text nested span
+        → IfSome result (SpansVersion strict text) }
 {
     if nested.count == 0 {
         return None;
@@ -174,7 +174,8 @@ pub fn verdict<'a, const BUILDS: bool>(
         (rules.verdict (is_version_three version) h parts position) }
     ensures invalid { IsFalse BUILDS → IfErr result IsInvalid }
     ensures span { (text : Text) → BracketStands text nested span
-        → SpansRefusal text head.now.verdict → IfErr result (MemoryOr (SpansVersion text)) }
+        → SpansRefusal (is_version_three version) text head.now.verdict
+        → IfErr result (MemoryOr (SpansVersion (is_version_three version) text)) }
 {
     if let Some(fault) = placing_fault(head.nests, nested, span) {
         return Err(ReadError::Invalid(fault));

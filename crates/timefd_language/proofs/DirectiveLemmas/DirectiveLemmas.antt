@@ -35,10 +35,11 @@ use Rattle.timefd_language.specs.Fault.{raised}
 use Rattle.timefd_lang_fault.specs.Words.{expected_escape}
 use Rattle.timefd_language.specs.Cut.{IsCut}
 use Rattle.timefd_language.specs.declared.language.Language.TheVariants as languages
-use Rattle.timefd_language.specs.Spans.{HasSpan, IsSpanned, SpansStrftime, first_len, strftime_extent}
+use Rattle.timefd_language.specs.Spans.{HasSpan, IsSpanned, SpansStrftime, WantsNothing, first_len, strftime_extent}
 use Rattle.timefd_language.proofs.SpanLemmas.{no_len, spanned, spans_after, spans_byte, spans_character}
 use Rattle.timefd_language.specs.Directives.StrftimeReading.{MayFollow, BeginsWithFlag, BeginsWithPiece, Leads, LeadsTo, HasItems, IsStrftimeFaultAt, IsStrftimeFaultIn, IsRestOf}
 use Rattle.timefd_lang_fault.specs.RuleKinds.{rule_kind}
+use Rattle.timefd_lang_fault.specs.Slots.{wanted_by}
 use Rattle.timefd_lang_fault.specs.ReadErrors.{IsFault, MemoryOr}
 use Rattle.timefd_language.specs.Directives.StrftimeAnswers.{IsStrftimeFault}
 use Rattle.timefd_language.proofs.StrftimeReader.{directive_regrouped, begins_no_plain, strftime_one_answer_law}
@@ -105,9 +106,9 @@ pub directive_unknown : (after rest : Text) (padding : Option Padding) (bad : co
     → BeginsWithFlag after padding rest → 0 < length rest
     → ((f : Flag) → item_of f (get_or rest 0 0) ≡ None)
     → rule_kind bad.rule ≡ unknown_kind (get_or rest 0 0) → bad.remaining ≡ length rest
-    → bad.len ≡ first_len (chars rest) → bad.len ≤ length rest
+    → bad.len ≡ first_len (chars rest) → bad.len ≤ length rest → wanted_by bad.rule ≡ None
     → IsStrftimeFaultAt (percent ∷ after) bad
-directive_unknown after rest padding bad h some none kind position len within =
+directive_unknown after rest padding bad h some none kind position len within wanted =
     let e : rest ≡ get_or rest 0 0 ∷ drop 1 rest = first_and_rest rest some in (
       unknown h.0 (get_or rest 0 0) (drop 1 rest),
       (h.1, is_after h.0 (get_or rest 0 0) rest (drop 1 rest) e h.4, none h.0),
@@ -117,28 +118,28 @@ directive_unknown after rest padding bad h some none kind position len within =
         position =
             omega (arith, position, ap length h.3, length-append (flag_text h.0) rest);
       },
-      spans_character strftime_extent (percent ∷ after) (percent ∷ flag_text h.0) rest bad
-          (ap (λ t. percent ∷ t) h.3) refl position len within,
+      spans_character strftime_extent WantsNothing (percent ∷ after) (percent ∷ flag_text h.0) rest bad
+          (ap (λ t. percent ∷ t) h.3) refl position len within wanted,
     )
 
 -- at the end: the `%`, or nothing
 cut_short_spans : (f : Flag) (bad : code_fault.Fault)
     → cut_index f + bad.remaining ≡ 1 + length (flag_text f) → bad.len ≡ bad.remaining
-    → SpansStrftime (percent ∷ flag_text f) bad
-cut_short_spans unflagged bad at len =
-    spans_byte strftime_extent (percent ∷ []) [] percent [] bad refl (lit< tt) refl
-    (omega (arith, at)) (omega (arith, at, len))
-cut_short_spans (flagged b) bad at len =
-    spans_character strftime_extent (percent ∷ b ∷ []) (percent ∷ b ∷ []) [] bad refl refl
-    (omega (arith, at)) (omega (arith, at, len, no_len)) (omega (arith, at, len))
+    → wanted_by bad.rule ≡ None → SpansStrftime (percent ∷ flag_text f) bad
+cut_short_spans unflagged bad at len wanted =
+    spans_byte strftime_extent WantsNothing (percent ∷ []) [] percent [] bad refl (lit< tt) refl
+    (omega (arith, at)) (omega (arith, at, len)) wanted
+cut_short_spans (flagged b) bad at len wanted =
+    spans_character strftime_extent WantsNothing (percent ∷ b ∷ []) (percent ∷ b ∷ []) [] bad refl refl
+    (omega (arith, at)) (omega (arith, at, len, no_len)) (omega (arith, at, len)) wanted
 
 pub directive_cut_short : (after rest : Text) (padding : Option Padding) (bad : code_fault.Fault)
     → BeginsWithFlag after padding rest → rest ≡ []
     → rule_kind bad.rule ≡ expected_escape
     → ((f : Flag) → flag_padding f ≡ padding
     → cut_index f + bad.remaining ≡ 1 + length (flag_text f))
-    → bad.len ≡ bad.remaining → IsStrftimeFaultAt (percent ∷ after) bad
-directive_cut_short after rest padding bad h none kind position len =
+    → bad.len ≡ bad.remaining → wanted_by bad.rule ≡ None → IsStrftimeFaultAt (percent ∷ after) bad
+directive_cut_short after rest padding bad h none kind position len wanted =
     let whole : percent ∷ after ≡ percent ∷ flag_text h.0 =
     ap (λ t. percent ∷ t) (h.3 ∙ ap (λ t. flag_text h.0 ++ t) none ∙ append-nil (flag_text h.0)) in (
       cut_short h.0,
@@ -156,7 +157,7 @@ directive_cut_short after rest padding bad h none kind position len =
             );
       },
       subst (λ t. SpansStrftime t bad) (sym whole)
-          (cut_short_spans h.0 bad (position h.0 h.2) len),
+          (cut_short_spans h.0 bad (position h.0 h.2) len wanted),
     )
 
 -- Runs.
@@ -277,7 +278,8 @@ fault_after text rest done f before bad =
       bad.1,
       w.2 ∙ ap (λ t. directives_text w.0 ++ t) bad.2,
       subst (λ (t : Text). IsFault (length t) f (ill_fault bad.0)) bad.2 bad.3,
-      spans_after strftime_extent text (directives_text w.0) rest f w.2 bad.4,
+      spans_after strftime_extent WantsNothing (λ before front r h. h) text (directives_text w.0) rest f w.2
+          bad.4,
     )
 
 pub counted_fault : (text rest : Text) (n : ℕ) (f : code_fault.Fault) → CountsTo text n rest
@@ -346,7 +348,8 @@ borrowed_strftime_refused text e r f h is borrowed has =
 
 pub spanned_strftime_fault : (text : Text) (f : code_fault.Fault) (b : BorrowedFault)
     → SpansStrftime text f → IsBorrowedFault (length text) f b → IsSpanned languages.Strftime text b
-spanned_strftime_fault text f b = spanned strftime_extent languages.Strftime text f b (λ k. refl)
+spanned_strftime_fault text f b =
+    spanned strftime_extent WantsNothing languages.Strftime text f b (λ k. refl) (λ before rest e h. h)
 
 pub spanned_strftime : (text : Text) (e : ReadError) (r : BorrowedParseError)
     → MemoryOr (IsStrftimeFaultIn text) e → BorrowsSpan (length text) e r → HasSpan languages.Strftime text r

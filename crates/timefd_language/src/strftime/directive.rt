@@ -1,11 +1,12 @@
 //! A directive of strftime: `%`, an optional flag and a letter.
 
-ghost use Rattle.std.specs.Prelude.{◌≡◌, ◌+◌, ◌<◌, ◌∷◌, length, slice_index};
+ghost use Rattle.std.specs.Prelude.{None, ◌≡◌, ◌+◌, ◌<◌, ◌∷◌, length, slice_index};
 ghost use Rattle.timefd_language.specs.Directives.LetterMeaning.{flag_padding, letter_tree};
 ghost use Rattle.timefd_language.specs.Directives.PieceMeaning.{piece_tree};
 ghost use Rattle.timefd_language.specs.Letters.{Flag};
 ghost use Rattle.timefd_lang_fault.specs.Words.{expected_escape};
 ghost use Rattle.timefd_lang_fault.specs.RuleKinds.{rule_kind};
+ghost use Rattle.timefd_lang_fault.specs.Slots.{wanted_by};
 ghost use Rattle.timefd_language.specs.Strftime.{cut_index, flag_text, percent, unknown_kind};
 ghost use Rattle.timefd_language.specs.Directives.StrftimeReading.{ReadsDirective};
 
@@ -41,6 +42,7 @@ pub fn cut_short<'a>(padding: Option<Padding>) -> Fault<'a>
     ensures position { (f : Flag) → flag_padding f ≡ padding
         → cut_index f + result.remaining ≡ 1 + length (flag_text f) }
     ensures len { result.len ≡ result.remaining }
+    ensures wanted { wanted_by result.rule ≡ None }
 {
     let remaining = match padding {
         Some(_) => 0,
@@ -74,13 +76,14 @@ fn piece<'a>(letter: Letter, padding: Option<Padding>) -> StrftimePiece<'a>
 /// one.
 pub fn unknown(text: &str) -> Rule<'_>
     requires { 0 < length text.now }
-    ensures { rule_kind result ≡ unknown_kind (slice_index text.now 0) }
+    ensures kind { rule_kind result ≡ unknown_kind (slice_index text.now 0) }
+    ensures wanted { wanted_by result ≡ None }
 {
     let first = text.as_bytes()[0];
     match first {
         b'O' => Rule::UnsupportedFlag,
         b'Z' => Rule::UnsupportedLetter,
-        byte if byte.is_ascii() => Rule::UnknownName(text.split_at(1).0),
-        _ => Rule::UnknownName("\u{FFFD}"),
+        byte if byte.is_ascii() => Rule::UnknownLetter(text.split_at(1).0),
+        _ => Rule::UnknownLetter("\u{FFFD}"),
     }
 }

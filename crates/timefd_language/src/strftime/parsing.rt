@@ -14,7 +14,7 @@ ghost use Rattle.timefd_lang_fault.specs.ReadErrors.{MemoryOr};
 ghost use Rattle.timefd_language.specs.Directives.StrftimeReading.{IsStrftimeFaultIn};
 ghost use Rattle.timefd_language.specs.Strings.{are_of_strings};
 ghost use Rattle.timefd_language.specs.declared.language.Language.TheVariants.{Strftime};
-ghost use Rattle.timefd_language.specs.Spans.{HasSpan};
+ghost use Rattle.timefd_language.specs.Spans.{HasSpan, HasSpanWithin};
 
 use crate::strftime::count::count_strftime;
 use crate::strftime::piece::next_strftime_piece;
@@ -49,6 +49,9 @@ pub fn parse_strftime_borrowed<'a>(
 
     // The fault's index lies in the text or at its end, between two characters.
     ensures position { IfErr result (HasPlacedFault s.now) }
+
+    // The bytes at fault, from that index on, lie in the text.
+    ensures span { IfErr result (HasSpanWithin Strftime s.now) }
 
     // No item is a literal of bytes, not even in the list of a composite letter.
     ensures strings { IfOk result (λ items. IsTrue (are_of_strings items.items)) }

@@ -6,13 +6,13 @@ ghost use Rattle.timefd_lang_component.specs.Reserved.{reserved};
 ghost use Rattle.timefd_language.specs.Bytes.{is_version_three};
 ghost use Rattle.timefd_language.specs.Names.{row_for};
 ghost use Rattle.timefd_language.specs.Settings.{defaults};
-ghost use Rattle.timefd_language.specs.declared.name.ComponentName as names;
+ghost use Rattle.timefd_lang_fault.specs.declared.name.ComponentName as names;
 ghost use Rattle.timefd_parse.specs.Read.{IsBare};
 
 use crate::fast::words::after_word;
 use timefd_items::Component;
+use timefd_lang_fault::ComponentName;
 use timefd_language::description_version::DescriptionVersion;
-use timefd_language::name::ComponentName;
 use timefd_modifier::{
     CalendarYearFullExtendedRange, CalendarYearFullStandardRange, Day, End, Hour24, Minute,
     MonthNumerical, OffsetHour, OffsetMinute, OffsetSecond, Ordinal, Period, Second, Subsecond,

@@ -13,10 +13,9 @@ use crate::fast::words::{after_word, key_in, name_in};
 use crate::head_verdict::combination_fault;
 use crate::positions::Positions;
 use timefd_items::Component;
+use timefd_lang_fault::{ComponentName, Key};
 use timefd_language::component::component_of;
 use timefd_language::description_version::DescriptionVersion;
-use timefd_language::key::Key;
-use timefd_language::name::ComponentName;
 use timefd_language::setting::{Setting, Settings};
 use timefd_language::text::after_colon;
 

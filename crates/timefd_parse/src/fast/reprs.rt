@@ -1,11 +1,11 @@
 //! Values of the keys named `repr`, distinguished by their first bytes and compared in place.
 
 ghost use Rattle.std.specs.Prelude.{MatchOption, ⊤};
-ghost use Rattle.timefd_language.specs.declared.key.Key.TheVariants as keys;
+ghost use Rattle.timefd_lang_fault.specs.declared.key.Key.TheVariants as keys;
 ghost use Rattle.timefd_parse.specs.Quick.{BeginsWithValue};
 
 use crate::fast::words::valued;
-use timefd_language::key::Key;
+use timefd_lang_fault::Key;
 use timefd_language::setting::Setting;
 use timefd_modifier::{MonthRepr, WeekNumberRepr, WeekdayRepr, YearRepr};
 

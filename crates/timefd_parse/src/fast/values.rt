@@ -4,13 +4,13 @@ ghost use Rattle.std.specs.Prelude.{◌≡◌, MatchOption, Some, true, false, �
 ghost use Rattle.timefd_language.specs.Bytes.{OneOrMore, is_word_byte};
 ghost use Rattle.timefd_language.specs.Lookup.{key_for};
 ghost use Rattle.timefd_language.specs.Values as spec;
-ghost use Rattle.timefd_language.specs.declared.key.Key.TheVariants as keys;
+ghost use Rattle.timefd_lang_fault.specs.declared.key.Key.TheVariants as keys;
 ghost use Rattle.timefd_language.specs.declared.setting.Setting as settings;
 ghost use Rattle.timefd_parse.specs.Quick.{BeginsWithValue};
 
 use crate::fast::reprs::{hour_repr, month_repr, week_number_repr, weekday_repr, year_repr};
 use crate::fast::words::valued;
-use timefd_language::key::Key;
+use timefd_lang_fault::Key;
 use timefd_language::setting::Setting;
 use timefd_modifier::{Padding, SubsecondDigits, TrailingInput, UnixTimestampPrecision, YearRange};
 

@@ -10,8 +10,9 @@ ghost use Rattle.timefd_language.specs.Values as spec;
 ghost use Rattle.timefd_parse.specs.Quick.{BeginsWithName, BeginsWithKey, BeginsWithValue};
 
 use crate::fast::begins::begins;
-use timefd_language::key::Key;
-use timefd_language::name::ComponentName;
+use timefd_lang_fault::{ComponentName, Key};
+use timefd_language::key::spelling;
+use timefd_language::name::name_spelling;
 use timefd_language::setting::Setting;
 
 /// What follows the word, if the text begins with it. A constant word is compared in place: its length
@@ -62,7 +63,7 @@ pub fn name_in(inside: &str) -> Option<(ComponentName, &str)>
 fn named(inside: &str, name: ComponentName) -> Option<(ComponentName, &str)>
     ensures { MatchOption result ⊤ (λ x. BeginsWithName inside.now x.0 x.1.now) }
 {
-    let rest = after_word(inside, name.spelling())?;
+    let rest = after_word(inside, name_spelling(name))?;
     Some((name, rest))
 }
 
@@ -128,7 +129,7 @@ fn keyed(name: ComponentName, text: &str, key: Key) -> Option<(Key, &str)>
     requires anyhow { spec.key_in false (key_for key).key (row_for name).keys ≡ Some (key_for key) }
     ensures { MatchOption result ⊤ (λ x. BeginsWithKey name text.now x.0 x.1.now) }
 {
-    let rest = after_word(text, key.spelling())?;
+    let rest = after_word(text, spelling(key))?;
     Some((key, rest))
 }
 

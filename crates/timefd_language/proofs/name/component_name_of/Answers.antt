@@ -1,5 +1,5 @@
 use Rattle.std.proofs.Common.{refl, arith}
-use Rattle.timefd_language.specs.declared.name.ComponentName.{ComponentName}
+use Rattle.timefd_lang_fault.specs.declared.name.ComponentName.{ComponentName}
 use Rattle.timefd_language.proofs.Named.{unnamed, second_named, unlisted}
 use Rattle.timefd_language.specs.Bytes.{is_version_three}
 use Rattle.timefd_language.proofs.name.component_name_of.Goals as goal

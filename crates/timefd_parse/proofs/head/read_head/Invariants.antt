@@ -8,7 +8,7 @@ abbrev pub invariant-modifiers : goal.invariant-modifiers
 invariant-modifiers l = record {
   text : IsUtf8 l.rest;
   before : ModifiersBefore (is_version_three l.version) l.name l.initial.rest l.modifiers l.rest;
-  span : IfSome l.modifiers.fault (SpansVersion (left ∷ l.inside));
+  span : IfSome l.modifiers.fault (SpansVersion (is_version_three l.version) (left ∷ l.inside));
 }
 
 abbrev pub decreases-modifiers : goal.decreases-modifiers

@@ -1,3 +1,4 @@
+use Rattle.timefd_language.specs.Bytes.{is_version_three}
 use Rattle.std.proofs.Common.{◌∙◌, ap, get_or, map, refl, sym, arith}
 use Rattle.std.proofs.lemmas.List.{drop_all, drop_more}
 use Rattle.timefd_language.specs.Lookup.{refusal_for}
@@ -43,5 +44,5 @@ returns-clause-fault c = λ total ps shows.
 
 pub returns-in-Some-clause-span : goal.returns-in-Some-clause-span
 returns-in-Some-clause-span c = λ text ps shows have.
-    refused_spans text _ ps _ _ _ _ _ (shows (sym c.if-not-is_strict.ensures)) c.of.ensures c.in-Some.is
-    c.spelling-key.ensures have refl refl refl
+    refused_spans (is_version_three c.args.version) text _ ps _ _ _ _ _ (shows (sym c.if-not-is_strict.ensures))
+    c.of.ensures c.in-Some.is c.spelling-key.ensures have refl refl refl (λ front. tt)

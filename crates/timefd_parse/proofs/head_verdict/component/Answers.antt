@@ -1,3 +1,4 @@
+use Rattle.timefd_language.specs.Bytes.{is_version_three}
 use Rattle.std.proofs.Common.{IfSome, refl, subst}
 use Rattle.timefd_language.specs.Head.{placed}
 use Rattle.timefd_language.specs.Spans.{SpansVersion}
@@ -35,15 +36,15 @@ returns-in-None-clause-modern c = name_modern c.args.name c.args.modifiers.now.s
 
 pub returns-in-Some-clause-span : goal.returns-in-Some-clause-span
 returns-in-Some-clause-span c = λ text rest h begins faulty.
-    subst (λ o. IfSome o (SpansVersion text)) c.in-Some.is faulty
+    subst (λ o. IfSome o (SpansVersion (is_version_three c.args.version) text)) c.in-Some.is faulty
 
 pub returns-in_default-component_of-clause-span : goal.returns-in_default-component_of-clause-span
 returns-in_default-component_of-clause-span c = λ text rest h begins faulty.
-    name_spans _ text _ _ rest h begins _ refl refl refl
+    name_spans _ text _ _ rest h begins _ refl refl refl (λ front. tt)
 
 pub returns-in-Some-combination_fault-clause-span : goal.returns-in-Some-combination_fault-clause-span
 returns-in-Some-combination_fault-clause-span c = λ text rest h begins faulty.
-    subst (λ o. IfSome o (SpansVersion text)) c.in-Some-combination_fault.is
+    subst (λ o. IfSome o (SpansVersion (is_version_three c.args.version) text)) c.in-Some-combination_fault.is
     (c.combination_fault.ensures.span text (placed h)
     (λ exact. begins.shows.checks.positions c.in_default.is exact)
     (have_keys _ text _ _ rest h begins))

@@ -1,3 +1,4 @@
+use Rattle.timefd_language.specs.Bytes.{is_version_three}
 use Rattle.std.proofs.Common.{◌≡◌, IfSome, Some, refl, subst}
 use Rattle.timefd_language.specs.Spans.{SpansVersion}
 use Rattle.timefd_parse.proofs.SpanLemmas.{name_spans}
@@ -14,12 +15,12 @@ returns-in-Some-fault-2-clause-verdict c = λ total h shows.
 
 pub returns-in_default-clause-span : goal.returns-in_default-clause-span
 returns-in_default-clause-span c = λ text rest h begins faulty.
-    name_spans _ text _ _ rest h begins _ refl refl refl
+    name_spans _ text _ _ rest h begins _ refl refl refl (λ front. tt)
 
 pub returns-in-Some-fault-clause-span : goal.returns-in-Some-fault-clause-span
 returns-in-Some-fault-clause-span c = λ text rest h begins faulty.
-    subst (λ o. IfSome o (SpansVersion text)) c.in-Some-fault.is faulty
+    subst (λ o. IfSome o (SpansVersion (is_version_three c.args.version) text)) c.in-Some-fault.is faulty
 
 pub returns-in-Some-fault-2-clause-span : goal.returns-in-Some-fault-2-clause-span
 returns-in-Some-fault-2-clause-span c = λ text rest h begins faulty.
-    subst (λ o. IfSome o (SpansVersion text)) c.in-Some-fault-2.is faulty
+    subst (λ o. IfSome o (SpansVersion (is_version_three c.args.version) text)) c.in-Some-fault-2.is faulty

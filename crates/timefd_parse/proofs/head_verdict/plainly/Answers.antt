@@ -9,4 +9,4 @@ returns-clause-head c =
     c.in_ok-rest.ensures c.in-Opening.ensures
 
 pub returns-clause-span : goal.returns-clause-span
-returns-clause-span c = λ text. plain_spans text c.args.word.now c.args.verdict c.requires
+returns-clause-span c = λ text. plain_spans (is_version_three c.args.version) text c.args.word.now c.args.verdict c.requires

@@ -1,5 +1,5 @@
 use Rattle.timefd_lang_fault.proofs.OwnedLemmas.{owned_fault, owned_memory}
-use Rattle.timefd_language.proofs.PlacedLemmas.{owned_placed}
+use Rattle.timefd_language.proofs.PlacedLemmas.{owned_placed, owned_spanned}
 use Rattle.timefd_parse.proofs.AmountLemmas.{owned-assigned-in}
 use Rattle.timefd_parse.proofs.language.amount_within.Goals as goal
 
@@ -19,3 +19,7 @@ returns-in-Err-clause-refused c = λ f h.
 pub returns-in-Err-clause-position : goal.returns-in-Err-clause-position
 returns-in-Err-clause-position c =
     owned_placed c.args.text.now _ _ c.in-Err.ensures.position c.into_owned.ensures
+
+pub returns-in-Err-clause-span : goal.returns-in-Err-clause-span
+returns-in-Err-clause-span c =
+    owned_spanned c.args.language c.args.text.now _ _ c.in-Err.ensures.span c.into_owned.ensures

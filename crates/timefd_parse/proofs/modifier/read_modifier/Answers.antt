@@ -1,9 +1,11 @@
-use Rattle.std.proofs.Common.{◌≡◌, ◌∙◌, ◌∷◌, ◌++◌, [], ap, length, lit<, refl, sym, arith, false-eqb, eqb-true}
+use Rattle.std.proofs.Common.{◌≡◌, ◌∙◌, ◌<◌, ◌∷◌, ◌++◌, [], ap, append_assoc, append-nil, inl, length, lit<, refl, sym, arith, false-eqb, eqb-true}
 use Rattle.timefd_language.specs.Bytes.{is_key_byte, is_word_byte}
 use Rattle.timefd_parse.proofs.ModifierLemmas.{one_or_more, no_word, word_of_parts, after_length, empty, misfit_no_colon, misfit_no_key, misfit_no_value}
-use Rattle.timefd_language.specs.Bytes.{colon}
+use Rattle.timefd_language.specs.Bytes.{colon, is_version_three}
+use Rattle.timefd_language.specs.Slots.{WantsIn}
 use Rattle.timefd_language.specs.Spans.{version_extent}
 use Rattle.timefd_language.proofs.SpanLemmas.{some_extent, spans_byte, spans_bytes}
+use Rattle.timefd_parse.proofs.SpanLemmas.{no_value}
 use Rattle.timefd_parse.proofs.modifier.read_modifier.Goals as goal
 
 pub returns-then-is_empty-clause-modifier : goal.returns-then-is_empty-clause-modifier
@@ -51,25 +53,37 @@ returns-clause-modifier c = (
   c.cut-2.ensures.utf8,
 )
 
+-- The text stands after a head and white bytes. What follows, of this word, was wanted there.
+
 pub returns-in_default-clause-span : goal.returns-in_default-clause-span
-returns-in_default-clause-span c =
+returns-in_default-clause-span c = λ front after.
     let parts = c.cut.ensures.parts in
-    spans_bytes c.args.text.now [] c.cut.result.0.now c.cut.result.1.now _ parts.whole
-    (ap length parts.whole) refl
-    (some_extent c.cut.result.0.now (omega (arith, false-eqb _ 0 c.if-is_empty.ensures)))
+    let some : 0 < length c.cut.result.0.now = omega (arith, false-eqb _ 0 c.if-is_empty.ensures) in
+    spans_bytes (is_version_three c.args.version) (front ++ c.args.text.now) front c.cut.result.0.now
+    c.cut.result.1.now _ (ap (λ t. front ++ t) parts.whole) (ap length parts.whole) refl
+    (inl (record { name = c.args.name; after = after; some = some; slot = c.key_slot.ensures }))
+    (some_extent c.cut.result.0.now some)
 
 pub returns-then-is_empty-2-clause-span : goal.returns-then-is_empty-2-clause-span
-returns-then-is_empty-2-clause-span c =
+returns-then-is_empty-2-clause-span c = λ front after.
     let whole : c.args.text.now ≡ colon ∷ c.in-Some.assigned.now =
     c.cut.ensures.parts.whole
     ∙ ap (λ t. t ++ c.cut.result.1.now)
     (empty c.cut.result.0.now (eqb-true _ 0 (sym c.if-is_empty-2.ensures)))
     ∙ c.in-Some.ensures in
-    spans_byte version_extent c.args.text.now [] colon c.in-Some.assigned.now _ whole (lit< tt) refl
-    (ap length whole) refl
+    spans_byte version_extent (WantsIn (is_version_three c.args.version)) (front ++ c.args.text.now) front colon
+    c.in-Some.assigned.now _ (ap (λ t. front ++ t) whole) (lit< tt) refl (ap length whole) refl
+    (no_value (is_version_three c.args.version) front front c.args.name c.cut.result.0.now _ after
+    c.cut.ensures.parts.passes
+    (sym (ap (λ t. front ++ t) (empty c.cut.result.0.now (eqb-true _ 0 (sym c.if-is_empty-2.ensures)))
+    ∙ append-nil front)) c.value_slot.ensures)
 
 pub returns-then-is_empty-3-clause-span : goal.returns-then-is_empty-3-clause-span
-returns-then-is_empty-3-clause-span c =
-    spans_byte version_extent c.args.text.now c.cut.result.0.now colon c.in-Some.assigned.now _
-    (c.cut.ensures.parts.whole ∙ ap (λ t. c.cut.result.0.now ++ t) c.in-Some.ensures) (lit< tt) refl
+returns-then-is_empty-3-clause-span c = λ front after.
+    spans_byte version_extent (WantsIn (is_version_three c.args.version)) (front ++ c.args.text.now)
+    (front ++ c.cut.result.0.now) colon c.in-Some.assigned.now _
+    (ap (λ t. front ++ t) (c.cut.ensures.parts.whole ∙ ap (λ t. c.cut.result.0.now ++ t) c.in-Some.ensures)
+    ∙ sym (append_assoc front c.cut.result.0.now (colon ∷ c.in-Some.assigned.now))) (lit< tt) refl
     (ap length c.in-Some.ensures) refl
+    (no_value (is_version_three c.args.version) (front ++ c.cut.result.0.now) front c.args.name
+    c.cut.result.0.now _ after c.cut.ensures.parts.passes refl c.value_slot-then-is_empty-3.ensures)

@@ -1,9 +1,10 @@
+use Rattle.timefd_language.specs.declared.language.Language.TheVariants.{Version}
 use Rattle.timefd_language.specs.declared.description_version.DescriptionVersion.TheVariants.{One}
 use Rattle.timefd_language.specs.Broken.{FaultOf}
 use Rattle.timefd_language.specs.Grammar.{nesting_limit}
 use Rattle.timefd_lang_fault.specs.Placed.{IsPlaced}
 use Rattle.timefd_lang_fault.proofs.OwnedLemmas.{owned_fault, owned_memory}
-use Rattle.timefd_language.proofs.PlacedLemmas.{is_placed, borrowed_more, owned_placed}
+use Rattle.timefd_language.proofs.PlacedLemmas.{is_placed, borrowed_more, owned_placed, owned_spanned}
 use Rattle.timefd_parse.proofs.ParseLemmas.{owned_assigned}
 use Rattle.timefd_parse.proofs.parsing.parse.Goals as goal
 
@@ -25,3 +26,7 @@ returns-in-Err-clause-position c =
     (borrowed_more (FaultOf One nesting_limit c.args.s.now) (IsPlaced c.args.s.now)
     (is_placed One nesting_limit c.args.s.now c.utf8.s) _ c.in-Err.ensures.fault)
     c.into_owned.ensures
+
+pub returns-in-Err-clause-span : goal.returns-in-Err-clause-span
+returns-in-Err-clause-span c =
+    owned_spanned (Version One) c.args.s.now _ _ c.in-Err.ensures.span c.into_owned.ensures

@@ -267,14 +267,15 @@ next_piece-returns-in-Other g t c = record {
 
 pub nested-returns-then-around-limit-clause-span : goal.nested-returns-then-around-limit-clause-span
 nested-returns-then-around-limit-clause-span g t c = λ whole at ends.
-    c.too_deep.ensures.span whole (nested_at whole _ ends)
+    c.too_deep.ensures.span (is_version_three c.args.version) whole (nested_at whole _ ends)
 
 pub nested-returns-in-Err-clause-span : goal.nested-returns-in-Err-clause-span
 nested-returns-in-Err-clause-span g t c = λ whole at ends.
-    c.enclosed.ensures.span whole at (inside_spans whole _ _ ends c.in-Err.ensures.span)
+    c.enclosed.ensures.span (is_version_three c.args.version) whole at
+    (inside_spans (is_version_three c.args.version) whole _ _ ends c.in-Err.ensures.span)
 
 pub nested-returns-in_default-clause-span : goal.nested-returns-in_default-clause-span
-nested-returns-in_default-clause-span g t c = λ whole at ends. c.unclosed.ensures.span whole at
+nested-returns-in_default-clause-span g t c = λ whole at ends. c.unclosed.ensures.span (is_version_three c.args.version) whole at
 
 pub bracket-returns-in_err-following-in-Opening-clause-span : goal.bracket-returns-in_err-following-in-Opening-clause-span
 bracket-returns-in_err-following-in-Opening-clause-span g t c =
@@ -297,4 +298,4 @@ bracket-returns-in_err-piece-in-Closing-clause-span g t c =
 
 pub bracket-returns-in_default-start_of-clause-span : goal.bracket-returns-in_default-start_of-clause-span
 bracket-returns-in_default-start_of-clause-span g t c =
-    c.unclosed.ensures.span (left ∷ c.args.inside.now) (bracket_at c.args.inside.now _ refl)
+    c.unclosed.ensures.span (is_version_three c.args.version) (left ∷ c.args.inside.now) (bracket_at c.args.inside.now _ refl)

@@ -1,7 +1,8 @@
 use Rattle.std.proofs.Common.{◌≡◌, ◌+◌, ◌∙◌, ◌∷◌, [], ap, length, lit<, refl, sym, arith, eqb-true, false-eqb}
 use Rattle.timefd_language.specs.Broken.{escape_index}
 use Rattle.timefd_parse.proofs.ReadLemmas.{escape_leads, escape_fault, escape_none, escape_some, special_escape, not_one}
-use Rattle.timefd_language.specs.Bytes.{backslash}
+use Rattle.timefd_language.specs.Bytes.{is_version_three, backslash}
+use Rattle.timefd_language.specs.Slots.{WantsIn}
 use Rattle.timefd_language.specs.Spans.{version_extent}
 use Rattle.timefd_language.proofs.SpanLemmas.{spans_byte, spans_character}
 use Rattle.timefd_parse.proofs.read.backslash.Goals as goal
@@ -32,11 +33,12 @@ returns-clause-escape c = λ limit n.
 -- the backslash itself
 pub returns-then-is_empty-clause-span : goal.returns-then-is_empty-clause-span
 returns-then-is_empty-clause-span c =
-    spans_byte version_extent c.args.text.now [] backslash c.args.following.now _ c.requires (lit< tt)
-    refl (omega (arith, eqb-true _ 0 (sym c.if-is_empty.ensures))) refl
+    spans_byte version_extent (WantsIn (is_version_three c.args.version)) c.args.text.now [] backslash
+    c.args.following.now _ c.requires (lit< tt) refl
+    (omega (arith, eqb-true _ 0 (sym c.if-is_empty.ensures))) refl tt
 
 -- the character after it
 pub returns-clause-span : goal.returns-clause-span
 returns-clause-span c =
-    spans_character version_extent c.args.text.now (backslash ∷ []) c.args.following.now _ c.requires
-    refl refl c.first_len.ensures.len c.first_len.ensures.within
+    spans_character version_extent (WantsIn (is_version_three c.args.version)) c.args.text.now (backslash ∷ [])
+    c.args.following.now _ c.requires refl refl c.first_len.ensures.len c.first_len.ensures.within tt

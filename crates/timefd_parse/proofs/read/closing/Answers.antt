@@ -1,6 +1,7 @@
 use Rattle.std.proofs.Common.{[], ap, length, refl, sym, subst, IsUtf8, lit<}
 use Rattle.timefd_parse.proofs.ReadLemmas.{after_first, utf8_after_first, first_is, rest_is, not_three, closing_leads, closing_fault_of}
-use Rattle.timefd_language.specs.Bytes.{right}
+use Rattle.timefd_language.specs.Bytes.{is_version_three, right}
+use Rattle.timefd_language.specs.Slots.{WantsIn}
 use Rattle.timefd_language.specs.Spans.{version_extent}
 use Rattle.timefd_language.proofs.SpanLemmas.{spans_byte}
 use Rattle.timefd_parse.proofs.read.closing.Goals as goal
@@ -21,5 +22,5 @@ returns-clause-escape c = λ limit.
 
 pub returns-in-Three-clause-span : goal.returns-in-Three-clause-span
 returns-in-Three-clause-span c =
-    spans_byte version_extent c.args.text.now [] right c.requires.0 _ c.requires.1 (lit< tt) refl
-    (ap length c.requires.1) refl
+    spans_byte version_extent (WantsIn (is_version_three c.args.version)) c.args.text.now [] right c.requires.0 _
+    c.requires.1 (lit< tt) refl (ap length c.requires.1) refl tt

@@ -3,4 +3,4 @@ use Rattle.timefd_parse.proofs.SpanLemmas.{byte_spans}
 use Rattle.timefd_parse.proofs.read.too_deep.Goals as goal
 
 pub returns-clause-span : goal.returns-clause-span
-returns-clause-span c = λ text at. byte_spans text c.args.remaining _ at refl refl refl
+returns-clause-span c = λ strict text at. byte_spans strict text c.args.remaining _ at refl refl refl (λ front. tt)

@@ -43,8 +43,8 @@ returns-then-not-this-clause-tree g c = λ position h parts base good shows e ar
 
 pub returns-then-not-is_strict-clause-span : goal.returns-then-not-is_strict-clause-span
 returns-then-not-is_strict-clause-span g c = λ text stands.
-    byte_spans text _ _ stands.start refl refl refl
+    byte_spans (is_version_three c.args.version) text _ _ stands.start refl refl refl (λ front. tt)
 
 pub returns-then-nested-eq0-clause-span : goal.returns-then-nested-eq0-clause-span
 returns-then-nested-eq0-clause-span g c = λ text stands.
-    byte_spans text _ _ stands.end refl refl refl
+    byte_spans (is_version_three c.args.version) text _ _ stands.end refl refl refl (λ front. tt)

@@ -53,10 +53,10 @@ returns-in-First-clause-tree g c = λ position h parts base is nested e are.
 
 pub returns-in-Refused-clause-span : goal.returns-in-Refused-clause-span
 returns-in-Refused-clause-span g c = λ text stands refusal.
-    subst (SpansRefusal text) c.in-Refused.is refusal
+    subst (SpansRefusal (is_version_three c.args.version) text) c.in-Refused.is refusal
 
 pub returns-in-Some-clause-span : goal.returns-in-Some-clause-span
-returns-in-Some-clause-span g c = λ text stands refusal. c.in-Some.ensures.span text stands
+returns-in-Some-clause-span g c = λ text stands refusal. c.in-Some.ensures.span (is_version_three c.args.version) text stands
 
 pub returns-in-Optional-clause-span : goal.returns-in-Optional-clause-span
 returns-in-Optional-clause-span g c = λ text stands refusal. c.optional.ensures.span text stands

@@ -9,6 +9,7 @@ returns-in_default c =
     directive_cut_short _ _ _ _ c.cut_flag-padding.ensures.parts
     (none_left _ (omega (arith, c.in_default.len_below, c.as_bytes.ensures.len)))
     c.cut_short.ensures.kind c.cut_short.ensures.position c.cut_short.ensures.len
+    c.cut_short.ensures.wanted
 
 pub returns-in-Some : goal.returns-in-Some
 returns-in-Some c =
@@ -24,5 +25,5 @@ returns-in-None c =
     subst (λ (t : Text). IsLetter (get_or t 0 0) None) c.as_bytes.ensures.value
     c.in-None.ensures.letter in
     directive_unknown _ _ _ _ c.cut_flag-padding.ensures.parts
-    (omega (arith, c.in-len1-up.len_at_least, c.as_bytes.ensures.len)) none c.unknown.ensures
-    refl c.first_len.ensures.len c.first_len.ensures.within
+    (omega (arith, c.in-len1-up.len_at_least, c.as_bytes.ensures.len)) none c.unknown.ensures.kind
+    refl c.first_len.ensures.len c.first_len.ensures.within c.unknown.ensures.wanted

@@ -1,5 +1,6 @@
+use Rattle.timefd_language.specs.declared.language.Language.TheVariants.{Strftime}
 use Rattle.timefd_lang_fault.proofs.OwnedLemmas.{owned_fault, owned_memory}
-use Rattle.timefd_language.proofs.PlacedLemmas.{owned_placed}
+use Rattle.timefd_language.proofs.PlacedLemmas.{owned_placed, owned_spanned}
 use Rattle.timefd_language.proofs.DirectiveLemmas.DirectiveLemmas.{owned_strftime}
 use Rattle.timefd_language.proofs.strftime.parsing.parse_strftime_borrowed.Goals as goal
 
@@ -18,3 +19,7 @@ returns-in-Err-clause-refused c = λ f h.
 pub returns-in-Err-clause-position : goal.returns-in-Err-clause-position
 returns-in-Err-clause-position c =
     owned_placed c.args.s.now _ _ c.in-Err.ensures.position c.into_owned.ensures
+
+pub returns-in-Err-clause-span : goal.returns-in-Err-clause-span
+returns-in-Err-clause-span c =
+    owned_spanned Strftime c.args.s.now _ _ c.in-Err.ensures.span c.into_owned.ensures

@@ -1,16 +1,16 @@
-use Rattle.std.proofs.Common.{refl, sym, ap, ◌≡◌, ◌∙◌, true, false, is_some}
+use Rattle.std.proofs.Common.{inl, inr, option_map, refl, sym, ap, ◌≡◌, ◌∙◌, true, false, is_some}
 use Rattle.std.proofs.lemmas.Bool.{true≢false}
 use Rattle.timefd_language.specs.Lookup.{key_for}
 use Rattle.timefd_parse.specs.Checked.{first_position}
 use Rattle.timefd_parse.proofs.CheckLemmas.{at_unknown, at_again, at_good, at_bad_value, position_known}
 use Rattle.timefd_language.specs.Bytes.{is_version_three}
-use Rattle.timefd_parse.proofs.SpanLemmas.{again_spans, key_spans, value_spans}
+use Rattle.timefd_parse.proofs.SpanLemmas.{again_spans, key_spans, key_wanted, value_spans, value_wanted}
 use Rattle.timefd_parse.proofs.modifiers.Modifiers.check.Goals as goal
 use Rattle.timefd_parse.proofs.modifiers.Modifiers.check.Goals.{else-is_strict-via-then-is_strict+else-is_some, else-is_strict-via-else-is_strict}
 
 pub returns-in_default-clause-checks : goal.returns-in_default-clause-checks
 returns-in_default-clause-checks c = λ total ps p checks none is.
-    at_unknown (is_version_three c.args.version) c.args.name total c.args.modifier ps p is _ _ c.known_key.ensures
+    at_unknown (is_version_three c.args.version) c.args.name total c.args.modifier ps p is _ _ _ c.known_key.ensures
     c.in_default.is
 
 pub returns-then-is_some-clause-checks : goal.returns-then-is_some-clause-checks
@@ -41,17 +41,20 @@ returns-in-None-clause-checks c = λ total ps p checks none is.
           (sym (w.if-is_some.ensures ∙ ap is_some w.of.ensures))
       | else-is_strict-via-else-is_strict w ↦ absurd (true≢false (sym exact ∙ sym w.if-is_strict.ensures))
     ] in
-    at_bad_value (is_version_three c.args.version) c.args.name total c.args.modifier ps p is _ _ _ _ c.known_key.ensures
+    at_bad_value (is_version_three c.args.version) c.args.name total c.args.modifier ps p is _ _ _ _ _ c.known_key.ensures
     c.in-Some.is new c.setting_of.ensures c.in-None.is
 
 pub returns-in_default-clause-span : goal.returns-in_default-clause-span
 returns-in_default-clause-span c = λ text stands.
-    key_spans text c.args.modifier stands _ refl refl refl
+    key_spans (is_version_three c.args.version) text c.args.name c.args.modifier stands _ refl refl refl
+    (inl (key_wanted (is_version_three c.args.version) text c.args.name c.args.modifier stands _ c.key_slot.ensures))
 
 pub returns-then-is_some-clause-span : goal.returns-then-is_some-clause-span
 returns-then-is_some-clause-span c = λ text stands.
-    again_spans text c.args.modifier stands _ refl refl refl
+    again_spans (is_version_three c.args.version) text c.args.name c.args.modifier stands _ refl refl refl tt
 
 pub returns-in-None-clause-span : goal.returns-in-None-clause-span
 returns-in-None-clause-span c = λ text stands.
-    value_spans text c.args.modifier stands _ refl refl refl
+    value_spans (is_version_three c.args.version) text c.args.name c.args.modifier stands _ refl refl refl
+    (inr (value_wanted (is_version_three c.args.version) text c.args.name c.args.modifier stands c.in-Some.key
+    (sym (ap (option_map key_for) c.in-Some.is) ∙ c.known_key.ensures)))
