@@ -1,12 +1,11 @@
 pub mod NearestLemmas
-pub mod SlotLemmas
-pub mod WordLemmas
 pub mod TableLemmas
 pub mod AlignLemmas
 pub mod WayLemmas
 pub mod EditLemmas
 pub mod DistanceLemmas
 pub mod LackingLemmas
+pub mod HelpLemmas
 pub mod FewLemmas
 pub mod ModifierSlotLemmas
 pub mod FurtherLemmas

@@ -10,12 +10,12 @@ use Rattle.timefd_language.specs.declared.language.Language.TheVariants.{Version
 use Rattle.timefd_lang_fault.specs.declared.code.Code.TheVariants.{InvalidModifier}
 use Rattle.timefd_lint_diagnosis.specs.declared.help.Help.{Help}
 use Rattle.timefd_lint_diagnosis.specs.declared.help.Help.TheVariants.{Words, LeaveOut, Advice}
-use Rattle.timefd_lint_diagnosis.specs.declared.slot.Slot.{Slot}
-use Rattle.timefd_lint_diagnosis.specs.declared.slot.Slot.TheVariants as slots
+use Rattle.timefd_lang_fault.specs.declared.slot.Slot.{Slot}
+use Rattle.timefd_lang_fault.specs.declared.slot.Slot.TheVariants as slots
 use Rattle.timefd_lint_diagnosis.specs.Advice.{advice, strftime_advice}
 use Rattle.timefd_lang_fault.specs.Codes.{code_of}
 use Rattle.timefd_lint_diagnosis.specs.Nearest.{IsNearest}
-use Rattle.timefd_lint_diagnosis.specs.Slots.{IsSlotIn, words_at}
+use Rattle.timefd_language.specs.Slots.{IsSlotIn, words_at}
 use Rattle.timefd_lint_diagnosis.specs.Words.{texts}
 
 -- The help names the words that are allowed there, and the one nearest to this word, whatever its

@@ -2,7 +2,6 @@ pub mod Words
 pub mod Edits
 pub mod Nearest
 pub mod Few
-pub mod Slots
 pub mod Advice
 pub mod Helps
 pub mod Diagnoses

@@ -2,16 +2,15 @@
 
 ghost use Rattle.std.specs.Prelude.{◌≡◌, IfOk, MatchOption, option_map};
 ghost use Rattle.timefd_language.specs.Bytes.{is_version_three};
-ghost use Rattle.std.specs.Str.{IsCharBoundary};
 ghost use Rattle.timefd_lang_fault.specs.BorrowedFaults.{to_borrowed_fault};
-ghost use Rattle.timefd_lang_fault.specs.Placed.{IsPlaced};
-ghost use Rattle.timefd_lint_diagnosis.specs.Helps.{HasNoModifierSlot, IsHelpFor, IsModifierSlot, IsWordsHelp, nearest_in};
+ghost use Rattle.timefd_language.specs.Spans.{IsSpanned};
+ghost use Rattle.timefd_lint_diagnosis.specs.Helps.{IsHelpFor, IsWordsHelp, nearest_in};
 
 use crate::cure::{advice, strftime_advice};
 use crate::nearest::nearest;
-use crate::slot::{Slot, slot_after};
+use crate::words::words_at;
 use std::alloc::{AllocError, Global};
-use timefd_lang_fault::Code;
+use timefd_lang_fault::{Code, Slot};
 use timefd_parse::{BorrowedFault, DescriptionVersion, Language, Rule};
 
 /// What helps against a fault.
@@ -51,7 +50,7 @@ pub fn help_against(
     text: &str,
     fault: BorrowedFault<'_>,
 ) -> Result<Help, AllocError>
-    requires { IsPlaced text.now (to_borrowed_fault fault) }
+    requires { IsSpanned language text.now fault }
     ensures help { IfOk result (IsHelpFor language text.now (to_borrowed_fault fault.entry)) }
 {
     match language {
@@ -66,18 +65,17 @@ fn version_help(
     text: &str,
     fault: BorrowedFault<'_>,
 ) -> Result<Help, AllocError>
-    requires { IsPlaced text.now (to_borrowed_fault fault) }
+    requires { IsSpanned (Language.Version version) text.now fault }
     ensures { IfOk result (IsHelpFor (Language.Version version) text.now (to_borrowed_fault fault.entry)) }
 {
     match fault.rule {
         Rule::UnknownName(name) => words_help(alloc, version, Slot::Name, name),
-        Rule::InvalidModifier(value) => {
-            match modifier_slot(version, text, fault.start, value) {
-                Some(slot) => words_help(alloc, version, slot, value),
-                None => Ok(Help::Advice(advice(version, Code::InvalidModifier))),
-            }
-        }
-        Rule::RefusedModifier(modifier, _) => Ok(Help::LeaveOut(modifier)),
+        Rule::UnknownLetter(letter) => words_help(alloc, version, Slot::Name, letter),
+        Rule::InvalidModifier(word, wanted) => match wanted {
+            Some(slot) => words_help(alloc, version, slot, word),
+            None => Ok(Help::Advice(advice(version, Code::InvalidModifier))),
+        },
+        Rule::RefusedModifier(key, _) => Ok(Help::LeaveOut(key)),
         Rule::UnclosedBracket
         | Rule::MissingName
         | Rule::MissingModifier(_)
@@ -106,21 +104,10 @@ fn words_help(
     ensures { IfOk result (IsWordsHelp (is_version_three version) slot word.now) }
 {
     let lowered = word.to_ascii_lowercase(alloc)?;
-    let allowed = slot.words(version);
+    let allowed = words_at(slot, version);
     Ok(Help::Words {
         slot,
         allowed,
         nearest: nearest(alloc, allowed, &lowered)?,
     })
-}
-
-// What a modifier's word at this index should have been.
-fn modifier_slot(version: DescriptionVersion, text: &str, index: usize, word: &str) -> Option<Slot>
-    requires { IsCharBoundary text.now index }
-    ensures { MatchOption result (HasNoModifierSlot (is_version_three version) text.now index
-        word.now)
-        (IsModifierSlot (is_version_three version) text.now index word.now) }
-{
-    let (front, _) = text.split_at(index);
-    slot_after(version, front, word)
 }

@@ -10,7 +10,6 @@ mod further;
 mod help;
 pub mod laws;
 pub mod nearest;
-pub mod slot;
 mod span;
 pub mod words;
 
@@ -19,4 +18,4 @@ pub use diagnostic::{Diagnostic, code_of};
 pub use further::{MOST_FURTHER, further_faults};
 pub use help::{Help, help_against};
 pub use span::Span;
-pub use timefd_lang_fault::{Code, all_are_there, names_differ};
+pub use timefd_lang_fault::{Code, Slot, all_are_there, names_differ};

@@ -2,12 +2,22 @@
 
 ghost use Rattle.std.specs.Prelude.{◌≡◌, map};
 ghost use Rattle.timefd_language.specs.Bytes.{is_version_three};
-ghost use Rattle.timefd_lint_diagnosis.specs.Words as spec;
+ghost use Rattle.timefd_language.specs.Slots as spec;
 ghost use Rattle.timefd_lint_diagnosis.specs.Words.{texts};
 
-use timefd_language::key::Key;
-use timefd_language::name::{ComponentName, Name};
+use timefd_lang_fault::{ComponentName, Key, Name, Slot};
 use timefd_parse::DescriptionVersion;
+
+/// The words that are allowed where this belongs.
+pub fn words_at(slot: Slot, version: DescriptionVersion) -> &'static [&'static str]
+    ensures { texts result.now ≡ spec.words_at (is_version_three version) slot }
+{
+    match slot {
+        Slot::Name => names(version),
+        Slot::Key(name) => keys(name),
+        Slot::Value(key) => values(key),
+    }
+}
 
 /// The names of brackets that version 3 accepts, or those that versions 1 and 2 accept: all but the
 /// first two.

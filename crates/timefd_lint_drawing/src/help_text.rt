@@ -4,8 +4,7 @@ ghost use Rattle.std.specs.Prelude.{◌≡◌, ◌++◌, codes, flat_map, IfOk, 
 ghost use Rattle.timefd_lint_drawing.specs.HelpText as spec;
 
 use std::alloc::{AllocError, Global};
-use timefd_lint_diagnosis::Help;
-use timefd_lint_diagnosis::slot::Slot;
+use timefd_lint_diagnosis::{Help, Slot};
 
 // Room for most help texts.
 const ROOM: usize = 48;

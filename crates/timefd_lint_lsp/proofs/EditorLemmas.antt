@@ -2,6 +2,8 @@ pub mod WalkLemmas
 pub mod PositionLemmas
 pub mod BoundaryLemmas
 pub mod CompletionLemmas
+pub mod SlotLemmas
+pub mod SlotWordLemmas
 pub mod CursorLemmas
 pub mod EachLemmas
 pub mod WarningLemmas

@@ -16,3 +16,4 @@ pub mod OpenSlots
 pub mod Positions
 pub mod Replacing
 pub mod Scans
+pub mod SlotSearches

@@ -23,6 +23,7 @@ mod other;
 mod position;
 mod replacing;
 mod scan;
+mod slot;
 mod walk;
 mod warned;
 

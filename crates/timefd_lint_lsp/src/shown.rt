@@ -9,7 +9,7 @@ use crate::editor::{
 };
 use serde_json::{Map, Value, json};
 use std::alloc::{AllocError, Global};
-use timefd_lint_diagnosis::slot::Slot;
+use timefd_lint_diagnosis::Slot;
 
 fn position_value(alloc: Global, position: Position) -> Result<Value, AllocError>
     ensures { IfOk result (λ value. view value ≡ spec.position_data position) }

@@ -2,9 +2,9 @@
 use Rattle.std.specs.Prelude.{Bool, true, not, ◌&&◌, ◌||◌, List}
 use Rattle.std.specs.List.{filter}
 use Rattle.timefd_lang_component.specs.Tree.{Text}
-use Rattle.timefd_lint_diagnosis.specs.declared.slot.Slot.{Slot}
-use Rattle.timefd_lint_diagnosis.specs.declared.slot.Slot.TheVariants as slots
-use Rattle.timefd_lint_diagnosis.specs.Slots.{words_at}
+use Rattle.timefd_lang_fault.specs.declared.slot.Slot.{Slot}
+use Rattle.timefd_lang_fault.specs.declared.slot.Slot.TheVariants as slots
+use Rattle.timefd_language.specs.Slots.{words_at}
 use Rattle.timefd_language.specs.Bytes.{is_version_three}
 use Rattle.timefd_lint_lsp.specs.declared.editor.offered.Begun.{Begun}
 use Rattle.timefd_lint_lsp.specs.Editor.Given.{begins, is_given_after, is_given_before}

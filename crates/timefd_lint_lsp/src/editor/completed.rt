@@ -1,7 +1,7 @@
 //! What may be written for the word that is begun at a cursor.
 
 use crate::editor::position::Range;
-use timefd_lint_diagnosis::slot::Slot;
+use timefd_lint_diagnosis::Slot;
 
 /// What may be written for the word that is begun at a cursor.
 #[derive(Drop)]

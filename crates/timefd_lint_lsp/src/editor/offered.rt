@@ -9,7 +9,8 @@ ghost use Rattle.timefd_lint_lsp.specs.Editor.Offered as spec;
 
 use crate::editor::given::{begins, is_given_after, is_given_before};
 use std::alloc::{AllocError, Global};
-use timefd_lint_diagnosis::slot::Slot;
+use timefd_lint_diagnosis::Slot;
+use timefd_lint_diagnosis::words::words_at;
 use timefd_parse::DescriptionVersion;
 
 /// A word that is begun, and what it is.
@@ -31,7 +32,7 @@ pub fn offered(alloc: Global, begun: Begun<'_>) -> Result<Vec<&'static str>, All
     ensures { IfOk result (λ words. texts words.items ≡ spec.offered (around begun.entry)) }
 {
     let mut words: Vec<&'static str> = Vec::new(alloc);
-    push_all(&mut words, begun, begun.slot.words(begun.version))?;
+    push_all(&mut words, begun, words_at(begun.slot, begun.version))?;
     Ok(words)
 }
 

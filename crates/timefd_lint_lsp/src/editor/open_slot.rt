@@ -3,7 +3,8 @@
 ghost use Rattle.timefd_lint_lsp.specs.Editor.OpenSlots.{IsOpenSlot};
 
 use crate::editor::scan::scanned;
-use timefd_lint_diagnosis::slot::{Slot, slot_after};
+use crate::editor::slot::slot_after;
+use timefd_lint_diagnosis::Slot;
 use timefd_parse::DescriptionVersion;
 
 /// What a word after this text would be: a name, a key or a value. `None` if the text doesn't end within the head of

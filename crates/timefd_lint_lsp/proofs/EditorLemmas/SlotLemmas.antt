@@ -18,7 +18,8 @@ use Rattle.timefd_language.proofs.Spans.{key-not_white, all-append, all-implied,
 use Rattle.timefd_parse.specs.declared.modifier.Modifier as code
 use Rattle.timefd_parse.specs.BracketParts.{BeginsNamed, BeginsModified, FindsModifiers, NamesHeads}
 use Rattle.timefd_parse.proofs.BracketLemmas.{same_cut}
-use Rattle.timefd_lint_diagnosis.specs.Slots.{EndsInHead, is_inside, IsLastBracket, BeginsNoModifier, IsAfterSome, IsAfterAll, EndsHead, NamesHead, IsNamedHead}
+use Rattle.timefd_language.specs.Slots.{EndsInHead}
+use Rattle.timefd_lint_lsp.specs.Editor.SlotSearches.{is_inside, IsLastBracket, BeginsNoModifier, IsAfterSome, IsAfterAll, EndsHead, NamesHead, IsNamedHead}
 
 -- Bytes inside of a bracket.
 

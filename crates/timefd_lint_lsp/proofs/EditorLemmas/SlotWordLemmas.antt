@@ -1,13 +1,13 @@
 -- What a word after a head should have been: there is one answer.
-use Rattle.std.proofs.Common.{ℕ, ◌≡◌, ◌≢◌, ◌<◌, ◌≤◌, ◌+◌, List, [], ◌∷◌, ◌++◌, length, length-append, take, Option, Some, None, refl, sym, ap, subst, ◌∙◌, arith, append-nil}
+use Rattle.std.proofs.Common.{ℕ, ◌≡◌, ◌≢◌, ◌<◌, ◌≤◌, ◌+◌, List, [], ◌∷◌, ◌++◌, length, length-append, Option, Some, None, refl, sym, ap, subst, ◌∙◌, arith, append-nil}
 use Rattle.std.specs.Prelude.{Bool, true, false, MatchOption, bytes_eq, nat_eq}
 use Rattle.std.specs.Borrow.{Bor}
 use Rattle.std.specs.List.{list_all, prefix_len}
 use Rattle.std.proofs.lemmas.Bool.{and_parts, and_from, eq-eqb, true≢false}
 use Rattle.std.proofs.lemmas.Option.{same_Some, none-some}
 use Rattle.timefd_lang_component.specs.Tree.{Text}
-use Rattle.timefd_language.specs.declared.name.Name.{Name}
-use Rattle.timefd_language.specs.declared.name.Name.TheVariants.{Optional, First, Component}
+use Rattle.timefd_lang_fault.specs.declared.name.Name.{Name}
+use Rattle.timefd_lang_fault.specs.declared.name.Name.TheVariants.{Optional, First, Component}
 use Rattle.timefd_language.specs.Bytes.{colon, is_white, is_word_byte, is_key_byte, ZeroOrMore, OneOrMore, StopsBefore}
 use Rattle.timefd_language.specs.Cut.{IsCut}
 use Rattle.timefd_language.specs.Head.{Modifier, IsModifier, modifier_text}
@@ -16,11 +16,11 @@ use Rattle.timefd_language.specs.Values.{key_in}
 use Rattle.timefd_language.specs.Names.{row_for}
 use Rattle.timefd_language.proofs.Spans.{all-append, all-implied, zero_from_one, stops_one, stops_zero, white-not_word, key-not_white}
 use Rattle.timefd_parse.proofs.BracketLemmas.{SameCut, same_cut}
-use Rattle.timefd_lint_diagnosis.specs.declared.slot.Slot.{Slot}
-use Rattle.timefd_lint_diagnosis.specs.declared.slot.Slot.TheVariants as slots
-use Rattle.timefd_lint_diagnosis.specs.Slots.{is_inside, colon_before, EndsHead, BeginsNoModifier, IsSlotAt, IsSlotIn, IsSlotAfter, NamesHead, IsNamedHead}
-use Rattle.timefd_lint_diagnosis.specs.Helps.{HasNoModifierSlot, IsModifierSlot}
-use Rattle.timefd_lint_diagnosis.proofs.SlotLemmas.{white-inside, key-inside, word_after, cut_white}
+use Rattle.timefd_lang_fault.specs.declared.slot.Slot.{Slot}
+use Rattle.timefd_lang_fault.specs.declared.slot.Slot.TheVariants as slots
+use Rattle.timefd_language.specs.Slots.{colon_before, IsSlotAt, IsSlotIn, IsSlotAfter}
+use Rattle.timefd_lint_lsp.specs.Editor.SlotSearches.{is_inside, EndsHead, BeginsNoModifier, NamesHead, IsNamedHead}
+use Rattle.timefd_lint_lsp.proofs.EditorLemmas.SlotLemmas.{white-inside, key-inside, word_after, cut_white}
 
 some_bytes : (test : ℕ → Bool) (text : Text) → OneOrMore test text → 0 < length text
 some_bytes test [] some = absurd some
@@ -127,16 +127,6 @@ slot_of None strict front word name between named names none =
     no_slot strict front word name between names none
 slot_of (Some slot) strict front word name between named names at =
     (named.0, between.now, named.2, subst (λ n. IsSlotAt strict n between.now word slot) named.1 at)
-
--- what a word after a text up to an index should have been
-pub slot_after_front : (r : Option Slot) (strict : Bool) (text front word : Text) (index : ℕ)
-    → front ≡ take index text → IsSlotAfter strict front word r
-    → MatchOption r (HasNoModifierSlot strict text index word)
-    (IsModifierSlot strict text index word)
-slot_after_front None strict text front word index e none = λ slot.
-    subst (λ t. ¬ IsSlotIn strict t word slot) e (none slot)
-slot_after_front (Some slot) strict text front word index e is =
-    subst (λ t. IsSlotIn strict t word slot) e is
 
 -- What the cuts of the text say.
 

@@ -1,8 +1,8 @@
 use Rattle.std.proofs.Common.{sym, subst}
-use Rattle.timefd_lint_diagnosis.specs.Slots.{IsSlotAfter}
-use Rattle.timefd_lint_diagnosis.proofs.WordLemmas.{nothing_in, slot_of}
+use Rattle.timefd_language.specs.Slots.{IsSlotAfter}
+use Rattle.timefd_lint_lsp.proofs.EditorLemmas.SlotWordLemmas.{nothing_in, slot_of}
 use Rattle.timefd_language.specs.Bytes.{is_version_three}
-use Rattle.timefd_lint_diagnosis.proofs.slot.slot_after.Goals as goal
+use Rattle.timefd_lint_lsp.proofs.editor.slot.slot_after.Goals as goal
 
 pub returns-in_err-name : goal.returns-in_err-name
 returns-in_err-name c = record {

@@ -1,7 +1,7 @@
 use Rattle.std.proofs.Common.{sym, subst}
-use Rattle.timefd_lint_diagnosis.specs.Slots.{NamesHead}
-use Rattle.timefd_lint_diagnosis.proofs.SlotLemmas.{named_head, names_head, names_none}
-use Rattle.timefd_lint_diagnosis.proofs.slot.head_in.Goals as goal
+use Rattle.timefd_lint_lsp.specs.Editor.SlotSearches.{NamesHead}
+use Rattle.timefd_lint_lsp.proofs.EditorLemmas.SlotLemmas.{named_head, names_head, names_none}
+use Rattle.timefd_lint_lsp.proofs.editor.slot.head_in.Goals as goal
 
 pub returns-in_err-name-clause-heads : goal.returns-in_err-name-clause-heads
 returns-in_err-name-clause-heads c =

@@ -1,8 +1,8 @@
 use Rattle.std.proofs.Common.{length}
 use denote.Text.{Utf8}
 use denote.Shadow.{shadow}
-use Rattle.timefd_lint_diagnosis.specs.Slots.{IsAfterSome}
-use Rattle.timefd_lint_diagnosis.proofs.slot.after_modifiers.Given as goal
+use Rattle.timefd_lint_lsp.specs.Editor.SlotSearches.{IsAfterSome}
+use Rattle.timefd_lint_lsp.proofs.editor.slot.after_modifiers.Given as goal
 
 -- the modifiers so far
 abbrev pub invariant-modifiers : goal.invariant-modifiers

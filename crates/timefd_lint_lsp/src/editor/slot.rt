@@ -1,41 +1,17 @@
-//! What belongs where a fault is: a name, a key or a value.
+//! What a word after a text should be: a key or a value.
 
 ghost use Rattle.std.specs.Prelude.{◌≡◌, IfSome, MatchOption};
 ghost use Rattle.timefd_language.specs.Bytes.{StopsBefore, ZeroOrMore, is_version_three, is_word_byte};
-ghost use Rattle.timefd_lint_diagnosis.specs.Slots as spec;
-ghost use Rattle.timefd_lint_diagnosis.specs.Slots.{is_inside, IsAfterAll, IsLastBracket, IsNamedHead, IsSlotAt, IsSlotAfter, NamesHead};
-ghost use Rattle.timefd_lint_diagnosis.specs.Words.{texts};
-ghost use Rattle.timefd_lint_diagnosis.specs.declared.slot.Slot.{Slot};
+ghost use Rattle.timefd_lang_fault.specs.declared.slot.Slot.{Slot};
+ghost use Rattle.timefd_language.specs.Slots as spec;
+ghost use Rattle.timefd_language.specs.Slots.{IsSlotAt, IsSlotAfter};
+ghost use Rattle.timefd_lint_lsp.specs.Editor.SlotSearches.{is_inside, IsAfterAll, IsLastBracket, IsNamedHead, NamesHead};
 
-use crate::words::{keys, names, values};
-use timefd_language::key::{Key, key_of};
-use timefd_language::name::{Name, name_of};
+use timefd_lang_fault::Slot;
+use timefd_language::key::key_of;
+use timefd_language::name::name_of;
 use timefd_language::text::{Class, cut};
 use timefd_parse::{DescriptionVersion, bracket_name, first_modifier};
-
-/// What a word at fault should have been.
-#[derive(Clone, Copy)]
-pub enum Slot {
-    /// The name of a bracket.
-    Name,
-    /// A key of the bracket with this name.
-    Key(Name),
-    /// What this key is set to.
-    Value(Key),
-}
-
-impl Slot {
-    /// The words that are allowed there.
-    pub fn words(self, version: DescriptionVersion) -> &'static [&'static str]
-        ensures { texts result.now ≡ spec.words_at (is_version_three version) self }
-    {
-        match self {
-            Slot::Name => names(version),
-            Slot::Key(name) => keys(name),
-            Slot::Value(key) => values(key),
-        }
-    }
-}
 
 /// What a modifier's word after this text should have been: a key, or the value of one. If the word
 /// is empty, a colon is there, and is taken for the colon of a key without a value. `None` if it

@@ -1,9 +1,9 @@
 use Rattle.std.proofs.Common.{sym, subst}
 use Rattle.std.specs.Prelude.{MatchOption}
 use Rattle.timefd_language.specs.Bytes.{ZeroOrMore}
-use Rattle.timefd_lint_diagnosis.specs.Slots.{is_inside, IsLastBracket}
-use Rattle.timefd_lint_diagnosis.proofs.SlotLemmas.{last_found, none_found}
-use Rattle.timefd_lint_diagnosis.proofs.slot.last_bracket.Goals as goal
+use Rattle.timefd_lint_lsp.specs.Editor.SlotSearches.{is_inside, IsLastBracket}
+use Rattle.timefd_lint_lsp.proofs.EditorLemmas.SlotLemmas.{last_found, none_found}
+use Rattle.timefd_lint_lsp.proofs.editor.slot.last_bracket.Goals as goal
 
 pub returns-in_err-at : goal.returns-in_err-at
 returns-in_err-at c =

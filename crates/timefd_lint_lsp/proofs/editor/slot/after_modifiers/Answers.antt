@@ -1,6 +1,6 @@
 use Rattle.std.proofs.Common.{rules}
-use Rattle.timefd_lint_diagnosis.proofs.SlotLemmas.{one_more}
-use Rattle.timefd_lint_diagnosis.proofs.slot.after_modifiers.Goals as goal
+use Rattle.timefd_lint_lsp.proofs.EditorLemmas.SlotLemmas.{one_more}
+use Rattle.timefd_lint_lsp.proofs.editor.slot.after_modifiers.Goals as goal
 
 pub modifiers-preserved : goal.modifiers-preserved
 modifiers-preserved c = (

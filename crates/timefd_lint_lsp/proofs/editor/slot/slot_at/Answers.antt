@@ -1,11 +1,11 @@
 use Rattle.std.proofs.Common.{arith, ◌≡◌, ◌≢◌, ◌<◌, ap, length, eqb-true, false-eqb, sym, subst, Some, None, [], rules}
 use Rattle.std.specs.Prelude.{MatchOption, bytes_eq, false}
-use Rattle.timefd_lint_diagnosis.specs.declared.slot.Slot.{Slot}
-use Rattle.timefd_lint_diagnosis.specs.Slots.{IsSlotAt, colon_before}
-use Rattle.timefd_lint_diagnosis.proofs.WordLemmas.{no_colon, no_key, unequal}
+use Rattle.timefd_lang_fault.specs.declared.slot.Slot.{Slot}
+use Rattle.timefd_language.specs.Slots.{IsSlotAt, colon_before}
+use Rattle.timefd_lint_lsp.proofs.EditorLemmas.SlotWordLemmas.{no_colon, no_key, unequal}
 use Rattle.timefd_language.specs.Bytes.{is_version_three}
-use Rattle.timefd_lint_diagnosis.proofs.slot.slot_at.Goals.{else-is_empty-2-via-then-is_empty-2+else-not-is_empty, else-is_empty-2-via-else-is_empty-2}
-use Rattle.timefd_lint_diagnosis.proofs.slot.slot_at.Goals as goal
+use Rattle.timefd_lint_lsp.proofs.editor.slot.slot_at.Goals.{else-is_empty-2-via-then-is_empty-2+else-not-is_empty, else-is_empty-2-via-else-is_empty-2}
+use Rattle.timefd_lint_lsp.proofs.editor.slot.slot_at.Goals as goal
 
 pub returns-in_err-key_of : goal.returns-in_err-key_of
 returns-in_err-key_of c =
