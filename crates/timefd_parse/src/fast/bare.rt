@@ -70,6 +70,8 @@ fn plain_year_bytes(version: DescriptionVersion) -> usize
 
 /// The component of a bracket that holds only a name, the bytes it reserves, and what follows the
 /// bracket. `inside` is the text after the `[`. `None` if the name isn't spelled as in every version.
+/// Only the six names of most dates are compared here: the compiler inlines no function that has, with
+/// all that is inlined into it, many more instructions.
 #[inline(always)]
 pub fn bare<'a>(version: DescriptionVersion, inside: &'a str) -> Option<(Component, usize, &'a str)>
     ensures component { MatchOption result ⊤ (λ x. IsBare version inside.now x.0 x.2.now) }
@@ -83,14 +85,6 @@ pub fn bare<'a>(version: DescriptionVersion, inside: &'a str) -> Option<(Compone
             "day]",
             Component::Day(Day::default()),
             2,
-        ),
-        [b'e', ..] => alone(
-            version,
-            inside,
-            ComponentName::End,
-            "end]",
-            Component::End(End::default()),
-            0,
         ),
         [b'h', ..] => alone(
             version,
@@ -116,6 +110,42 @@ pub fn bare<'a>(version: DescriptionVersion, inside: &'a str) -> Option<(Compone
             Component::MonthNumerical(MonthNumerical::default()),
             2,
         ),
+        [b's', b'e', ..] => alone(
+            version,
+            inside,
+            ComponentName::Second,
+            "second]",
+            Component::Second(Second::default()),
+            2,
+        ),
+        [b'y', ..] => alone(
+            version,
+            inside,
+            ComponentName::Year,
+            "year]",
+            plain_year(version),
+            plain_year_bytes(version),
+        ),
+        [b'e' | b'o' | b'p' | b's' | b'u' | b'w', ..] => seldom(version, inside),
+        _ => None,
+    }
+}
+
+/// The result of `bare` for the other names.
+#[inline(never)]
+fn seldom<'a>(version: DescriptionVersion, inside: &'a str) -> Option<(Component, usize, &'a str)>
+    ensures component { MatchOption result ⊤ (λ x. IsBare version inside.now x.0 x.2.now) }
+    ensures bytes { IfSome result (λ x. x.1 ≡ reserved (modern x.0)) }
+{
+    match inside.as_bytes() {
+        [b'e', ..] => alone(
+            version,
+            inside,
+            ComponentName::End,
+            "end]",
+            Component::End(End::default()),
+            0,
+        ),
         [b'o', b'r', ..] => alone(
             version,
             inside,
@@ -131,14 +161,6 @@ pub fn bare<'a>(version: DescriptionVersion, inside: &'a str) -> Option<(Compone
             ComponentName::Period,
             "period]",
             Component::Period(Period::default()),
-            2,
-        ),
-        [b's', b'e', ..] => alone(
-            version,
-            inside,
-            ComponentName::Second,
-            "second]",
-            Component::Second(Second::default()),
             2,
         ),
         [b's', ..] => alone(
@@ -172,14 +194,6 @@ pub fn bare<'a>(version: DescriptionVersion, inside: &'a str) -> Option<(Compone
             "week_number]",
             Component::WeekNumberIso(WeekNumberIso::default()),
             2,
-        ),
-        [b'y', ..] => alone(
-            version,
-            inside,
-            ComponentName::Year,
-            "year]",
-            plain_year(version),
-            plain_year_bytes(version),
         ),
         _ => None,
     }
