@@ -47,5 +47,5 @@ TABLES = [
     each("crates/timefd_language/proofs/DistinctLemmas.antt", Between(("component_keys :",), ""), NAMES, KEYS_OF_NAME),
     each("crates/timefd_laws/proofs/LastLemmas.antt", Between(("component_keys :", "→ list_all"), ""), NAMES, KEYS_OF_NAME),
     Table("crates/timefd_laws/proofs/NameLemmas.antt", Between(("distinct_rows :",), ""), distinct),
-    Table("crates/timefd_lint_diagnosis/proofs/ModifierSlotLemmas.antt", Between(("row_keys :",), ""), keys),
+    Table("crates/timefd_language/proofs/ModifierFaults.antt", Between(("row_keys :",), ""), keys),
 ]

@@ -201,10 +201,10 @@ TABLES = [
     all_others("clock.rt", "pub(crate) fn offset_field", NAMED, "Offset"),
     all_others("instant.rt", "fn stamp_field", NAMED, "Instant"),
     by_rule(),
-    each(NAME_FILE, Between(("pub enum ComponentName {",), "}"), NAMES, "    {0.variant},"),
+    each("crates/timefd_lang_fault/src/name.rt", Between(("pub enum ComponentName {",), "}"), NAMES, "    {0.variant},"),
     Table(
-        NAME_FILE, Between(("pub fn spelling", "match self {"), "        }"),
-        lambda: [line for it in NAMES for line in arm(12, f"ComponentName::{it.variant}", f'"{it.name}"')],
+        NAME_FILE, Between(("pub fn name_spelling", "match name {"), "    }"),
+        lambda: [line for it in NAMES for line in arm(8, f"ComponentName::{it.variant}", f'"{it.name}"')],
     ),
     Table(NAME_FILE, Between(("fn component_name_of", "match word.len() {"), "        _ =>"), by_length),
     Table(
