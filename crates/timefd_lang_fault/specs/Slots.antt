@@ -21,5 +21,6 @@ context_of refusers.LastTwo = codes "when `repr:last_two` is used"
 -- what should have been there, as the rule says that is broken
 abbrev pub wanted_by : Rule → Option Slot
 wanted_by (rules.UnknownName name) = Some slots.Name
-wanted_by (rules.InvalidModifier word wanted) = wanted
+wanted_by (rules.UnknownKey word name) = Some (slots.Key name)
+wanted_by (rules.UnknownValue word key) = Some (slots.Value key)
 wanted_by rule = None

@@ -8,8 +8,8 @@ ghost use Rattle.timefd_language.specs.Slots.{EndsAfterHead};
 ghost use Rattle.timefd_language.specs.Spans.{SpansVersion};
 ghost use Rattle.timefd_parse.specs.ReadModifiers.{ReadsModifier};
 
-use crate::modifiers::{key_slot, value_slot};
-use timefd_lang_fault::{Fault, Name, Rule};
+use crate::modifiers::{colon_rule, key_rule};
+use timefd_lang_fault::{Fault, Name};
 use timefd_language::description_version::DescriptionVersion;
 use timefd_language::text::{Class, after_colon, cut};
 
@@ -41,7 +41,7 @@ pub fn read_modifier<'a>(
             return Ok(None);
         }
         return Err(Fault {
-            rule: Rule::InvalidModifier(key, key_slot(name)),
+            rule: key_rule(name, key),
             remaining: text.len(),
             len: key.len(),
         });
@@ -49,14 +49,14 @@ pub fn read_modifier<'a>(
     let (value, rest) = cut(assigned, Class::Word);
     if key.is_empty() {
         return Err(Fault {
-            rule: Rule::InvalidModifier("", value_slot(version, name, key)),
+            rule: colon_rule(version, name, key),
             remaining: text.len(),
             len: 1,
         });
     }
     if value.is_empty() {
         return Err(Fault {
-            rule: Rule::InvalidModifier("", value_slot(version, name, key)),
+            rule: colon_rule(version, name, key),
             remaining: after.len(),
             len: 1,
         });

@@ -1,12 +1,13 @@
 //! What the modifiers of a head set, read one at a time.
 
-ghost use Rattle.std.specs.Prelude.{ℕ, ◌≡◌, ◌++◌, ◌∷◌, [], IfSome, List, Option, option_map};
+ghost use Rattle.std.specs.Prelude.{ℕ, Bool, length, ◌≡◌, ◌<◌, ◌++◌, ◌∷◌, [], IfSome, List, Option, option_map};
 ghost use Rattle.std.specs.Result.{IfErr};
 ghost use Rattle.timefd_lang_component.specs.Tree.{Text};
-ghost use Rattle.timefd_language.specs.Bytes.{is_version_three};
+ghost use Rattle.timefd_language.specs.Bytes.{ZeroOrMore, is_key_byte, is_version_three};
+ghost use Rattle.timefd_language.specs.Slots.{EndsAfterHead, WantsIn};
 ghost use Rattle.timefd_language.specs.Head.{Placed};
-ghost use Rattle.timefd_lang_fault.specs.declared.key.Key as spec_key;
-ghost use Rattle.timefd_lang_fault.specs.declared.slot.Slot as spec_slot;
+ghost use Rattle.timefd_lang_fault.specs.Faults.{invalid_modifier};
+ghost use Rattle.timefd_lang_fault.specs.RuleKinds.{rule_kind};
 ghost use Rattle.timefd_language.specs.Lookup.{key_for, keys_of};
 ghost use Rattle.timefd_language.specs.Spans.{SpansVersion};
 ghost use Rattle.timefd_parse.specs.ReadModifiers.{IsPlaced, StandsIn};
@@ -14,7 +15,7 @@ ghost use Rattle.timefd_language.specs.Values.{key_in};
 
 use crate::modifier::Modifier;
 use crate::positions::Positions;
-use timefd_lang_fault::{Fault, Key, Name, Rule, Slot};
+use timefd_lang_fault::{Fault, Key, Name, Rule};
 use timefd_language::description_version::DescriptionVersion;
 use timefd_language::key::{key_of, spelling};
 use timefd_language::setting::{Setting, Settings};
@@ -84,7 +85,7 @@ impl<'a> Modifiers<'a> {
     {
         let Some(key) = known_key(version, name, modifier.key) else {
             return Err(Fault {
-                rule: Rule::InvalidModifier(modifier.key, key_slot(name)),
+                rule: key_rule(name, modifier.key),
                 remaining: modifier.key_remaining,
                 len: modifier.key.len(),
             });
@@ -99,7 +100,7 @@ impl<'a> Modifiers<'a> {
         match setting_of(key, version, modifier.value) {
             Some(setting) => Ok((key, setting)),
             None => Err(Fault {
-                rule: Rule::InvalidModifier(modifier.value, Some(Slot::Value(key))),
+                rule: Rule::UnknownValue(modifier.value, key),
                 remaining: modifier.value_remaining,
                 len: modifier.value.len(),
             }),
@@ -115,20 +116,30 @@ fn known_key(version: DescriptionVersion, name: Option<Name>, word: &str) -> Opt
     key_of(name?, version, word)
 }
 
-/// What a key should have been in a bracket with this name.
+/// The rule that a word breaks that isn't a key of the bracket with this name.
 #[inline(never)]
-pub fn key_slot(name: Option<Name>) -> Option<Slot>
-    ensures { result ≡ option_map spec_slot.Slot.Key name }
+pub fn key_rule<'a>(name: Option<Name>, word: &'a str) -> Rule<'a>
+    ensures kind { rule_kind result ≡ invalid_modifier word.now }
+    ensures wanted { (strict : Bool) (front : Text) → EndsAfterHead strict front name → 0 < length word.now
+        → WantsIn strict front result }
 {
-    Some(Slot::Key(name?))
+    match name {
+        Some(name) => Rule::UnknownKey(word, name),
+        None => Rule::InvalidModifier(word),
+    }
 }
 
-/// What the value of a word should have been, if the word is a key that the name takes.
+/// The rule that is broken at a colon, where no key precedes it or no value follows. `word` is what
+/// precedes it.
 #[inline(never)]
-pub fn value_slot(version: DescriptionVersion, name: Option<Name>, word: &str) -> Option<Slot>
-    ensures { (key : Option spec_key.Key)
-        × (option_map key_for key ≡ key_in (is_version_three version) word.now (keys_of name))
-        × (result ≡ option_map spec_slot.Slot.Value key) }
+pub fn colon_rule<'a>(version: DescriptionVersion, name: Option<Name>, word: &str) -> Rule<'a>
+    ensures kind { rule_kind result ≡ invalid_modifier [] }
+    ensures wanted { (front at : Text) → EndsAfterHead (is_version_three version) at name
+        → ZeroOrMore is_key_byte word.now → front ≡ at ++ word.now
+        → WantsIn (is_version_three version) front result }
 {
-    Some(Slot::Value(known_key(version, name, word)?))
+    match known_key(version, name, word) {
+        Some(key) => Rule::UnknownValue("", key),
+        None => Rule::InvalidModifier(""),
+    }
 }

@@ -1,17 +1,19 @@
-use Rattle.std.proofs.Common.{inl, inr, option_map, refl, sym, ap, ◌≡◌, ◌∙◌, true, false, is_some}
+use Rattle.std.proofs.Common.{inr, option_map, refl, sym, ap, ◌≡◌, ◌∙◌, true, false, is_some}
 use Rattle.std.proofs.lemmas.Bool.{true≢false}
 use Rattle.timefd_language.specs.Lookup.{key_for}
 use Rattle.timefd_parse.specs.Checked.{first_position}
 use Rattle.timefd_parse.proofs.CheckLemmas.{at_unknown, at_again, at_good, at_bad_value, position_known}
-use Rattle.timefd_language.specs.Bytes.{is_version_three}
-use Rattle.timefd_parse.proofs.SpanLemmas.{again_spans, key_spans, key_wanted, value_spans, value_wanted}
+use Rattle.timefd_language.specs.Bytes.{is_key_byte, is_version_three}
+use Rattle.timefd_language.specs.Spans.{version_extent}
+use Rattle.timefd_language.proofs.SlotLemmas.{some_bytes}
+use Rattle.timefd_parse.proofs.SpanLemmas.{again_spans, key_spans, value_spans, value_wanted}
 use Rattle.timefd_parse.proofs.modifiers.Modifiers.check.Goals as goal
 use Rattle.timefd_parse.proofs.modifiers.Modifiers.check.Goals.{else-is_strict-via-then-is_strict+else-is_some, else-is_strict-via-else-is_strict}
 
 pub returns-in_default-clause-checks : goal.returns-in_default-clause-checks
 returns-in_default-clause-checks c = λ total ps p checks none is.
-    at_unknown (is_version_three c.args.version) c.args.name total c.args.modifier ps p is _ _ _ c.known_key.ensures
-    c.in_default.is
+    at_unknown (is_version_three c.args.version) c.args.name total c.args.modifier ps p is _ _ _
+    c.key_rule.ensures.kind c.known_key.ensures c.in_default.is
 
 pub returns-then-is_some-clause-checks : goal.returns-then-is_some-clause-checks
 returns-then-is_some-clause-checks c = λ total ps p checks none is.
@@ -41,13 +43,15 @@ returns-in-None-clause-checks c = λ total ps p checks none is.
           (sym (w.if-is_some.ensures ∙ ap is_some w.of.ensures))
       | else-is_strict-via-else-is_strict w ↦ absurd (true≢false (sym exact ∙ sym w.if-is_strict.ensures))
     ] in
-    at_bad_value (is_version_three c.args.version) c.args.name total c.args.modifier ps p is _ _ _ _ _ c.known_key.ensures
+    at_bad_value (is_version_three c.args.version) c.args.name total c.args.modifier ps p is _ _ _ _ c.known_key.ensures
     c.in-Some.is new c.setting_of.ensures c.in-None.is
 
 pub returns-in_default-clause-span : goal.returns-in_default-clause-span
 returns-in_default-clause-span c = λ text stands.
-    key_spans (is_version_three c.args.version) text c.args.name c.args.modifier stands _ refl refl refl
-    (inl (key_wanted (is_version_three c.args.version) text c.args.name c.args.modifier stands _ c.key_slot.ensures))
+    key_spans (is_version_three c.args.version) text c.args.name c.args.modifier stands _ refl refl
+    (ap version_extent c.key_rule.ensures.kind)
+    (c.key_rule.ensures.wanted (is_version_three c.args.version) stands.before stands.after
+    (some_bytes is_key_byte c.args.modifier.key.now stands.key))
 
 pub returns-then-is_some-clause-span : goal.returns-then-is_some-clause-span
 returns-then-is_some-clause-span c = λ text stands.
