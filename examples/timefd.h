@@ -16,7 +16,7 @@
    - The bytes or nodes of a buffer have been set to some value before. While the call runs, nobody else reads or writes them. A buffer
      overlaps no other buffer, and nothing that the call reads.
    - The call doesn't come from a signal handler, nor from the forked child of a process with threads.
-   - It has 112 KiB of stack: a text that is nested 127 deep takes about 53 of them. timefd_convert, timefd_read_date and
+   - It has 112 KiB of stack: a text that is nested 127 deep takes about 70 of them. timefd_convert, timefd_read_date and
      timefd_read_nodes need more.
 
    What every call promises:

@@ -178,6 +178,13 @@ static void *read_nodes(void *unused) {
     return unused;
 }
 
+/* What a level of a text may take to be parsed: what it takes on this processor. */
+#ifdef __aarch64__
+#define PARSED 528
+#else
+#define PARSED 496
+#endif
+
 /* A call, the stack that it has by timefd.h, and how much of it a level may take at most. */
 static const struct {
     const char *name;
@@ -185,14 +192,14 @@ static const struct {
     size_t stack;
     size_t level;
 } CALLS[] = {
-    {"judge", judge, 112 * 1024, 512},
-    {"check", check, 112 * 1024, 512},
-    {"diagnose", diagnose, 112 * 1024, 512},
-    {"warnings", warnings, 112 * 1024, 512},
-    {"read", read_texts, 112 * 1024, 512},
-    {"format", format, 112 * 1024, 512},
+    {"judge", judge, 112 * 1024, PARSED},
+    {"check", check, 112 * 1024, PARSED},
+    {"diagnose", diagnose, 112 * 1024, PARSED},
+    {"warnings", warnings, 112 * 1024, PARSED},
+    {"read", read_texts, 112 * 1024, PARSED},
+    {"format", format, 112 * 1024, PARSED},
     {"format_nodes", format_nodes, 112 * 1024, 0},
-    {"v1_to_v2", convert_old, 112 * 1024, 512},
+    {"v1_to_v2", convert_old, 112 * 1024, PARSED},
     {"convert_format", convert_formats, 112 * 1024, 0},
     {"convert", convert, 192 * 1024, 1200},
     {"read_date", read_date, 256 * 1024, 1980},

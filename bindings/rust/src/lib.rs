@@ -41,7 +41,7 @@
 //! ```
 //!
 //! Calls may come from any thread. Reading a text that is nested as deep as it may be, 127 deep,
-//! takes about 53 KiB of stack, and reading a date by it up to 256 KiB.
+//! takes about 70 KiB of stack, and reading a date by it up to 256 KiB.
 
 #![no_std]
 
