@@ -2,22 +2,24 @@
 # Prints how many instructions a call takes, as callgrind counts those of its function and of what that calls: the difference of
 # 520 calls and 20 by 500. It counts `timefd_read`, `parse_borrowed` of Rattle, `parse` of the crate for Rust and `timefd_judge`, and
 # `parse` of Debian's `time` 0.3.9, of the texts of version 1 that it takes. The crate and `time` are counted if Debian's packages of
-# `time` and `chrono` are installed. It needs valgrind.
+# `time` and `chrono` are installed. It takes the library that `rt lib` leaves in crates/timefd_c, or that of the folder TIMEFD_LIB_DIR,
+# and for `parse_borrowed` what `borrowed-library` makes, or the archive TIMEFD_BORROWED. It needs valgrind.
 set -eu
 cd "$(dirname "$0")"
 registry=/usr/share/cargo/registry
 mkdir -p out
 
-(cd ../crates/timefd_c && rt lib --cpu x86-64 > /dev/null)
+[ -n "${TIMEFD_LIB_DIR:-}" ] || (cd ../crates/timefd_c && rt lib --cpu x86-64 > /dev/null)
 TIMEFD_LIB_DIR=$(../packages/library)
 export TIMEFD_LIB_DIR
-./borrowed-library > /dev/null
+borrowed=${TIMEFD_BORROWED:-}
+[ -n "$borrowed" ] || borrowed=$(./borrowed-library)/libtimefd_borrowed.a
 set --
 if [ -d "$registry/time-0.3.9" ] && [ -d "$registry/chrono-0.4.23" ]; then
     (cd beside && cargo build --release --offline --locked --quiet --lib)
     set -- -DWITH_PEERS "${CARGO_TARGET_DIR:-beside/target}/release/libtimefd_peers.a"
 fi
-cc -std=gnu11 -Wall -Wextra -Werror -O2 -o out/instructions instructions.c "$@" "$TIMEFD_LIB_DIR/libtimefd.a" out/libtimefd_borrowed.a
+cc -std=gnu11 -Wall -Wextra -Werror -O2 -o out/instructions instructions.c "$@" "$TIMEFD_LIB_DIR/libtimefd.a" "$borrowed"
 
 # function_of CALL: the function that is counted
 function_of() {

@@ -1,5 +1,5 @@
 #!/usr/bin/env python3
-"""Draws the first two tables of RESULTS.md as bars: speeds.svg, beside this script.
+"""Draws the two tables of RESULTS.md that have a column `Bytes` as bars: speeds.svg, beside this script.
 
     bench/picture.py            writes the file
     bench/picture.py --check    fails if the file would change
@@ -68,7 +68,9 @@ def draw(title, lines, y):
 
 
 def picture(page):
-    (first, first_rows), (second, second_rows), (_, measured) = tables(page)[:3]
+    found = tables(page)
+    (first, first_rows), (second, second_rows) = [it for it in found if "Bytes" in it[0]]
+    measured = next(rows for _, rows in found if rows and rows[0][0] == "Date")
     collected, counted = "`chrono`, in a `Vec`", "`chrono`, counted"
     when = {row[0]: row[1] for row in measured}
     note = "; ".join(when[it].replace("`", "") for it in ("Date", "Code", "Since") if it in when)

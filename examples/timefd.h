@@ -276,13 +276,13 @@ timefd_answer timefd_convert(uint32_t from, uint32_t to, const uint8_t *text, si
 #define TIMEFD_REASON_READING_ONLY 20u      /* it can be read, and not be written */
 #define TIMEFD_REASON_RESERVED 21u          /* the character is reserved */
 #define TIMEFD_REASON_TOO_MANY_LETTERS 22u  /* no pattern repeats this letter so often */
-#define TIMEFD_REASON_TWO_DIGIT_YEAR 36u    /* it reads two digits of a year, which tell no century */
+#define TIMEFD_REASON_TWO_DIGIT_YEAR 36u    /* it reads two digits of a year, which leave the century open */
 #define TIMEFD_REASON_TWO_LETTER_NAME 23u   /* it writes a weekday in two letters */
 #define TIMEFD_REASON_UNCLOSED_QUOTE 24u    /* no quote closes this one */
 #define TIMEFD_REASON_UNIT_OF_DAY 25u       /* it counts milliseconds or nanoseconds from midnight on */
 #define TIMEFD_REASON_UNKNOWN_DIRECTIVE 26u /* the dialect has no such directive */
 #define TIMEFD_REASON_UNKNOWN_LETTER 27u    /* the letter has no meaning and isn't quoted */
-#define TIMEFD_REASON_UNSUPPORTED 28u       /* libraries differ in what it means, or have it not */
+#define TIMEFD_REASON_UNSUPPORTED 28u       /* libraries differ in what it means, or lack it */
 #define TIMEFD_REASON_VARIABLE_FRACTION 29u /* it writes as many digits of a fraction as it has, or none */
 #define TIMEFD_REASON_VARIABLE_OFFSET 30u   /* it writes as much of an offset as there is */
 #define TIMEFD_REASON_VARIABLE_WIDTH 31u    /* its width depends on the value */
@@ -423,7 +423,7 @@ timefd_read_answer timefd_read(uint32_t kind, const uint8_t *text, size_t len, t
                                uint8_t *literals, size_t literal_room);
 
 /* Reads a text as timefd_read does, with a limit on nesting: at most `limit` nested descriptions may stand around one another. With 0
-   none may be nested; 127 is the limit of all other calls, and a greater number counts as 127. The limit bounds how deep a program
+   none may be nested; 127 is the limit of each call that is handed none, and a greater number counts as 127. The limit bounds how deep a program
    goes that walks the nodes.
 
        "[optional [[day]]]" in version 3, with the limit 0    TIMEFD_REFUSED, value 10
@@ -505,6 +505,10 @@ typedef struct timefd_format_answer {
 timefd_format_answer timefd_format(uint32_t kind, const uint8_t *text, size_t len, const timefd_moment *moment, uint8_t *buffer,
                                    size_t room);
 
+/* Writes a moment as timefd_format does, with a limit on nesting: see timefd_read_within. */
+timefd_format_answer timefd_format_within(uint32_t kind, uint32_t limit, const uint8_t *text, size_t len,
+                                          const timefd_moment *moment, uint8_t *buffer, size_t room);
+
 /* Writes the moment by nodes that timefd_read wrote, or by others of that form, and the bytes of their literals. It writes what
    timefd_format writes by the text that the nodes were read from. It takes no memory, and no more stack for deeper nesting. The only
    statuses are TIMEFD_ACCEPTED, TIMEFD_UNSHOWN, TIMEFD_OUT_OF_RANGE and TIMEFD_NO_DESCRIPTION.
@@ -584,6 +588,11 @@ typedef struct timefd_date_answer {
    stays within the 112 KiB for one that is nested forty deep. */
 timefd_date_answer timefd_read_date(uint32_t kind, const uint8_t *text, size_t len, const uint8_t *date, size_t date_len);
 
+/* Reads a date as timefd_read_date does, with a limit on nesting: see timefd_read_within. So a program that may use 112 KiB of stack
+   reads by the descriptions of others with the limit 40. */
+timefd_date_answer timefd_read_date_within(uint32_t kind, uint32_t limit, const uint8_t *text, size_t len, const uint8_t *date,
+                                           size_t date_len);
+
 /* Reads the `date_len` bytes at `date` by nodes that timefd_read wrote, or by others of that form, and the bytes of their literals. It
    reads what timefd_read_date reads by the text that the nodes were read from: so a program parses a description once. The statuses
    are TIMEFD_ACCEPTED, TIMEFD_NO_MEMORY, TIMEFD_NO_DESCRIPTION, TIMEFD_UNREAD, TIMEFD_CONTRADICTION, TIMEFD_MISSING,
@@ -591,7 +600,8 @@ timefd_date_answer timefd_read_date(uint32_t kind, const uint8_t *text, size_t l
 
    Of a node with members it looks at `count`, which is 1 for an optional, and neither at `start` nor at `bytes`; nor does it look at a
    number that the node's component doesn't have. If a date is read by literals and by numbers of two digits, and of four for a year,
-   it takes no memory. Else it takes memory for a list of the nodes, and 2 KiB of stack for each level of nesting. */
+   it takes no memory. Else it takes memory for a list of the nodes, and 2 KiB of stack for each level of nesting. It has no limit on
+   nesting: the nodes of timefd_read are nested at most 127 deep, and those of timefd_read_within as deep as its limit allows. */
 timefd_date_answer timefd_read_nodes(const timefd_node *nodes, size_t node_count, const uint8_t *literals, size_t literal_count,
                                      const uint8_t *date, size_t date_len);
 
@@ -626,11 +636,15 @@ void timefd_read_composites_into(const uint8_t *text, size_t len, timefd_node *n
                                  size_t literal_room, timefd_read_answer *answer, size_t size);
 void timefd_format_into(uint32_t kind, const uint8_t *text, size_t len, const timefd_moment *moment, uint8_t *buffer, size_t room,
                         timefd_format_answer *answer, size_t size);
+void timefd_format_within_into(uint32_t kind, uint32_t limit, const uint8_t *text, size_t len, const timefd_moment *moment,
+                               uint8_t *buffer, size_t room, timefd_format_answer *answer, size_t size);
 void timefd_format_nodes_into(const timefd_node *nodes, size_t node_count, const uint8_t *literals, size_t literal_count,
                               const timefd_moment *moment, uint8_t *buffer, size_t room, timefd_format_answer *answer,
                               size_t size);
 void timefd_read_date_into(uint32_t kind, const uint8_t *text, size_t len, const uint8_t *date, size_t date_len,
                            timefd_date_answer *answer, size_t size);
+void timefd_read_date_within_into(uint32_t kind, uint32_t limit, const uint8_t *text, size_t len, const uint8_t *date,
+                                  size_t date_len, timefd_date_answer *answer, size_t size);
 void timefd_read_nodes_into(const timefd_node *nodes, size_t node_count, const uint8_t *literals, size_t literal_count,
                             const uint8_t *date, size_t date_len, timefd_date_answer *answer, size_t size);
 

@@ -175,13 +175,13 @@ static inline const char *timefd_reason_sentence(uint32_t reason) {
     case TIMEFD_REASON_READING_ONLY: return "it can be read, and not be written";
     case TIMEFD_REASON_RESERVED: return "the character is reserved";
     case TIMEFD_REASON_TOO_MANY_LETTERS: return "no pattern repeats this letter so often";
-    case TIMEFD_REASON_TWO_DIGIT_YEAR: return "it reads two digits of a year, which tell no century";
+    case TIMEFD_REASON_TWO_DIGIT_YEAR: return "it reads two digits of a year, which leave the century open";
     case TIMEFD_REASON_TWO_LETTER_NAME: return "it writes a weekday in two letters";
     case TIMEFD_REASON_UNCLOSED_QUOTE: return "no quote closes this one";
     case TIMEFD_REASON_UNIT_OF_DAY: return "it counts milliseconds or nanoseconds from midnight on";
     case TIMEFD_REASON_UNKNOWN_DIRECTIVE: return "the dialect has no such directive";
     case TIMEFD_REASON_UNKNOWN_LETTER: return "the letter has no meaning and isn't quoted";
-    case TIMEFD_REASON_UNSUPPORTED: return "libraries differ in what it means, or have it not";
+    case TIMEFD_REASON_UNSUPPORTED: return "libraries differ in what it means, or lack it";
     case TIMEFD_REASON_VARIABLE_FRACTION: return "it writes as many digits of a fraction as it has, or none";
     case TIMEFD_REASON_VARIABLE_OFFSET: return "it writes as much of an offset as there is";
     case TIMEFD_REASON_VARIABLE_WIDTH: return "its width depends on the value";

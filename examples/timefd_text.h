@@ -232,6 +232,25 @@ static inline bool timefd_format_text(uint32_t kind, const char *text, const tim
     return timefd_format_chars(kind, text, strlen(text), moment, buffer, room, answer);
 }
 
+/* Whether `buffer` holds the moment, written by the description `text` as timefd_format_within does it: with at most `limit` nested
+   descriptions around one another. */
+static inline bool timefd_format_within_chars(uint32_t kind, uint32_t limit, const char *text, size_t len,
+                                              const timefd_moment *moment, char *buffer, size_t room,
+                                              timefd_format_answer *answer) {
+    const size_t free_room = timefd_private_clear(buffer, room);
+    const timefd_format_answer found =
+        timefd_format_within(kind, limit, (const uint8_t *)text, len, moment, (uint8_t *)buffer, free_room);
+    if (answer) {
+        *answer = found;
+    }
+    return found.status == TIMEFD_ACCEPTED && found.value < room;
+}
+
+static inline bool timefd_format_within_text(uint32_t kind, uint32_t limit, const char *text, const timefd_moment *moment,
+                                             char *buffer, size_t room, timefd_format_answer *answer) {
+    return timefd_format_within_chars(kind, limit, text, strlen(text), moment, buffer, room, answer);
+}
+
 /* Whether `buffer` holds the moment, written by nodes and their literals as timefd_format_nodes does it: the description isn't parsed
    again. It takes no text, so there is one such function. */
 static inline bool timefd_format_nodes_text(const timefd_node *nodes, size_t node_count, const uint8_t *literals,
@@ -264,6 +283,23 @@ static inline bool timefd_read_date_chars(uint32_t kind, const char *text, size_
 
 static inline bool timefd_read_date_text(uint32_t kind, const char *text, const char *date, timefd_date_answer *answer) {
     return timefd_read_date_chars(kind, text, strlen(text), date, strlen(date), answer);
+}
+
+/* Whether the date matches the description `text`, as timefd_read_date_within says it: with at most `limit` nested descriptions around
+   one another. Then answer->moment is what was read. */
+static inline bool timefd_read_date_within_chars(uint32_t kind, uint32_t limit, const char *text, size_t len, const char *date,
+                                                 size_t date_len, timefd_date_answer *answer) {
+    const timefd_date_answer found =
+        timefd_read_date_within(kind, limit, (const uint8_t *)text, len, (const uint8_t *)date, date_len);
+    if (answer) {
+        *answer = found;
+    }
+    return found.status == TIMEFD_ACCEPTED;
+}
+
+static inline bool timefd_read_date_within_text(uint32_t kind, uint32_t limit, const char *text, const char *date,
+                                                timefd_date_answer *answer) {
+    return timefd_read_date_within_chars(kind, limit, text, strlen(text), date, strlen(date), answer);
 }
 
 /* Whether the date matches nodes and their literals, as timefd_read_nodes says it: the description isn't parsed again. Then

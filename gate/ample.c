@@ -184,6 +184,10 @@ static void try_read_date(const struct text *text) {
     timefd_date_answer date = timefd_read_date(text->kind, text->bytes, text->len, NULL, 0);
     uint32_t status = date.status == TIMEFD_UNREAD && date.value == 0 ? TIMEFD_ACCEPTED : date.status;
     expect("timefd_read_date", text->name, status, list.blocks, list.most);
+    begin();
+    date = timefd_read_date_within(text->kind, text->nests ? UINT32_MAX : 0, text->bytes, text->len, NULL, 0);
+    status = date.status == TIMEFD_UNREAD && date.value == 0 ? TIMEFD_ACCEPTED : date.status;
+    expect("timefd_read_date_within", text->name, status, list.blocks, list.most);
     if (text->parts == 1) {
         /* One literal, which is read by itself. */
         begin();
@@ -207,6 +211,11 @@ static void try_format(const struct text *text) {
     struct taken first = text->kind == TIMEFD_VERSION_3 ? doubled(room, room) : doubled(FIRST_TEXT, answer.value);
     uint32_t status = answer.written == answer.value ? answer.status : TIMEFD_NO_MEMORY;
     expect("timefd_format", text->name, status, list.blocks + first.blocks + 1,
+           greater(list.most, list.room + first.room + answer.value));
+    begin();
+    answer = timefd_format_within(text->kind, text->nests ? UINT32_MAX : 0, text->bytes, text->len, &MOMENT, bytes, room);
+    status = answer.written == answer.value ? answer.status : TIMEFD_NO_MEMORY;
+    expect("timefd_format_within", text->name, status, list.blocks + first.blocks + 1,
            greater(list.most, list.room + first.room + answer.value));
     __real_free(bytes);
 }
@@ -298,6 +307,7 @@ static void try_null(void) {
         expect("timefd_read_within", "null", timefd_read_within(kind, 0, NULL, 0, NULL, 0, NULL, 0).status, 0, 0);
         expect("timefd_read_composites", "null", timefd_read_composites(NULL, 0, NULL, 0, NULL, 0).status, 0, 0);
         expect("timefd_read_date", "null", timefd_read_date(kind, NULL, 0, NULL, 0).status, 0, 0);
+        expect("timefd_read_date_within", "null", timefd_read_date_within(kind, 0, NULL, 0, NULL, 0).status, 0, 0);
         begin();
         const uint8_t *day = (const uint8_t *)(kind == TIMEFD_STRFTIME ? "%d" : "[day]");
         size_t len = kind == TIMEFD_STRFTIME ? 2 : 5;

@@ -9,7 +9,7 @@
 #include <string.h>
 #include <sys/mman.h>
 
-enum { DEEPEST = 127, HALF = 63, DEEPER = 20000, SHORT = 512, BUFFER = 8192, NODES = 2048, STACK = 2048 * 1024, GUARD = 64 * 1024, UNTOUCHED = 0xA5 };
+enum { DEEPEST = 127, HALF = 63, DEEPER = 20000, SHORT = 512, LIMITED = 40, BUFFER = 8192, NODES = 2048, STACK = 2048 * 1024, GUARD = 64 * 1024, UNTOUCHED = 0xA5 };
 
 /* What nests: so many fronts, the inside, so many backs; and likewise a date that is read by it to its end. */
 struct family {
@@ -135,6 +135,13 @@ static void *format(void *unused) {
     return unused;
 }
 
+static void *format_within(void *unused) {
+    for (EACH_VERSION(kind))
+        expect("format_within", kind, accepted(kind),
+               timefd_format_within(kind, UINT32_MAX, text(), given.len, &MOMENT, buffer, BUFFER).status);
+    return unused;
+}
+
 /* What was read of a text writes what the text writes. */
 static void *format_nodes(void *unused) {
     if (given.read.status == TIMEFD_ACCEPTED)
@@ -170,6 +177,15 @@ static void *read_date(void *unused) {
     return unused;
 }
 
+/* With a limit on nesting it needs no more stack than most calls. */
+static void *read_date_within(void *unused) {
+    const uint8_t *date = (const uint8_t *)given.date;
+    for (EACH_VERSION(kind))
+        expect("read_date_within", kind, accepted(kind) == TIMEFD_ACCEPTED && given.depth <= LIMITED ? given.family->read : TIMEFD_REFUSED,
+               timefd_read_date_within(kind, LIMITED, text(), given.len, date, given.date_len).status);
+    return unused;
+}
+
 static void *read_nodes(void *unused) {
     const uint8_t *date = (const uint8_t *)given.date;
     if (given.read.status == TIMEFD_ACCEPTED)
@@ -198,11 +214,13 @@ static const struct {
     {"warnings", warnings, 112 * 1024, PARSED},
     {"read", read_texts, 112 * 1024, PARSED},
     {"format", format, 112 * 1024, PARSED},
+    {"format_within", format_within, 112 * 1024, PARSED},
     {"format_nodes", format_nodes, 112 * 1024, 0},
     {"v1_to_v2", convert_old, 112 * 1024, PARSED},
     {"convert_format", convert_formats, 112 * 1024, 0},
     {"convert", convert, 192 * 1024, 1200},
     {"read_date", read_date, 256 * 1024, 1980},
+    {"read_date_within", read_date_within, 112 * 1024, PARSED},
     {"read_nodes", read_nodes, 256 * 1024, 1980},
 };
 
@@ -243,6 +261,7 @@ static size_t measure(size_t call, const struct family *family) {
     size_t shallow = taken_by(call, family, HALF, 1), deep = taken_by(call, family, DEEPEST, 1);
     size_t level = deep < shallow ? 0 : (deep - shallow) / (DEEPEST - HALF);
     taken_by(call, family, 1, 1);
+    taken_by(call, family, LIMITED, 1);
     if (level > CALLS[call].level) {
         printf("stack: %s takes %zu bytes for each level of %s, not at most %zu\n", CALLS[call].name, level, family->name,
                CALLS[call].level);

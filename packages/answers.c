@@ -93,6 +93,13 @@ void timefd_format_into(uint32_t kind, const uint8_t *text, size_t len, const ti
     pass_on(answer, size, &whole, sizeof whole);
 }
 
+void timefd_format_within_into(uint32_t kind, uint32_t limit, const uint8_t *text, size_t len, const timefd_moment *moment,
+                               uint8_t *buffer, size_t room, timefd_format_answer *answer, size_t size)
+{
+    timefd_format_answer whole = timefd_format_within(kind, limit, text, len, moment, buffer, room);
+    pass_on(answer, size, &whole, sizeof whole);
+}
+
 void timefd_format_nodes_into(const timefd_node *nodes, size_t node_count, const uint8_t *literals, size_t literal_count,
                               const timefd_moment *moment, uint8_t *buffer, size_t room, timefd_format_answer *answer,
                               size_t size)
@@ -105,6 +112,13 @@ void timefd_read_date_into(uint32_t kind, const uint8_t *text, size_t len, const
                            timefd_date_answer *answer, size_t size)
 {
     timefd_date_answer whole = timefd_read_date(kind, text, len, date, date_len);
+    pass_on(answer, size, &whole, sizeof whole);
+}
+
+void timefd_read_date_within_into(uint32_t kind, uint32_t limit, const uint8_t *text, size_t len, const uint8_t *date,
+                                  size_t date_len, timefd_date_answer *answer, size_t size)
+{
+    timefd_date_answer whole = timefd_read_date_within(kind, limit, text, len, date, date_len);
     pass_on(answer, size, &whole, sizeof whole);
 }
 

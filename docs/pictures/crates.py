@@ -124,12 +124,16 @@ def drawn():
     return "\n".join(out + ["</svg>", ""])
 
 
+def longest(below):
+    """How many crates the longest chain has."""
+    return max(heights(below, {name: reach(below, name, known) for known in [{}] for name in below}).values()) + 1
+
+
 def counted():
     """The page with the crates, with its sentence on how many there are."""
     below = crates()
-    chain = max(heights(below, {name: reach(below, name, known) for known in [{}] for name in below}).values()) + 1
     uses = sum(map(len, below.values()))
-    sentence = f"There are {len(below)} crates, {uses} uses of one by another, and at most {chain} in a chain."
+    sentence = f"There are {len(below)} crates, {uses} uses of one by another, and at most {longest(below)} in a chain."
     return re.sub(r"There are \d+ crates, .*? in a chain\.", sentence, PAGE.read_text())
 
 

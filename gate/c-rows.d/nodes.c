@@ -101,6 +101,20 @@ const char *longest(const struct field *fields) {
     return NULL;
 }
 
+/* Whether the calls that write and read dates have the same limit as timefd_read_within, of which this is the answer. */
+static bool is_limited_alike(const struct field *fields, timefd_read_answer read) {
+    uint32_t kind = kind_of(fields), limit = (uint32_t)fields[1].number;
+    const struct field *text = &fields[2];
+    const timefd_moment nothing = {.known = 0};
+    timefd_format_answer format = timefd_format_within(kind, limit, text->bytes, text->len, &nothing, NULL, 0);
+    timefd_date_answer date = timefd_read_date_within(kind, limit, text->bytes, text->len, NULL, 0);
+    if (read.status == TIMEFD_ACCEPTED) {
+        return (format.status == TIMEFD_ACCEPTED || format.status == TIMEFD_UNSHOWN) &&
+               (date.status == TIMEFD_ACCEPTED || date.status == TIMEFD_UNREAD || date.status == TIMEFD_MISSING);
+    }
+    return format.status == read.status && format.value == read.value && date.status == read.status && date.value == read.value;
+}
+
 const char *within(const struct field *fields) {
     timefd_node nodes[NODES];
     uint8_t literals[ROOM];
@@ -110,6 +124,9 @@ const char *within(const struct field *fields) {
         timefd_read_within(kind_of(fields), limit, text->bytes, text->len, nodes, NODES, literals, ROOM);
     if (answer.written != (answer.status == TIMEFD_ACCEPTED)) {
         return "nodes are written of a text that is refused, or none of one that isn't";
+    }
+    if (!is_limited_alike(fields, answer)) {
+        return "another limit is that of a call that writes or reads dates";
     }
     print_answer(answer.status, answer.value);
     return NULL;

@@ -309,6 +309,22 @@ static bool is_read_alike(const struct field *fields, uint32_t limit) {
            one.status == other.status && one.value == other.value && one.nodes == other.nodes;
 }
 
+/* Whether the calls for texts that end with 0 and those with a length write, and read, the same within the limit. */
+static bool is_limited_alike(const struct field *fields, uint32_t limit) {
+    const timefd_moment nothing = {.known = 0};
+    const char *text = text_of(&fields[1]), *front = longer(&fields[1]);
+    size_t len = fields[1].len;
+    char buffer[ROOM], other_buffer[ROOM];
+    timefd_format_answer one, other;
+    timefd_date_answer date, other_date;
+    bool is_written = timefd_format_within_text(kind_of(fields), limit, text, &nothing, buffer, ROOM, &one);
+    bool is_read = timefd_read_date_within_text(kind_of(fields), limit, text, "", &date);
+    return is_written == timefd_format_within_chars(kind_of(fields), limit, front, len, &nothing, other_buffer, ROOM, &other) &&
+           one.status == other.status && one.value == other.value && strcmp(buffer, other_buffer) == 0 &&
+           is_read == timefd_read_date_within_chars(kind_of(fields), limit, front, len, "", 0, &other_date) &&
+           date.status == other_date.status && date.value == other_date.value;
+}
+
 /* read_within_text KIND TEXT LIMIT: whether the nodes are written. */
 const char *read_within_text(const struct field *fields) {
     timefd_node nodes[NODES];
@@ -317,7 +333,7 @@ const char *read_within_text(const struct field *fields) {
     timefd_read_answer answer;
     memset(nodes, 0, sizeof nodes);
     bool is_read = timefd_read_within_text(kind_of(fields), limit, text_of(&fields[1]), nodes, NODES, literals, ROOM, &answer);
-    if (!is_read_alike(fields, limit)) {
+    if (!is_read_alike(fields, limit) || !is_limited_alike(fields, limit)) {
         return OTHER_CHARS;
     }
     printf("%s ", is_read ? "true" : "false");

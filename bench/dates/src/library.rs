@@ -66,6 +66,17 @@ struct ReadAnswer {
     bytes: usize,
 }
 
+/// `timefd_date_answer`.
+#[repr(C)]
+struct DateAnswer {
+    status: u32,
+    reason: u32,
+    component: u32,
+    part: u32,
+    value: usize,
+    moment: Moment,
+}
+
 unsafe extern "C" {
     fn timefd_format(
         kind: u32,
@@ -93,6 +104,14 @@ unsafe extern "C" {
         buffer: *mut u8,
         room: usize,
     ) -> FormatAnswer;
+    fn timefd_read_nodes(
+        nodes: *const Node,
+        node_count: usize,
+        literals: *const u8,
+        literal_count: usize,
+        date: *const u8,
+        date_len: usize,
+    ) -> DateAnswer;
 }
 
 /// Writes the moment by the text to the front of the buffer, and answers how many bytes these are.
@@ -145,5 +164,23 @@ impl Nodes {
             )
         };
         answer.written()
+    }
+
+    /// Reads a date, and answers its year.
+    pub fn year_of(&self, date: &str) -> i32 {
+        let Nodes { nodes, literals } = self;
+        // SAFETY: the three are as long as is said, and nobody writes to them while the call runs.
+        let answer = unsafe {
+            timefd_read_nodes(
+                nodes.as_ptr(),
+                nodes.len(),
+                literals.as_ptr(),
+                literals.len(),
+                date.as_ptr(),
+                date.len(),
+            )
+        };
+        assert!(answer.status == ACCEPTED && answer.value == 0);
+        answer.moment.year
     }
 }

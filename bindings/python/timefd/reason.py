@@ -138,7 +138,7 @@ class Reason(enum.IntEnum):
     )
     TWO_DIGIT_YEAR = (
         36,
-        "it reads two digits of a year, which tell no century",
+        "it reads two digits of a year, which leave the century open",
         "Read by a format with all digits of the year.",
     )
     TWO_LETTER_NAME = (
@@ -168,7 +168,7 @@ class Reason(enum.IntEnum):
     )
     UNSUPPORTED = (
         28,
-        "libraries differ in what it means, or have it not",
+        "libraries differ in what it means, or lack it",
         "Write a directive that has one meaning.",
     )
     VARIABLE_FRACTION = (

@@ -1,6 +1,5 @@
 //! A description that was parsed.
 
-use alloc::vec::Vec;
 use core::fmt;
 use core::hash::{Hash, Hasher};
 
@@ -9,7 +8,7 @@ use crate::error::ParseError;
 use crate::literal::Literals;
 use crate::node::{Item, Members, Nodes};
 use crate::parts::Parts;
-use crate::sys::{self, COMPOUND, NodeRoom, RawNode, ReadAnswer};
+use crate::sys::{self, COMPOUND, NodeRoom, RawNode};
 use crate::tree::{BuildError, Tree};
 use crate::version::{Language, Version};
 
@@ -64,21 +63,56 @@ impl<'a> FormatDescription<'a> {
 
     /// The same for each type that names a language.
     fn parse_in(language: Language, text: &'a str) -> Result<Self, ParseError> {
-        // Most texts have room on the stack. For a longer one there is room for all on the heap.
+        let wanted = wanted_nodes(language, text);
+        if wanted > SHORT_NODES || text.len() > SHORT_TEXT {
+            return Self::parse_long(language, text, wanted);
+        }
         let mut room = NodeRoom::<SHORT_NODES>::new();
-        let nodes = room.zeroed(wanted_nodes(language, text));
+        let nodes = room.zeroed(wanted);
         let mut literals = [0; SHORT_LITERALS];
         let answer = sys::read(language.number(), text, nodes, &mut literals);
         expect_accepted(language, text, answer.status)?;
-        let mut long;
-        let (nodes, literals) = if answer.written {
-            (&mut nodes[..answer.nodes], &literals[..answer.literals])
-        } else {
-            long = read_long(language, text, &answer)?;
-            (&mut long.0[..], &long.1[..])
-        };
-        match Tree::build(items_of(language, nodes), Literals::new(text, literals)) {
-            Ok(tree) => Ok(Self { language, tree, max_bytes: answer.bytes }),
+        if !answer.written {
+            return Self::parse_long(language, text, answer.nodes);
+        }
+        let nodes = &mut nodes[..answer.nodes];
+        let count = item_nodes(language, nodes);
+        let literals = Literals::new(text, &literals[..answer.literals]);
+        let tree = Tree::build(&mut nodes[..count], literals);
+        Self::of_built(language, tree, answer.bytes)
+    }
+
+    /// The same with room on the heap for so many nodes, which are kept where they were written. A text that has more is
+    /// read again.
+    #[inline(never)]
+    fn parse_long(language: Language, text: &'a str, wanted: usize) -> Result<Self, ParseError> {
+        let (mut nodes_room, mut literals_room) = (wanted, text.len());
+        loop {
+            let nodes = sys::zeroed_block(nodes_room);
+            let literals = buffer::filled(literals_room, 0);
+            let (mut nodes, mut literals) = nodes.zip(literals).ok_or(ParseError::OutOfMemory)?;
+            let answer = sys::read(language.number(), text, &mut nodes, &mut literals);
+            expect_accepted(language, text, answer.status)?;
+            if !answer.written {
+                (nodes_room, literals_room) = (answer.nodes, answer.literals);
+                continue;
+            }
+            let count = item_nodes(language, &nodes[..answer.nodes]);
+            let nodes = sys::shortened(nodes, count).ok_or(ParseError::OutOfMemory)?;
+            let tree = Tree::keep(nodes, Literals::new(text, &literals[..answer.literals]));
+            return Self::of_built(language, tree, answer.bytes);
+        }
+    }
+
+    /// The description of a tree that the library's nodes were built into.
+    #[inline]
+    fn of_built(
+        language: Language,
+        tree: Result<Tree<'a>, BuildError>,
+        max_bytes: usize,
+    ) -> Result<Self, ParseError> {
+        match tree {
+            Ok(tree) => Ok(Self { language, tree, max_bytes }),
             Err(BuildError::OutOfMemory) => Err(ParseError::OutOfMemory),
             Err(BuildError::Malformed) => unreachable!("the nodes are as the header says"),
         }
@@ -237,19 +271,42 @@ impl fmt::Debug for FormatDescription<'_> {
     }
 }
 
-/// Room on the stack for what most texts have.
+/// Room on the stack for what most texts have, and the length of the longest text that is tried there.
 const SHORT_NODES: usize = 24;
 const SHORT_LITERALS: usize = 64;
+const SHORT_TEXT: usize = 256;
 
-/// For how many nodes there is room before a text is read. One that has more is read twice.
+/// For how many nodes there is room when a text is read first. Only letters of strftime that stand for several components
+/// may need more: then the text is read twice.
 #[inline]
 fn wanted_nodes(language: Language, text: &str) -> usize {
+    // A component and a literal have six bytes, and nodes that nest others have more.
+    let few = text.len() / 3 + 2;
     match language {
-        // A component and a literal have six bytes, and nodes that nest others have more.
-        Language::Version(_) => text.len() / 3 + 2,
-        // Two bytes may stand for many components.
-        Language::Strftime => SHORT_NODES,
+        Language::Version(_) if few <= SHORT_NODES => few,
+        Language::Strftime if few <= SHORT_NODES / 2 => SHORT_NODES, // Two bytes may stand for many.
+        _ => most_nodes(language, text),
     }
+}
+
+/// A node for each byte that may begin a component, an escape or a nested description, and for the literal after it; and
+/// those of a literal in front and of the whole text.
+#[inline(never)]
+fn most_nodes(language: Language, text: &str) -> usize {
+    let count = match language {
+        Language::Version(_) => count(text, |byte| (byte == b'[') | (byte == b'\\')),
+        Language::Strftime => count(text, |byte| byte == b'%'),
+    };
+    2 * count + 2
+}
+
+/// How many bytes of a text are like these.
+#[inline]
+fn count(text: &str, is_like: impl Fn(u8) -> bool) -> usize {
+    // The bytes of a chunk are counted by a byte, so many at once.
+    let chunks = text.as_bytes().chunks(u8::MAX as usize);
+    let count = |chunk: &[u8]| chunk.iter().map(|byte| u8::from(is_like(*byte))).sum::<u8>();
+    chunks.map(|chunk| usize::from(count(chunk))).sum()
 }
 
 /// The error of a text with this status, unless it is accepted.
@@ -261,33 +318,20 @@ fn expect_accepted(language: Language, text: &str, status: u32) -> Result<(), Pa
     }
 }
 
-/// The nodes and the bytes of literals of a text that was read before, by an answer that says how much
-/// room they need.
-#[cold]
-#[inline(never)]
-fn read_long(
-    language: Language,
-    text: &str,
-    answer: &ReadAnswer,
-) -> Result<(Vec<RawNode>, Vec<u8>), ParseError> {
-    let nodes = buffer::filled(answer.nodes, RawNode::default());
-    let literals = buffer::filled(answer.literals, 0);
-    let (mut nodes, mut literals) = nodes.zip(literals).ok_or(ParseError::OutOfMemory)?;
-    let answer = sys::read(language.number(), text, &mut nodes, &mut literals);
-    expect_accepted(language, text, answer.status)?;
-    assert!(answer.written, "there was room for what the library reported");
-    Ok((nodes, literals))
+/// How many of the nodes of a text in a language are its items, or below one. In version 3 the last one may be the whole
+/// text: then its members are the items, as in the other languages.
+#[inline]
+fn item_nodes(language: Language, nodes: &[RawNode]) -> usize {
+    match nodes {
+        [members @ .., RawNode { what: COMPOUND, .. }]
+            if matches!(language, Language::Version(Version::Three)) =>
+        {
+            members.len()
+        }
+        nodes => nodes.len(),
+    }
 }
 
-/// The nodes of the items of a text in a language. In version 3 the last one may be the whole text: then
-/// its members are the items, as in the other languages.
-#[inline]
-fn items_of(language: Language, nodes: &mut [RawNode]) -> &mut [RawNode] {
-    if !matches!(language, Language::Version(Version::Three)) {
-        return nodes;
-    }
-    match nodes {
-        [members @ .., RawNode { what: COMPOUND, .. }] => members,
-        nodes => nodes,
-    }
-}
+#[cfg(test)]
+#[path = "description_tests.rs"]
+mod tests;

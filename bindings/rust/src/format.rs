@@ -8,11 +8,13 @@ use core::str::from_utf8;
 
 use crate::buffer;
 use crate::component_kind::ComponentKind;
+use crate::description::FormatDescription;
 use crate::error::ParseError;
 use crate::lack::Lack;
 use crate::moment::Moment;
 use crate::range::{Number, RangeError};
-use crate::sys::{self, FormatAnswer, RawMoment, RawNode};
+use crate::sys::{self, FormatAnswer, RawMoment};
+use crate::tree::Walk;
 use crate::version::Language;
 use crate::write::WriteError;
 
@@ -39,7 +41,7 @@ pub fn format(
     text: &str,
     moment: &Moment,
 ) -> Result<String, FormatError> {
-    Pattern::Text(language.into().number(), text).format(moment)
+    Text(language.into(), text).written(moment)
 }
 
 /// Why nothing is written.
@@ -90,105 +92,130 @@ const IS_TEXT: &str = "what is written is text";
 pub(crate) const NO_MEMORY: FormatError = FormatError::Parse(ParseError::OutOfMemory);
 
 /// What a moment is written by.
-#[derive(Clone, Copy)]
-pub(crate) enum Pattern<'a> {
-    /// A text in the language of a number.
-    Text(u32, &'a str),
-    /// Nodes of a description, and the bytes of their literals.
-    Nodes(&'a [RawNode], &'a [u8]),
-}
+pub(crate) trait Pattern {
+    /// The library's answer, which has written all to the buffer if there is room for it.
+    fn answer(&self, moment: &RawMoment, buffer: &mut [u8]) -> FormatAnswer;
 
-impl Pattern<'_> {
+    /// The error of an answer with another status than those on moments.
+    fn refused(&self, status: u32) -> FormatError;
+
     /// What is written.
-    pub(crate) fn format(self, moment: &Moment) -> Result<String, FormatError> {
+    fn written(&self, moment: &Moment) -> Result<String, FormatError> {
         let moment = moment.raw();
         let mut short = [0; SHORT];
-        let len = self.write(&moment, &mut short)?;
-        match short.get(..len) {
-            Some(text) => buffer::string(text).ok_or(NO_MEMORY),
-            None => Ok(String::from_utf8(self.long(&moment, len)?).expect(IS_TEXT)),
+        let answer = self.answer(&moment, &mut short);
+        match front_of(&answer, &short) {
+            Some(bytes) => buffer::string(bytes).ok_or(NO_MEMORY),
+            None => Ok(String::from_utf8(self.long(&moment, &answer)?).expect(IS_TEXT)),
         }
     }
 
     /// Writes the text to an output in one write; it takes no memory if the text is short.
-    pub(crate) fn format_to<E>(
-        self,
+    fn write_text<E>(
+        &self,
         moment: &Moment,
         output: impl FnOnce(&str) -> Result<(), E>,
     ) -> Result<(), WriteError<E>> {
-        self.format_bytes_to(moment, |bytes| output(from_utf8(bytes).expect(IS_TEXT)))
+        self.write_bytes(moment, |bytes| output(from_utf8(bytes).expect(IS_TEXT)))
     }
 
     /// The same to an output of bytes, which needs no look at them.
-    #[inline]
-    pub(crate) fn format_bytes_to<E>(
-        self,
+    // It is inlined where it is called, so that no answer is copied: what is rare is a call of its own.
+    #[inline(always)]
+    fn write_bytes<E>(
+        &self,
         moment: &Moment,
         output: impl FnOnce(&[u8]) -> Result<(), E>,
     ) -> Result<(), WriteError<E>> {
         let moment = moment.raw();
         let mut short = [0; SHORT];
-        let len = self.write(&moment, &mut short)?;
-        let long;
-        let bytes = match short.get(..len) {
-            Some(bytes) => bytes,
-            None => {
-                long = self.long(&moment, len)?;
-                &long[..]
-            }
-        };
-        output(bytes).map_err(WriteError::Output)
+        let answer = self.answer(&moment, &mut short);
+        match front_of(&answer, &short) {
+            Some(bytes) => output(bytes).map_err(WriteError::Output),
+            None => output(&self.long(&moment, &answer)?).map_err(WriteError::Output),
+        }
     }
 
-    /// The bytes of a text that is so long. The library is asked once more, as it has said how much
-    /// room it wants.
+    /// The bytes of a text for which there was no room, or why there is none, by the answer. The library is
+    /// asked once more, as it has said how much room it wants.
     #[cold]
     #[inline(never)]
-    fn long(self, moment: &RawMoment, len: usize) -> Result<Vec<u8>, FormatError> {
+    fn long(&self, moment: &RawMoment, answer: &FormatAnswer) -> Result<Vec<u8>, FormatError> {
+        let len = self.len(answer)?;
         let mut long = buffer::filled(len, 0).ok_or(NO_MEMORY)?;
-        let written = self.write(moment, &mut long)?;
-        assert_eq!(written, long.len(), "the same is written of the same moment");
+        let answer = self.answer(moment, &mut long);
+        assert_eq!(self.len(&answer)?, len, "the same is written of the same moment");
         Ok(long)
     }
 
-    /// The length of what is to be written, which the buffer has where it has room for all of it.
-    #[inline]
-    fn write(self, moment: &RawMoment, buffer: &mut [u8]) -> Result<usize, FormatError> {
-        let answer = match self {
-            Self::Text(kind, text) => sys::format(kind, text, moment, buffer),
-            Self::Nodes(nodes, literals) => sys::format_nodes(nodes, literals, moment, buffer),
-        };
+    /// The length of what is to be written, by an answer, or why nothing is written.
+    fn len(&self, answer: &FormatAnswer) -> Result<usize, FormatError> {
         match answer.status {
             sys::ACCEPTED => Ok(answer.value),
-            _ => Err(self.error_of(&answer)),
-        }
-    }
-
-    /// Why nothing is written, by an answer.
-    #[cold]
-    #[inline(never)]
-    fn error_of(self, answer: &FormatAnswer) -> FormatError {
-        match answer.status {
             sys::UNSHOWN => {
                 let component = ComponentKind::from_number(answer.component);
-                FormatError::Unshown {
+                Err(FormatError::Unshown {
                     component: component.expect("a component of the header"),
                     lack: Lack::from_number(answer.reason).expect("a reason of the header"),
-                }
+                })
             }
             sys::OUT_OF_RANGE => {
                 let number = Number::from_number(answer.reason).expect("a number of the header");
-                FormatError::OutOfRange(number)
+                Err(FormatError::OutOfRange(number))
             }
-            status => self.refused(status),
+            status => Err(self.refused(status)),
+        }
+    }
+}
+
+/// A text in a language.
+struct Text<'a>(Language, &'a str);
+
+impl Pattern for Text<'_> {
+    fn answer(&self, moment: &RawMoment, buffer: &mut [u8]) -> FormatAnswer {
+        sys::format(self.0.number(), self.1, moment, buffer)
+    }
+
+    fn refused(&self, status: u32) -> FormatError {
+        FormatError::Parse(ParseError::of(self.0.number(), self.1, status))
+    }
+}
+
+impl Pattern for FormatDescription<'_> {
+    #[inline(always)]
+    fn answer(&self, moment: &RawMoment, buffer: &mut [u8]) -> FormatAnswer {
+        match self.tree.as_taken() {
+            Some((nodes, literals)) => {
+                sys::format_nodes(nodes, literals.as_bytes(), moment, buffer)
+            }
+            None => by_copy(self, moment, buffer),
         }
     }
 
-    /// The error of another status.
-    fn refused(self, status: u32) -> FormatError {
-        match self {
-            Self::Text(kind, text) => FormatError::Parse(ParseError::of(kind, text, status)),
-            Self::Nodes(..) => unreachable!("the library wrote these nodes"),
+    fn refused(&self, status: u32) -> FormatError {
+        match status {
+            sys::NO_MEMORY => NO_MEMORY,
+            _ => unreachable!("the library wrote these nodes"),
         }
+    }
+}
+
+/// The library's answer to a copy of the nodes.
+#[inline(never)]
+fn by_copy(
+    description: &FormatDescription<'_>,
+    moment: &RawMoment,
+    buffer: &mut [u8],
+) -> FormatAnswer {
+    let write = |nodes: &[_], literals: &[_]| sys::format_nodes(nodes, literals, moment, buffer);
+    description.with_nodes(Walk::Written, write).unwrap_or(FormatAnswer::NO_MEMORY)
+}
+
+/// What was written, by an answer, to the front of a buffer that had room for it.
+#[inline(always)]
+fn front_of<'b>(answer: &FormatAnswer, buffer: &'b [u8]) -> Option<&'b [u8]> {
+    match answer.status {
+        sys::ACCEPTED => buffer.get(..answer.value),
+        _ => None,
     }
 }

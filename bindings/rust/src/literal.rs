@@ -21,11 +21,13 @@ pub(crate) const ASCII: &str = {
     }
 };
 
-/// The literal of so many bytes that has this place: in `ASCII` where it has one byte, or else in the
-/// text.
+/// The literal of so many bytes that has this place among `ASCII` and, after it, the text: in `ASCII` where it has
+/// one byte, or else in the text.
 pub(crate) fn borrowed(text: &str, place: usize, count: usize) -> &str {
-    let lender = if count == 1 { ASCII } else { text };
-    &lender[place..place + count]
+    if count == 1 {
+        return &ASCII[place..=place];
+    }
+    &text[place - ASCII.len()..place - ASCII.len() + count]
 }
 
 /// Adds a literal as version 3 writes it.
@@ -56,8 +58,8 @@ impl<'a, 'b> Literals<'a, 'b> {
         self.at == 0
     }
 
-    /// By which place so many bytes from an index among the library's are [`borrowed`]. The text holds
-    /// them after the literal before. `None` if it doesn't, which the library never answers.
+    /// By which place so many bytes from an index among the library's are [`borrowed`]. If there are several, the text
+    /// holds them after the literal before. `None` if it doesn't, which the library never answers.
     #[inline]
     pub(crate) fn place(&mut self, start: usize, count: usize) -> Option<usize> {
         if count == 1 {
@@ -67,7 +69,7 @@ impl<'a, 'b> Literals<'a, 'b> {
         let literal = self.bytes.get(start..start.checked_add(count)?)?;
         let place = find(self.text, self.at, literal)?;
         self.at = place + count;
-        Some(place)
+        Some(ASCII.len() + place)
     }
 }
 

@@ -44,7 +44,30 @@ pub struct Moment {
 
 impl Moment {
     /// The same as the library takes it.
+    #[inline(always)]
     pub(crate) fn raw(&self) -> RawMoment {
+        match *self {
+            // Of most moments all is known: then nothing has to be set to 0 first.
+            Self { date: Some(date), time: Some(time), offset_seconds: Some(offset_seconds) } => {
+                RawMoment {
+                    known: RawMoment::HAS_DATE | RawMoment::HAS_TIME | RawMoment::HAS_OFFSET,
+                    year: date.year,
+                    nanosecond: time.nanosecond,
+                    offset_seconds,
+                    month: date.month,
+                    day: date.day,
+                    hour: time.hour,
+                    minute: time.minute,
+                    second: time.second,
+                }
+            }
+            _ => self.raw_parts(),
+        }
+    }
+
+    /// The same of a moment of which some parts aren't known.
+    #[inline(never)]
+    fn raw_parts(&self) -> RawMoment {
         let mut raw = RawMoment::default();
         if let Some(date) = self.date {
             raw.known |= RawMoment::HAS_DATE;

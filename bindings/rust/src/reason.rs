@@ -48,7 +48,7 @@ pub enum Reason {
     Reserved,
     /// No pattern repeats this letter so often.
     TooManyLetters,
-    /// It reads two digits of a year, which tell no century.
+    /// It reads two digits of a year, which leave the century open.
     TwoDigitYear,
     /// It writes a weekday in two letters.
     TwoLetterName,
@@ -60,7 +60,7 @@ pub enum Reason {
     UnknownDirective,
     /// The letter has no meaning and isn't quoted.
     UnknownLetter,
-    /// Libraries differ in what it means, or have it not.
+    /// Libraries differ in what it means, or lack it.
     Unsupported,
     /// It writes as many digits of a fraction as it has, or none.
     VariableFraction,
@@ -193,13 +193,13 @@ impl Reason {
             Self::ReadingOnly => "it can be read, and not be written",
             Self::Reserved => "the character is reserved",
             Self::TooManyLetters => "no pattern repeats this letter so often",
-            Self::TwoDigitYear => "it reads two digits of a year, which tell no century",
+            Self::TwoDigitYear => "it reads two digits of a year, which leave the century open",
             Self::TwoLetterName => "it writes a weekday in two letters",
             Self::UnclosedQuote => "no quote closes this one",
             Self::UnitOfDay => "it counts milliseconds or nanoseconds from midnight on",
             Self::UnknownDirective => "the dialect has no such directive",
             Self::UnknownLetter => "the letter has no meaning and isn't quoted",
-            Self::Unsupported => "libraries differ in what it means, or have it not",
+            Self::Unsupported => "libraries differ in what it means, or lack it",
             Self::VariableFraction => "it writes as many digits of a fraction as it has, or none",
             Self::VariableOffset => "it writes as much of an offset as there is",
             Self::VariableWidth => "its width depends on the value",

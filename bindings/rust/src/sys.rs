@@ -13,11 +13,12 @@
 //! - Each struct is `repr(C)` with the fields of the header in their order, and the library is of
 //!   that header's version: each call is made only once `timefd_version` has said so.
 
-use alloc::alloc::{Layout, alloc};
+use alloc::alloc::{Layout, alloc, alloc_zeroed, realloc};
 use alloc::boxed::Box;
 use core::mem::MaybeUninit;
 use core::ptr::NonNull;
 use core::slice;
+use core::sync::atomic::{AtomicBool, Ordering};
 
 /// The version of the header that this module is written for.
 const VERSION: u32 = 2000;
@@ -98,6 +99,40 @@ pub(crate) fn boxed(nodes: &[RawNode]) -> Option<Box<[RawNode]>> {
     unsafe {
         block.copy_from_nonoverlapping(NonNull::from(nodes).cast(), nodes.len());
         Some(Box::from_raw(NonNull::slice_from_raw_parts(block, nodes.len()).as_ptr()))
+    }
+}
+
+/// So many nodes in a block of their own, at least one, each of them 0. A large block costs nothing until it is written
+/// to. `None` if there is no memory for it.
+pub(crate) fn zeroed_block(count: usize) -> Option<Box<[RawNode]>> {
+    let layout = Layout::array::<RawNode>(count.max(1)).ok()?;
+    // SAFETY: the layout isn't empty.
+    let block = NonNull::new(unsafe { alloc_zeroed(layout) }.cast::<RawNode>())?;
+    let nodes = NonNull::slice_from_raw_parts(block, count.max(1));
+    // SAFETY: the block is aligned for nodes, and each byte of it is set: each field of a node is an integer,
+    // and 0 is a value of it. The box frees the block by the layout that it was taken by.
+    Some(unsafe { Box::from_raw(nodes.as_ptr()) })
+}
+
+/// The first nodes of a block, so many and at least one, in the same block without the rest. `None` if the allocator
+/// doesn't shorten it.
+pub(crate) fn shortened(nodes: Box<[RawNode]>, count: usize) -> Option<Box<[RawNode]>> {
+    assert!(0 < count && count <= nodes.len());
+    if count == nodes.len() {
+        return Some(nodes);
+    }
+    let layout = Layout::for_value(&nodes[..]);
+    let size = Layout::for_value(&nodes[..count]).size();
+    let block = Box::into_raw(nodes);
+    // SAFETY: the block was taken by this layout, and the new size is smaller and not 0. The nodes that remain
+    // keep their values, and the box frees them by the layout of so many. Where nothing is shortened, the block is
+    // still the one that was taken.
+    unsafe {
+        let Some(kept) = NonNull::new(realloc(block.cast(), layout, size).cast::<RawNode>()) else {
+            drop(Box::from_raw(block));
+            return None;
+        };
+        Some(Box::from_raw(NonNull::slice_from_raw_parts(kept, count).as_ptr()))
     }
 }
 
@@ -201,6 +236,12 @@ pub(crate) struct FormatAnswer {
     pub(crate) component: u32,
     pub(crate) value: usize,
     pub(crate) written: usize,
+}
+
+impl FormatAnswer {
+    /// Memory ran out before the library was asked.
+    pub(crate) const NO_MEMORY: Self =
+        Self { status: NO_MEMORY, reason: 0, component: 0, value: 0, written: 0 };
 }
 
 /// `timefd_date_answer` of the header.
@@ -344,10 +385,23 @@ unsafe extern "C" {
     ) -> DateAnswer;
 }
 
+/// Whether the library has said that it is of this crate's version. It says so once.
+static IS_EXPECTED: AtomicBool = AtomicBool::new(false);
+
 /// Stops a program that was linked with another library.
+#[inline(always)]
 fn expect_version() {
+    if !IS_EXPECTED.load(Ordering::Relaxed) {
+        ask_version();
+    }
+}
+
+#[cold]
+#[inline(never)]
+fn ask_version() {
     let found = timefd_version();
     assert_eq!(found, ANSWERED, "libtimefd is of another version than this crate");
+    IS_EXPECTED.store(true, Ordering::Relaxed);
 }
 
 /// What the text is in a language, with its nodes and the bytes of its literals if both buffers

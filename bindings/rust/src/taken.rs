@@ -3,8 +3,8 @@
 use crate::buffer;
 use crate::description::FormatDescription;
 use crate::literal::ASCII;
-use crate::sys::{LITERAL, NodeRoom, RawNode};
-use crate::tree::Walk;
+use crate::sys::{NodeRoom, RawNode};
+use crate::tree::{Shape, Walk};
 
 impl FormatDescription<'_> {
     /// Calls with the nodes that a walk goes over, and the bytes of their literals. It takes no
@@ -21,36 +21,46 @@ impl FormatDescription<'_> {
         }
     }
 
-    /// The same with a copy of the nodes.
+    /// The same with a copy of what literals are borrowed from, and of the nodes if some have members.
     #[inline(never)]
     fn with_copied<T>(&self, walk: Walk, call: impl FnOnce(&[RawNode], &[u8]) -> T) -> Option<T> {
-        let (count, len) = (self.tree.walked_len(walk), ASCII.len() + self.text().len());
-        if count <= SHORT_NODES && len <= SHORT_LITERALS {
-            let mut room = NodeRoom::<SHORT_NODES>::new();
+        let len = ASCII.len() + self.text().len();
+        if len <= SHORT_LITERALS {
             let mut literals = [0; SHORT_LITERALS];
-            let (nodes, literals) = (room.zeroed(count), &mut literals[..len]);
-            self.copy_nodes(walk, nodes, literals);
-            Some(call(nodes, literals))
+            let literals = &mut literals[..len];
+            self.copy_literals(literals);
+            self.with_walked(walk, |nodes| call(nodes, literals))
         } else {
-            let mut nodes = buffer::filled(count, RawNode::default())?;
             let mut literals = buffer::filled(len, 0)?;
-            self.copy_nodes(walk, &mut nodes, &mut literals);
-            Some(call(&nodes, &literals))
+            self.copy_literals(&mut literals);
+            self.with_walked(walk, |nodes| call(nodes, &literals))
         }
     }
 
-    /// Copies the nodes of a walk to as many others, and the text that their literals are borrowed from
-    /// to a buffer that has room for it: ASCII, and the description's text after it.
-    fn copy_nodes(&self, walk: Walk, nodes: &mut [RawNode], literals: &mut [u8]) {
+    /// Calls with the nodes that a walk goes over.
+    #[inline]
+    fn with_walked<T>(&self, walk: Walk, call: impl FnOnce(&[RawNode]) -> T) -> Option<T> {
+        if let Shape::Flat { .. } = self.tree.shape {
+            return Some(call(&self.tree.nodes));
+        }
+        let count = self.tree.walked_len(walk);
+        if count <= SHORT_NODES {
+            let mut room = NodeRoom::<SHORT_NODES>::new();
+            let nodes = room.zeroed(count);
+            self.tree.copy_walked(walk, nodes);
+            Some(call(nodes))
+        } else {
+            let mut nodes = buffer::filled(count, RawNode::default())?;
+            self.tree.copy_walked(walk, &mut nodes);
+            Some(call(&nodes))
+        }
+    }
+
+    /// Copies what literals are borrowed from to a buffer that has room for it: ASCII, and the text after it.
+    fn copy_literals(&self, literals: &mut [u8]) {
         let (ascii, text) = literals.split_at_mut(ASCII.len());
         ascii.copy_from_slice(ASCII.as_bytes());
         text.copy_from_slice(self.text().as_bytes());
-        self.tree.copy_walked(walk, nodes);
-        for node in nodes.iter_mut() {
-            if node.what == LITERAL && node.count != 1 {
-                node.start += ASCII.len();
-            }
-        }
     }
 }
 

@@ -2,6 +2,7 @@
 //! walks go by and the places of literals. A node is decoded when it is looked at.
 
 use alloc::borrow::Cow;
+use alloc::boxed::Box;
 use core::hash::{Hash, Hasher};
 
 use crate::content::{Content, Nesting};
@@ -58,19 +59,33 @@ pub(crate) enum Shape {
 }
 
 impl<'a> Tree<'a> {
-    /// The tree of the library's list, which is changed, and of its literals.
+    /// The tree of the library's list, which is changed and copied, and of its literals.
     #[inline]
     pub(crate) fn build(
         nodes: &mut [RawNode],
         mut literals: Literals<'a, '_>,
     ) -> Result<Self, BuildError> {
-        u32::try_from(nodes.len()).map_err(|_| BuildError::OutOfMemory)?;
-        let is_flat = settle(nodes, &mut literals).ok_or(BuildError::Malformed)?;
-        let shape =
-            if is_flat { Shape::Flat { is_ascii: literals.are_ascii() } } else { link(nodes)? };
+        let shape = shape_of(nodes, &mut literals)?;
         let nodes = Kept::copied(nodes).ok_or(BuildError::OutOfMemory)?;
         Ok(Self { text: Cow::Borrowed(literals.text), nodes, shape })
     }
+
+    /// The tree of the library's list, which it keeps, and of its literals.
+    pub(crate) fn keep(
+        mut nodes: Box<[RawNode]>,
+        mut literals: Literals<'a, '_>,
+    ) -> Result<Self, BuildError> {
+        let shape = shape_of(&mut nodes, &mut literals)?;
+        Ok(Self { text: Cow::Borrowed(literals.text), nodes: Kept::Own(nodes), shape })
+    }
+}
+
+/// What is known of all nodes of a list, which is changed as a tree keeps it.
+#[inline]
+fn shape_of(nodes: &mut [RawNode], literals: &mut Literals<'_, '_>) -> Result<Shape, BuildError> {
+    u32::try_from(nodes.len()).map_err(|_| BuildError::OutOfMemory)?;
+    let is_flat = settle(nodes, literals).ok_or(BuildError::Malformed)?;
+    if is_flat { Ok(Shape::Flat { is_ascii: literals.are_ascii() }) } else { link(nodes) }
 }
 
 /// Gives each literal the place by which it is borrowed, and answers whether nodes are flat: literals and
@@ -196,7 +211,7 @@ impl Tree<'_> {
     }
 
     /// The nodes as the library takes them, with the text that all their literals are borrowed from, if
-    /// there is one.
+    /// nothing has to be copied for that.
     pub(crate) fn as_taken(&self) -> Option<(&[RawNode], &'static str)> {
         match self.shape {
             Shape::Flat { is_ascii: true } => Some((&self.nodes, ASCII)),

@@ -5,9 +5,8 @@ use core::error::Error;
 use core::fmt;
 
 use crate::description::FormatDescription;
-use crate::format::{FormatError, NO_MEMORY, Pattern};
+use crate::format::{FormatError, Pattern};
 use crate::moment::Moment;
-use crate::tree::Walk;
 
 impl FormatDescription<'_> {
     /// Writes the moment. The text of the description isn't read again.
@@ -26,7 +25,7 @@ impl FormatDescription<'_> {
     /// # Ok::<(), Box<dyn std::error::Error>>(())
     /// ```
     pub fn format(&self, moment: &Moment) -> Result<String, FormatError> {
-        self.with_pattern(|pattern| pattern.format(moment))
+        self.written(moment)
     }
 
     /// Writes the moment to a text or a formatter, in one write: nothing of it where the moment
@@ -53,7 +52,7 @@ impl FormatDescription<'_> {
         moment: &Moment,
         output: &mut (impl fmt::Write + ?Sized),
     ) -> Result<(), WriteError<fmt::Error>> {
-        self.with_pattern(|pattern| pattern.format_to(moment, |text| output.write_str(text)))
+        self.write_text(moment, |text| output.write_str(text))
     }
 
     /// Writes the moment to an output of bytes, in one `write_all`: nothing of it where the moment
@@ -78,8 +77,7 @@ impl FormatDescription<'_> {
         moment: &Moment,
         output: &mut (impl std::io::Write + ?Sized),
     ) -> Result<(), WriteError<std::io::Error>> {
-        let write = |bytes: &[u8]| output.write_all(bytes);
-        self.with_pattern(|pattern| pattern.format_bytes_to(moment, write))
+        self.write_bytes(moment, |bytes| output.write_all(bytes))
     }
 
     /// What `Display` shows as the moment. Where the moment can't be written that is
@@ -97,17 +95,6 @@ impl FormatDescription<'_> {
     pub fn show(&self, moment: Moment) -> Shown<'_> {
         Shown { description: self, moment }
     }
-
-    /// Calls with what a formatter writes of the description. It takes no memory where that is
-    /// short.
-    #[inline]
-    fn with_pattern<T, E: From<FormatError>>(
-        &self,
-        call: impl FnOnce(Pattern<'_>) -> Result<T, E>,
-    ) -> Result<T, E> {
-        self.with_nodes(Walk::Written, |nodes, literals| call(Pattern::Nodes(nodes, literals)))
-            .unwrap_or_else(|| Err(NO_MEMORY.into()))
-    }
 }
 
 /// A moment as a description writes it, for `Display`. [`FormatDescription::show`] makes it.
@@ -119,10 +106,7 @@ pub struct Shown<'a> {
 
 impl fmt::Display for Shown<'_> {
     fn fmt(&self, f: &mut fmt::Formatter<'_>) -> fmt::Result {
-        let written = self
-            .description
-            .with_pattern(|pattern| pattern.format_to(&self.moment, |text| f.pad(text)));
-        written.map_err(|_| fmt::Error)
+        self.description.write_text(&self.moment, |text| f.pad(text)).map_err(|_| fmt::Error)
     }
 }
 

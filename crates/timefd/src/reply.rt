@@ -10,7 +10,7 @@ use crate::end::RunEnd;
 use crate::kind::Kind;
 use std::alloc::{AllocError, Global};
 use timefd_items::InvalidFormatDescription;
-use timefd_parse::{DescriptionVersion, Language, ParseError, amount_within};
+use timefd_parse::{DescriptionVersion, Language, ParseError, amount_all_borrowed};
 
 /// The line that answers a text.
 #[derive(Debug, Drop)]
@@ -65,9 +65,11 @@ pub fn reply_to(alloc: Global, kind: Kind, limit: u8, text: &str) -> Result<Repl
     ensures { IfOk result (IsReply kind limit text.now) }
 {
     let language = kind.language();
-    match amount_within(alloc, language, limit, text) {
+    match amount_all_borrowed(alloc, language, limit, text) {
         Ok(amount) => Ok(Reply::Accepted(amount_line(alloc, language, amount)?)),
-        Err(ParseError::Invalid(fault)) => Ok(Reply::Refused(fault_line(alloc, &fault)?)),
-        Err(ParseError::Memory(error)) => Err(error),
+        Err(error) => match error.into_owned(alloc) {
+            ParseError::Invalid(fault) => Ok(Reply::Refused(fault_line(alloc, &fault)?)),
+            ParseError::Memory(error) => Err(error),
+        },
     }
 }

@@ -10,7 +10,7 @@ use crate::kind::Kind;
 use crate::reply::reply_to;
 use bstr::ByteVec;
 use std::alloc::{AllocError, Global};
-use timefd_bin_streams::transfer::{ReadError, read_all, write_all};
+use timefd_bin_streams::transfer::{TransferError, read_all, write_all};
 use timefd_bin_streams::{Failed, Sink, Source};
 use timefd_parse::NESTING_LIMIT;
 
@@ -75,8 +75,8 @@ pub fn run_within<R: Source, W: Sink>(
 {
     let bytes = match read_all(alloc, reader) {
         Ok(bytes) => bytes,
-        Err(ReadError::Failed) => return RunEnd::ReadFailed,
-        Err(ReadError::Memory) => return RunEnd::Memory,
+        Err(TransferError::Failed) => return RunEnd::ReadFailed,
+        Err(TransferError::Memory) => return RunEnd::Memory,
     };
     let Ok(text) = bytes.into_string() else {
         return RunEnd::NotUtf8;

@@ -14,7 +14,7 @@ pub(crate) struct Condition {
 }
 
 impl Condition {
-    /// That of a source which wasn't called yet.
+    /// The condition of a source that wasn't called yet.
     pub(crate) fn new() -> Condition
         ensures { has_failed result ≡ false }
     {

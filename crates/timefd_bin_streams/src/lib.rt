@@ -7,14 +7,16 @@ mod buffered;
 mod color;
 mod condition;
 mod failed;
+mod in_memory;
 mod sink;
 mod source;
 pub mod transfer;
 mod words;
 
 pub use buffered::{BufferedError, BufferedSource, FromBufReader};
-pub use color::shows_colors;
+pub use color::{Environment, Variables, shows_colors};
 pub use failed::Failed;
+pub use in_memory::InMemory;
 pub use sink::{Sink, ToWriter};
 pub use source::{FromReader, Source};
-pub use words::{WordsError, all_words, borrowed};
+pub use words::{WordsError, borrowed, words_of};

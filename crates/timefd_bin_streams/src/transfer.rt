@@ -12,44 +12,44 @@ const PIECE: usize = 65536;
 
 /// Why a source was not read to its end.
 #[derive(Debug, Clone, Copy, PartialEq, Eq)]
-pub enum ReadError {
+pub enum TransferError {
     /// A read failed.
     Failed,
     /// Memory ran out.
     Memory,
 }
 
-impl From<Failed> for ReadError {
+impl From<Failed> for TransferError {
     ghost use Rattle.std.specs.Prelude.{◌≡◌};
-    ghost use Rattle.timefd_bin_streams.specs.declared.transfer.ReadError.{ReadError};
+    ghost use Rattle.timefd_bin_streams.specs.declared.transfer.TransferError.{TransferError};
 
-    ghost from_gives = { λ _ e. e ≡ ReadError.Failed };
+    ghost from_gives = { λ _ e. e ≡ TransferError.Failed };
 
     fn from(_: Failed) -> Self {
-        ReadError::Failed
+        TransferError::Failed
     }
 }
 
-impl From<AllocError> for ReadError {
+impl From<AllocError> for TransferError {
     ghost use Rattle.std.specs.Prelude.{◌≡◌};
-    ghost use Rattle.timefd_bin_streams.specs.declared.transfer.ReadError.{ReadError};
+    ghost use Rattle.timefd_bin_streams.specs.declared.transfer.TransferError.{TransferError};
 
-    ghost from_gives = { λ _ e. e ≡ ReadError.Memory };
+    ghost from_gives = { λ _ e. e ≡ TransferError.Memory };
 
     fn from(_: AllocError) -> Self {
-        ReadError::Memory
+        TransferError::Memory
     }
 }
 
 /// Reads all bytes that the source has left. Fails if a read does, or if memory runs out.
-pub fn read_all<R: Source>(alloc: Global, source: &mut R) -> Result<Vec<u8>, ReadError>
+pub fn read_all<R: Source>(alloc: Global, source: &mut R) -> Result<Vec<u8>, TransferError>
     ensures bytes { IfOk result (λ all. ReadsAll (R.remaining source.old) (R.remaining source.new)
         all.items) }
     ensures works { OnOk result (IsFalse (R.has_failed source.new)) }
-    ensures fails { IfErr result (λ e. e ≡ ReadError.Failed → IsTrue (R.has_failed source.new)) }
+    ensures fails { IfErr result (λ e. e ≡ TransferError.Failed → IsTrue (R.has_failed source.new)) }
 
     // A source that is known to have nothing left takes no memory.
-    ensures empty { R.remaining source.old ≡ Some [] → IfErr result (λ e. e ≡ ReadError.Failed) }
+    ensures empty { R.remaining source.old ≡ Some [] → IfErr result (λ e. e ≡ TransferError.Failed) }
 {
     let mut all = Vec::new(alloc);
     let mut piece = [0; PIECE];

@@ -2,10 +2,11 @@
 
 ghost use Rattle.std.specs.Prelude.{◌≡◌, IfOk};
 ghost use Rattle.timefd_bin_streams.specs.Words.{bytes_of, borrowed_bytes};
+ghost use Rattle.timefd_bin_streams.specs.CommandLines as spec;
 
 use std::alloc::{AllocError, Global};
 use std::env;
-use std::io::ErrorKind;
+use std::io::{self, ErrorKind};
 
 /// Why the words aren't known.
 #[derive(Clone, Copy)]
@@ -16,19 +17,32 @@ pub enum WordsError {
     NotText,
 }
 
-fn collected(rt: &HostRuntime, args: env::Args) -> Result<Vec<String>, WordsError> {
-    match args.collect(rt.alloc()) {
+// Why the words aren't known, by the system's kind of error.
+fn why(kind: ErrorKind) -> WordsError
+    ensures { result ≡ spec.why kind }
+{
+    match kind {
+        ErrorKind::OutOfMemory => WordsError::Memory,
+        _ => WordsError::NotText,
+    }
+}
+
+fn collected(alloc: Global, words: env::Args) -> Result<Vec<String>, WordsError>
+    ensures { spec.AreCollected words result }
+{
+    match words.collect(alloc) {
         Ok(words) => Ok(words),
         Err(_) => Err(WordsError::Memory),
     }
 }
 
-/// The words of the command line: the program's name, and after it the words that it is given.
-pub fn all_words(rt: &HostRuntime) -> Result<Vec<String>, WordsError> {
-    match env::args(rt) {
-        Ok(args) => collected(rt, args),
-        Err(error) if error.kind() == ErrorKind::OutOfMemory => Err(WordsError::Memory),
-        Err(_) => Err(WordsError::NotText),
+/// The words of the command line, as the system answers them: the program's name, and after it the words that it is given.
+pub fn words_of(alloc: Global, answer: io::Result<env::Args>) -> Result<Vec<String>, WordsError>
+    ensures { spec.AreWords answer result }
+{
+    match answer {
+        Ok(words) => collected(alloc, words),
+        Err(error) => Err(why(error.kind())),
     }
 }
 

@@ -9,9 +9,9 @@ use Rattle.timefd_language.specs.declared.language.Language.TheVariants.{Strftim
 use Rattle.timefd_parse.specs.Language.{FaultIn}
 use Rattle.timefd_language.specs.declared.strftime.piece.StrftimePiece.{StrftimePiece}
 use Rattle.timefd_language.specs.Directives.PieceMeaning.{piece_tree}
-use Rattle.timefd_c_nodes.specs.declared.node.Node.{Node}
+use Rattle.timefd_c_nodes.specs.declared.node.RawNode.{RawNode}
 use Rattle.timefd_c_nodes.specs.Encoding.{literals_of, own_text, texts_of}
-use Rattle.timefd_c_nodes.specs.declared.reading.report.Report.{Report}
+use Rattle.timefd_c_nodes.specs.declared.reading.report.ReadReport.{ReadReport}
 use Rattle.timefd_c_nodes.specs.Reading.Composites.{piece_text}
 use Rattle.timefd_c_nodes.specs.Reading.Pieces.{IsReportOfPieces}
 use Rattle.timefd_c.specs.declared.answer.TheConstants.{ACCEPTED, REFUSED}
@@ -28,7 +28,7 @@ piece_texts : (pieces : List StrftimePiece) → texts_of piece_text pieces ≡ l
 piece_texts [] = refl
 piece_texts (p ∷ pieces) = ap (λ l. own_text (piece_tree p) ++ l) (piece_texts pieces)
 
-pub composites_reported : (bytes : Text) (ns ms : List Node) (a b : Text) (r : Report) → IsUtf8 bytes
+pub composites_reported : (bytes : Text) (ns ms : List RawNode) (a b : Text) (r : ReadReport) → IsUtf8 bytes
     → ((list : List Tree) × SpellsStrftime bytes list × IsReportOfPieces list ns ms a b r)
     → ((list : List Tree) → SpellsStrftime bytes list → IsReportOfPieces list ns ms a b r)
     → ((f : Fault) → FaultIn Strftime nesting_limit bytes f → ⊥)
@@ -59,7 +59,7 @@ composites_reported bytes ns ms a b r utf8 found spelled no_fault =
       memory = λ e. omega (arith, e);
     }
 
-pub composites_faulted : (bytes : Text) (ns ms : List Node) (a b : Text) (f : Fault) → IsUtf8 bytes
+pub composites_faulted : (bytes : Text) (ns ms : List RawNode) (a b : Text) (f : Fault) → IsUtf8 bytes
     → FaultIn Strftime nesting_limit bytes f → ((list : List Tree) → SpellsStrftime bytes list → ⊥)
     → ((g : Fault) → FaultIn Strftime nesting_limit bytes g → f ≡ g) → (bytes ≡ [] → ⊥)
     → ReadsComposites bytes ns ms a b (silent REFUSED f.index)

@@ -5,7 +5,7 @@ use Rattle.timefd_c.specs.NodeDates.{ReadsNodes}
 use Rattle.timefd_c.specs.declared.date_answer.DateAnswer.{DateAnswer}
 use Rattle.timefd_c_nodes.specs.Dates.Shown.{IsShown}
 use Rattle.timefd_c_nodes.specs.Formatting.Nodes.{node_trees}
-use Rattle.timefd_c_nodes.specs.declared.node.Node.{Node}
+use Rattle.timefd_c_nodes.specs.declared.node.RawNode.{RawNode}
 use Rattle.timefd_date_moment.specs.declared.moment.Moment.{Moment}
 use Rattle.timefd_description.specs.ReadAnswers.{IsReadAs, fields_in}
 use Rattle.timefd_description.specs.declared.read_error.ReadTextError.{ReadTextError}
@@ -14,7 +14,7 @@ use Rattle.timefd_lang_component.specs.Tree.{Text, Tree}
 use Rattle.timefd_lang_node_list.specs.LeafMeaning.{leaf_tree}
 use Rattle.timefd_lang_node_list.specs.declared.leaves.Leaf.{Leaf}
 
-pub read_at_once : (nodes : List Node) (literals date : Text) (m : Moment) (answer : DateAnswer)
+pub read_at_once : (nodes : List RawNode) (literals date : Text) (m : Moment) (answer : DateAnswer)
     → IsShown nodes literals date m → IsRead m answer → ReadsNodes nodes literals date answer
 read_at_once nodes literals date m answer shown read =
     let answered : Result Moment ReadTextError = Ok m in

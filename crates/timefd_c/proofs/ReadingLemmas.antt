@@ -9,10 +9,10 @@ use Rattle.timefd_c_nodes.proofs.DecodeLemmas.{trees_back, tree_back}
 use Rattle.timefd_lang_fault.specs.Faults.{Fault}
 use Rattle.timefd_language.specs.declared.language.Language.{Language}
 use Rattle.timefd_parse.specs.Language.{SpellsIn, FaultIn}
-use Rattle.timefd_c_nodes.specs.declared.node.Node.{Node}
+use Rattle.timefd_c_nodes.specs.declared.node.RawNode.{RawNode}
 use Rattle.timefd_c.specs.declared.answer.TheConstants.{ACCEPTED, REFUSED}
 use Rattle.timefd_c.specs.declared.answer.ReadAnswer.{ReadAnswer}
-use Rattle.timefd_c_nodes.specs.declared.reading.report.Report.{Report}
+use Rattle.timefd_c_nodes.specs.declared.reading.report.ReadReport.{ReadReport}
 use Rattle.timefd_language.specs.declared.description_version.DescriptionVersion.TheVariants.{One, Two, Three}
 use Rattle.timefd_language.specs.declared.language.Language.TheVariants.{Version, Strftime}
 use Rattle.timefd_language.proofs.Reserved.{reserves_within_law}
@@ -21,10 +21,10 @@ use Rattle.timefd_c.proofs.LongestLemmas.{is_longest, three_reserved}
 use Rattle.timefd_c.proofs.RoomLemmas.{nodes_within, literals_within}
 use Rattle.timefd_c.specs.Answers.{DescribesWithin}
 use Rattle.timefd_c_nodes.specs.Reading.Reports.{IsReport, parts, tops}
-use Rattle.timefd_c.specs.Reading.{Reads, Tells}
+use Rattle.timefd_c.specs.Reading.{Reads, Gives}
 use Rattle.timefd_c.proofs.AnswerLemmas as answers
 
-abbrev pub reported : Report → ReadAnswer
+abbrev pub reported : ReadReport → ReadAnswer
 reported r = record {
   status = ACCEPTED;
   value = r.value;
@@ -80,7 +80,7 @@ parts_back (Version Three) limit bytes list spelled =
 parts_back Strftime limit bytes list spelled = trees_back list (strftime_modernity_law bytes list spelled)
 
 -- the fronts of the buffers are what was written
-fronts_back : (ts : List Tree) (ns ms : List Node) (a b : Text) (nodes literals : ℕ)
+fronts_back : (ts : List Tree) (ns ms : List RawNode) (a b : Text) (nodes literals : ℕ)
     → nodes ≡ length ts → literals ≡ length (literals_of ts)
     → ms ≡ nodes_from 0 0 ts ++ drop (length ts) ns
     → b ≡ literals_of ts ++ drop (length (literals_of ts)) a
@@ -94,7 +94,7 @@ fronts_back ts ns ms a b nodes literals n l m k =
     take-append_seam (nodes_from 0 0 ts) (drop (length ts) ns))
 
 read_back_of : (language : Language) (limit : ℕ) (bytes : Text) (list : List Tree)
-    (ns ms : List Node) (a b : Text) (r : Report) → SpellsIn language limit bytes list
+    (ns ms : List RawNode) (a b : Text) (r : ReadReport) → SpellsIn language limit bytes list
     → IsReport language list ns ms a b r → IsTrue r.written
     → read_nodes (take r.literals b) (take r.nodes ms) ≡ Some (tops language list)
 read_back_of language limit bytes list ns ms a b r spelled report written =
@@ -102,8 +102,8 @@ read_back_of language limit bytes list ns ms a b r spelled report written =
     (report.nodes_written written) (report.literals_written written)
     ∙ parts_back language limit bytes list spelled
 
-pub nodes_reported : (language : Language) (limit : ℕ) (bytes : Text) (ns ms : List Node) (a b : Text)
-    (r : Report) → IsUtf8 bytes
+pub nodes_reported : (language : Language) (limit : ℕ) (bytes : Text) (ns ms : List RawNode) (a b : Text)
+    (r : ReadReport) → IsUtf8 bytes
     → ((list : List Tree) × SpellsIn language limit bytes list
     × IsReport language list ns ms a b r)
     → ((list : List Tree) → SpellsIn language limit bytes list
@@ -113,7 +113,7 @@ pub nodes_reported : (language : Language) (limit : ℕ) (bytes : Text) (ns ms :
 nodes_reported language limit bytes ns ms a b r utf8 found spelled no_fault = record {
   answers = answers.accepting (Some language) limit bytes (List Tree)
       (DescribesWithin (Some language) limit bytes)
-      (λ list. Tells (Some language) list ns ms a b (reported r)) (answers.some_not_none language)
+      (λ list. Gives (Some language) list ns ms a b (reported r)) (answers.some_not_none language)
       r.value utf8 found.0 (utf8, found.1) (λ list d. spelled list d.1)
       (λ f h. no_fault f h.1);
   read = λ e written list d. read_back_of language limit bytes list ns ms a b r d.1
@@ -133,7 +133,7 @@ nodes_reported language limit bytes ns ms a b r utf8 found spelled no_fault = re
 }
 
 -- a text with a fault; the answer has the status and the index
-pub faulted : (language : Language) (limit : ℕ) (bytes : Text) (ns ms : List Node) (a b : Text)
+pub faulted : (language : Language) (limit : ℕ) (bytes : Text) (ns ms : List RawNode) (a b : Text)
     (f : Fault) → IsUtf8 bytes → FaultIn language limit bytes f
     → ((list : List Tree) → SpellsIn language limit bytes list → ⊥)
     → ((g : Fault) → FaultIn language limit bytes g → f ≡ g) → (bytes ≡ [] → ⊥)
@@ -141,7 +141,7 @@ pub faulted : (language : Language) (limit : ℕ) (bytes : Text) (ns ms : List N
 faulted language limit bytes ns ms a b f utf8 has not_spelled one not_empty = record {
   answers = answers.refusing (Some language) limit bytes (List Tree)
       (DescribesWithin (Some language) limit bytes)
-      (λ list. Tells (Some language) list ns ms a b (silent REFUSED f.index))
+      (λ list. Gives (Some language) list ns ms a b (silent REFUSED f.index))
       (answers.some_not_none language) f (utf8, has) (λ list d. not_spelled list d.1)
       (λ g h. one g h.1) (λ some nil. not_empty nil);
   read = λ e. absurd (not_accepted e);

@@ -9,8 +9,8 @@ use Rattle.timefd_parse.proofs.AmountLemmas.{short_in}
 use Rattle.timefd_lang_component.specs.Tree.{Text, Tree}
 use Rattle.timefd_language.specs.declared.language.Language.{Language}
 use Rattle.timefd_parse.specs.Language.{takes_memory}
-use Rattle.timefd_c.specs.declared.verdict.Verdict.{Verdict}
-use Rattle.timefd_c.specs.declared.verdict.Verdict.TheVariants.{Accepted, Refused, NotUtf8, NoMemory, UnknownKind}
+use Rattle.timefd_c.specs.declared.verdict.TextVerdict.{TextVerdict}
+use Rattle.timefd_c.specs.declared.verdict.TextVerdict.TheVariants.{Accepted, Refused, NotUtf8, NoMemory, UnknownKind}
 use Rattle.timefd_c.specs.Answers.{Judges, Describes, Counts, answer_of, plain}
 use Rattle.timefd_c.specs.declared.answer.TheConstants.{ACCEPTED, REFUSED, NOT_UTF8, NO_MEMORY, UNKNOWN_KIND}
 use Rattle.timefd_c.proofs.AnswerLemmas as answers
@@ -22,7 +22,7 @@ pub refusal : (language : Option Language) (bytes : Text) (f : BorrowedFault) (l
     → Says language bytes (Refused f)
     → ((list : List Tree) → IsUtf8 bytes → SpellsIn language bytes list → ⊥)
     → ((g : Fault) → IsUtf8 bytes → FaultIn language bytes g → to_borrowed_fault f ≡ g)
-    → (language ≡ None → ◌≡◌ {A = Verdict} (Refused f) UnknownKind)
+    → (language ≡ None → ◌≡◌ {A = TextVerdict} (Refused f) UnknownKind)
     → (IsSome language → bytes ≡ [] → ⊥)
     → Judges language bytes
     (record { status = REFUSED; value = f.start; sentence_len = len; written = written })
@@ -35,7 +35,7 @@ refusal language bytes f len written says spelled faulty no_language empty = rec
   memory = λ l is lax status. omega (arith, status);
 }
 
-pub judged : (language : Option Language) (bytes : Text) (v : Verdict) → Says language bytes v
+pub judged : (language : Option Language) (bytes : Text) (v : TextVerdict) → Says language bytes v
     → ((list : List Tree) → IsUtf8 bytes → SpellsIn language bytes list
     → Accepts (amount language list) v)
     → ((f : Fault) → IsUtf8 bytes → FaultIn language bytes f → Refuses f v)
@@ -75,11 +75,11 @@ judged language bytes UnknownKind says spelled faulty no_text no_language empty 
   memory = λ l is lax status. omega (arith, status);
 }
 
-refused_same : (f g : BorrowedFault) → ◌≡◌ {A = Verdict} (Refused f) (Refused g) → f ≡ g
+refused_same : (f g : BorrowedFault) → ◌≡◌ {A = TextVerdict} (Refused f) (Refused g) → f ≡ g
 refused_same f g same = cc
 
 -- A fault that was found has short words, so its sentence can be written.
-pub refused_short : (language : Option Language) (bytes : Text) (v : Verdict) (f : BorrowedFault)
+pub refused_short : (language : Option Language) (bytes : Text) (v : TextVerdict) (f : BorrowedFault)
     → v ≡ Refused f → Says language bytes v → HasShortWords (rule_kind f.rule)
 refused_short (Some language) bytes (Refused g) f same says =
     subst (λ (b : BorrowedFault). HasShortWords (rule_kind b.rule)) (refused_same g f same)

@@ -14,7 +14,7 @@ use Rattle.timefd_parse.specs.Language.{FaultIn, SpellsIn, amount}
 use Rattle.timefd_lang_warnings.specs.declared.levels.Level.{Level}
 use Rattle.timefd_lang_warnings.specs.declared.levels.Level.TheVariants.{Allowed, Warned}
 use Rattle.timefd_lang_warnings.specs.declared.levels.Levels.{Levels}
-use Rattle.timefd_lang_warnings.specs.declared.warned.Style.{Style}
+use Rattle.timefd_lang_warnings.specs.declared.warned.LanguageStyle.{LanguageStyle}
 use Rattle.timefd_lang_warnings.specs.declared.warning.Warning.{Warning}
 use Rattle.timefd_lang_warnings.specs.declared.warning.Warning.TheVariants.{NoComponent, OtherLanguage, MonthForMinute, MinuteForMonth, HourWithoutPeriod, PeriodWithHour24, SubsecondWithoutSecond, WeekWithCalendarYear, DateWithIsoYear, ShownTwice, UndeterminedDate, UnsettledWidth, UnsettledYear, DeprecatedComponent}
 use Rattle.timefd_lang_warnings.specs.Codes.{all}
@@ -47,7 +47,7 @@ one_more p w ws len level true nodes_reported has warned are =
 one_more p w ws len level false nodes_reported has warned are = rw has are
 
 -- What is found in parts, all at one level, are the warnings that the parts have.
-reported_as_found : (style : Style) (ts : List Tree) (len : ℕ) (ws : List Warning)
+reported_as_found : (style : LanguageStyle) (ts : List Tree) (len : ℕ) (ws : List Warning)
     → reported_of (found (all_at Warned) style ts) len ws
     ≡ map (fields_of len) (filter (λ w. warns style w ts) ws)
 reported_as_found style ts len [] = refl

@@ -9,9 +9,9 @@ use Rattle.timefd_language.specs.declared.language.Language.{Language}
 use Rattle.timefd_parse.specs.Language.{takes_memory}
 use Rattle.timefd_lang_fault.specs.Sentences.{sentence}
 use Rattle.timefd_c.specs.declared.answer.TheConstants.{ACCEPTED, REFUSED, NOT_UTF8, NO_MEMORY, UNKNOWN_KIND}
-use Rattle.timefd_c.specs.declared.answer.Answer.{Answer}
-use Rattle.timefd_c.specs.declared.verdict.Verdict.{Verdict}
-use Rattle.timefd_c.specs.declared.verdict.Verdict.TheVariants.{Accepted, Refused, NotUtf8, NoMemory, UnknownKind}
+use Rattle.timefd_c.specs.declared.answer.TextAnswer.{TextAnswer}
+use Rattle.timefd_c.specs.declared.verdict.TextVerdict.{TextVerdict}
+use Rattle.timefd_c.specs.declared.verdict.TextVerdict.TheVariants.{Accepted, Refused, NotUtf8, NoMemory, UnknownKind}
 use Rattle.timefd_language.specs.Grammar.{nesting_limit}
 use Rattle.timefd_c.specs.Languages.{SpellsWithin, FaultWithin, amount}
 
@@ -56,11 +56,11 @@ pub record IsAnswer (language : Option Language) (limit : ℕ) (bytes : Text) (X
   pub no_value : status ≢ ACCEPTED → status ≢ REFUSED → value ≡ 0
 
 -- The value counts what the list has.
-abbrev pub Counts : Option Language → Answer → List Tree → Type 0
+abbrev pub Counts : Option Language → TextAnswer → List Tree → Type 0
 Counts language answer list = answer.value ≡ amount language list
 
 -- The answer says what the bytes are in the language, if there is one, and how much they hold.
-pub record Judges (language : Option Language) (bytes : Text) (answer : Answer) : Type 0 where
+pub record Judges (language : Option Language) (bytes : Text) (answer : TextAnswer) : Type 0 where
   pub answers : IsAnswer language nesting_limit bytes (List Tree) (Describes language bytes)
       (Counts language answer) answer.status answer.value
   -- Versions 1 and 2 and strftime take no memory.
@@ -68,15 +68,15 @@ pub record Judges (language : Option Language) (bytes : Text) (answer : Answer) 
       → answer.status ≢ NO_MEMORY
 
 -- If the answer is a refusal, this holds for the sentence of the fault.
-abbrev pub IfRefused : Option Language → Text → Answer → (Text → Type 0) → Type 0
+abbrev pub IfRefused : Option Language → Text → TextAnswer → (Text → Type 0) → Type 0
 IfRefused language bytes answer P =
     answer.status ≡ REFUSED → (f : Fault) → HasFault language bytes f → P (sentence f)
 
 -- the answer with this status and value, without a sentence
-abbrev pub plain : ℕ → ℕ → Answer
+abbrev pub plain : ℕ → ℕ → TextAnswer
 plain status value = record { status = status; value = value; sentence_len = 0; written = 0 }
 
-abbrev pub answer_of : Verdict → Answer
+abbrev pub answer_of : TextVerdict → TextAnswer
 answer_of (Accepted value) = plain ACCEPTED value
 answer_of (Refused f) = plain REFUSED f.start
 answer_of NotUtf8 = plain NOT_UTF8 0
@@ -84,6 +84,6 @@ answer_of NoMemory = plain NO_MEMORY 0
 answer_of UnknownKind = plain UNKNOWN_KIND 0
 
 -- the answer for a text that was not converted because of this error
-abbrev pub error_answer : BorrowedParseError → Answer
+abbrev pub error_answer : BorrowedParseError → TextAnswer
 error_answer (errors.Invalid f) = plain REFUSED f.start
 error_answer (errors.Memory e) = plain NO_MEMORY 0

@@ -3,7 +3,7 @@ use Rattle.std.specs.Prelude.{◌≡◌, ◌≢◌, ◌≤◌, IsFalse, List, So
 use Rattle.timefd_lang_component.specs.Tree.{Text, Tree}
 use Rattle.timefd_language.specs.Grammar.{nesting_limit}
 use Rattle.timefd_language.specs.declared.language.Language.TheVariants.{Strftime}
-use Rattle.timefd_c_nodes.specs.declared.node.Node.{Node}
+use Rattle.timefd_c_nodes.specs.declared.node.RawNode.{RawNode}
 use Rattle.timefd_c_nodes.specs.Reading.Pieces.{IsReportOfPieces}
 use Rattle.timefd_c.specs.declared.answer.TheConstants.{ACCEPTED, NO_MEMORY, REFUSED}
 use Rattle.timefd_c.specs.declared.answer.ReadAnswer.{ReadAnswer}
@@ -12,7 +12,7 @@ use Rattle.timefd_c.specs.Reading.{IsLongest, report_in}
 
 -- The answer says what the bytes are as a text of strftime, and what was written to the buffers, which held
 -- `nodes_before` and `before` and hold `nodes_after` and `after`: each item is one node.
-pub record ReadsComposites (bytes : Text) (nodes_before nodes_after : List Node) (before after : Text)
+pub record ReadsComposites (bytes : Text) (nodes_before nodes_after : List RawNode) (before after : Text)
     (answer : ReadAnswer) : Type 0 where
   pub answers : IsAnswer (Some Strftime) nesting_limit bytes (List Tree) (Describes (Some Strftime) bytes)
       (λ list. IsReportOfPieces list nodes_before nodes_after before after (report_in answer))

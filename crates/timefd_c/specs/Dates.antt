@@ -3,7 +3,7 @@ use Rattle.std.specs.Prelude.{ℕ, ◌≡◌, IsSome, IsUtf8, List, Option, None
 use Rattle.timefd_c.specs.declared.answer.TheConstants.{ACCEPTED, REFUSED, NOT_UTF8, NO_MEMORY, UNKNOWN_KIND}
 use Rattle.timefd_c.specs.declared.date_answer.DateAnswer.{DateAnswer}
 use Rattle.timefd_c.specs.declared.date_answer.TheConstants.{UNREAD, CONTRADICTION, MISSING, DATE_NOT_UTF8}
-use Rattle.timefd_c.specs.Answers.{Describes, HasFault}
+use Rattle.timefd_c.specs.Answers.{DescribesWithin, HasFaultWithin}
 use Rattle.timefd_c.specs.Moments.{AreNumbers, IsMoment, range_fault, unknown}
 use Rattle.timefd_c_nodes.specs.Encoding.{component_node}
 use Rattle.timefd_lang_component.specs.Tree.{Text, Tree}
@@ -11,8 +11,8 @@ use Rattle.timefd_lang_fault.specs.Faults.{Fault}
 use Rattle.timefd_date_moment.specs.declared.moment.Moment.{Moment}
 use Rattle.timefd_language.specs.declared.language.Language.{Language}
 use Rattle.timefd_date_moment.specs.declared.fields.fault.ReadError.{ReadError}
-use Rattle.timefd_date_moment.specs.declared.fields.fault.Reason.{Reason}
-use Rattle.timefd_date_moment.specs.declared.fields.fault.Reason.TheVariants as for
+use Rattle.timefd_date_moment.specs.declared.fields.fault.UnreadReason.{UnreadReason}
+use Rattle.timefd_date_moment.specs.declared.fields.fault.UnreadReason.TheVariants as for
 use Rattle.timefd_date_moment.specs.declared.reading.error.ValueError.{ValueError}
 use Rattle.timefd_date_moment.specs.declared.reading.error.ValueError.TheVariants as error
 use Rattle.timefd_date_moment.specs.declared.reading.part.DatePart.{DatePart}
@@ -26,14 +26,14 @@ use Rattle.timefd_description.specs.declared.read_error.ReadTextError.{ReadTextE
 use Rattle.timefd_description.specs.declared.read_error.ReadTextError.TheVariants as fails
 
 -- the number of the reason why a part doesn't match
-abbrev pub reason_number : Reason → ℕ
+abbrev pub reason_number : UnreadReason → ℕ
 reason_number (for.Unread c) = 1
 reason_number (for.Contradiction c) = 2
 reason_number for.Literal = 3
 reason_number for.Trailing = 4
 
 -- the number of the component that doesn't match, or 0 if it is no component
-abbrev pub component_in : Reason → ℕ
+abbrev pub component_in : UnreadReason → ℕ
 component_in (for.Unread c) = (component_node c 0).component
 component_in (for.Contradiction c) = (component_node c 0).component
 component_in for.Literal = 0
@@ -123,13 +123,15 @@ ReadsBy list date answer =
     (read : Result Moment ReadTextError) × IsReadAs (fields_in list date) read
     × Answers read answer
 
--- The answer says what the date shows by a description in the language, or why it shows nothing.
-pub record ReadsDate (language : Option Language) (bytes date : Text) (answer : DateAnswer) : Type 0 where
+-- The answer says what the date shows by a description in the language, with at most `limit` nested descriptions
+-- around one another, or why it shows nothing.
+pub record ReadsDate (language : Option Language) (limit : ℕ) (bytes date : Text) (answer : DateAnswer)
+    : Type 0 where
   pub unknown_kind : language ≡ None → answer ≡ silent UNKNOWN_KIND 0
   pub not_utf8 : IsSome language → ¬ (IsUtf8 bytes) → answer ≡ silent NOT_UTF8 0
   pub date_not_utf8 : IsSome language → IsUtf8 bytes → ¬ (IsUtf8 date)
       → answer ≡ silent DATE_NOT_UTF8 0
-  pub faulty : IsUtf8 date → (f : Fault) → HasFault language bytes f
+  pub faulty : IsUtf8 date → (f : Fault) → HasFaultWithin language limit bytes f
       → answer ≡ silent REFUSED f.index
-  pub spelled : IsUtf8 date → (list : List Tree) → Describes language bytes list
+  pub spelled : IsUtf8 date → (list : List Tree) → DescribesWithin language limit bytes list
       → ReadsBy list date answer

@@ -3,7 +3,7 @@ use Rattle.std.specs.Prelude.{ℕ, ◌≡◌, ◌+◌, ◌≤◌, List, Some, No
 use Rattle.timefd_c.specs.declared.answer.TheConstants.{ACCEPTED}
 use Rattle.timefd_c.specs.declared.format_answer.FormatAnswer.{FormatAnswer}
 use Rattle.timefd_c.specs.Formats.{silent}
-use Rattle.timefd_c_nodes.specs.declared.node.Node.{Node}
+use Rattle.timefd_c_nodes.specs.declared.node.RawNode.{RawNode}
 use Rattle.timefd_c_nodes.specs.Formatting.Forward.{role_text}
 use Rattle.timefd_c_nodes.specs.Formatting.Nodes.{node_fault, node_trees}
 use Rattle.timefd_c_nodes.specs.Formatting.Parts.{role_in}
@@ -26,7 +26,7 @@ abbrev pub IsTextAppended : Text → Text → ℕ → Text → ℕ → Type 0
 IsTextAppended bytes old at new len = TriesToAppend (Ok bytes) old at new (Some (at + len))
 
 -- The node has no members, and what it shows was appended: so many bytes.
-pub record IsLeafAppended (m : Moment) (literals : Text) (n : Node) (old : Text) (at : ℕ) (new : Text) (len : ℕ)
+pub record IsLeafAppended (m : Moment) (literals : Text) (n : RawNode) (old : Text) (at : ℕ) (new : Text) (len : ℕ)
     : Type 0 where
   pub role : Role
   pub is : role_in literals n ≡ Some role
@@ -34,7 +34,7 @@ pub record IsLeafAppended (m : Moment) (literals : Text) (n : Node) (old : Text)
   pub puts : TriesToAppend (role_text m role) old at new (Some (at + len))
 
 -- The nodes are a description, and what they show is the front of the room.
-pub record IsWhole (m : Moment) (literals : Text) (nodes : List Node) (room : Text) (end : ℕ) : Type 0 where
+pub record IsWhole (m : Moment) (literals : Text) (nodes : List RawNode) (room : Text) (end : ℕ) : Type 0 where
   pub sound : node_fault literals nodes ≡ None
   pub shows : written_all m (trees (node_trees literals nodes)) ≡ Ok (take end room)
   pub within : end ≤ length room

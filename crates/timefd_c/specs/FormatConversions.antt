@@ -7,7 +7,7 @@ use Rattle.timefd_lang_dialect.specs.declared.dialect.Dialect.{Dialect}
 use Rattle.timefd_lang_dialect.specs.declared.dialect.Dialect.TheVariants as dialects
 use Rattle.timefd_lang_dialect.specs.declared.error.DialectError.{DialectError}
 use Rattle.timefd_lang_dialect.specs.declared.error.DialectError.TheVariants.{Refused, Memory}
-use Rattle.timefd_lang_dialect.specs.declared.error.Refusal.{Refusal}
+use Rattle.timefd_lang_dialect.specs.declared.error.RefusedPart.{RefusedPart}
 use Rattle.timefd_lang_dialect.specs.declared.reading.Converted.{Converted}
 use Rattle.timefd_c.specs.declared.answer.TheConstants.{ACCEPTED, REFUSED, NOT_UTF8, NO_MEMORY, UNKNOWN_KIND}
 use Rattle.timefd_c.specs.declared.convert_answer.ConvertAnswer.{ConvertAnswer}
@@ -40,7 +40,7 @@ silent status value =
     }
 
 -- the answer if a part of the format has no text of version 3
-abbrev pub refused_answer : Refusal → ConvertAnswer
+abbrev pub refused_answer : RefusedPart → ConvertAnswer
 refused_answer refusal =
     record (silent REFUSED refusal.index) { reason = reason_number refusal.reason }
 
@@ -65,13 +65,13 @@ abbrev pub IsSilent : ConvertAnswer → Text → Text → ConvertAnswer → Type
 IsSilent wanted before after answer = (answer ≡ wanted) × (after ≡ before)
 
 -- The answer reports the result of the conversion.
-abbrev pub Tells : Result Converted DialectError → Text → Text → ConvertAnswer → Type 0
-Tells (Ok converted) before after answer =
+abbrev pub Gives : Result Converted DialectError → Text → Text → ConvertAnswer → Type 0
+Gives (Ok converted) before after answer =
     (answer ≡ converted_answer converted answer.written)
     × IsWrittenWhole (string_bytes converted.text) before after answer.written
-Tells (Err (Refused refusal)) before after answer =
+Gives (Err (Refused refusal)) before after answer =
     IsSilent (refused_answer refusal) before after answer
-Tells (Err (Memory e)) before after answer = IsSilent (silent NO_MEMORY 0) before after answer
+Gives (Err (Memory e)) before after answer = IsSilent (silent NO_MEMORY 0) before after answer
 
 -- The result of a conversion is the text that the format means, with its items, or why it has none.
 abbrev pub IsFound : Dialect → Text → Result Converted DialectError → Type 0
@@ -84,7 +84,7 @@ pub record ConvertsBytes (dialect : Dialect) (bytes before after : Text) (answer
     : Type 0 where
   pub not_utf8 : ¬ (IsUtf8 bytes) → IsSilent (silent NOT_UTF8 0) before after answer
   pub text : IsUtf8 bytes → (found : Result Converted DialectError) × IsFound dialect bytes found
-      × Tells found before after answer
+      × Gives found before after answer
 
 -- The answer if a dialect has the number, or if none has.
 abbrev pub ConvertsFormat : Option Dialect → Text → Text → Text → ConvertAnswer → Type 0

@@ -4,7 +4,7 @@ use Rattle.timefd_c.specs.declared.answer.TheConstants.{ACCEPTED, REFUSED, NOT_U
 use Rattle.timefd_c.specs.declared.format_answer.FormatAnswer.{FormatAnswer}
 use Rattle.timefd_c.specs.declared.format_answer.TheConstants.{UNSHOWN, OUT_OF_RANGE}
 use Rattle.timefd_c.specs.declared.moment.MomentFields.{MomentFields}
-use Rattle.timefd_c.specs.Answers.{Describes, HasFault}
+use Rattle.timefd_c.specs.Answers.{DescribesWithin, HasFaultWithin}
 use Rattle.timefd_c.specs.Moments.{IsMoment, range_fault}
 use Rattle.timefd_c_nodes.specs.Encoding.{component_node}
 use Rattle.timefd_lang_component.specs.Tree.{Text, Tree, trees}
@@ -70,22 +70,22 @@ abbrev pub Shows : Result Text Unshown → Text → Text → FormatAnswer → Ty
 Shows (Ok text) before after answer = IsReported text before after answer ⊎ (answer ≡ silent NO_MEMORY 0)
 Shows (Err u) before after answer = (answer ≡ unshown_answer u) ⊎ (answer ≡ silent NO_MEMORY 0)
 
--- The answer says what the bytes, as a text of the language, write of the moment, or why they write
--- nothing. The buffer held `before` and holds `after`.
-pub record FormatsBy (language : Option Language) (bytes : Text) (m : Moment) (before after : Text)
-    (answer : FormatAnswer) : Type 0 where
+-- The answer says what the bytes, as a text of the language with at most `limit` nested descriptions around one
+-- another, write of the moment, or why they write nothing. The buffer held `before` and holds `after`.
+pub record FormatsBy (language : Option Language) (limit : ℕ) (bytes : Text) (m : Moment)
+    (before after : Text) (answer : FormatAnswer) : Type 0 where
   pub unknown_kind : language ≡ None → answer ≡ silent UNKNOWN_KIND 0
   pub not_utf8 : IsSome language → ¬ (IsUtf8 bytes) → answer ≡ silent NOT_UTF8 0
-  pub faulty : (f : Fault) → HasFault language bytes f → answer ≡ silent REFUSED f.index
-  pub spelled : (list : List Tree) → Describes language bytes list
+  pub faulty : (f : Fault) → HasFaultWithin language limit bytes f → answer ≡ silent REFUSED f.index
+  pub spelled : (list : List Tree) → DescribesWithin language limit bytes list
       → Shows (written_all m (trees list)) before after answer
   pub kept : answer.status ≢ ACCEPTED → after ≡ before
 
 -- The answer says what the text writes of the moment with these numbers. If one of them is out of its
 -- range, the answer says so, whatever the text is.
-pub record Formats (language : Option Language) (bytes : Text) (fields : MomentFields)
+pub record Formats (language : Option Language) (limit : ℕ) (bytes : Text) (fields : MomentFields)
     (before after : Text) (answer : FormatAnswer) : Type 0 where
   pub out_of_range : (e : ComponentRange) → range_fault fields ≡ Some e
       → (answer ≡ range_answer e) × (after ≡ before)
   pub formats : range_fault fields ≡ None
-      → (m : Moment) × IsMoment fields m × FormatsBy language bytes m before after answer
+      → (m : Moment) × IsMoment fields m × FormatsBy language limit bytes m before after answer

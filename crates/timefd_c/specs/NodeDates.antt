@@ -9,16 +9,16 @@ use Rattle.timefd_c.specs.declared.format_answer.TheConstants.{NO_DESCRIPTION}
 use Rattle.timefd_c_nodes.specs.Formatting.Literals.{is_text}
 use Rattle.timefd_c_nodes.specs.Formatting.Nodes.{node_fault, node_trees}
 use Rattle.timefd_c_nodes.specs.Formatting.Parts.{role_in}
-use Rattle.timefd_c_nodes.specs.declared.node.Node.{Node}
+use Rattle.timefd_c_nodes.specs.declared.node.RawNode.{RawNode}
 use Rattle.timefd_lang_component.specs.Tree.{Text}
 
 -- whether each literal of nodes is UTF-8 by itself
-abbrev pub are_texts : Text → List Node → Bool
+abbrev pub are_texts : Text → List RawNode → Bool
 are_texts literals nodes = list_all (λ n. is_text (role_in literals n)) nodes
 
 -- The answer says what the date shows by the nodes, or which node is not part of a description, or that a
 -- literal or the date isn't UTF-8.
-pub record ReadsNodes (nodes : List Node) (literals date : Text) (answer : DateAnswer) : Type 0 where
+pub record ReadsNodes (nodes : List RawNode) (literals date : Text) (answer : DateAnswer) : Type 0 where
   pub no_description : (at : ℕ) → node_fault literals nodes ≡ Some at → answer ≡ silent NO_DESCRIPTION at
   pub not_utf8 : node_fault literals nodes ≡ None → are_texts literals nodes ≡ false
       → answer ≡ silent NOT_UTF8 0

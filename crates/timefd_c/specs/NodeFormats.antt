@@ -7,7 +7,7 @@ use Rattle.timefd_c.specs.declared.moment.MomentFields.{MomentFields}
 use Rattle.timefd_c.specs.Formats.{range_answer, silent, unshown_answer}
 use Rattle.timefd_c.specs.Moments.{IsMoment, range_fault}
 use Rattle.timefd_c_nodes.specs.Formatting.Nodes.{node_fault, node_trees}
-use Rattle.timefd_c_nodes.specs.declared.node.Node.{Node}
+use Rattle.timefd_c_nodes.specs.declared.node.RawNode.{RawNode}
 use Rattle.timefd_lang_component.specs.Tree.{Text, trees}
 use Rattle.timefd_date_format.specs.declared.unshown.Unshown.{Unshown}
 use Rattle.timefd_date_format.specs.Written.{written_all}
@@ -30,7 +30,7 @@ ShowsBy (Err u) before after answer = (answer ≡ unshown_answer u) × (after �
 
 -- The answer says what the nodes write of the moment, or which node is not part of a description. The
 -- buffer held `before` and holds `after`.
-pub record FormatsNodesBy (nodes : List Node) (literals : Text) (m : Moment) (before after : Text)
+pub record FormatsNodesBy (nodes : List RawNode) (literals : Text) (m : Moment) (before after : Text)
     (answer : FormatAnswer) : Type 0 where
   pub no_description : (at : ℕ) → node_fault literals nodes ≡ Some at
       → (answer ≡ silent NO_DESCRIPTION at) × (after ≡ before)
@@ -41,7 +41,7 @@ pub record FormatsNodesBy (nodes : List Node) (literals : Text) (m : Moment) (be
 
 -- The answer says what the nodes write of the moment with these numbers. If one of them is out of its
 -- range, the answer says so, whatever the nodes are.
-pub record FormatsNodes (nodes : List Node) (literals : Text) (fields : MomentFields)
+pub record FormatsNodes (nodes : List RawNode) (literals : Text) (fields : MomentFields)
     (before after : Text) (answer : FormatAnswer) : Type 0 where
   pub out_of_range : (e : ComponentRange) → range_fault fields ≡ Some e
       → (answer ≡ range_answer e) × (after ≡ before)

@@ -5,16 +5,16 @@ use Rattle.timefd_lang_component.specs.Tree.{Text, Tree, trees}
 use Rattle.timefd_language.specs.declared.description_version.DescriptionVersion.TheVariants.{One, Two, Three}
 use Rattle.timefd_language.specs.declared.language.Language.{Language}
 use Rattle.timefd_language.specs.declared.language.Language.TheVariants.{Version, Strftime}
-use Rattle.timefd_c_nodes.specs.declared.node.Node.{Node}
+use Rattle.timefd_c_nodes.specs.declared.node.RawNode.{RawNode}
 use Rattle.timefd_c.specs.declared.answer.TheConstants.{ACCEPTED, NO_MEMORY, REFUSED}
 use Rattle.timefd_c.specs.declared.answer.ReadAnswer.{ReadAnswer}
-use Rattle.timefd_c_nodes.specs.declared.reading.report.Report.{Report}
+use Rattle.timefd_c_nodes.specs.declared.reading.report.ReadReport.{ReadReport}
 use Rattle.timefd_c.specs.Answers.{DescribesWithin, IsAnswer}
 use Rattle.timefd_c_nodes.specs.Decoding.{read_nodes}
 use Rattle.timefd_c_nodes.specs.Reading.Reports.{IsReport, TakesNone, tops}
 
 -- what the answer reports
-abbrev pub report_in : ReadAnswer → Report
+abbrev pub report_in : ReadAnswer → ReadReport
 report_in answer =
     record {
       value = answer.value;
@@ -26,14 +26,14 @@ report_in answer =
     }
 
 -- The answer reports the list. If both buffers have room, they begin with its nodes and literals.
-abbrev pub Tells : Option Language → List Tree → List Node → List Node → Text → Text → ReadAnswer
+abbrev pub Gives : Option Language → List Tree → List RawNode → List RawNode → Text → Text → ReadAnswer
     → Type 0
-Tells (Some language) list nodes_before nodes_after before after answer =
+Gives (Some language) list nodes_before nodes_after before after answer =
     IsReport language list nodes_before nodes_after before after (report_in answer)
-Tells None list nodes_before nodes_after before after answer = ⊥
+Gives None list nodes_before nodes_after before after answer = ⊥
 
 -- The written nodes, with the written literals, read as the list.
-abbrev pub ReadAs : Option Language → List Tree → List Node → Text → ReadAnswer → Type 0
+abbrev pub ReadAs : Option Language → List Tree → List RawNode → Text → ReadAnswer → Type 0
 ReadAs (Some language) list nodes literals answer =
     read_nodes (take answer.literals literals) (take answer.nodes nodes) ≡ Some (tops language list)
 ReadAs None list nodes literals answer = ⊥
@@ -64,9 +64,9 @@ pub record IsLongest (list : List Tree) (bytes : ℕ) : Type 0 where
 -- descriptions around one another, and what was written to the buffers, which held `nodes_before` and
 -- `before` and hold `nodes_after` and `after`.
 pub record Reads (language : Option Language) (limit : ℕ) (bytes : Text)
-    (nodes_before nodes_after : List Node) (before after : Text) (answer : ReadAnswer) : Type 0 where
+    (nodes_before nodes_after : List RawNode) (before after : Text) (answer : ReadAnswer) : Type 0 where
   pub answers : IsAnswer language limit bytes (List Tree) (DescribesWithin language limit bytes)
-      (λ list. Tells language list nodes_before nodes_after before after answer)
+      (λ list. Gives language list nodes_before nodes_after before after answer)
       answer.status answer.value
   -- What is written reads as what the text spells.
   pub read : answer.status ≡ ACCEPTED → IsTrue answer.written → (list : List Tree)

@@ -4,12 +4,12 @@ use Rattle.timefd_lang_component.specs.Tree.{Text, Tree}
 use Rattle.timefd_lang_fault.specs.Faults.{Fault}
 use Rattle.timefd_lang_fault.specs.BorrowedFaults.{to_borrowed_fault}
 use Rattle.timefd_language.specs.declared.language.Language.{Language}
-use Rattle.timefd_c.specs.declared.verdict.Verdict.{Verdict}
-use Rattle.timefd_c.specs.declared.verdict.Verdict.TheVariants.{Accepted, Refused, NotUtf8, NoMemory, UnknownKind}
+use Rattle.timefd_c.specs.declared.verdict.TextVerdict.{TextVerdict}
+use Rattle.timefd_c.specs.declared.verdict.TextVerdict.TheVariants.{Accepted, Refused, NotUtf8, NoMemory, UnknownKind}
 use Rattle.timefd_c.specs.Languages.{SpellsIn, FaultIn, amount}
 
 -- What the verdict says of the text in the language is true. Out of memory says nothing.
-abbrev pub Says : Option Language → Text → Verdict → Type 0
+abbrev pub Says : Option Language → Text → TextVerdict → Type 0
 Says language bytes (Accepted value) =
     IsUtf8 bytes
     × ((list : List Tree) × SpellsIn language bytes list × (value ≡ amount language list))
@@ -19,7 +19,7 @@ Says language bytes NoMemory = ⊤
 Says language bytes UnknownKind = language ≡ None
 
 -- accepted with this count, or out of memory
-abbrev pub Accepts : ℕ → Verdict → Type 0
+abbrev pub Accepts : ℕ → TextVerdict → Type 0
 Accepts count (Accepted value) = value ≡ count
 Accepts count NoMemory = ⊤
 Accepts count (Refused f) = ⊥
@@ -27,14 +27,14 @@ Accepts count NotUtf8 = ⊥
 Accepts count UnknownKind = ⊥
 
 -- refused because of this fault
-abbrev pub Refuses : Fault → Verdict → Type 0
+abbrev pub Refuses : Fault → TextVerdict → Type 0
 Refuses f (Refused g) = to_borrowed_fault g ≡ f
 Refuses f NoMemory = ⊥
 Refuses f (Accepted value) = ⊥
 Refuses f NotUtf8 = ⊥
 Refuses f UnknownKind = ⊥
 
-abbrev pub IsAccepted : Verdict → Type 0
+abbrev pub IsAccepted : TextVerdict → Type 0
 IsAccepted (Accepted value) = ⊤
 IsAccepted (Refused f) = ⊥
 IsAccepted NotUtf8 = ⊥

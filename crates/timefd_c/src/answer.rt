@@ -28,7 +28,7 @@ pub const NO_CONVERSION: u32 = 7;
 /// The answer about a text.
 #[repr(C)]
 #[derive(Debug, Clone, Copy, PartialEq, Eq)]
-pub struct Answer {
+pub struct TextAnswer {
     /// One of the first five statuses, or from a conversion any of the six.
     pub status: u32,
     /// What the status counts: items, reserved bytes, the bytes of the converted text, or the bytes
@@ -41,17 +41,17 @@ pub struct Answer {
 }
 
 // `examples/timefd.h` declares it with this size.
-const _: () = prove!(size_of::<Answer>() == 32);
+const _: () = prove!(size_of::<TextAnswer>() == 32);
 
-const _: () = prove!(align_of::<Answer>() == 8);
+const _: () = prove!(align_of::<TextAnswer>() == 8);
 
-impl Answer {
+impl TextAnswer {
     /// The answer with this status and value, and with no sentence.
     #[inline(always)]
-    pub(crate) fn plain(status: u32, value: usize) -> Answer
+    pub(crate) fn plain(status: u32, value: usize) -> TextAnswer
         ensures { result ≡ record { status = status; value = value; sentence_len = 0; written = 0 } }
     {
-        Answer {
+        TextAnswer {
             status,
             value,
             sentence_len: 0,
@@ -60,12 +60,12 @@ impl Answer {
     }
 
     /// The answer for a text that was not converted because of this error.
-    pub(crate) fn of_error(error: BorrowedParseError) -> Answer
+    pub(crate) fn of_error(error: BorrowedParseError) -> TextAnswer
         ensures { result ≡ error_answer error.entry }
     {
         match error {
-            BorrowedParseError::Invalid(fault) => Answer::plain(REFUSED, fault.start),
-            BorrowedParseError::Memory(_) => Answer::plain(NO_MEMORY, 0),
+            BorrowedParseError::Invalid(fault) => TextAnswer::plain(REFUSED, fault.start),
+            BorrowedParseError::Memory(_) => TextAnswer::plain(NO_MEMORY, 0),
         }
     }
 }

@@ -3,7 +3,7 @@
 ghost use Rattle.timefd_c.specs.Composites.{ReadsComposites};
 
 use crate::answer::{ACCEPTED, NOT_UTF8, REFUSED, ReadAnswer};
-use timefd_c_nodes::Node;
+use timefd_c_nodes::RawNode;
 use timefd_c_nodes::reading::{read_composites, text_of};
 use timefd_parse::BorrowedParseError;
 
@@ -14,7 +14,7 @@ use timefd_parse::BorrowedParseError;
 #[unsafe(no_mangle)]
 pub extern "C" fn timefd_read_composites(
     text: &[u8],
-    nodes: &mut [Node],
+    nodes: &mut [RawNode],
     literals: &mut [u8],
 ) -> ReadAnswer
     ensures reads { ReadsComposites text.now nodes.old nodes.new literals.old literals.new result }

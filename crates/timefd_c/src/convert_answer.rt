@@ -5,7 +5,7 @@ ghost use Rattle.timefd_c.specs.FormatConversions as spec;
 
 use crate::answer::{ACCEPTED, REFUSED};
 use crate::reason_code::reason_code;
-use timefd_lang_dialect::{Converted, Refusal};
+use timefd_lang_dialect::{Converted, RefusedPart};
 
 /// The answer about a format of another language that is converted to version 3.
 #[repr(C)]
@@ -47,7 +47,7 @@ impl ConvertAnswer {
     }
 
     /// The answer if a part of the format has no text of version 3.
-    pub(crate) fn refused(refusal: Refusal) -> ConvertAnswer
+    pub(crate) fn refused(refusal: RefusedPart) -> ConvertAnswer
         ensures { result ≡ spec.refused_answer refusal }
     {
         ConvertAnswer {

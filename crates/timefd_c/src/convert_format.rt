@@ -1,6 +1,6 @@
 //! The function that C calls to convert a format of another language.
 
-ghost use Rattle.timefd_c.specs.FormatConversions.{ConvertsBytes, ConvertsFormat, Tells, dialect_of};
+ghost use Rattle.timefd_c.specs.FormatConversions.{ConvertsBytes, ConvertsFormat, Gives, dialect_of};
 
 use crate::answer::{NO_MEMORY, NOT_UTF8, UNKNOWN_KIND};
 use crate::convert_answer::ConvertAnswer;
@@ -39,7 +39,7 @@ fn convert_bytes(alloc: Global, dialect: Dialect, format: &[u8], buffer: &mut [u
 
 /// The answer for the result of a conversion. The text is written if there is one.
 fn answer_found(found: &Result<Converted, DialectError>, buffer: &mut [u8]) -> ConvertAnswer
-    ensures tells { Tells found.now buffer.old buffer.new result }
+    ensures gives { Gives found.now buffer.old buffer.new result }
 {
     match found {
         Ok(converted) => {

@@ -7,7 +7,7 @@ use crate::answer::{ACCEPTED, NO_MEMORY, REFUSED};
 use crate::moment::MomentFields;
 use timefd_c_nodes::component_node;
 use timefd_date_moment::Moment;
-use timefd_date_moment::fields::{ReadError, Reason};
+use timefd_date_moment::fields::{ReadError, UnreadReason};
 use timefd_date_moment::reading::{DatePart, InstantPart, OffsetPart, Part, TimePart, ValueError};
 use timefd_description::ReadTextError;
 
@@ -115,26 +115,26 @@ impl DateAnswer {
     }
 }
 
-fn reason_code(reason: Reason) -> u32
+fn reason_code(reason: UnreadReason) -> u32
     ensures { result ≡ reason_number reason }
 {
     match reason {
-        Reason::Unread(_) => 1,
-        Reason::Contradiction(_) => 2,
-        Reason::Literal => 3,
-        Reason::Trailing => 4,
+        UnreadReason::Unread(_) => 1,
+        UnreadReason::Contradiction(_) => 2,
+        UnreadReason::Literal => 3,
+        UnreadReason::Trailing => 4,
     }
 }
 
 // The number of the component that doesn't match, or 0 if it is no component.
-fn component_code(reason: Reason) -> u32
+fn component_code(reason: UnreadReason) -> u32
     ensures { result ≡ component_in reason }
 {
     match reason {
-        Reason::Unread(component) | Reason::Contradiction(component) => {
+        UnreadReason::Unread(component) | UnreadReason::Contradiction(component) => {
             u32::from(component_node(component, 0).component)
         }
-        Reason::Literal | Reason::Trailing => 0,
+        UnreadReason::Literal | UnreadReason::Trailing => 0,
     }
 }
 

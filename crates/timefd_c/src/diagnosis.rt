@@ -7,7 +7,7 @@ ghost use Rattle.timefd_language.specs.Spans.{IsSpanned};
 ghost use Rattle.timefd_c.specs.Diagnoses as spec;
 ghost use Rattle.timefd_c.specs.Diagnoses.{IsDiagnosed, IsWordReported, no_fault};
 
-use crate::answer::Answer;
+use crate::answer::TextAnswer;
 use crate::whole::write_whole;
 use std::alloc::Global;
 use timefd_lint_diagnosis::{Code, help_against};
@@ -37,7 +37,7 @@ pub struct FaultFields {
 #[derive(Debug, Clone, Copy, PartialEq, Eq)]
 pub struct Diagnosis {
     /// What `timefd_check` returns.
-    pub answer: Answer,
+    pub answer: TextAnswer,
     /// What else there is to say of the fault.
     pub fault: FaultFields,
 }

@@ -6,7 +6,7 @@ use crate::answer::ACCEPTED;
 use crate::fast::write_at_once;
 use crate::format_answer::{FormatAnswer, NO_DESCRIPTION};
 use crate::moment::MomentFields;
-use timefd_c_nodes::Node;
+use timefd_c_nodes::RawNode;
 use timefd_c_nodes::formatting::{NodesError, format_nodes};
 use timefd_date_moment::Moment;
 
@@ -14,7 +14,7 @@ use timefd_date_moment::Moment;
 /// the front of the buffer if all that they write fits. It takes no memory.
 #[unsafe(no_mangle)]
 pub extern "C" fn timefd_format_nodes(
-    nodes: &[Node],
+    nodes: &[RawNode],
     literals: &[u8],
     moment: &MomentFields,
     buffer: &mut [u8],
@@ -42,7 +42,7 @@ pub extern "C" fn timefd_format_nodes(
 /// Writes the moment by any nodes.
 #[inline(never)]
 fn format_exactly(
-    nodes: &[Node],
+    nodes: &[RawNode],
     literals: &[u8],
     moment: &MomentFields,
     buffer: &mut [u8],
@@ -56,7 +56,7 @@ fn format_exactly(
 }
 
 fn format_by_nodes(
-    nodes: &[Node],
+    nodes: &[RawNode],
     literals: &[u8],
     moment: Moment,
     buffer: &mut [u8],

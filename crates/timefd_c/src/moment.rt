@@ -85,6 +85,30 @@ impl MomentFields {
         }
     }
 
+    /// Whether the date is known.
+    #[inline(always)]
+    pub(crate) fn has_date(&self) -> bool
+        ensures { result ≡ spec.has_date self.now }
+    {
+        self.known % 2 == 1
+    }
+
+    /// Whether the time of day is known.
+    #[inline(always)]
+    pub(crate) fn has_time(&self) -> bool
+        ensures { result ≡ spec.has_time self.now }
+    {
+        self.known / 2 % 2 == 1
+    }
+
+    /// Whether the offset is known.
+    #[inline(always)]
+    pub(crate) fn has_offset(&self) -> bool
+        ensures { result ≡ spec.has_offset self.now }
+    {
+        self.known / 4 % 2 == 1
+    }
+
     /// The moment with these numbers. An `Err` names the first number that is out of its range.
     pub fn moment(&self) -> Result<Moment, ComponentRange>
         ensures { IsMomentOf self.now result }
@@ -99,7 +123,7 @@ impl MomentFields {
     fn date(&self) -> Result<Option<Date>, ComponentRange>
         ensures { IsPart (date_range self.now) (IsDate self.now) result }
     {
-        if self.known % 2 == 0 {
+        if !self.has_date() {
             return Ok(None);
         }
         Ok(Some(Date::from_calendar_date(self.year, self.month, self.day)?))
@@ -108,7 +132,7 @@ impl MomentFields {
     fn time(&self) -> Result<Option<Time>, ComponentRange>
         ensures { IsPart (time_range self.now) (IsTime self.now) result }
     {
-        if self.known / 2 % 2 == 0 {
+        if !self.has_time() {
             return Ok(None);
         }
         Ok(Some(Time::from_hms_nano(self.hour, self.minute, self.second, self.nanosecond)?))
@@ -117,7 +141,7 @@ impl MomentFields {
     fn offset(&self) -> Result<Option<UtcOffset>, ComponentRange>
         ensures { IsPart (offset_range self.now) (IsOffset self.now) result }
     {
-        if self.known / 4 % 2 == 0 {
+        if !self.has_offset() {
             return Ok(None);
         }
         Ok(Some(UtcOffset::from_whole_seconds(self.offset_seconds)?))

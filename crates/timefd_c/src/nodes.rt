@@ -8,7 +8,7 @@ ghost use Rattle.timefd_c.specs.Reading.{Reads};
 use crate::answer::{ACCEPTED, NO_MEMORY, NOT_UTF8, REFUSED, ReadAnswer, UNKNOWN_KIND};
 use crate::numbers::{from_number, limit_from};
 use std::alloc::Global;
-use timefd_c_nodes::Node;
+use timefd_c_nodes::RawNode;
 use timefd_c_nodes::reading::{read_within, text_of};
 use timefd_parse::{BorrowedParseError, NESTING_LIMIT};
 
@@ -31,7 +31,7 @@ pub extern "C" fn timefd_read(
     alloc: Global,
     kind: u32,
     text: &[u8],
-    nodes: &mut [Node],
+    nodes: &mut [RawNode],
     literals: &mut [u8],
 ) -> ReadAnswer
     ensures reads { Reads (language_of kind) nesting_limit text.now nodes.old nodes.new literals.old
@@ -48,7 +48,7 @@ pub extern "C" fn timefd_read_within(
     kind: u32,
     limit: u32,
     text: &[u8],
-    nodes: &mut [Node],
+    nodes: &mut [RawNode],
     literals: &mut [u8],
 ) -> ReadAnswer
     ensures reads { Reads (language_of kind) (min limit nesting_limit) text.now nodes.old nodes.new
@@ -65,7 +65,7 @@ fn read_bytes(
     alloc: Global,
     kind: u32,
     text: &[u8],
-    nodes: &mut [Node],
+    nodes: &mut [RawNode],
     literals: &mut [u8],
     limit: u8,
 ) -> ReadAnswer

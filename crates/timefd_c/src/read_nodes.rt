@@ -16,7 +16,7 @@ use crate::answer::NOT_UTF8;
 use crate::date_answer::{DATE_NOT_UTF8, DateAnswer};
 use crate::format_answer::NO_DESCRIPTION;
 use std::alloc::Global;
-use timefd_c_nodes::Node;
+use timefd_c_nodes::RawNode;
 use timefd_c_nodes::dates::moment_shown;
 use timefd_c_nodes::formatting::{are_texts, leaves_of, listed, node_fault};
 use timefd_c_nodes::reading::text_of;
@@ -32,7 +32,7 @@ use timefd_lang_node_list::{Leaf, View};
 #[unsafe(no_mangle)]
 pub extern "C" fn timefd_read_nodes(
     alloc: Global,
-    nodes: &[Node],
+    nodes: &[RawNode],
     literals: &[u8],
     date: &[u8],
 ) -> DateAnswer
@@ -48,7 +48,7 @@ pub extern "C" fn timefd_read_nodes(
 /// Reads a date by any nodes. It isn't inlined, because it has room for all fields.
 #[inline(never)]
 #[tactic(auto, using(crate::proofs::NodeDateLemmas::read_as))]
-fn read_exactly(alloc: Global, nodes: &[Node], literals: &[u8], date: &[u8]) -> DateAnswer
+fn read_exactly(alloc: Global, nodes: &[RawNode], literals: &[u8], date: &[u8]) -> DateAnswer
     ensures reads { ReadsNodes nodes.now literals.now date.now result }
 {
     // Most descriptions have no optional parts and no alternatives. Then the leaves are enough to read by.
@@ -94,7 +94,7 @@ fn read_leaves<'e>(leaves: &[Leaf<'_>], date: &str) -> Result<Moment, ReadTextEr
 
 fn read_listed<'e>(
     alloc: Global,
-    nodes: &[Node],
+    nodes: &[RawNode],
     literals: &[u8],
     date: &str,
 ) -> Result<Moment, ReadTextError<'e>>

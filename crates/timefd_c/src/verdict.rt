@@ -8,7 +8,7 @@ ghost use Rattle.timefd_c.specs.Answers.{answer_of};
 ghost use Rattle.timefd_c.specs.Languages.{SpellsIn, FaultIn, amount};
 ghost use Rattle.timefd_c.specs.Verdicts.{Says, Accepts, Refuses, IsAccepted};
 
-use crate::answer::{ACCEPTED, Answer, NO_MEMORY, NOT_UTF8, REFUSED, UNKNOWN_KIND};
+use crate::answer::{ACCEPTED, NO_MEMORY, NOT_UTF8, REFUSED, TextAnswer, UNKNOWN_KIND};
 use std::alloc::Global;
 use timefd_c_nodes::reading::text_of;
 use timefd_parse::{
@@ -17,7 +17,7 @@ use timefd_parse::{
 
 /// What bytes are as a text of a language.
 #[derive(Clone, Copy)]
-pub enum Verdict<'a> {
+pub enum TextVerdict<'a> {
     /// A description: how many items it has, or in version 3 how many bytes it reserves.
     Accepted(usize),
     /// Not a description, because of this fault.
@@ -30,25 +30,25 @@ pub enum Verdict<'a> {
     UnknownKind,
 }
 
-impl<'a> Verdict<'a> {
+impl<'a> TextVerdict<'a> {
     /// The answer for this verdict, without a sentence.
     #[inline(always)]
-    pub fn answer(&self) -> Answer
+    pub fn answer(&self) -> TextAnswer
         ensures { result ≡ answer_of self.now }
     {
         match self {
-            Verdict::Accepted(amount) => Answer::plain(ACCEPTED, *amount),
-            Verdict::Refused(fault) => Answer::plain(REFUSED, fault.start),
-            Verdict::NotUtf8 => Answer::plain(NOT_UTF8, 0),
-            Verdict::NoMemory => Answer::plain(NO_MEMORY, 0),
-            Verdict::UnknownKind => Answer::plain(UNKNOWN_KIND, 0),
+            TextVerdict::Accepted(amount) => TextAnswer::plain(ACCEPTED, *amount),
+            TextVerdict::Refused(fault) => TextAnswer::plain(REFUSED, fault.start),
+            TextVerdict::NotUtf8 => TextAnswer::plain(NOT_UTF8, 0),
+            TextVerdict::NoMemory => TextAnswer::plain(NO_MEMORY, 0),
+            TextVerdict::UnknownKind => TextAnswer::plain(UNKNOWN_KIND, 0),
         }
     }
 }
 
 /// What the bytes are in the language, if there is one.
 #[inline(always)]
-pub fn verdict_on(alloc: Global, language: Option<Language>, bytes: &[u8]) -> Verdict<'_>
+pub fn verdict_on(alloc: Global, language: Option<Language>, bytes: &[u8]) -> TextVerdict<'_>
     // What the verdict says is true.
     ensures says { Says language bytes.now result }
 
@@ -57,36 +57,36 @@ pub fn verdict_on(alloc: Global, language: Option<Language>, bytes: &[u8]) -> Ve
         → Accepts (amount language list) result }
     ensures faulty { (f : Fault) → IsUtf8 bytes.now → FaultIn language bytes.now f
         → Refuses f result }
-    ensures no_text { IsSome language → ¬ (IsUtf8 bytes.now) → result ≡ Verdict.NotUtf8 }
-    ensures no_language { language ≡ None → result ≡ Verdict.UnknownKind }
+    ensures no_text { IsSome language → ¬ (IsUtf8 bytes.now) → result ≡ TextVerdict.NotUtf8 }
+    ensures no_language { language ≡ None → result ≡ TextVerdict.UnknownKind }
 
     // The empty text takes no memory, and no text does in the languages without nesting.
     ensures empty { IsSome language → bytes.now ≡ [] → IsAccepted result }
     ensures memory { (l : Language) → language ≡ Some l → IsFalse (takes_memory l)
-        → result ≢ Verdict.NoMemory }
+        → result ≢ TextVerdict.NoMemory }
 {
     let Some(language) = language else {
-        return Verdict::UnknownKind;
+        return TextVerdict::UnknownKind;
     };
     let Ok(text) = text_of(bytes) else {
-        return Verdict::NotUtf8;
+        return TextVerdict::NotUtf8;
     };
     text_verdict(alloc, language, text)
 }
 
 // What the text is in the language.
 #[inline(always)]
-fn text_verdict(alloc: Global, language: Language, text: &str) -> Verdict<'_>
+fn text_verdict(alloc: Global, language: Language, text: &str) -> TextVerdict<'_>
     ensures says { Says (Some language) text.now result }
     ensures spelled { (list : List Tree) → SpellsIn (Some language) text.now list
         → Accepts (amount (Some language) list) result }
     ensures faulty { (f : Fault) → FaultIn (Some language) text.now f → Refuses f result }
     ensures empty { text.now ≡ [] → IsAccepted result }
-    ensures memory { IsFalse (takes_memory language) → result ≢ Verdict.NoMemory }
+    ensures memory { IsFalse (takes_memory language) → result ≢ TextVerdict.NoMemory }
 {
     match amount_all_borrowed(alloc, language, NESTING_LIMIT, text) {
-        Ok(amount) => Verdict::Accepted(amount),
-        Err(BorrowedParseError::Invalid(fault)) => Verdict::Refused(fault),
-        Err(BorrowedParseError::Memory(_)) => Verdict::NoMemory,
+        Ok(amount) => TextVerdict::Accepted(amount),
+        Err(BorrowedParseError::Invalid(fault)) => TextVerdict::Refused(fault),
+        Err(BorrowedParseError::Memory(_)) => TextVerdict::NoMemory,
     }
 }

@@ -9,7 +9,7 @@ use Rattle.timefd_lang_component.specs.Modern.{modern, IsModern, AreModern}
 use Rattle.timefd_lang_component.specs.Tree.{Text, Tree, component, literal, compound, optional, first, pack, Trees, no_trees, more_trees, trees}
 use Rattle.timefd_lang_node_list.specs.Views.{walked, walked_all}
 use Rattle.timefd_lang_node_list.proofs.NodeLemmas.{before-append, ending-append}
-use Rattle.timefd_c_nodes.specs.declared.node.Node.{Node}
+use Rattle.timefd_c_nodes.specs.declared.node.RawNode.{RawNode}
 use Rattle.timefd_c_nodes.specs.declared.node.TheConstants.{COMPONENT}
 use Rattle.timefd_c_nodes.specs.Encoding.{component_table, component_node, node_for, nodes_from, own_text, literals_of, trees_len}
 use Rattle.timefd_c_nodes.specs.Decoding.{with_component, with_members, with_node, with_optional, grown_with, read_on, read_nodes}
@@ -24,7 +24,7 @@ nodes_from-append [] ys at used =
     let u : used ≡ used + 0 = omega arith in
     ap (λ k. nodes_from k used ys) a ∙ ap (λ k. nodes_from (at + 0) k ys) u
 nodes_from-append (t ∷ xs) ys at used =
-    let n : Node = node_for at used t in
+    let n : RawNode = node_for at used t in
     let next : ℕ = used + length (own_text t) in
     let a : at + 1 + length xs ≡ at + length (t ∷ xs) = omega arith in
     let u : next + length (literals_of xs) ≡ used + length (literals_of (t ∷ xs)) =
@@ -34,7 +34,7 @@ nodes_from-append (t ∷ xs) ys at used =
     ys)) a
     ∙ ap (λ k. n ∷ (nodes_from (at + 1) next xs ++ nodes_from (at + length (t ∷ xs)) k ys)) u
 
-read_on-append : (l : Text) (ns ms : List Node) (ts : Option (List Tree))
+read_on-append : (l : Text) (ns ms : List RawNode) (ts : Option (List Tree))
     → read_on l (ns ++ ms) ts ≡ read_on l ms (read_on l ns ts)
 read_on-append l [] ms ts = refl
 read_on-append l (n ∷ ns) ms ts = read_on-append l ns ms (grown_with l n ts)
@@ -103,7 +103,7 @@ around : (l : Text) (xs : List Tree) (t : Tree) (at used : ℕ) (ts us : List Tr
     → count ≡ length us → make us ≡ t
     → read_on l (nodes_from at used (xs ++ t ∷ [])) (Some ts) ≡ Some (ts ++ t ∷ [])
 around l xs t at used ts us count make members node counted is =
-    let n : Node = node_for (at + length xs) (used + length (literals_of xs)) t in
+    let n : RawNode = node_for (at + length xs) (used + length (literals_of xs)) t in
     ap (λ ns. read_on l ns (Some ts)) (nodes_from-append xs (t ∷ []) at used)
     ∙ read_on-append l (nodes_from at used xs) (n ∷ []) (Some ts)
     ∙ ap (λ o. grown_with l n o) members

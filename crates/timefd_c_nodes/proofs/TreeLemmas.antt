@@ -8,7 +8,7 @@ use Rattle.timefd_lang_node_list.specs.Nodes.{kept_bytes}
 use Rattle.timefd_lang_component.specs.Reserved.{reserve, reserved, tree_count, trees_count, digits_shown}
 use Rattle.timefd_lang_component.specs.Tree.{Tree, component, literal, compound, optional, first, Trees, no_trees, more_trees, trees}
 use Rattle.timefd_lang_node_list.specs.Views.{walked, walked_all}
-use Rattle.timefd_c_nodes.specs.declared.node.Node.{Node}
+use Rattle.timefd_c_nodes.specs.declared.node.RawNode.{RawNode}
 use Rattle.timefd_c_nodes.specs.Encoding.{component_table, compound_node, digits_number, first_node, node_for, optional_node, trees_len}
 
 pub shown_digits : (d : SubsecondDigits) → min (digits_number d) 9 ≡ digits_shown d
@@ -87,7 +87,7 @@ none_at tree items at h = ap (λ xs. walked_all (trees (map tree xs))) (drop_all
 
 -- The nodes of parts with members.
 
-pub compound_is : (v : Tree) (ms : List Tree) (at used start bytes len : ℕ) (n : Node)
+pub compound_is : (v : Tree) (ms : List Tree) (at used start bytes len : ℕ) (n : RawNode)
     → compound (trees ms) ≡ v → start ≡ at - (tree_count v - 1) → bytes ≡ kept_bytes (reserve v)
     → len ≡ length ms
     → n ≡ compound_node start len bytes → n ≡ node_for at used v
@@ -105,7 +105,7 @@ compound_is v ms at used start bytes len n e starts reserves long is =
         (long ∙ sym (trees_len_is ms))
         ∙ ap (λ x. compound_node (at - trees_count (trees ms)) (trees_len (trees ms)) x) b
 
-pub first_is : (v : Tree) (ms : List Tree) (at used start bytes len : ℕ) (n : Node)
+pub first_is : (v : Tree) (ms : List Tree) (at used start bytes len : ℕ) (n : RawNode)
     → first (trees ms) ≡ v → start ≡ at - (tree_count v - 1) → bytes ≡ kept_bytes (reserve v)
     → len ≡ length ms
     → n ≡ first_node start len bytes → n ≡ node_for at used v
@@ -124,7 +124,7 @@ first_is v ms at used start bytes len n e starts reserves long is =
 
 -- The same, if it is known at which position the members begin.
 
-pub compound_after : (ts : List Tree) (from mid used bytes len : ℕ) (n : Node)
+pub compound_after : (ts : List Tree) (from mid used bytes len : ℕ) (n : RawNode)
     → mid ≡ from + length (walked_all (trees ts)) → len ≡ length ts
     → bytes ≡ kept_bytes (reserve (compound (trees ts)))
     → n ≡ compound_node from len bytes → n ≡ node_for mid used (compound (trees ts))
@@ -132,7 +132,7 @@ compound_after ts from mid used bytes len n after long reserves is =
     compound_is (compound (trees ts)) ts mid used from bytes len n refl
     (omega (arith, after, walked_all_length (trees ts))) reserves long is
 
-pub first_after : (ts : List Tree) (from mid used bytes len : ℕ) (n : Node)
+pub first_after : (ts : List Tree) (from mid used bytes len : ℕ) (n : RawNode)
     → mid ≡ from + length (walked_all (trees ts)) → len ≡ length ts
     → bytes ≡ kept_bytes (reserve (first (trees ts)))
     → n ≡ first_node from len bytes → n ≡ node_for mid used (first (trees ts))
@@ -140,7 +140,7 @@ first_after ts from mid used bytes len n after long reserves is =
     first_is (first (trees ts)) ts mid used from bytes len n refl
     (omega (arith, after, walked_all_length (trees ts))) reserves long is
 
-pub optional_after : (t : Tree) (format : Bool) (from mid used bytes : ℕ) (n : Node)
+pub optional_after : (t : Tree) (format : Bool) (from mid used bytes : ℕ) (n : RawNode)
     → mid ≡ from + length (walked t) → bytes ≡ kept_bytes (reserve (optional format t))
     → n ≡ optional_node from format bytes → n ≡ node_for mid used (optional format t)
 optional_after t format from mid used bytes n after reserves is =

@@ -6,7 +6,7 @@ use Rattle.timefd_lang_component.specs.Reserved.{reserve, reserve_all}
 use Rattle.timefd_lang_component.specs.Tree.{Text, Tree, component, compound, optional, first, trees}
 use Rattle.timefd_lang_node_list.specs.Nodes.{kept_bytes}
 use Rattle.timefd_lang_node_list.specs.Views.{walked, walked_all}
-use Rattle.timefd_c_nodes.specs.declared.node.Node.{Node}
+use Rattle.timefd_c_nodes.specs.declared.node.RawNode.{RawNode}
 use Rattle.timefd_c_nodes.specs.declared.position.WritePosition.{WritePosition}
 use Rattle.timefd_c_nodes.specs.declared.position.Written.{Written}
 use Rattle.timefd_c_nodes.specs.Encoding.{component_node, component_table, compound_node, first_node, optional_node, node_for, own_text, texts_of, literals_of}
@@ -14,8 +14,8 @@ use Rattle.timefd_c_nodes.specs.Writing.{overwritten, nodes_written, literals_wr
 use Rattle.timefd_c_nodes.proofs.TreeLemmas.{compound_after, first_after, optional_after, reserved_kept, table_bytes}
 use Rattle.timefd_c_nodes.proofs.WriteLemmas.{literals-length, literals_written-append, nodes_written-append, texts-length}
 
-pub parts_none : {A : Type 0} → (node : ℕ → ℕ → A → Node) (own : A → Text) (from : WritePosition)
-    (ns : List Node) (a : Text) → WritesParts node own [] from from ns ns a a
+pub parts_none : {A : Type 0} → (node : ℕ → ℕ → A → RawNode) (own : A → Text) (from : WritePosition)
+    (ns : List RawNode) (a : Text) → WritesParts node own [] from from ns ns a a
 parts_none node own from ns a = record {
   node_at = omega arith;
   literal_at = omega arith;
@@ -26,8 +26,8 @@ parts_none node own from ns a = record {
 }
 
 -- some parts, and then more
-pub parts_both : {A : Type 0} → (node : ℕ → ℕ → A → Node) (own : A → Text) (xs ys : List A)
-    (from mid to : WritePosition) (ns ms ks : List Node) (a b c : Text)
+pub parts_both : {A : Type 0} → (node : ℕ → ℕ → A → RawNode) (own : A → Text) (xs ys : List A)
+    (from mid to : WritePosition) (ns ms ks : List RawNode) (a b c : Text)
     → WritesParts node own xs from mid ns ms a b → WritesParts node own ys mid to ms ks b c
     → WritesParts node own (xs ++ ys) from to ns ks a c
 parts_both node own xs ys from mid to ns ms ks a b c v w = record {
@@ -51,11 +51,11 @@ parts_both node own xs ys from mid to ns ms ks a b c v w = record {
       ∙ sym (literals_written-append own xs ys from.literals a);
 }
 
-pub within_none : (from : WritePosition) (ns : List Node) (a : Text) → WritesWithin [] from from ns ns a a
+pub within_none : (from : WritePosition) (ns : List RawNode) (a : Text) → WritesWithin [] from from ns ns a a
 within_none from ns a = parts_none node_for own_text from ns a
 
 -- some trees, and then more
-pub within_both : (xs ys : List Tree) (from mid to : WritePosition) (ns ms ks : List Node) (a b c : Text)
+pub within_both : (xs ys : List Tree) (from mid to : WritePosition) (ns ms ks : List RawNode) (a b c : Text)
     → WritesWithin xs from mid ns ms a b → WritesWithin ys mid to ms ks b c
     → WritesWithin (xs ++ ys) from to ns ks a c
 within_both xs ys from mid to ns ms ks a b c v w =
@@ -69,8 +69,8 @@ overwritten-none at bytes =
     ∙ take-append-drop at bytes
 
 -- a part that adds nothing to the literals
-pub part_node : {A : Type 0} → (node : ℕ → ℕ → A → Node) (own : A → Text) (x : A) (at : WritePosition)
-    (n : Node) (reserved : ℕ) (w : Written) (ns ms : List Node) (a : Text)
+pub part_node : {A : Type 0} → (node : ℕ → ℕ → A → RawNode) (own : A → Text) (x : A) (at : WritePosition)
+    (n : RawNode) (reserved : ℕ) (w : Written) (ns ms : List RawNode) (a : Text)
     → own x ≡ [] → n ≡ node at.nodes at.literals x → Puts n reserved at ns ms w
     → WritesParts node own (x ∷ []) at w.end ns ms a a
 part_node node own x at n reserved w ns ms a none is puts =
@@ -86,23 +86,23 @@ part_node node own x at n reserved w ns ms a none is puts =
     }
 
 -- a tree that adds nothing to the literals
-pub within_node : (t : Tree) (at : WritePosition) (n : Node) (reserved : ℕ) (w : Written)
-    (ns ms : List Node) (a : Text)
+pub within_node : (t : Tree) (at : WritePosition) (n : RawNode) (reserved : ℕ) (w : Written)
+    (ns ms : List RawNode) (a : Text)
     → own_text t ≡ [] → n ≡ node_for at.nodes at.literals t → Puts n reserved at ns ms w
     → WritesWithin (t ∷ []) at w.end ns ms a a
 within_node t at n reserved w ns ms a own is puts =
     part_node node_for own_text t at n reserved w ns ms a own is puts
 
-pub put_node : (t : Tree) (at : WritePosition) (n : Node) (reserved : ℕ) (r : Option Written)
-    (ns ms : List Node) (a : Text)
+pub put_node : (t : Tree) (at : WritePosition) (n : RawNode) (reserved : ℕ) (r : Option Written)
+    (ns ms : List RawNode) (a : Text)
     → own_text t ≡ [] → n ≡ node_for at.nodes at.literals t → IfSome r (Puts n reserved at ns ms)
     → IfSome r (λ w. WritesWithin (t ∷ []) at w.end ns ms a a)
 put_node t at n reserved None ns ms a own is puts = puts
 put_node t at n reserved (Some w) ns ms a own is puts =
     within_node t at n reserved w ns ms a own is puts
 
-pub written_component : (c : Component) (at : WritePosition) (n : Node) (r : Option Written)
-    (ns ms : List Node) (a : Text) → n ≡ component_node c at.nodes
+pub written_component : (c : Component) (at : WritePosition) (n : RawNode) (r : Option Written)
+    (ns ms : List RawNode) (a : Text) → n ≡ component_node c at.nodes
     → IfSome r (Puts n (component_table c).bytes at ns ms)
     → IfSome r (IsWritten (walked (component c)) (reserve (component c)) at ns ms a a)
 written_component c at n None ns ms a is puts = puts
@@ -114,17 +114,17 @@ written_component c at n (Some w) ns ms a is puts = record {
 -- Trees, one after another.
 
 -- some of the trees are written, and the others remain
-pub record Part (all left : List Tree) (from at : WritePosition) (ns ms : List Node) (a b : Text) : Type 0
+pub record Part (all left : List Tree) (from at : WritePosition) (ns ms : List RawNode) (a b : Text) : Type 0
   where
     pub done : List Tree
     pub split : all ≡ done ++ left
     pub within : WritesWithin done from at ns ms a b
 
-pub part_init : (all left : List Tree) (from : WritePosition) (ns : List Node) (a : Text) → all ≡ left
+pub part_init : (all left : List Tree) (from : WritePosition) (ns : List RawNode) (a : Text) → all ≡ left
     → Part all left from from ns ns a a
 part_init all left from ns a e = record { done = []; split = e; within = within_none from ns a }
 
-pub part_step : (all xs ys left : List Tree) (from at next : WritePosition) (ns ms ks : List Node)
+pub part_step : (all xs ys left : List Tree) (from at next : WritePosition) (ns ms ks : List RawNode)
     (a b c : Text) → left ≡ xs ++ ys → Part all left from at ns ms a b
     → WritesWithin xs at next ms ks b c → Part all ys from next ns ks a c
 part_step all xs ys left from at next ns ms ks a b c e part w = record {
@@ -133,14 +133,14 @@ part_step all xs ys left from at next ns ms ks a b c e part w = record {
   within = within_both part.done xs from at next ns ms ks a b c part.within w;
 }
 
-pub part_end : (all left : List Tree) (from at : WritePosition) (ns ms : List Node) (a b : Text)
+pub part_end : (all left : List Tree) (from at : WritePosition) (ns ms : List RawNode) (a b : Text)
     → left ≡ [] → Part all left from at ns ms a b → WritesWithin all from at ns ms a b
 part_end all left from at ns ms a b e part =
     subst (λ l. WritesWithin l from at ns ms a b)
     (sym (part.split ∙ ap (λ l. part.done ++ l) e ∙ append-nil part.done)) part.within
 
 -- what a `usize` can't count in part, it can't count as a whole
-pub part_past : (all xs ys left : List Tree) (from at : WritePosition) (ns ms : List Node) (a b : Text)
+pub part_past : (all xs ys left : List Tree) (from at : WritePosition) (ns ms : List RawNode) (a b : Text)
     → left ≡ xs ++ ys → Part all left from at ns ms a b → IsPast xs at → IsPast all from
 part_past all xs ys left from at ns ms a b e part past = counted past
   where
@@ -173,7 +173,7 @@ past_inside xs t from (inl h) = inl (omega (arith, h, length-append xs (t ∷ []
 past_inside xs t from (inr h) = inr (omega (arith, h, literals-length xs (t ∷ [])))
 
 pub written_compound : (ts : List Tree) (from : WritePosition) (inner : Written) (r : Option Written)
-    (n : Node) (len : ℕ) (ns ms ks : List Node) (a b : Text)
+    (n : RawNode) (len : ℕ) (ns ms ks : List RawNode) (a b : Text)
     → IsWritten (walked_all (trees ts)) (reserve_all (trees ts)) from ns ms a b inner
     → len ≡ length ts → n ≡ compound_node from.nodes len inner.bytes
     → IfSome r (Puts n inner.bytes inner.end ms ks)
@@ -188,8 +188,8 @@ written_compound ts from inner (Some w) n len ns ms ks a b members long is puts 
   bytes = puts.bytes ∙ members.bytes;
 }
 
-pub written_optional : (t : Tree) (from : WritePosition) (inner : Written) (r : Option Written) (n : Node)
-    (ns ms ks : List Node) (a b : Text)
+pub written_optional : (t : Tree) (from : WritePosition) (inner : Written) (r : Option Written) (n : RawNode)
+    (ns ms ks : List RawNode) (a b : Text)
     → IsWritten (walked t) (reserve t) from ns ms a b inner
     → n ≡ optional_node from.nodes true inner.bytes → IfSome r (Puts n inner.bytes inner.end ms ks)
     → IfSome r (IsWritten (walked (optional true t)) (reserve (optional true t)) from ns ks a b)
@@ -202,8 +202,8 @@ written_optional t from inner (Some w) n ns ms ks a b member is puts = record {
   bytes = puts.bytes ∙ member.bytes;
 }
 
-pub written_first : (ts : List Tree) (from : WritePosition) (inner : Written) (r : Option Written) (n : Node)
-    (len bytes : ℕ) (ns ms ks : List Node) (a b : Text)
+pub written_first : (ts : List Tree) (from : WritePosition) (inner : Written) (r : Option Written) (n : RawNode)
+    (len bytes : ℕ) (ns ms ks : List RawNode) (a b : Text)
     → IsWritten (walked_all (trees ts)) (reserve_all (trees ts)) from ns ms a b inner
     → len ≡ length ts → bytes ≡ kept_bytes (reserve (first (trees ts)))
     → n ≡ first_node from.nodes len bytes → IfSome r (Puts n bytes inner.end ms ks)

@@ -3,7 +3,7 @@ use Rattle.std.proofs.Common.{◌≡◌, ◌∙◌, ℕ, ◌+◌, ◌≤◌, get
 use Rattle.std.proofs.lemmas.List.{take-append-drop, take_more_set, drop-set-lt, length-take-le, length-set, length-drop, append-nil, drop-drop}
 use Rattle.std.proofs.Math.Seq.{drop-append-add, take-append-add}
 use Rattle.timefd_lang_component.specs.Tree.{Text, Tree}
-use Rattle.timefd_c_nodes.specs.declared.node.Node.{Node}
+use Rattle.timefd_c_nodes.specs.declared.node.RawNode.{RawNode}
 use Rattle.timefd_c_nodes.specs.declared.position.WritePosition.{WritePosition}
 use Rattle.timefd_c_nodes.specs.Encoding.{nodes_by, own_text, texts_of, literals_of}
 use Rattle.timefd_c_nodes.specs.declared.position.TheConstants.{START}
@@ -28,8 +28,8 @@ pub literals-length : (xs ys : List Tree)
     → length (literals_of (xs ++ ys)) ≡ length (literals_of xs) + length (literals_of ys)
 literals-length xs ys = texts-length own_text xs ys
 
-pub nodes_written-append : {A : Type 0} → (node : ℕ → ℕ → A → Node) (own : A → Text) (xs ys : List A)
-    (at used : ℕ) (ns : List Node)
+pub nodes_written-append : {A : Type 0} → (node : ℕ → ℕ → A → RawNode) (own : A → Text) (xs ys : List A)
+    (at used : ℕ) (ns : List RawNode)
     → nodes_written node own at used (xs ++ ys) ns ≡ nodes_written node own (at + length xs)
     (used + length (texts_of own xs)) ys (nodes_written node own at used xs ns)
 nodes_written-append node own [] ys at used ns =
@@ -38,7 +38,7 @@ nodes_written-append node own [] ys at used ns =
     ap (λ k. nodes_written node own k used ys ns) a ∙
     ap (λ k. nodes_written node own (at + 0) k ys ns) u
 nodes_written-append node own (x ∷ xs) ys at used ns =
-    let ms : List Node = set ns at (node at used x) in
+    let ms : List RawNode = set ns at (node at used x) in
     let next : ℕ = used + length (own x) in
     let a : at + 1 + length xs ≡ at + length (x ∷ xs) = omega arith in
     let u : next + length (texts_of own xs) ≡ used + length (texts_of own (x ∷ xs)) =
@@ -66,8 +66,8 @@ literals_written-append own (x ∷ xs) ys used bytes =
 
 -- The fronts of the buffers.
 
-front_nodes : {A : Type 0} → (node : ℕ → ℕ → A → Node) (own : A → Text) (xs : List A)
-    (at used : ℕ) (ns : List Node) → at + length xs ≤ length ns
+front_nodes : {A : Type 0} → (node : ℕ → ℕ → A → RawNode) (own : A → Text) (xs : List A)
+    (at used : ℕ) (ns : List RawNode) → at + length xs ≤ length ns
     → nodes_written node own at used xs ns ≡ take at ns ++ nodes_by node own at used xs ++ drop
     (at + length xs) ns
 front_nodes node own [] at used ns h =
@@ -76,8 +76,8 @@ front_nodes node own [] at used ns h =
     ∙ ap (λ l. l ++ drop at ns) (sym (append-nil (take at ns)))
     ∙ ap (λ k. (take at ns ++ []) ++ drop k ns) position
 front_nodes node own (x ∷ xs) at used ns h =
-    let n : Node = node at used x in
-    let rest : List Node = nodes_by node own (at + 1) (used + length (own x)) xs in
+    let n : RawNode = node at used x in
+    let rest : List RawNode = nodes_by node own (at + 1) (used + length (own x)) xs in
     let long : length (set ns at n) ≡ length ns = length-set ns at n in
     let position : at + 1 + length xs ≡ at + length (x ∷ xs) = omega arith in
     front_nodes node own xs (at + 1) (used + length (own x)) (set ns at n) (omega (arith, h, long))
@@ -160,13 +160,13 @@ front_literals own (x ∷ xs) used bytes h =
     ∙ ap (λ k. (take used bytes ++ (text ++ rest)) ++ drop k bytes) position
 
 -- The fronts, after everything was written from the first position on.
-pub record Fronts {A : Type 0} (node : ℕ → ℕ → A → Node) (own : A → Text) (xs : List A)
-    (ns ms : List Node) (a b : Text) : Type 0 where
+pub record Fronts {A : Type 0} (node : ℕ → ℕ → A → RawNode) (own : A → Text) (xs : List A)
+    (ns ms : List RawNode) (a b : Text) : Type 0 where
   pub nodes : ms ≡ nodes_by node own 0 0 xs ++ drop (length xs) ns
   pub literals : b ≡ texts_of own xs ++ drop (length (texts_of own xs)) a
 
-pub fronts : {A : Type 0} → (node : ℕ → ℕ → A → Node) (own : A → Text) (xs : List A) (to : WritePosition)
-    (ns ms : List Node) (a b : Text) → length xs ≤ length ns → length (texts_of own xs) ≤ length a
+pub fronts : {A : Type 0} → (node : ℕ → ℕ → A → RawNode) (own : A → Text) (xs : List A) (to : WritePosition)
+    (ns ms : List RawNode) (a b : Text) → length xs ≤ length ns → length (texts_of own xs) ≤ length a
     → WritesParts node own xs START to ns ms a b → Fronts node own xs ns ms a b
 fronts node own xs to ns ms a b node_room literal_room w = record {
   nodes =

@@ -9,7 +9,7 @@ use Rattle.timefd_lang_component.specs.declared.component.Component.{Component}
 use Rattle.timefd_lang_component.specs.declared.component.Component.TheVariants.{Day, MonthShort, MonthLong, MonthNumerical, Ordinal, WeekdayShort, WeekdayLong, WeekdaySunday, WeekdayMonday, WeekNumberIso, WeekNumberSunday, WeekNumberMonday, CalendarYearFullExtendedRange, CalendarYearFullStandardRange, CalendarYearCenturyExtendedRange, CalendarYearCenturyStandardRange, IsoYearFullExtendedRange, IsoYearFullStandardRange, IsoYearCenturyExtendedRange, IsoYearCenturyStandardRange, CalendarYearLastTwo, IsoYearLastTwo, Hour12, Hour24, Minute, Period, Second, Subsecond, OffsetHour, OffsetMinute, OffsetSecond, Ignore, UnixTimestampSecond, UnixTimestampMillisecond, UnixTimestampMicrosecond, UnixTimestampNanosecond, End}
 use Rattle.timefd_lang_component.specs.Modern.{modern}
 use Rattle.timefd_lang_component.specs.Tree.{Text, Tree, component, literal, compound, optional, first, pack, trees}
-use Rattle.timefd_c_nodes.specs.declared.node.Node.{Node}
+use Rattle.timefd_c_nodes.specs.declared.node.RawNode.{RawNode}
 use Rattle.timefd_c_nodes.specs.declared.node.TheConstants.{LITERAL, COMPONENT, COMPOUND, OPTIONAL, FIRST}
 
 abbrev pub flag_of : ℕ → Option Bool
@@ -54,7 +54,7 @@ with_two make (Some a) None = None
 with_two make (Some a) (Some b) = Some (make a b)
 
 -- the component of a node
-abbrev pub component_of : Node → Option Component
+abbrev pub component_of : RawNode → Option Component
 component_of n =
     if n.component == 1 then with_one (λ p. Day (record { padding = p })) (padding_of n.padding)
     else if n.component == 2 then with_one (λ s. MonthShort (record { case_sensitive = s }))
@@ -145,7 +145,7 @@ component_of n =
     else None
 
 -- whether a formatter writes an optional part: the flag of the node, which has one member
-abbrev pub format_of : Node → Option Bool
+abbrev pub format_of : RawNode → Option Bool
 format_of n = if n.count == 1 then flag_of n.format else None
 
 -- the trees so far, with the last `count` of them made one, if there are as many
@@ -164,7 +164,7 @@ with_optional None ts = None
 with_optional (Some format) ts = with_members 1 (λ us. optional format (pack us)) ts
 
 -- the trees so far, and one more node with these literals, if it is of this kind
-abbrev pub with_node : ℕ → Text → Node → List Tree → Option (List Tree)
+abbrev pub with_node : ℕ → Text → RawNode → List Tree → Option (List Tree)
 with_node what literals n ts =
     if what == LITERAL then Some (ts ++ literal (take n.count (drop n.start literals)) ∷ [])
     else if what == COMPONENT then with_component (component_of n) ts
@@ -173,16 +173,16 @@ with_node what literals n ts =
     else if what == FIRST then with_members n.count (λ us. first (trees us)) ts
     else None
 
-abbrev pub grown_with : Text → Node → Option (List Tree) → Option (List Tree)
+abbrev pub grown_with : Text → RawNode → Option (List Tree) → Option (List Tree)
 grown_with literals n None = None
 grown_with literals n (Some ts) = with_node n.what literals n ts
 
 -- the trees so far, and these nodes
-abbrev pub read_on : Text → List Node → Option (List Tree) → Option (List Tree)
+abbrev pub read_on : Text → List RawNode → Option (List Tree) → Option (List Tree)
 read_on literals [] ts = ts
 read_on literals (n ∷ ns) ts = read_on literals ns (grown_with literals n ts)
 
 -- the trees that nodes read as: each node takes its members from the end of the trees so far, and puts its
 -- own tree there
-abbrev pub read_nodes : Text → List Node → Option (List Tree)
+abbrev pub read_nodes : Text → List RawNode → Option (List Tree)
 read_nodes literals ns = read_on literals ns (Some [])

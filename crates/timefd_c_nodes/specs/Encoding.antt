@@ -8,7 +8,7 @@ use Rattle.timefd_lang_component.specs.declared.component.Component.TheVariants.
 use Rattle.timefd_lang_node_list.specs.Nodes.{kept_bytes}
 use Rattle.timefd_lang_component.specs.Reserved.{reserve, tree_count, trees_count, digits_shown}
 use Rattle.timefd_lang_component.specs.Tree.{Text, Tree, component, literal, compound, optional, first, Trees, no_trees, more_trees}
-use Rattle.timefd_c_nodes.specs.declared.node.Node.{Node}
+use Rattle.timefd_c_nodes.specs.declared.node.RawNode.{RawNode}
 use Rattle.timefd_c_nodes.specs.declared.node.TheConstants.{LITERAL, COMPONENT, COMPOUND, OPTIONAL, FIRST, COMPOSITE}
 
 -- Numbers. A field that a component doesn't have is 0.
@@ -40,7 +40,7 @@ trailing_input_number TrailingInput.Discard = 2
 
 -- Nodes.
 
-abbrev pub blank : ℕ → Node
+abbrev pub blank : ℕ → RawNode
 blank what = record {
   what = what;
   component = 0;
@@ -63,17 +63,17 @@ abbrev pub shown_bytes : ℕ → ℕ
 shown_bytes bytes = min bytes (2 ^ 32 - 1)
 
 -- bytes of the buffer of literals, from an index on
-abbrev pub literal_node : ℕ → ℕ → Node
+abbrev pub literal_node : ℕ → ℕ → RawNode
 literal_node start len = record (blank LITERAL) { start = start; count = len; bytes = shown_bytes len }
 
-abbrev pub compound_node : ℕ → ℕ → ℕ → Node
+abbrev pub compound_node : ℕ → ℕ → ℕ → RawNode
 compound_node start count bytes = record (blank COMPOUND) {
   start = start;
   count = count;
   bytes = shown_bytes bytes;
 }
 
-abbrev pub optional_node : ℕ → Bool → ℕ → Node
+abbrev pub optional_node : ℕ → Bool → ℕ → RawNode
 optional_node start format bytes = record (blank OPTIONAL) {
   format = flag_number format;
   start =
@@ -82,14 +82,14 @@ optional_node start format bytes = record (blank OPTIONAL) {
   bytes = shown_bytes bytes;
 }
 
-abbrev pub first_node : ℕ → ℕ → ℕ → Node
+abbrev pub first_node : ℕ → ℕ → ℕ → RawNode
 first_node start count bytes = record (blank FIRST) {
   start = start;
   count = count;
   bytes = shown_bytes bytes;
 }
 
-abbrev pub composite_node : ℕ → ℕ → ℕ → Node
+abbrev pub composite_node : ℕ → ℕ → ℕ → RawNode
 composite_node start count bytes = record (blank COMPOSITE) {
   start = start;
   count = count;
@@ -97,35 +97,35 @@ composite_node start count bytes = record (blank COMPOSITE) {
 }
 
 -- a component, and the bytes that it reserves
-abbrev pub numbered : ℕ → ℕ → Node
+abbrev pub numbered : ℕ → ℕ → RawNode
 numbered number bytes = record (blank COMPONENT) { component = number; bytes = bytes }
 
-abbrev pub padded : ℕ → ℕ → Padding → Node
+abbrev pub padded : ℕ → ℕ → Padding → RawNode
 padded number bytes p = record (numbered number bytes) { padding = padding_number p }
 
-abbrev pub signed : ℕ → ℕ → Padding → Bool → Node
+abbrev pub signed : ℕ → ℕ → Padding → Bool → RawNode
 signed number bytes p sign = record (numbered number bytes) {
   padding =
       padding_number p;
   sign_is_mandatory = flag_number sign;
 }
 
-abbrev pub timestamp : ℕ → ℕ → Bool → Node
+abbrev pub timestamp : ℕ → ℕ → Bool → RawNode
 timestamp number bytes sign = record (numbered number bytes) {
   sign_is_mandatory =
       flag_number sign;
 }
 
-abbrev pub cased : ℕ → ℕ → Bool → Node
+abbrev pub cased : ℕ → ℕ → Bool → RawNode
 cased number bytes sensitive = record (numbered number bytes) {
   case_sensitive =
       flag_number sensitive;
 }
 
-abbrev pub indexed : ℕ → ℕ → Bool → Node
+abbrev pub indexed : ℕ → ℕ → Bool → RawNode
 indexed number bytes one = record (numbered number bytes) { one_indexed = flag_number one }
 
-abbrev pub period : ℕ → ℕ → Bool → Bool → Node
+abbrev pub period : ℕ → ℕ → Bool → Bool → RawNode
 period number bytes upper sensitive =
     record (numbered number bytes) {
       is_uppercase = flag_number upper;
@@ -133,17 +133,17 @@ period number bytes upper sensitive =
           flag_number sensitive;
     }
 
-abbrev pub subsecond : ℕ → SubsecondDigits → Node
+abbrev pub subsecond : ℕ → SubsecondDigits → RawNode
 subsecond number d = record (numbered number (digits_shown d)) { digits = digits_number d }
 
-abbrev pub ignored : ℕ → ℕ → Node
+abbrev pub ignored : ℕ → ℕ → RawNode
 ignored number count = record (numbered number 0) { ignored = count }
 
-abbrev pub end : ℕ → TrailingInput → Node
+abbrev pub end : ℕ → TrailingInput → RawNode
 end number t = record (numbered number 0) { trailing_input = trailing_input_number t }
 
 -- the number of each component, and the numbers of its modifiers; no text has a deprecated one
-abbrev pub component_table : Component → Node
+abbrev pub component_table : Component → RawNode
 component_table (Day m) = padded 1 2 m.padding
 component_table (MonthShort m) = cased 2 3 m.case_sensitive
 component_table (MonthLong m) = cased 3 9 m.case_sensitive
@@ -183,7 +183,7 @@ component_table (UnixTimestampNanosecond m) = timestamp 36 24 m.sign_is_mandator
 component_table (End m) = end 37 m.trailing_input
 component_table deprecated = blank COMPONENT
 
-abbrev pub component_node : Component → ℕ → Node
+abbrev pub component_node : Component → ℕ → RawNode
 component_node c at = record (component_table c) { start = at }
 
 -- how many members there are
@@ -193,7 +193,7 @@ trees_len (more_trees t ts) = 1 + trees_len ts
 
 -- The node of a tree. It has the index `at`, and `used` bytes of literals are before it. The nodes of its
 -- members are right before it.
-abbrev pub node_for : ℕ → ℕ → Tree → Node
+abbrev pub node_for : ℕ → ℕ → Tree → RawNode
 node_for at used (component c) = component_node c at
 node_for at used (literal bytes) = literal_node used (length bytes)
 node_for at used (compound ts) = compound_node (at - trees_count ts) (trees_len ts)
@@ -214,7 +214,7 @@ texts_of own [] = []
 texts_of own (a ∷ parts) = own a ++ texts_of own parts
 
 -- the nodes of some parts, one after another; the first has the index `at`
-abbrev pub nodes_by : {A : Type 0} → (ℕ → ℕ → A → Node) → (A → Text) → ℕ → ℕ → List A → List Node
+abbrev pub nodes_by : {A : Type 0} → (ℕ → ℕ → A → RawNode) → (A → Text) → ℕ → ℕ → List A → List RawNode
 nodes_by node own at used [] = []
 nodes_by node own at used (a ∷ parts) =
     node at used a ∷ nodes_by node own (at + 1) (used + length (own a)) parts
@@ -224,5 +224,5 @@ abbrev pub literals_of : List Tree → Text
 literals_of ts = texts_of own_text ts
 
 -- the nodes of some trees, one after another; the first has the index `at`
-abbrev pub nodes_from : ℕ → ℕ → List Tree → List Node
+abbrev pub nodes_from : ℕ → ℕ → List Tree → List RawNode
 nodes_from at used ts = nodes_by node_for own_text at used ts

@@ -4,15 +4,15 @@ ghost use Rattle.std.specs.Prelude.{◌≡◌};
 ghost use Rattle.timefd_c_nodes.specs.Encoding as spec;
 
 use crate::fields::{cased, end, ignored, indexed, padded, period, signed, subsecond, timestamp};
-use crate::node::{COMPONENT, Node};
+use crate::node::{COMPONENT, RawNode};
 use timefd_items::Component;
 
 /// The node of a component; the node's index is `at`.
 #[inline(always)]
-pub fn component_node(component: Component, at: usize) -> Node
+pub fn component_node(component: Component, at: usize) -> RawNode
     ensures { result ≡ spec.component_node component at }
 {
-    let mut node = Node::blank(COMPONENT);
+    let mut node = RawNode::blank(COMPONENT);
     make_component(&mut node, component, at);
     node
 }
@@ -30,12 +30,12 @@ pub fn component_bytes(component: Component) -> usize
 /// deprecated component has no number: no text has one.
 // Each arm writes the component's fields right into the node. A copy would write all fields again.
 #[inline(always)]
-pub fn make_component(node: &mut Node, component: Component, at: usize)
+pub fn make_component(node: &mut RawNode, component: Component, at: usize)
     ensures { node.new ≡ spec.component_node component at }
 {
-    *node = Node {
+    *node = RawNode {
         start: at,
-        ..Node::blank(COMPONENT)
+        ..RawNode::blank(COMPONENT)
     };
     match component {
         Component::Day(m) => padded(node, 1, 2, m.padding),

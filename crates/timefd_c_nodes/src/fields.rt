@@ -4,12 +4,12 @@ ghost use Rattle.std.specs.Prelude.{◌≡◌};
 ghost use Rattle.timefd_lang_component.specs.Reserved.{digits_shown};
 ghost use Rattle.timefd_c_nodes.specs.Encoding as spec;
 
-use crate::node::{Node, flag_number};
+use crate::node::{RawNode, flag_number};
 use timefd_items::modifier::{Padding, SubsecondDigits, TrailingInput};
 
 /// The number of a component, and the bytes that it reserves.
 #[inline(always)]
-pub fn numbered(node: &mut Node, component: u8, bytes: u32)
+pub fn numbered(node: &mut RawNode, component: u8, bytes: u32)
     ensures { node.new ≡ record node.old { component = component; bytes = bytes } }
 {
     node.component = component;
@@ -18,7 +18,7 @@ pub fn numbered(node: &mut Node, component: u8, bytes: u32)
 
 /// The number of a component, the bytes that it reserves, and its padding.
 #[inline(always)]
-pub fn padded(node: &mut Node, component: u8, bytes: u32, padding: Padding)
+pub fn padded(node: &mut RawNode, component: u8, bytes: u32, padding: Padding)
     ensures { node.new ≡ record node.old {
       component = component;
       bytes = bytes;
@@ -31,7 +31,13 @@ pub fn padded(node: &mut Node, component: u8, bytes: u32, padding: Padding)
 
 /// The number, the bytes, the padding, and whether the sign is always written.
 #[inline(always)]
-pub fn signed(node: &mut Node, component: u8, bytes: u32, padding: Padding, sign_is_mandatory: bool)
+pub fn signed(
+    node: &mut RawNode,
+    component: u8,
+    bytes: u32,
+    padding: Padding,
+    sign_is_mandatory: bool,
+)
     ensures { node.new ≡ record node.old {
       component = component;
       bytes = bytes;
@@ -46,7 +52,7 @@ pub fn signed(node: &mut Node, component: u8, bytes: u32, padding: Padding, sign
 
 /// The number, the bytes, and whether the sign is always written.
 #[inline(always)]
-pub fn timestamp(node: &mut Node, component: u8, bytes: u32, sign_is_mandatory: bool)
+pub fn timestamp(node: &mut RawNode, component: u8, bytes: u32, sign_is_mandatory: bool)
     ensures { node.new ≡ record node.old {
       component = component;
       bytes = bytes;
@@ -59,7 +65,7 @@ pub fn timestamp(node: &mut Node, component: u8, bytes: u32, sign_is_mandatory: 
 
 /// The number, the bytes, and whether it is read in its own case only.
 #[inline(always)]
-pub fn cased(node: &mut Node, component: u8, bytes: u32, case_sensitive: bool)
+pub fn cased(node: &mut RawNode, component: u8, bytes: u32, case_sensitive: bool)
     ensures { node.new ≡ record node.old {
       component = component;
       bytes = bytes;
@@ -72,7 +78,7 @@ pub fn cased(node: &mut Node, component: u8, bytes: u32, case_sensitive: bool)
 
 /// The number, the bytes, and whether days are counted from one.
 #[inline(always)]
-pub fn indexed(node: &mut Node, component: u8, bytes: u32, one_indexed: bool)
+pub fn indexed(node: &mut RawNode, component: u8, bytes: u32, one_indexed: bool)
     ensures { node.new ≡ record node.old {
       component = component;
       bytes = bytes;
@@ -86,7 +92,13 @@ pub fn indexed(node: &mut Node, component: u8, bytes: u32, one_indexed: bool)
 /// The number, the bytes, whether it is written in capitals, and whether it is read in its own case
 /// only.
 #[inline(always)]
-pub fn period(node: &mut Node, component: u8, bytes: u32, is_uppercase: bool, case_sensitive: bool)
+pub fn period(
+    node: &mut RawNode,
+    component: u8,
+    bytes: u32,
+    is_uppercase: bool,
+    case_sensitive: bool,
+)
     ensures { node.new ≡ record node.old {
       component = component;
       bytes = bytes;
@@ -101,7 +113,7 @@ pub fn period(node: &mut Node, component: u8, bytes: u32, is_uppercase: bool, ca
 
 /// The number, the digits, and the bytes: the most digits that are shown.
 #[inline(always)]
-pub fn subsecond(node: &mut Node, component: u8, digits: SubsecondDigits)
+pub fn subsecond(node: &mut RawNode, component: u8, digits: SubsecondDigits)
     ensures { node.new ≡ record node.old {
       component = component;
       bytes = digits_shown digits;
@@ -115,7 +127,7 @@ pub fn subsecond(node: &mut Node, component: u8, digits: SubsecondDigits)
 
 /// The number, and how many bytes a parser skips.
 #[inline(always)]
-pub fn ignored(node: &mut Node, component: u8, count: u16)
+pub fn ignored(node: &mut RawNode, component: u8, count: u16)
     ensures { node.new ≡ record node.old { component = component; bytes = 0; ignored = count } }
 {
     node.ignored = count;
@@ -124,7 +136,7 @@ pub fn ignored(node: &mut Node, component: u8, count: u16)
 
 /// The number, and what may follow the end.
 #[inline(always)]
-pub fn end(node: &mut Node, component: u8, trailing_input: TrailingInput)
+pub fn end(node: &mut RawNode, component: u8, trailing_input: TrailingInput)
     ensures { node.new ≡ record node.old {
       component = component;
       bytes = 0;

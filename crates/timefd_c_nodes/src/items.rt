@@ -8,7 +8,7 @@ ghost use Rattle.timefd_lang_component.specs.Tree.{compound, first, optional, tr
 ghost use Rattle.timefd_lang_node_list.specs.Views.{walked, walked_all};
 ghost use Rattle.timefd_c_nodes.specs.Writing.{IsPast, IsWritten};
 
-use crate::node::Node;
+use crate::node::RawNode;
 use crate::position::{WritePosition, Written, put, put_component, put_literal};
 use timefd_items::{BorrowedFormatItem, item_bytes};
 
@@ -17,7 +17,7 @@ use timefd_items::{BorrowedFormatItem, item_bytes};
 fn write_all(
     items: &[BorrowedFormatItem<'_>],
     from: WritePosition,
-    nodes: &mut [Node],
+    nodes: &mut [RawNode],
     literals: &mut [u8],
 ) -> Option<Written>
     ensures some { IfSome result (IsWritten (walked_all (trees (item_trees items.now)))
@@ -40,7 +40,7 @@ fn write_all(
 fn write_item(
     item: &BorrowedFormatItem<'_>,
     from: WritePosition,
-    nodes: &mut [Node],
+    nodes: &mut [RawNode],
     literals: &mut [u8],
 ) -> Option<Written>
     ensures some { IfSome result (IsWritten (walked (item_tree item.now)) (reserve (item_tree item.now))
@@ -66,7 +66,7 @@ fn write_item(
 pub fn write_compound(
     members: &[BorrowedFormatItem<'_>],
     from: WritePosition,
-    nodes: &mut [Node],
+    nodes: &mut [RawNode],
     literals: &mut [u8],
 ) -> Option<Written>
     ensures some { IfSome result (IsWritten (walked (compound (trees (item_trees members.now))))
@@ -74,7 +74,7 @@ pub fn write_compound(
     ensures none { result ≡ None → IsPast (walked (compound (trees (item_trees members.now)))) from }
 {
     let inner = write_all(members, from, nodes, literals)?;
-    let node = Node::compound(from.nodes, members.len(), inner.bytes);
+    let node = RawNode::compound(from.nodes, members.len(), inner.bytes);
     put(node, inner.bytes, inner.end, nodes)
 }
 
@@ -84,7 +84,7 @@ pub fn write_compound(
 fn write_optional(
     member: &BorrowedFormatItem<'_>,
     from: WritePosition,
-    nodes: &mut [Node],
+    nodes: &mut [RawNode],
     literals: &mut [u8],
 ) -> Option<Written>
     ensures some { IfSome result (IsWritten (walked (optional true (item_tree member.now)))
@@ -92,7 +92,7 @@ fn write_optional(
     ensures none { result ≡ None → IsPast (walked (optional true (item_tree member.now))) from }
 {
     let inner = write_item(member, from, nodes, literals)?;
-    let node = Node::optional(from.nodes, true, inner.bytes);
+    let node = RawNode::optional(from.nodes, true, inner.bytes);
     put(node, inner.bytes, inner.end, nodes)
 }
 
@@ -102,7 +102,7 @@ fn write_optional(
 fn write_first(
     members: &[BorrowedFormatItem<'_>],
     from: WritePosition,
-    nodes: &mut [Node],
+    nodes: &mut [RawNode],
     literals: &mut [u8],
 ) -> Option<Written>
     ensures some { IfSome result (IsWritten (walked (first (trees (item_trees members.now))))
@@ -111,7 +111,7 @@ fn write_first(
 {
     let bytes = first_bytes(members);
     let inner = write_all(members, from, nodes, literals)?;
-    let node = Node::first(from.nodes, members.len(), bytes);
+    let node = RawNode::first(from.nodes, members.len(), bytes);
     put(node, bytes, inner.end, nodes)
 }
 

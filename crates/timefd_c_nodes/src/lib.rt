@@ -22,6 +22,6 @@ pub mod reading;
 
 pub use component::component_node;
 pub use items::write_compound;
-pub use node::Node;
+pub use node::RawNode;
 pub use position::{START, WritePosition, Written, put, put_component, put_literal};
 pub use view::write_view;

@@ -24,7 +24,7 @@ pub const COMPOSITE: u8 = 6;
 /// A part of a description. A field that doesn't apply to such a part is 0.
 #[repr(C)]
 #[derive(Debug, Clone, Copy, PartialEq, Eq)]
-pub struct Node {
+pub struct RawNode {
     /// What the node is: one of the six numbers.
     pub what: u8,
     /// Which component: 1 to 37, in the order of `Component`.
@@ -58,17 +58,17 @@ pub struct Node {
 }
 
 // `examples/timefd.h` declares it with this size.
-const _: () = prove!(size_of::<Node>() == 32);
+const _: () = prove!(size_of::<RawNode>() == 32);
 
-const _: () = prove!(align_of::<Node>() == 8);
+const _: () = prove!(align_of::<RawNode>() == 8);
 
-impl Node {
+impl RawNode {
     /// The node with this kind and nothing else.
     #[inline(always)]
-    pub const fn blank(what: u8) -> Node
+    pub const fn blank(what: u8) -> RawNode
         ensures { result ≡ spec.blank what }
     {
-        Node {
+        RawNode {
             what,
             component: 0,
             padding: 0,
@@ -88,67 +88,67 @@ impl Node {
 
     /// The node of a literal whose first byte has this index among the literals.
     #[inline(always)]
-    pub fn literal(start: usize, len: usize) -> Node
+    pub fn literal(start: usize, len: usize) -> RawNode
         ensures { result ≡ spec.literal_node start len }
     {
-        Node {
+        RawNode {
             bytes: shown_bytes(len),
             start,
             count: len,
-            ..Node::blank(LITERAL)
+            ..RawNode::blank(LITERAL)
         }
     }
 
     /// The node of members one after another.
     #[inline(always)]
-    pub fn compound(start: usize, count: usize, bytes: usize) -> Node
+    pub fn compound(start: usize, count: usize, bytes: usize) -> RawNode
         ensures { result ≡ spec.compound_node start count bytes }
     {
-        Node {
+        RawNode {
             bytes: shown_bytes(bytes),
             start,
             count,
-            ..Node::blank(COMPOUND)
+            ..RawNode::blank(COMPOUND)
         }
     }
 
     /// The node of a member that a parser may skip.
     #[inline(always)]
-    pub fn optional(start: usize, format: bool, bytes: usize) -> Node
+    pub fn optional(start: usize, format: bool, bytes: usize) -> RawNode
         ensures { result ≡ spec.optional_node start format bytes }
     {
-        Node {
+        RawNode {
             format: flag_number(format),
             bytes: shown_bytes(bytes),
             start,
             count: 1,
-            ..Node::blank(OPTIONAL)
+            ..RawNode::blank(OPTIONAL)
         }
     }
 
     /// The node of alternatives.
     #[inline(always)]
-    pub fn first(start: usize, count: usize, bytes: usize) -> Node
+    pub fn first(start: usize, count: usize, bytes: usize) -> RawNode
         ensures { result ≡ spec.first_node start count bytes }
     {
-        Node {
+        RawNode {
             bytes: shown_bytes(bytes),
             start,
             count,
-            ..Node::blank(FIRST)
+            ..RawNode::blank(FIRST)
         }
     }
 
     /// The node of a composite letter of strftime.
     #[inline(always)]
-    pub fn composite(start: usize, count: usize, bytes: usize) -> Node
+    pub fn composite(start: usize, count: usize, bytes: usize) -> RawNode
         ensures { result ≡ spec.composite_node start count bytes }
     {
-        Node {
+        RawNode {
             bytes: shown_bytes(bytes),
             start,
             count,
-            ..Node::blank(COMPOSITE)
+            ..RawNode::blank(COMPOSITE)
         }
     }
 }

@@ -5,7 +5,7 @@ ghost use Rattle.timefd_lang_component.specs.Reserved.{tree_count};
 ghost use Rattle.timefd_lang_node_list.specs.Views.{view_tree};
 ghost use Rattle.timefd_c_nodes.specs.Writing.{IsPast, WritesWithin};
 
-use crate::node::Node;
+use crate::node::RawNode;
 use crate::position::{WritePosition, Written, put, put_component, put_literal};
 use timefd_items::{Shape, View};
 
@@ -15,7 +15,7 @@ use timefd_items::{Shape, View};
 pub fn put_part(
     part: View<'_, '_>,
     at: WritePosition,
-    nodes: &mut [Node],
+    nodes: &mut [RawNode],
     literals: &mut [u8],
 ) -> Option<Written>
     ensures some { IfSome result (λ w. WritesWithin (view_tree part.entry ∷ []) at w.end nodes.old
@@ -27,17 +27,17 @@ pub fn put_part(
         Shape::Component(component) => put_component(component, at, nodes),
         Shape::Compound(members) => {
             let bytes = part.max_bytes_needed();
-            let node = Node::compound(first_inner(part, at), members.len(), bytes);
+            let node = RawNode::compound(first_inner(part, at), members.len(), bytes);
             put(node, bytes, at, nodes)
         }
         Shape::Optional { format, .. } => {
             let bytes = part.max_bytes_needed();
-            let node = Node::optional(first_inner(part, at), format, bytes);
+            let node = RawNode::optional(first_inner(part, at), format, bytes);
             put(node, bytes, at, nodes)
         }
         Shape::First(members) => {
             let bytes = part.max_bytes_needed();
-            let node = Node::first(first_inner(part, at), members.len(), bytes);
+            let node = RawNode::first(first_inner(part, at), members.len(), bytes);
             put(node, bytes, at, nodes)
         }
     }

@@ -8,7 +8,7 @@ ghost use Rattle.timefd_c_nodes.specs.Encoding as spec;
 ghost use Rattle.timefd_c_nodes.specs.Writing.{IsPast, IsWritten, Puts, overwritten};
 
 use crate::component::{component_bytes, make_component};
-use crate::node::Node;
+use crate::node::RawNode;
 use timefd_items::Component;
 
 /// The index of the next node, and of the next byte of a literal. These are also how many come
@@ -37,7 +37,7 @@ pub struct Written {
 /// Writes a node that adds nothing to the literals and reserves `bytes` bytes, if there is room for
 /// it. `None` says that a `usize` can't count the nodes.
 #[inline(always)]
-pub fn put(node: Node, bytes: usize, at: WritePosition, nodes: &mut [Node]) -> Option<Written>
+pub fn put(node: RawNode, bytes: usize, at: WritePosition, nodes: &mut [RawNode]) -> Option<Written>
     ensures some { IfSome result (Puts node bytes at nodes.old nodes.new) }
     ensures none { result ≡ None → 2 ^ 64 ≤ at.nodes + 1 }
 {
@@ -64,7 +64,11 @@ fn after_node(at: WritePosition, bytes: usize) -> Option<Written>
 /// Writes the node of a component right into its slot, if there is room for it. `None` says that a
 /// `usize` can't count the nodes.
 #[inline(always)]
-pub fn put_component(component: Component, at: WritePosition, nodes: &mut [Node]) -> Option<Written>
+pub fn put_component(
+    component: Component,
+    at: WritePosition,
+    nodes: &mut [RawNode],
+) -> Option<Written>
     ensures some { IfSome result (Puts (spec.component_node component at.nodes)
         (spec.component_table component).bytes at nodes.old nodes.new) }
     ensures none { result ≡ None → 2 ^ 64 ≤ at.nodes + 1 }
@@ -82,14 +86,14 @@ pub fn put_component(component: Component, at: WritePosition, nodes: &mut [Node]
 pub fn put_literal(
     text: &[u8],
     at: WritePosition,
-    nodes: &mut [Node],
+    nodes: &mut [RawNode],
     literals: &mut [u8],
 ) -> Option<Written>
     ensures some { IfSome result (IsWritten (walked (literal text.now)) (reserve (literal text.now))
         at nodes.old nodes.new literals.old literals.new) }
     ensures none { result ≡ None → IsPast (walked (literal text.now)) at }
 {
-    let node = Node::literal(at.literals, text.len());
+    let node = RawNode::literal(at.literals, text.len());
     let written = put(node, text.len(), at, nodes)?;
     let after = at.literals.checked_add(text.len())?;
     if after <= literals.len() {

@@ -16,5 +16,5 @@ mod version_three;
 
 pub use composite::COMPOSITES;
 pub use reading::{read, read_composites, read_within};
-pub use report::Report;
+pub use report::ReadReport;
 pub use text::text_of;

@@ -4,7 +4,7 @@ ghost use Rattle.std.specs.Prelude.{◌≡◌, None, IfSome};
 ghost use Rattle.timefd_lang_node_list.specs.Views.{view_tree, walked};
 ghost use Rattle.timefd_c_nodes.specs.Writing.{IsPast, WritesWithin};
 
-use crate::node::Node;
+use crate::node::RawNode;
 use crate::part::put_part;
 use crate::position::WritePosition;
 use timefd_items::View;
@@ -14,7 +14,7 @@ use timefd_items::View;
 pub fn write_view(
     view: View<'_, '_>,
     from: WritePosition,
-    nodes: &mut [Node],
+    nodes: &mut [RawNode],
     literals: &mut [u8],
 ) -> Option<WritePosition>
     ensures some { IfSome result (λ end. WritesWithin (walked (view_tree view.entry)) from end

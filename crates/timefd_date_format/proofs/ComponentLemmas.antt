@@ -4,7 +4,7 @@ use Rattle.timefd_lang_component.specs.declared.component.Component.{Component}
 use Rattle.timefd_lang_component.specs.Modern.{modern}
 use Rattle.timefd_lang_component.specs.Tree.{Text}
 use Rattle.timefd_date_moment.specs.declared.moment.Moment.{Moment}
-use Rattle.timefd_date_format.specs.declared.field.Field.{Field}
+use Rattle.timefd_date_format.specs.declared.field.WrittenField.{WrittenField}
 use Rattle.timefd_date_format.specs.declared.field.Lack.{Lack}
 use Rattle.timefd_date_format.specs.declared.cursor.WriteCursor.{WriteCursor}
 use Rattle.timefd_date_format.specs.declared.cursor.WriteCursor.TheVariants as cursor
@@ -35,29 +35,29 @@ left_after (Err u) old new p q is left = left
 
 -- What the component shows, from its field.
 
-shows : (m : Moment) (c d : Component) (r x : Result Field Lack) → d ≡ modern c → r ≡ field m d → r ≡ x
+shows : (m : Moment) (c d : Component) (r x : Result WrittenField Lack) → d ≡ modern c → r ≡ field m d → r ≡ x
     → shown m c ≡ text_of d x
 shows m c d r x current is so =
     (λ i. text_of (sym current i) (field m (sym current i))) ∙ ap (text_of d) (sym is ∙ so)
 
-pub field_put : (m : Moment) (c d : Component) (r : Result Field Lack) (f : Field) (old new : Text)
+pub field_put : (m : Moment) (c d : Component) (r : Result WrittenField Lack) (f : WrittenField) (old new : Text)
     (end : ℕ) (at : Option ℕ) → d ≡ modern c → r ≡ field m d → r ≡ Ok f
     → Puts (field_text f) old end new at → PutsShown (shown m c) old end new at
 field_put m c d r f old new end at current is so put =
     subst (λ x. PutsShown x old end new at) (sym (shows m c d r (Ok f) current is so)) put
 
-pub field_lacks : (m : Moment) (c d : Component) (r : Result Field Lack) (lack : Lack) (old : Text) (end : ℕ)
+pub field_lacks : (m : Moment) (c d : Component) (r : Result WrittenField Lack) (lack : Lack) (old : Text) (end : ℕ)
     → d ≡ modern c → r ≡ field m d → r ≡ Err lack → PutsShown (shown m c) old end old None
 field_lacks m c d r lack old end current is so =
     subst (λ x. PutsShown x old end old None) (sym (shows m c d r (Err lack) current is so)) refl
 
-pub shown_left : (m : Moment) (c d : Component) (r : Result Field Lack) (f : Field) (p q : WriteCursor)
+pub shown_left : (m : Moment) (c d : Component) (r : Result WrittenField Lack) (f : WrittenField) (p q : WriteCursor)
     → d ≡ modern c → r ≡ field m d → r ≡ Ok f → IsLeftOut (Ok (field_text f)) p q
     → IsLeftOut (shown m c) p q
 shown_left m c d r f p q current is so left =
     subst (λ x. IsLeftOut x p q) (sym (shows m c d r (Ok f) current is so)) left
 
-pub lack_left : (m : Moment) (c d : Component) (r : Result Field Lack) (lack : Lack) (p : WriteCursor)
+pub lack_left : (m : Moment) (c d : Component) (r : Result WrittenField Lack) (lack : Lack) (p : WriteCursor)
     → d ≡ modern c → r ≡ field m d → r ≡ Err lack
     → IsLeftOut (shown m c) p (cursor.Unshown (record { component = d; lack = lack }))
 lack_left m c d r lack p current is so =

@@ -12,7 +12,7 @@ use Rattle.timefd_date_moment.specs.declared.offset.UtcOffset.{UtcOffset}
 use Rattle.timefd_date_moment.specs.declared.moment.Moment.{Moment}
 use Rattle.timefd_date_moment.specs.declared.unix_time.UnixTime.{UnixTime}
 use Rattle.timefd_date_moment.specs.Moments.{unix_time}
-use Rattle.timefd_date_format.specs.declared.field.Field.{Field}
+use Rattle.timefd_date_format.specs.declared.field.WrittenField.{WrittenField}
 use Rattle.timefd_date_format.specs.declared.field.Lack.{Lack}
 use Rattle.timefd_date_format.specs.declared.unshown.Unshown.{Unshown}
 use Rattle.timefd_date_format.specs.Fields.{field, field_text, on_date, on_time, on_offset, instant_field}
@@ -59,7 +59,7 @@ mutual
 -- If `P` holds for what is shown, then what is written is a rendering by texts with `P`.
 module _ (m : Moment) (P : Component → Text → Type 0)
     (each : (c : Component) → IfOk (field m c) (λ f. P c (field_text f))) where
-  of_field : (c : Component) (r : Result Field Lack) → IfOk r (λ f. P c (field_text f))
+  of_field : (c : Component) (r : Result WrittenField Lack) → IfOk r (λ f. P c (field_text f))
       → IfOk (text_of c r) (P c)
   of_field c (Ok f) h = h
   of_field c (Err l) h = tt
@@ -97,12 +97,12 @@ writes_formatted m t is = writes_by m IsTextOf (λ c. renders m c) t is
 
 -- For moments without the zero of a negative number.
 
-offset_where : (P : Field → Type 0) (o : Option UtcOffset) (g : UtcOffset → Result Field Lack)
+offset_where : (P : WrittenField → Type 0) (o : Option UtcOffset) (g : UtcOffset → Result WrittenField Lack)
     → IfSome o HasHours → ((z : UtcOffset) → HasHours z → IfOk (g z) P) → IfOk (on_offset o g) P
 offset_where P None g q h = tt
 offset_where P (Some z) g q h = h z q
 
-instant_where : (P : Field → Type 0) (c : Component) (od : Option Date) (ot : Option Time)
+instant_where : (P : WrittenField → Type 0) (c : Component) (od : Option Date) (ot : Option Time)
     (oo : Option UtcOffset) → HasMilliseconds od ot oo
     → ((d : Date) (t : Time) (o : UtcOffset) → HasMillisecond d t o
     → IfOk (instant_field (unix_time d t o) c) P)
@@ -122,7 +122,7 @@ plain_text : (c : Component) (text : Text) → (IsMinusZero c text → ⊥) → 
 plain_text c text h (inl is) = is
 plain_text c text h (inr z) = absurd (h z)
 
-plain_field : (c : Component) (r : Result Field Lack) → ((text : Text) → IsMinusZero c text → ⊥)
+plain_field : (c : Component) (r : Result WrittenField Lack) → ((text : Text) → IsMinusZero c text → ⊥)
     → IfOk r (λ f. IsTextOf c (field_text f)) → IfOk r (λ f. IsText c (field_text f))
 plain_field c (Ok f) h is = plain_text c (field_text f) (h (field_text f)) is
 plain_field c (Err l) h is = tt

@@ -10,7 +10,7 @@ use Rattle.timefd_lang_component.specs.Texts.{filled}
 use Rattle.timefd_lang_component.specs.Tree.{Text, Tree, component, literal, compound, optional, first, Trees, no_trees, more_trees}
 use Rattle.timefd_lang_component.proofs.Greatest.{longest_at}
 use Rattle.timefd_date_moment.specs.declared.moment.Moment.{Moment}
-use Rattle.timefd_date_format.specs.declared.field.Field.{Field}
+use Rattle.timefd_date_format.specs.declared.field.WrittenField.{WrittenField}
 use Rattle.timefd_date_format.specs.declared.field.Lack.{Lack}
 use Rattle.timefd_date_format.specs.declared.unshown.Unshown.{Unshown}
 use Rattle.timefd_date_format.specs.Fields.{field, field_text}
@@ -49,7 +49,7 @@ text_fits : (c : Component) (text : Text) → IsTextOf c text → length text �
 text_fits c text (inl is) = longest_at (component c) (reserved c) refl text is
 text_fits c text (inr z) = minus c text z
 
-of_field : (c : Component) (r : Result Field Lack) → IfOk r (λ f. IsTextOf c (field_text f))
+of_field : (c : Component) (r : Result WrittenField Lack) → IfOk r (λ f. IsTextOf c (field_text f))
     → Fits (reserved c) (text_of c r)
 of_field c (Ok f) h = text_fits c (field_text f) h
 of_field c (Err l) h = tt

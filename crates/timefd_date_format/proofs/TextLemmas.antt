@@ -15,24 +15,24 @@ use Rattle.timefd_date_moment.specs.Instants.{is_within}
 use Rattle.timefd_date_moment.specs.Calendar.{days_in_month, is_leap, days_in_year}
 use Rattle.timefd_date_moment.specs.Moments.{date_ordinal, days_from_monday, days_from_sunday, iso_years, iso_week, sunday_week, monday_week, magnitude, is_before_zero, hour_of_twelve, unix_time, thursday, utc_nanoseconds, unix_start}
 use Rattle.timefd_date_moment.proofs.CalendarLemmas.{months_fit, days_before}
-use Rattle.timefd_date_format.specs.declared.field.Field.{Field}
+use Rattle.timefd_date_format.specs.declared.field.WrittenField.{WrittenField}
 use Rattle.timefd_date_format.specs.declared.field.Lack.{Lack}
 use Rattle.timefd_date_format.specs.Fields.{field, field_text, signed, sign_of, sign_text, year, from_one, period_text, on_date, on_time, on_offset, instant_field, stamp_field, whole_seconds}
 use Rattle.timefd_date_format.specs.Laws.{IsTextOf, IsMinusZero}
 
 -- What holds for each date holds for a moment that has one; so do times and offsets.
 
-of_date : (P : Field → Type 0) (o : Option Date) (g : Date → Result Field Lack)
+of_date : (P : WrittenField → Type 0) (o : Option Date) (g : Date → Result WrittenField Lack)
     → ((d : Date) → IfOk (g d) P) → IfOk (on_date o g) P
 of_date P None g h = tt
 of_date P (Some d) g h = h d
 
-of_time : (P : Field → Type 0) (o : Option Time) (g : Time → Result Field Lack)
+of_time : (P : WrittenField → Type 0) (o : Option Time) (g : Time → Result WrittenField Lack)
     → ((t : Time) → IfOk (g t) P) → IfOk (on_time o g) P
 of_time P None g h = tt
 of_time P (Some t) g h = h t
 
-of_offset : (P : Field → Type 0) (o : Option UtcOffset) (g : UtcOffset → Result Field Lack)
+of_offset : (P : WrittenField → Type 0) (o : Option UtcOffset) (g : UtcOffset → Result WrittenField Lack)
     → ((z : UtcOffset) → IfOk (g z) P) → IfOk (on_offset o g) P
 of_offset P None g h = tt
 of_offset P (Some z) g h = h z
@@ -184,7 +184,7 @@ standard w u p b y Z shown digits =
 
 -- Instants.
 
-pub of_instant : (P : Field → Type 0) (u : UnixTime) (c : Component) → (is_within u ≡ true → P (stamp_field u c))
+pub of_instant : (P : WrittenField → Type 0) (u : UnixTime) (c : Component) → (is_within u ≡ true → P (stamp_field u c))
     → IfOk (instant_field u c) P
 of_instant P u c h = by (is_within u) refl
   where

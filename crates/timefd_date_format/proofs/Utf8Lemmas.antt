@@ -14,7 +14,7 @@ use Rattle.timefd_lang_component.specs.Modern.{modern}
 use Rattle.timefd_lang_component.specs.Texts.{filled, before_trimmed, trimmed, at_least_one, subsecond, plus_where, periods, IsNumber, IsSigned, IsOneOf, IsWeekday, IsExtended, IsStandard, IsText, full, century, short_months, long_months, short_weekdays, long_weekdays}
 use Rattle.timefd_lang_component.specs.Tree.{Text, Tree, component, literal, compound, optional, first, Trees, no_trees, more_trees}
 use Rattle.timefd_date_moment.specs.declared.moment.Moment.{Moment}
-use Rattle.timefd_date_format.specs.declared.field.Field.{Field}
+use Rattle.timefd_date_format.specs.declared.field.WrittenField.{WrittenField}
 use Rattle.timefd_date_format.specs.declared.field.Lack.{Lack}
 use Rattle.timefd_date_format.specs.declared.unshown.Unshown.{Unshown}
 use Rattle.timefd_date_format.specs.Fields.{field, field_text}
@@ -227,7 +227,7 @@ text_utf8 : (c : Component) (text : Text) → IsTextOf c text → IsUtf8 text
 text_utf8 c text (inl is) = listed c text is
 text_utf8 c text (inr z) = minus_zero c text z
 
-field_utf8 : (c : Component) (r : Result Field Lack) → IfOk r (λ f. IsTextOf c (field_text f))
+field_utf8 : (c : Component) (r : Result WrittenField Lack) → IfOk r (λ f. IsTextOf c (field_text f))
     → IfOk (text_of c r) IsUtf8
 field_utf8 c (Ok f) h = text_utf8 c (field_text f) h
 field_utf8 c (Err l) h = tt

@@ -12,8 +12,8 @@ use Rattle.timefd_date_moment.specs.declared.moment.Moment.{Moment}
 use Rattle.timefd_date_moment.specs.declared.unix_time.UnixTime.{UnixTime}
 use Rattle.timefd_date_moment.specs.Moments.{date_ordinal, days_from_monday, days_from_sunday, iso_years, iso_week, sunday_week, monday_week, magnitude, is_before_zero, hour_of_twelve, unix_time}
 use Rattle.timefd_date_moment.specs.Instants.{is_within}
-use Rattle.timefd_date_format.specs.declared.field.Field.{Field}
-use Rattle.timefd_date_format.specs.declared.field.Field.TheVariants as shows
+use Rattle.timefd_date_format.specs.declared.field.WrittenField.{WrittenField}
+use Rattle.timefd_date_format.specs.declared.field.WrittenField.TheVariants as shows
 use Rattle.timefd_date_format.specs.declared.field.Sign.{Sign}
 use Rattle.timefd_date_format.specs.declared.field.Lack.{Lack}
 use Rattle.timefd_date_format.specs.declared.field.Lack.TheVariants as lack
@@ -38,7 +38,7 @@ period_text true true = codes "PM"
 period_text false false = codes "am"
 period_text false true = codes "pm"
 
-abbrev pub field_text : Field → Text
+abbrev pub field_text : WrittenField → Text
 field_text (shows.MonthShort month) = name_at short_months (month - 1)
 field_text (shows.MonthLong month) = name_at long_months (month - 1)
 field_text (shows.WeekdayShort day) = name_at short_weekdays day
@@ -49,7 +49,7 @@ field_text (shows.Fraction digits nanosecond) = subsecond digits nanosecond
 field_text shows.Nothing = []
 
 -- What a field may hold.
-abbrev pub IsField : Field → Type 0
+abbrev pub IsField : WrittenField → Type 0
 IsField (shows.MonthShort month) = (1 ≤ month) × (month ≤ 12)
 IsField (shows.MonthLong month) = (1 ≤ month) × (month ≤ 12)
 IsField (shows.WeekdayShort day) = day ≤ 6
@@ -64,7 +64,7 @@ sign_of true has_plus = Sign.Minus
 sign_of false true = Sign.Plus
 sign_of false false = Sign.None
 
-abbrev pub signed : Bool → Bool → Padding → ℕ → ℕ → Field
+abbrev pub signed : Bool → Bool → Padding → ℕ → ℕ → WrittenField
 signed is_negative has_plus padding width value = shows.Number (record {
   sign = sign_of is_negative has_plus;
   padding = padding;
@@ -72,25 +72,25 @@ signed is_negative has_plus padding width value = shows.Number (record {
   value = value;
 })
 
-abbrev pub plain : Padding → ℕ → ℕ → Field
+abbrev pub plain : Padding → ℕ → ℕ → WrittenField
 plain = signed false false
 
 -- A year of at most this magnitude, or its hundreds. Only years of five digits and more need a plus: it
 -- distinguishes them from years of four.
-abbrev pub year : ℕ → ℕ → ℕ → Padding → Bool → ℕ → Result Field Lack
+abbrev pub year : ℕ → ℕ → ℕ → Padding → Bool → ℕ → Result WrittenField Lack
 year greatest width unit padding mandatory years =
     if nat_le (magnitude years) greatest then Ok
     (signed (is_before_zero years) (mandatory || nat_le 10000 (magnitude years)) padding width
     (magnitude years / unit)) else Err lack.YearTooLong
 
-abbrev pub last_two : Padding → ℕ → Result Field Lack
+abbrev pub last_two : Padding → ℕ → Result WrittenField Lack
 last_two padding years = Ok (plain padding 2 (magnitude years % 100))
 
 abbrev pub from_one : Bool → ℕ → ℕ
 from_one true n = n + 1
 from_one false n = n
 
-abbrev pub date_field : Date → Component → Result Field Lack
+abbrev pub date_field : Date → Component → Result WrittenField Lack
 date_field d (Day m) = Ok (plain m.padding 2 d.day)
 date_field d (MonthShort m) = Ok (shows.MonthShort d.month)
 date_field d (MonthLong m) = Ok (shows.MonthLong d.month)
@@ -115,7 +115,7 @@ date_field d (CalendarYearLastTwo m) = last_two m.padding d.years
 date_field d (IsoYearLastTwo m) = last_two m.padding (iso_years d)
 date_field d _ = Ok shows.Nothing
 
-abbrev pub time_field : Time → Component → Field
+abbrev pub time_field : Time → Component → WrittenField
 time_field t (Hour12 m) = plain m.padding 2 (hour_of_twelve t.hour)
 time_field t (Hour24 m) = plain m.padding 2 t.hour
 time_field t (Minute m) = plain m.padding 2 t.minute
@@ -125,7 +125,7 @@ time_field t (Subsecond m) = shows.Fraction m.digits t.nanosecond
 time_field t _ = shows.Nothing
 
 -- The sign is the sign of the whole offset: half an hour west of UTC has the hours -00.
-abbrev pub offset_field : UtcOffset → Component → Field
+abbrev pub offset_field : UtcOffset → Component → WrittenField
 offset_field o (OffsetHour m) = signed o.is_negative m.sign_is_mandatory m.padding 2 (o.seconds / 3600)
 offset_field o (OffsetMinute m) = plain m.padding 2 (o.seconds / 60 % 60)
 offset_field o (OffsetSecond m) = plain m.padding 2 (o.seconds % 60)
@@ -137,7 +137,7 @@ whole_seconds u =
     if u.is_negative then (u.nanoseconds + 999999999) / 1000000000 else u.nanoseconds / 1000000000
 
 -- Seconds are rounded down, and smaller units towards zero.
-abbrev pub stamp_of : Bool → UnixTime → ℕ → Field
+abbrev pub stamp_of : Bool → UnixTime → ℕ → WrittenField
 stamp_of mandatory u value = signed u.is_negative mandatory Padding.None 1 value
 
 -- The timestamp of a unit, and how many units an instant is from the start of 1970.
@@ -153,14 +153,14 @@ counted u Unit.Millisecond = u.nanoseconds / 1000000
 counted u Unit.Microsecond = u.nanoseconds / 1000
 counted u Unit.Nanosecond = u.nanoseconds
 
-abbrev pub stamp_field : UnixTime → Component → Field
+abbrev pub stamp_field : UnixTime → Component → WrittenField
 stamp_field u (UnixTimestampSecond m) = stamp_of m.sign_is_mandatory u (whole_seconds u)
 stamp_field u (UnixTimestampMillisecond m) = stamp_of m.sign_is_mandatory u (u.nanoseconds / 1000000)
 stamp_field u (UnixTimestampMicrosecond m) = stamp_of m.sign_is_mandatory u (u.nanoseconds / 1000)
 stamp_field u (UnixTimestampNanosecond m) = stamp_of m.sign_is_mandatory u u.nanoseconds
 stamp_field u _ = shows.Nothing
 
-abbrev pub instant_field : UnixTime → Component → Result Field Lack
+abbrev pub instant_field : UnixTime → Component → Result WrittenField Lack
 instant_field u c = if is_within u then Ok (stamp_field u c) else Err lack.InstantOutOfRange
 
 -- Which part of a moment a component shows. A deprecated one is replaced before that.
@@ -209,19 +209,19 @@ kind (Hour m) = of.Nothing
 kind (UnixTimestamp m) = of.Nothing
 kind (Year m) = of.Nothing
 
-abbrev pub on_date : Option Date → (Date → Result Field Lack) → Result Field Lack
+abbrev pub on_date : Option Date → (Date → Result WrittenField Lack) → Result WrittenField Lack
 on_date None shown = Err lack.NoDate
 on_date (Some d) shown = shown d
 
-abbrev pub on_time : Option Time → (Time → Result Field Lack) → Result Field Lack
+abbrev pub on_time : Option Time → (Time → Result WrittenField Lack) → Result WrittenField Lack
 on_time None shown = Err lack.NoTime
 on_time (Some t) shown = shown t
 
-abbrev pub on_offset : Option UtcOffset → (UtcOffset → Result Field Lack) → Result Field Lack
+abbrev pub on_offset : Option UtcOffset → (UtcOffset → Result WrittenField Lack) → Result WrittenField Lack
 on_offset None shown = Err lack.NoOffset
 on_offset (Some o) shown = shown o
 
-abbrev pub by_kind : Kind → Moment → Component → Result Field Lack
+abbrev pub by_kind : Kind → Moment → Component → Result WrittenField Lack
 by_kind of.Date m c = on_date m.date (λ d. date_field d c)
 by_kind of.Time m c = on_time m.time (λ t. Ok (time_field t c))
 by_kind of.Offset m c = on_offset m.offset (λ o. Ok (offset_field o c))
@@ -231,5 +231,5 @@ by_kind of.Instant m c =
 by_kind of.Nothing m c = Ok shows.Nothing
 
 -- What a modern component shows of a moment.
-abbrev pub field : Moment → Component → Result Field Lack
+abbrev pub field : Moment → Component → Result WrittenField Lack
 field m c = by_kind (kind c) m c

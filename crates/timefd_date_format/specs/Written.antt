@@ -5,12 +5,12 @@ use Rattle.timefd_lang_component.specs.declared.component.Component.{Component}
 use Rattle.timefd_lang_component.specs.Modern.{modern}
 use Rattle.timefd_lang_component.specs.Tree.{Text, Tree, component, literal, compound, optional, first, Trees, no_trees, more_trees}
 use Rattle.timefd_date_moment.specs.declared.moment.Moment.{Moment}
-use Rattle.timefd_date_format.specs.declared.field.Field.{Field}
+use Rattle.timefd_date_format.specs.declared.field.WrittenField.{WrittenField}
 use Rattle.timefd_date_format.specs.declared.field.Lack.{Lack}
 use Rattle.timefd_date_format.specs.declared.unshown.Unshown.{Unshown}
 use Rattle.timefd_date_format.specs.Fields.{field, field_text}
 
-abbrev pub text_of : Component → Result Field Lack → Result Text Unshown
+abbrev pub text_of : Component → Result WrittenField Lack → Result Text Unshown
 text_of c (Ok f) = Ok (field_text f)
 text_of c (Err lack) = Err (record { component = c; lack = lack })
 

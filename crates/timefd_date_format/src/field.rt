@@ -8,7 +8,7 @@ use timefd_modifier::{Padding, SubsecondDigits};
 
 /// What is written for a component.
 #[derive(Clone, Copy)]
-pub enum Field {
+pub enum WrittenField {
     /// The short name of a month, counted from 1.
     MonthShort(u8),
     /// The name of a month, counted from 1.

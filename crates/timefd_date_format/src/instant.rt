@@ -4,7 +4,7 @@ ghost use Rattle.std.specs.Prelude.{◌≡◌, ◌≤◌, IfOk};
 ghost use Rattle.timefd_date_format.specs.Fields as spec;
 ghost use Rattle.timefd_date_format.specs.Fields.{IsField};
 
-use crate::field::{Field, Lack};
+use crate::field::{Lack, WrittenField};
 use crate::numbers::{sign_of, signed};
 use crate::parts::{date_of, offset_of, time_of};
 use timefd_date_moment::{Moment, UnixTime};
@@ -24,7 +24,7 @@ pub(crate) fn instant_field(
     moment: Moment,
     unit: Unit,
     sign_is_mandatory: bool,
-) -> Result<Field, Lack>
+) -> Result<WrittenField, Lack>
     ensures table { result ≡ spec.field moment (spec.timestamp unit sign_is_mandatory) }
     ensures field { IfOk result IsField }
 {
@@ -63,7 +63,7 @@ fn whole_seconds(unix: UnixTime) -> u128
     }
 }
 
-fn stamp(sign_is_mandatory: bool, unix: UnixTime, value: u128) -> Field
+fn stamp(sign_is_mandatory: bool, unix: UnixTime, value: u128) -> WrittenField
     ensures { result ≡ spec.stamp_of sign_is_mandatory unix value }
 {
     signed(

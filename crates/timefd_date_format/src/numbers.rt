@@ -3,7 +3,7 @@
 ghost use Rattle.std.specs.Prelude.{◌≡◌};
 ghost use Rattle.timefd_date_format.specs.Fields as spec;
 
-use crate::field::{Field, Number, Sign};
+use crate::field::{Number, Sign, WrittenField};
 use timefd_modifier::Padding;
 
 /// The sign that is shown for a number.
@@ -20,15 +20,15 @@ pub(crate) fn sign_of(is_negative: bool, has_plus: bool) -> Sign
 }
 
 /// A number after a sign.
-pub(crate) fn signed(sign: Sign, padding: Padding, width: usize, value: u128) -> Field
-    ensures { result ≡ Field.Number (record {
+pub(crate) fn signed(sign: Sign, padding: Padding, width: usize, value: u128) -> WrittenField
+    ensures { result ≡ WrittenField.Number (record {
       sign = sign;
       padding = padding;
       width = width;
       value = value;
     }) }
 {
-    Field::Number(Number {
+    WrittenField::Number(Number {
         sign,
         padding,
         width,
@@ -37,7 +37,7 @@ pub(crate) fn signed(sign: Sign, padding: Padding, width: usize, value: u128) ->
 }
 
 /// A number without a sign.
-pub(crate) fn plain(padding: Padding, width: usize, value: u64) -> Field
+pub(crate) fn plain(padding: Padding, width: usize, value: u64) -> WrittenField
     ensures { result ≡ spec.plain padding width value }
 {
     signed(Sign::None, padding, width, value as u128)

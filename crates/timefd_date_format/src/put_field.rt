@@ -6,7 +6,7 @@ ghost use Rattle.timefd_date_format.specs.Fields as spec;
 ghost use Rattle.timefd_date_format.specs.Fields.{IsField};
 ghost use Rattle.timefd_date_format.specs.Puts.{Puts};
 
-use crate::field::{Field, Number, Sign};
+use crate::field::{Number, Sign, WrittenField};
 use crate::fraction::digits_shown;
 use crate::names;
 use crate::put::{put, put_number};
@@ -14,17 +14,17 @@ use timefd_modifier::{Padding, SubsecondDigits};
 
 /// Puts the text of a field directly in front of `end`, and returns the position where it begins. `None` if
 /// there is no room.
-pub(crate) fn put_field(buffer: &mut [u8], end: usize, field: Field) -> Option<usize>
+pub(crate) fn put_field(buffer: &mut [u8], end: usize, field: WrittenField) -> Option<usize>
     requires end { end ≤ length buffer.old }
     requires field { IsField field }
     ensures { Puts (spec.field_text field) buffer.old end buffer.new result }
 {
     match field {
-        Field::MonthShort(month) => put(buffer, end, names::month_short(month).as_bytes()),
-        Field::MonthLong(month) => put(buffer, end, names::month_long(month).as_bytes()),
-        Field::WeekdayShort(day) => put(buffer, end, names::weekday_short(day).as_bytes()),
-        Field::WeekdayLong(day) => put(buffer, end, names::weekday_long(day).as_bytes()),
-        Field::Period {
+        WrittenField::MonthShort(month) => put(buffer, end, names::month_short(month).as_bytes()),
+        WrittenField::MonthLong(month) => put(buffer, end, names::month_long(month).as_bytes()),
+        WrittenField::WeekdayShort(day) => put(buffer, end, names::weekday_short(day).as_bytes()),
+        WrittenField::WeekdayLong(day) => put(buffer, end, names::weekday_long(day).as_bytes()),
+        WrittenField::Period {
             is_uppercase,
             is_afternoon,
         } => put(
@@ -32,15 +32,17 @@ pub(crate) fn put_field(buffer: &mut [u8], end: usize, field: Field) -> Option<u
             end,
             names::period(is_uppercase, is_afternoon).as_bytes(),
         ),
-        Field::Number(number) => put_signed(buffer, end, number),
-        Field::Fraction { digits, nanosecond } => put_fraction(buffer, end, digits, nanosecond),
-        Field::Nothing => put(buffer, end, &[]),
+        WrittenField::Number(number) => put_signed(buffer, end, number),
+        WrittenField::Fraction { digits, nanosecond } => put_fraction(
+            buffer, end, digits, nanosecond,
+        ),
+        WrittenField::Nothing => put(buffer, end, &[]),
     }
 }
 
 fn put_signed(buffer: &mut [u8], end: usize, number: Number) -> Option<usize>
     requires { end ≤ length buffer.old }
-    ensures { Puts (spec.field_text (Field.Number number)) buffer.old end buffer.new result }
+    ensures { Puts (spec.field_text (WrittenField.Number number)) buffer.old end buffer.new result }
 {
     let at = put_number(buffer, end, number.padding, number.width, number.value)?;
     put_sign(buffer, at, number.sign)

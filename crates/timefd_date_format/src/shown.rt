@@ -4,7 +4,7 @@ ghost use Rattle.std.specs.Prelude.{◌≡◌, ◌≤◌, IfOk};
 ghost use Rattle.timefd_date_format.specs.Fields as spec;
 ghost use Rattle.timefd_date_format.specs.Fields.{IsField};
 
-use crate::field::{Field, Lack};
+use crate::field::{Lack, WrittenField};
 use crate::instant::{Unit, instant_field};
 use crate::numbers::{plain, sign_of, signed};
 use crate::parts::{date_of, offset_of, time_of};
@@ -15,21 +15,21 @@ use timefd_modifier::Padding;
 
 /// What a modern component shows of a moment.
 #[inline(always)]
-pub fn field(moment: Moment, component: Component) -> Result<Field, Lack>
+pub fn field(moment: Moment, component: Component) -> Result<WrittenField, Lack>
     ensures table { result ≡ spec.field moment component }
     ensures field { IfOk result IsField }
 {
     match component {
         Component::Day(m) => Ok(plain(m.padding, 2, date_of(moment)?.day as u64)),
-        Component::MonthShort(_) => Ok(Field::MonthShort(date_of(moment)?.month)),
-        Component::MonthLong(_) => Ok(Field::MonthLong(date_of(moment)?.month)),
+        Component::MonthShort(_) => Ok(WrittenField::MonthShort(date_of(moment)?.month)),
+        Component::MonthLong(_) => Ok(WrittenField::MonthLong(date_of(moment)?.month)),
         Component::MonthNumerical(m) => Ok(plain(m.padding, 2, date_of(moment)?.month as u64)),
         Component::Ordinal(m) => Ok(plain(m.padding, 3, date_of(moment)?.ordinal() as u64)),
         Component::WeekdayShort(_) => {
-            Ok(Field::WeekdayShort(date_of(moment)?.number_days_from_monday()))
+            Ok(WrittenField::WeekdayShort(date_of(moment)?.number_days_from_monday()))
         }
         Component::WeekdayLong(_) => {
-            Ok(Field::WeekdayLong(date_of(moment)?.number_days_from_monday()))
+            Ok(WrittenField::WeekdayLong(date_of(moment)?.number_days_from_monday()))
         }
         Component::WeekdaySunday(m) => {
             Ok(weekday(m.one_indexed, date_of(moment)?.number_days_from_sunday()))
@@ -84,11 +84,11 @@ pub fn field(moment: Moment, component: Component) -> Result<Field, Lack>
         Component::Hour24(m) => Ok(plain(m.padding, 2, time_of(moment)?.hour as u64)),
         Component::Minute(m) => Ok(plain(m.padding, 2, time_of(moment)?.minute as u64)),
         Component::Second(m) => Ok(plain(m.padding, 2, time_of(moment)?.second as u64)),
-        Component::Period(m) => Ok(Field::Period {
+        Component::Period(m) => Ok(WrittenField::Period {
             is_uppercase: m.is_uppercase,
             is_afternoon: time_of(moment)?.hour >= 12,
         }),
-        Component::Subsecond(m) => Ok(Field::Fraction {
+        Component::Subsecond(m) => Ok(WrittenField::Fraction {
             digits: m.digits,
             nanosecond: time_of(moment)?.nanosecond,
         }),
@@ -122,11 +122,11 @@ pub fn field(moment: Moment, component: Component) -> Result<Field, Lack>
         | Component::WeekNumber(_)
         | Component::Hour(_)
         | Component::UnixTimestamp(_)
-        | Component::Year(_) => Ok(Field::Nothing),
+        | Component::Year(_) => Ok(WrittenField::Nothing),
     }
 }
 
-fn weekday(one_indexed: bool, days: u8) -> Field
+fn weekday(one_indexed: bool, days: u8) -> WrittenField
     requires { days ≤ 6 }
     ensures { result ≡ spec.plain Padding.None 1 (spec.from_one one_indexed days) }
 {

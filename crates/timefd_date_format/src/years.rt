@@ -4,7 +4,7 @@ ghost use Rattle.std.specs.Prelude.{◌≡◌, ◌≤◌, ◌%◌};
 ghost use Rattle.timefd_date_format.specs.Fields as spec;
 ghost use Rattle.timefd_date_moment.specs.Moments.{magnitude};
 
-use crate::field::{Field, Lack};
+use crate::field::{Lack, WrittenField};
 use crate::numbers::{plain, sign_of, signed};
 use timefd_modifier::Padding;
 
@@ -47,7 +47,7 @@ pub(crate) fn year(
     padding: Padding,
     sign_is_mandatory: bool,
     years: u32,
-) -> Result<Field, Lack>
+) -> Result<WrittenField, Lack>
     requires { 1 ≤ form.unit }
     ensures { result
         ≡ spec.year greatest form.width form.unit padding sign_is_mandatory years }
@@ -62,7 +62,7 @@ pub(crate) fn year(
 }
 
 /// The last two digits of a year.
-pub(crate) fn last_two(padding: Padding, years: u32) -> Field
+pub(crate) fn last_two(padding: Padding, years: u32) -> WrittenField
     ensures { result ≡ spec.plain padding 2 (magnitude years % 100) }
 {
     plain(padding, 2, (magnitude(years) % 100) as u64)

@@ -17,7 +17,7 @@ mod rule;
 mod short;
 mod view;
 
-pub use fault::{ReadError, Reason};
+pub use fault::{ReadError, UnreadReason};
 pub use fields::{Fields, Fraction, NO_FIELDS, Signed};
 pub use leaves::leaves_in_turn;
 pub use read::{fill_fields, fill_item_fields, fill_leaf_fields, read_fields, read_item_fields};

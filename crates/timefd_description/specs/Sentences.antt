@@ -4,11 +4,11 @@ use Rattle.std.specs.Fmt.{decimal}
 use Rattle.timefd_lang_component.specs.Tree.{Text}
 use Rattle.timefd_date_format.specs.Sentences.{name}
 use Rattle.timefd_date_moment.specs.declared.fields.fault.ReadError.{ReadError}
-use Rattle.timefd_date_moment.specs.declared.fields.fault.Reason.{Reason}
-use Rattle.timefd_date_moment.specs.declared.fields.fault.Reason.TheVariants as for
+use Rattle.timefd_date_moment.specs.declared.fields.fault.UnreadReason.{UnreadReason}
+use Rattle.timefd_date_moment.specs.declared.fields.fault.UnreadReason.TheVariants as for
 
 -- Why it doesn't read, without the position.
-abbrev pub reason_sentence : Reason → Text
+abbrev pub reason_sentence : UnreadReason → Text
 reason_sentence (for.Unread c) =
     codes "the component `" ++ (name c ++ codes "` was expected")
 reason_sentence (for.Contradiction c) =

@@ -8,6 +8,7 @@ mod description;
 mod nodes;
 mod strftime;
 mod version;
+mod writing;
 
 // A moment written, and a text read, by the text of a description.
 mod format_error;
@@ -21,9 +22,9 @@ pub mod guessing;
 
 pub use description::Description;
 pub use format_error::FormatTextError;
-pub use formatting::format_text;
+pub use formatting::{format_text, format_text_within};
 pub use read_error::ReadTextError;
-pub use reading::{read_text, read_text_fields};
+pub use reading::{read_text, read_text_fields, read_text_fields_within, read_text_within};
 pub use sentence::{reason_sentence, unread_sentence};
 
 // The languages, the faults of texts, and what is wrong with one.
@@ -35,6 +36,6 @@ pub use timefd_lint_diagnosis::{Diagnostic, diagnose};
 pub use timefd_lang_convert::{ConvertError, convert};
 
 // What is written and read.
-pub use timefd_date_format::TextError;
+pub use timefd_date_format::{FormatError, TextError, write_front};
 pub use timefd_date_moment::fields::{Fields, ReadError};
 pub use timefd_date_moment::{Date, Moment, Time, UnixTime, UtcOffset};

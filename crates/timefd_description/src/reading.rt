@@ -1,6 +1,6 @@
 //! Reads a text by the text of a description.
 
-ghost use Rattle.std.specs.Prelude.{◌≡◌, List};
+ghost use Rattle.std.specs.Prelude.{◌≡◌, ◌≤◌, List};
 ghost use Rattle.std.specs.Result.{IfErr};
 ghost use Rattle.timefd_lang_component.specs.Tree.{Tree, compound, trees};
 ghost use Rattle.timefd_lang_fault.specs.Faults as spec;
@@ -9,17 +9,18 @@ ghost use Rattle.timefd_items.specs.Description.{description_tree};
 ghost use Rattle.timefd_language.specs.Grammar.{nesting_limit};
 ghost use Rattle.timefd_parse.specs.Language.{FaultIn, SpellsIn};
 ghost use Rattle.timefd_date_moment.specs.Fields.Reads.{fields_of};
-ghost use Rattle.timefd_description.specs.ReadAnswers.{AreFieldsAs, HasFaultOf, IsFaulty, IsMemory, IsReadAs, IsRefusedFor, fields_in, read_answer};
+ghost use Rattle.timefd_description.specs.ReadAnswers.{AreFieldsAs, HasFaultOf, IsReadAs, IsRefusedFor, fields_in, read_answer};
 
 use crate::read_error::{ReadTextError, of_parse_error};
-use std::alloc::{AllocError, Global};
+use crate::strftime::unread_error;
+use std::alloc::Global;
 use timefd_date_moment::Moment;
 use timefd_date_moment::fields::{Fields, ReadError, read_fields, read_item_fields};
 use timefd_date_moment::reading::moment;
 use timefd_lang_node_list::item::BorrowedFormatItem;
 use timefd_parse::{
     BorrowedOutput, DescriptionVersion, FormatDescriptionV3, Language, NESTING_LIMIT,
-    StrftimeTables, count_strftime, parse_all_borrowed, parse_strftime_all_borrowed,
+    StrftimeTables, parse_all_borrowed, parse_strftime_all_borrowed,
 };
 
 /// Reads a whole text by the text of a description, in any language, and returns the moment that the
@@ -46,7 +47,34 @@ pub fn read_text<'a>(
     // A fault that is returned is the one that the rules assign.
     ensures fault { IfErr result (HasFaultOf (FaultIn language nesting_limit description.now)) }
 {
-    match read_text_fields(alloc, language, description, text) {
+    read_text_within(alloc, language, NESTING_LIMIT, description, text)
+}
+
+/// Does what `read_text` does, with descriptions nested at most `limit` deep: a description that nests deeper is
+/// refused. The limit bounds how much stack this takes.
+pub fn read_text_within<'a>(
+    alloc: Global,
+    language: Language,
+    limit: u8,
+    description: &'a str,
+    text: &str,
+) -> Result<Moment, ReadTextError<'a>>
+    requires { limit ≤ nesting_limit }
+
+    // The text is read as the items of the description read it, and what was read determines the
+    // moment. The error names the first part that doesn't read, or says why what was read isn't a
+    // moment, or that memory ran out.
+    ensures spelled { (list : List Tree) → SpellsIn language limit description.now list
+        → IsReadAs (fields_in list text.now) result }
+
+    // Any other text instead of a description is refused for the fault that the rules assign.
+    ensures refused { (f : spec.Fault) → FaultIn language limit description.now f
+        → IsRefusedFor f result }
+
+    // A fault that is returned is the one that the rules assign.
+    ensures fault { IfErr result (HasFaultOf (FaultIn language limit description.now)) }
+{
+    match read_text_fields_within(alloc, language, limit, description, text) {
         Ok(fields) => match moment(&fields) {
             Ok(moment) => Ok(moment),
             Err(error) => Err(ReadTextError::Value(error)),
@@ -78,8 +106,34 @@ pub fn read_text_fields<'a>(
     // A fault that is returned is the one that the rules assign.
     ensures fault { IfErr result (HasFaultOf (FaultIn language nesting_limit description.now)) }
 {
+    read_text_fields_within(alloc, language, NESTING_LIMIT, description, text)
+}
+
+/// Does what `read_text_fields` does, with descriptions nested at most `limit` deep: a description that nests deeper
+/// is refused. The limit bounds how much stack this takes.
+pub fn read_text_fields_within<'a>(
+    alloc: Global,
+    language: Language,
+    limit: u8,
+    description: &'a str,
+    text: &str,
+) -> Result<Fields, ReadTextError<'a>>
+    requires { limit ≤ nesting_limit }
+
+    // The text is read as the items of the description read it. The error names the first part that
+    // doesn't read, or says that memory ran out.
+    ensures spelled { (list : List Tree) → SpellsIn language limit description.now list
+        → AreFieldsAs (fields_in list text.now) result }
+
+    // Any other text instead of a description is refused for the fault that the rules assign.
+    ensures refused { (f : spec.Fault) → FaultIn language limit description.now f
+        → IsRefusedFor f result }
+
+    // A fault that is returned is the one that the rules assign.
+    ensures fault { IfErr result (HasFaultOf (FaultIn language limit description.now)) }
+{
     match language {
-        Language::Version(version) => by_version(alloc, version, description, text),
+        Language::Version(version) => by_version(alloc, version, limit, description, text),
         Language::Strftime => by_strftime(alloc, description, text),
     }
 }
@@ -87,18 +141,20 @@ pub fn read_text_fields<'a>(
 fn by_version<'a>(
     alloc: Global,
     version: DescriptionVersion,
+    limit: u8,
     description: &'a str,
     text: &str,
 ) -> Result<Fields, ReadTextError<'a>>
+    requires { limit ≤ nesting_limit }
     ensures spelled { (list : List Tree)
-        → SpellsIn (Language.Version version) nesting_limit description.now list
+        → SpellsIn (Language.Version version) limit description.now list
         → AreFieldsAs (fields_in list text.now) result }
     ensures refused { (f : spec.Fault)
-        → FaultIn (Language.Version version) nesting_limit description.now f
+        → FaultIn (Language.Version version) limit description.now f
         → IsRefusedFor f result }
-    ensures fault { IfErr result (HasFaultOf (FaultIn (Language.Version version) nesting_limit description.now)) }
+    ensures fault { IfErr result (HasFaultOf (FaultIn (Language.Version version) limit description.now)) }
 {
-    match parse_all_borrowed(alloc, version, NESTING_LIMIT, description) {
+    match parse_all_borrowed(alloc, version, limit, description) {
         Ok(BorrowedOutput::Items(items)) => read_by_items(&items, text),
         Ok(BorrowedOutput::Description(description)) => read_by_description(&description, text),
         Err(error) => Err(of_parse_error(error)),
@@ -120,21 +176,7 @@ fn by_strftime<'a>(
     let tables = StrftimeTables::new();
     match parse_strftime_all_borrowed(alloc, &tables, description) {
         Ok(items) => read_by_items(&items, text),
-        Err(_) => Err(strftime_error(description)),
-    }
-}
-
-// Why a text of strftime wasn't read, found again as an error that doesn't borrow the tables.
-fn strftime_error(description: &str) -> ReadTextError<'_>
-    ensures spelled { (list : List Tree)
-        → SpellsIn Language.Strftime nesting_limit description.now list → IsMemory result }
-    ensures refused { (f : spec.Fault) → FaultIn Language.Strftime nesting_limit description.now f
-        → IsFaulty f result }
-    ensures fault { HasFaultOf (FaultIn Language.Strftime nesting_limit description.now) result }
-{
-    match count_strftime(description) {
-        Ok(_) => ReadTextError::Memory(AllocError),
-        Err(fault) => ReadTextError::Fault(fault),
+        Err(_) => Err(of_parse_error(unread_error(description))),
     }
 }
 

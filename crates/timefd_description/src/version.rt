@@ -1,6 +1,6 @@
 //! Texts of versions 1, 2 and 3, read as nodes.
 
-ghost use Rattle.std.specs.Prelude.{◌≡◌, ◌∷◌, ◌++◌, ◌<◌, [], List, IsFalse, MatchResult, OnOk, length};
+ghost use Rattle.std.specs.Prelude.{◌≡◌, ◌∷◌, ◌++◌, ◌<◌, ◌≤◌, [], List, IsFalse, MatchResult, OnOk, length};
 ghost use Rattle.std.specs.Result.{IfErr};
 ghost use Rattle.timefd_lang_component.specs.Tree.{Tree};
 ghost use Rattle.timefd_description.specs.Modern.{modern_tree};
@@ -19,31 +19,35 @@ use std::alloc::{AllocError, Global};
 use timefd_items::{DescriptionBuilder, FormatDescriptionV3};
 use timefd_lang_fault::read_error::ReadError;
 use timefd_parse::{
-    BorrowedOutput, BorrowedParseError, DescriptionVersion, NESTING_LIMIT, Piece, error_of,
-    next_piece, parse_all_borrowed,
+    BorrowedOutput, BorrowedParseError, DescriptionVersion, Piece, error_of, next_piece,
+    parse_all_borrowed,
 };
 
-/// Reads a text of a version.
+/// Reads a text of a version, with descriptions nested at most `limit` deep.
 pub fn read_version<'a>(
     alloc: Global,
     version: DescriptionVersion,
+    limit: u8,
     text: &'a str,
 ) -> Result<FormatDescriptionV3<'a>, BorrowedParseError<'a>>
-    ensures { IsParsed (Version version) text.now result }
+    requires { limit ≤ nesting_limit }
+    ensures { IsParsed (Version version) limit text.now result }
 {
     if let DescriptionVersion::Three = version {
-        return read_version_three(alloc, text);
+        return read_version_three(alloc, limit, text);
     }
-    read_items(alloc, version, text)
+    read_items(alloc, version, limit, text)
 }
 
 fn read_version_three<'a>(
     alloc: Global,
+    limit: u8,
     text: &'a str,
 ) -> Result<FormatDescriptionV3<'a>, BorrowedParseError<'a>>
-    ensures { IsParsed (Version Three) text.now result }
+    requires { limit ≤ nesting_limit }
+    ensures { IsParsed (Version Three) limit text.now result }
 {
-    match parse_all_borrowed(alloc, DescriptionVersion::Three, NESTING_LIMIT, text) {
+    match parse_all_borrowed(alloc, DescriptionVersion::Three, limit, text) {
         Ok(BorrowedOutput::Description(description)) => Ok(description),
         Ok(BorrowedOutput::Items(_)) => unreachable!(),
         Err(error) => Err(error),
@@ -54,29 +58,33 @@ fn read_version_three<'a>(
 fn read_items<'a>(
     alloc: Global,
     version: DescriptionVersion,
+    limit: u8,
     text: &'a str,
 ) -> Result<FormatDescriptionV3<'a>, BorrowedParseError<'a>>
-    requires { IsFalse (is_version_three version) }
-    ensures { IsParsed (Version version) text.now result }
+    requires older { IsFalse (is_version_three version) }
+    requires limit { limit ≤ nesting_limit }
+    ensures { IsParsed (Version version) limit text.now result }
 {
-    match pieces(alloc, version, text) {
+    match pieces(alloc, version, limit, text) {
         Ok(builder) => match finished(builder) {
             Ok(description) => Ok(description),
             Err(error) => Err(BorrowedParseError::Memory(error)),
         },
-        Err(error) => Err(error_of(alloc, version, NESTING_LIMIT, text, error)),
+        Err(error) => Err(error_of(alloc, version, limit, text, error)),
     }
 }
 
 fn pieces<'a>(
     alloc: Global,
     version: DescriptionVersion,
+    limit: u8,
     text: &'a str,
 ) -> Result<DescriptionBuilder<'a>, ReadError<'a>>
-    requires { IsFalse (is_version_three version) }
+    requires older { IsFalse (is_version_three version) }
+    requires limit { limit ≤ nesting_limit }
     ensures pieces { MatchResult result (λ builder. (list : List Tree)
-        × PiecesToEnd version nesting_limit 0 text.now list [] × (built builder ≡ list))
-        (MemoryOr (IsFaultIn version nesting_limit 0 text.now)) }
+        × PiecesToEnd version limit 0 text.now list [] × (built builder ≡ list))
+        (MemoryOr (IsFaultIn version limit 0 text.now)) }
     ensures some { IfErr result (λ _. 0 < length text.now) }
 {
     // A nested description is a fault in these versions, so nothing is built here.
@@ -84,14 +92,7 @@ fn pieces<'a>(
     let mut builder = DescriptionBuilder::new(alloc);
     let mut rest = text;
     'pieces: loop {
-        let Some((piece, after)) = next_piece::<false>(
-            &mut nested,
-            version,
-            rest,
-            NESTING_LIMIT,
-            0,
-        )?
-        else {
+        let Some((piece, after)) = next_piece::<false>(&mut nested, version, rest, limit, 0)? else {
             return Ok(builder);
         };
         add_leaf(&mut builder, piece)?;

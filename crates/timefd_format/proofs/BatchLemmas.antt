@@ -14,7 +14,7 @@ use Rattle.timefd_lang_node_list.specs.LeafMeaning.{leaf_tree}
 use Rattle.timefd_parse.specs.declared.parsing.BorrowedOutput.{BorrowedOutput}
 use Rattle.timefd_lint_rewrite.specs.Lines.{without_newline}
 use Rattle.timefd_format.specs.declared.fast.batch.Batch.{Batch}
-use Rattle.timefd_format.specs.declared.source.Source.{Source}
+use Rattle.timefd_format.specs.declared.source.MomentSource.{MomentSource}
 use Rattle.timefd_format.specs.Batches.{AreLinesShown, IsBatch, IsShownAs, IsWholeLine, TriesToAppendLine, no_batch, with_newline}
 use Rattle.timefd_format.specs.ReadBack.{IsMadeOf}
 use Rattle.timefd_format.specs.Sources.{IsMomentIn}
@@ -45,7 +45,7 @@ appended_text : (x : Result Text Unshown) (old new : Text) (at end : ℕ) → Tr
 appended_text (Ok text) old new at end put = (text, refl, put)
 appended_text (Err u) old new at end put = absurd put
 
-pub moment_appended : (source : Source) (o : BorrowedOutput) (line old new : Text) (at : ℕ) (m : Moment)
+pub moment_appended : (source : MomentSource) (o : BorrowedOutput) (line old new : Text) (at : ℕ) (m : Moment)
     (r : Option ℕ) → IsMomentIn source o line (Ok m)
     → TriesToAppend (with_newline (written_of m o)) old at new r
     → TriesToAppendLine source o line old at new r
@@ -84,10 +84,10 @@ line_appended m o leaves old mid new at middle r room made one two =
 
 -- A batch that grows.
 
-pub empty_batch : (source : Source) (o : BorrowedOutput) (text room : Text) → IsBatch source o text room no_batch
+pub empty_batch : (source : MomentSource) (o : BorrowedOutput) (text room : Text) → IsBatch source o text room no_batch
 empty_batch source o text room = ((refl, refl), omega arith, omega arith, omega arith)
 
-pub same_batch : (source : Source) (o : BorrowedOutput) (text old new : Text) (batch : Batch)
+pub same_batch : (source : MomentSource) (o : BorrowedOutput) (text old new : Text) (batch : Batch)
     → IsBatch source o text old batch → IsKept old batch.written new → IsBatch source o text new batch
 same_batch source o text old new batch is same = (
   subst (λ w. AreLinesShown source o batch.line_count (take batch.read text) w) (sym same.front) is.0,
@@ -103,7 +103,7 @@ read_more text rest at len inside is =
     ∙ take_in at len (take at text) (drop at text) (omega (arith, length-take at text, inside))
     ∙ ap (λ r. take at text ++ take len r) (sym is)
 
-pub one_more : (source : Source) (o : BorrowedOutput) (text rest line old new : Text) (batch : Batch) (len end : ℕ)
+pub one_more : (source : MomentSource) (o : BorrowedOutput) (text rest line old new : Text) (batch : Batch) (len end : ℕ)
     → IsBatch source o text old batch → rest ≡ drop batch.read text → len ≤ length rest
     → IsWholeLine (take len rest) → line ≡ without_newline (take len rest)
     → TriesToAppendLine source o line old batch.written new (Some end)

@@ -9,8 +9,8 @@ use Rattle.timefd_lint_rewrite.specs.Lines.{end_of, without_newline}
 use Rattle.timefd_format.specs.declared.fields.Split.{Split}
 use denote.Ref.{Bor}
 use Rattle.timefd_lang_component.specs.Tree.{Text}
-use Rattle.timefd_format.specs.declared.quoting.Quoting.{Quoting}
-use Rattle.timefd_format.specs.declared.quoting.Quoting.TheVariants.{Start, Bare, Inside, Closed}
+use Rattle.timefd_format.specs.declared.quoting.FieldQuoting.{FieldQuoting}
+use Rattle.timefd_format.specs.declared.quoting.FieldQuoting.TheVariants.{Start, Bare, Inside, Closed}
 use Rattle.timefd_format.specs.Fields.{after, after_all, after_field, ends_field, field_after, fields, fields_from, fields_of_rest, IsCell, IsSplit, joined, shown, text_from, with_field, with_front}
 
 pub nothing : (rest : Text) → length rest < 1 → rest ≡ []
@@ -30,7 +30,7 @@ front_twice xs ys [] = refl
 front_twice xs ys (f ∷ fs) = ap (λ x. x ∷ fs) (sym (append_assoc xs ys f))
 
 -- The bytes that were taken are the front of the first field.
-pub IsInField : Text → Text → Quoting → Type 0
+pub IsInField : Text → Text → FieldQuoting → Type 0
 IsInField row rest q = (done : Text) × (row ≡ done ++ rest)
     × (fields row ≡ with_front done (fields_from q rest))
 
@@ -38,19 +38,19 @@ pub begins : (row : Text) → IsInField row row Start
 unfolding IsInField
 begins row = ([], refl, sym (front_nothing (fields row)))
 
-pub next_of : (q : Quoting) (b : ℕ) (bs : Text) → ends_field q b ≡ false
+pub next_of : (q : FieldQuoting) (b : ℕ) (bs : Text) → ends_field q b ≡ false
     → fields_from q (b ∷ bs) ≡ with_front (b ∷ []) (fields_from (after q b) bs)
 next_of q b bs same = rw same refl
 
-pub last_of : (q : Quoting) (b : ℕ) (bs : Text) → ends_field q b ≡ true
+pub last_of : (q : FieldQuoting) (b : ℕ) (bs : Text) → ends_field q b ≡ true
     → fields_from q (b ∷ bs) ≡ [] ∷ fields bs
 last_of q b bs ends = rw ends refl
 
-pub in_fits : (row rest : Text) (q : Quoting) → IsInField row rest q → length rest ≤ length row
+pub in_fits : (row rest : Text) (q : FieldQuoting) → IsInField row rest q → length rest ≤ length row
 unfolding IsInField
 in_fits row rest q so_far = omega (arith, ap length so_far.1, length-append so_far.0 rest)
 
-pub goes_on : (row rest more : Text) (q next : Quoting) (b : ℕ) → rest ≡ b ∷ more
+pub goes_on : (row rest more : Text) (q next : FieldQuoting) (b : ℕ) → rest ≡ b ∷ more
     → IsInField row rest q → ends_field q b ≡ false → next ≡ after q b
     → IsInField row more next
 unfolding IsInField
@@ -71,13 +71,13 @@ took row done rest is =
     omega (arith, ap length is, length-append done rest) in
     ap (λ n. take n row) len ∙ ap (take (length done)) is ∙ take-append_seam done rest
 
-comma : (q : Quoting) (b : ℕ) → ends_field q b ≡ true → b ≡ 44
+comma : (q : FieldQuoting) (b : ℕ) → ends_field q b ≡ true → b ≡ 44
 comma Start b is = same_of b 44 is
 comma Bare b is = same_of b 44 is
 comma Inside b is = absurd cc
 comma Closed b is = same_of b 44 is
 
-pub found : (row rest more field : Text) (q : Quoting) (b : ℕ) → rest ≡ b ∷ more
+pub found : (row rest more field : Text) (q : FieldQuoting) (b : ℕ) → rest ≡ b ∷ more
     → IsInField row rest q → ends_field q b ≡ true
     → field ≡ take (length row - length rest) row
     → (fields row ≡ field ∷ fields more) × (row ≡ field ++ (44 ∷ more))
@@ -91,7 +91,7 @@ found row rest more field q b split so_far ends is =
           ∙ ap (λ f. f ++ (44 ∷ more)) done,
     )
 
-pub ends : (row rest : Text) (q : Quoting) → length rest < 1 → IsInField row rest q
+pub ends : (row rest : Text) (q : FieldQuoting) → length rest < 1 → IsInField row rest q
     → (fields row ≡ row ∷ []) × (row ≡ row ++ [])
 unfolding IsInField
 ends row rest q short so_far =
@@ -113,13 +113,13 @@ split_bytes (b ∷ bs) n same some =
 abbrev pub HasFirst : List Text → Type 0
 HasFirst fs = (g : Text) × (gs : List Text) × (fs ≡ g ∷ gs)
 
-has_first_by : (q : Quoting) (b : ℕ) (bs : Text) (is : Bool) → ends_field q b ≡ is
+has_first_by : (q : FieldQuoting) (b : ℕ) (bs : Text) (is : Bool) → ends_field q b ≡ is
     → HasFirst (fields_from (after q b) bs) → HasFirst (fields_from q (b ∷ bs))
 has_first_by q b bs true is more = ([], fields bs, last_of q b bs is)
 has_first_by q b bs false is more =
     (b ∷ more.0, more.1, next_of q b bs is ∙ ap (with_front (b ∷ [])) more.2)
 
-pub has_first : (q : Quoting) (text : Text) → HasFirst (fields_from q text)
+pub has_first : (q : FieldQuoting) (text : Text) → HasFirst (fields_from q text)
 has_first q [] = ([], [], refl)
 has_first q (b ∷ bs) = has_first_by q b bs (ends_field q b) refl (has_first (after q b) bs)
 
@@ -133,7 +133,7 @@ joined_front : (b : ℕ) (g : Text) (gs : List Text)
 joined_front b g [] = refl
 joined_front b g (h ∷ gs) = refl
 
-joined_by : (q : Quoting) (b : ℕ) (bs : Text) (is : Bool) → ends_field q b ≡ is
+joined_by : (q : FieldQuoting) (b : ℕ) (bs : Text) (is : Bool) → ends_field q b ≡ is
     → joined (fields bs) ≡ bs → joined (fields_from (after q b) bs) ≡ bs
     → joined (fields_from q (b ∷ bs)) ≡ b ∷ bs
 joined_by q b bs true is first same =
@@ -144,7 +144,7 @@ joined_by q b bs false is first same =
     ap joined (next_of q b bs is) ∙ ap (λ fs. joined (with_front (b ∷ []) fs)) has.2
     ∙ joined_front b has.0 has.1 ∙ ap (λ fs. b ∷ joined fs) (sym has.2) ∙ ap (λ t. b ∷ t) same
 
-pub joined_fields : (q : Quoting) (text : Text) → joined (fields_from q text) ≡ text
+pub joined_fields : (q : FieldQuoting) (text : Text) → joined (fields_from q text) ≡ text
 joined_fields q [] = refl
 joined_fields q (b ∷ bs) =
     joined_by q b bs (ends_field q b) refl (joined_fields Start bs) (joined_fields (after q b) bs)

@@ -18,8 +18,8 @@ use Rattle.timefd_lang_node_list.specs.LeafMeaning.{leaf_tree}
 use Rattle.timefd_parse.specs.declared.parsing.BorrowedOutput.{BorrowedOutput}
 use Rattle.timefd_parse.specs.declared.parsing.BorrowedOutput.TheVariants.{Items, Description}
 use Rattle.timefd_format.specs.declared.frame.Cell.{Cell}
-use Rattle.timefd_format.specs.declared.frame.Frame.TheVariants as frames
-use Rattle.timefd_format.specs.declared.source.Source.{Source}
+use Rattle.timefd_format.specs.declared.frame.LineFrame.TheVariants as frames
+use Rattle.timefd_format.specs.declared.source.MomentSource.{MomentSource}
 use Rattle.timefd_format.specs.Frames.{framed}
 use Rattle.timefd_format.specs.ReadBack.{AreLeavesOf, IsMadeOf, tree_of}
 use Rattle.timefd_format.specs.Sources.{AreLeavesIn, IsTextOf}
@@ -76,7 +76,7 @@ line_ends x front room (Err (lacks.Unshown u)) is h = h
 
 -- Leaves that were found, and are borrowed.
 
-pub borrowed_in : (source : Source) (found : Option (Vec Leaf Global)) (borrowed : Option (Bor (List Leaf)))
+pub borrowed_in : (source : MomentSource) (found : Option (Vec Leaf Global)) (borrowed : Option (Bor (List Leaf)))
     → IfSome found (λ leaves. IsTextOf source leaves.items)
     → MatchOption found (borrowed ≡ None) (λ x. IsSomeAnd borrowed (λ y. y.now ≡ x.items)) → AreLeavesIn source borrowed
 borrowed_in source found None are cases = tt

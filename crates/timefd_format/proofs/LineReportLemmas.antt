@@ -10,20 +10,20 @@ use Rattle.timefd_date_format.specs.declared.unshown.Unshown.{Unshown}
 use Rattle.timefd_date_moment.specs.declared.moment.Moment.{Moment}
 use Rattle.timefd_parse.specs.declared.parsing.BorrowedOutput.{BorrowedOutput}
 use Rattle.timefd_lint_rewrite.specs.Lines.{AreLinesOf, IsNextLine, without_newline}
-use Rattle.timefd_format.specs.declared.fast.take.Taken.{Taken}
-use Rattle.timefd_format.specs.declared.fast.take.Taken.TheVariants as takes
-use Rattle.timefd_format.specs.declared.frame.Frame.{Frame}
+use Rattle.timefd_format.specs.declared.fast.take.BatchTaken.{BatchTaken}
+use Rattle.timefd_format.specs.declared.fast.take.BatchTaken.TheVariants as takes
+use Rattle.timefd_format.specs.declared.frame.LineFrame.{LineFrame}
 use Rattle.timefd_format.specs.declared.lines.LineRead.{LineRead}
 use Rattle.timefd_format.specs.declared.lines.LineRead.TheVariants as reads
-use Rattle.timefd_format.specs.declared.lines.Next.{Next}
-use Rattle.timefd_format.specs.declared.lines.Next.TheVariants as nexts
+use Rattle.timefd_format.specs.declared.lines.NextLine.{NextLine}
+use Rattle.timefd_format.specs.declared.lines.NextLine.TheVariants as nexts
 use Rattle.timefd_format.specs.declared.moment.MomentError.{MomentError}
 use Rattle.timefd_format.specs.declared.otherwise.Otherwise.{Otherwise}
-use Rattle.timefd_format.specs.declared.outcome.Outcome.{Outcome}
-use Rattle.timefd_format.specs.declared.outcome.Outcome.TheVariants as came
+use Rattle.timefd_format.specs.declared.outcome.WordOutcome.{WordOutcome}
+use Rattle.timefd_format.specs.declared.outcome.WordOutcome.TheVariants as came
 use Rattle.timefd_format.specs.declared.outcome.RunError.{RunError}
-use Rattle.timefd_format.specs.declared.outcome.Tally.{Tally}
-use Rattle.timefd_format.specs.declared.source.Source.{Source}
+use Rattle.timefd_format.specs.declared.outcome.WordTally.{WordTally}
+use Rattle.timefd_format.specs.declared.source.MomentSource.{MomentSource}
 use Rattle.timefd_format.specs.Batches.{AreLinesShown, IsShownAs, IsTaken, IsWholeLine, with_newline}
 use Rattle.timefd_format.specs.LineReports.{AreReportsOf, IsOutcome, IsReportOf, IsShown, ReportsLines, ReportsLinesFrom, ReportsMoment, ReportsNext, ReportsOutcome, ReportsWord, ReportsWords, line_after, not_text}
 use Rattle.timefd_format.specs.Messages.{IsUnreadMessage, unshown_message}
@@ -46,8 +46,8 @@ pub unshown_reported : (word : Text) (m : Moment) (u : Unshown) (message : Text)
 unshown_reported word m u message before after had_failed failed is gets =
     subst (λ t. Gets (for_people false t) before after had_failed failed) is gets
 
-pub moment_reported : (source : Source) (number : Option ℕ) (word text : Text) (before after : Option Text)
-    (had_failed failed : Bool) (r : Result Outcome RunError) → text ≡ word
+pub moment_reported : (source : MomentSource) (number : Option ℕ) (word text : Text) (before after : Option Text)
+    (had_failed failed : Bool) (r : Result WordOutcome RunError) → text ≡ word
     → IfOk r (λ outcome. ReportsMoment text outcome before after had_failed failed)
     → IfOk r (λ outcome. ReportsOutcome source number word outcome before after had_failed failed)
 moment_reported source number word text before after had_failed failed (Ok (came.Written m)) same is = ([], refl, is)
@@ -57,14 +57,14 @@ moment_reported source number word text before after had_failed failed (Ok (came
 moment_reported source number word text before after had_failed failed (Ok came.NotText) same is = absurd is
 moment_reported source number word text before after had_failed failed (Err e) same is = tt
 
-pub not_text_reported : (source : Source) (number : Option ℕ) (word message : Text) (before after : Option Text)
+pub not_text_reported : (source : MomentSource) (number : Option ℕ) (word message : Text) (before after : Option Text)
     (had_failed failed : Bool) → message ≡ not_text
     → Gets (for_people false message) before after had_failed failed
     → ReportsOutcome source number word came.NotText before after had_failed failed
 not_text_reported source number word message before after had_failed failed is gets =
     (for_people false message, ap (for_people false) is, gets)
 
-pub unread_reported : (source : Source) (number : Option ℕ) (word text : Text) (e : MomentError) (message : Text)
+pub unread_reported : (source : MomentSource) (number : Option ℕ) (word text : Text) (e : MomentError) (message : Text)
     (before after : Option Text) (had_failed failed : Bool) → text ≡ word
     → IsUnreadMessage source number text e message
     → Gets (for_people false message) before after had_failed failed
@@ -72,13 +72,13 @@ pub unread_reported : (source : Source) (number : Option ℕ) (word text : Text)
 unread_reported source number word text e message before after had_failed failed same is gets =
     (for_people false message, (message, subst (λ w. IsUnreadMessage source number w e message) same is, refl), gets)
 
-shown_of : (frame : Frame) (x : Result Text Unshown) (before after : Option Text) → AppendsIn frame x before after
+shown_of : (frame : LineFrame) (x : Result Text Unshown) (before after : Option Text) → AppendsIn frame x before after
     → IsShown x
 shown_of frame (Ok text) before after sent = tt
 shown_of frame (Err u) before after sent = absurd sent
 
-outcome_of : (otherwise : Otherwise) (source : Source) (o : BorrowedOutput) (frame : Frame) (word : Text)
-    (before after : Option Text) (outcome : Outcome) → IsOne otherwise source o frame word before after outcome
+outcome_of : (otherwise : Otherwise) (source : MomentSource) (o : BorrowedOutput) (frame : LineFrame) (word : Text)
+    (before after : Option Text) (outcome : WordOutcome) → IsOne otherwise source o frame word before after outcome
     → IsOutcome source o word outcome
 outcome_of otherwise source o frame word before after (came.Written m) is =
     (is.0, shown_of frame (written_of m o) before after is.1)
@@ -86,9 +86,9 @@ outcome_of otherwise source o frame word before after (came.Unshown m u) is = (i
 outcome_of otherwise source o frame word before after (came.Unread e) is = is.0
 outcome_of otherwise source o frame word before after came.NotText is = is.0
 
-pub word_reported : (otherwise : Otherwise) (source : Source) (o : BorrowedOutput) (frame : Frame) (number : Option ℕ)
+pub word_reported : (otherwise : Otherwise) (source : MomentSource) (o : BorrowedOutput) (frame : LineFrame) (number : Option ℕ)
     (word : Text) (written_before written_after before after : Option Text) (had_failed failed : Bool)
-    (outcome : Outcome) → IsOne otherwise source o frame word written_before written_after outcome
+    (outcome : WordOutcome) → IsOne otherwise source o frame word written_before written_after outcome
     → ReportsOutcome source number word outcome before after had_failed failed
     → ReportsWord source o number word before after had_failed failed
 word_reported otherwise source o frame number word written_before written_after before after had_failed failed outcome
@@ -100,27 +100,27 @@ word_reported otherwise source o frame number word written_before written_after 
 
 -- What comes next is a batch, or a line that is looked at by itself, or none.
 
-pub batch_reported : (source : Source) (o : BorrowedOutput) (number : ℕ)
-    (old new written_before written_after before : Option Text) (failed : Bool) (n : ℕ) (t : Taken)
+pub batch_reported : (source : MomentSource) (o : BorrowedOutput) (number : ℕ)
+    (old new written_before written_after before : Option Text) (failed : Bool) (n : ℕ) (t : BatchTaken)
     → t ≡ takes.Lines n → IsTaken source o old new written_before written_after t
     → ReportsNext source o number old new before before failed failed (nexts.Lines n)
 batch_reported source o number old new written_before written_after before failed n t is taken =
     let lines = subst (λ x. IsTaken source o old new written_before written_after x) is taken in
     (lines.0, lines.1, lines.2, lines.3, lines.4, gets_nothing before failed)
 
-pub end_reported : (source : Source) (o : BorrowedOutput) (number : ℕ)
-    (old new written_before written_after before : Option Text) (failed : Bool) (t : Taken) → t ≡ takes.End
+pub end_reported : (source : MomentSource) (o : BorrowedOutput) (number : ℕ)
+    (old new written_before written_after before : Option Text) (failed : Bool) (t : BatchTaken) → t ≡ takes.End
     → IsTaken source o old new written_before written_after t
     → ReportsNext source o number old new before before failed failed nexts.End
 end_reported source o number old new written_before written_after before failed t is taken =
     ((subst (λ x. IsTaken source o old new written_before written_after x) is taken).1, gets_nothing before failed)
 
-pub failure_reported : (source : Source) (o : BorrowedOutput) (number : ℕ) (old new before : Option Text)
+pub failure_reported : (source : MomentSource) (o : BorrowedOutput) (number : ℕ) (old new before : Option Text)
     (failed : Bool) → ReportsNext source o number old new before before failed failed nexts.Failed
 failure_reported source o number old new before failed = gets_nothing before failed
 
-kept_reports : (source : Source) (o : BorrowedOutput) (number : ℕ) (old mid new before after : Option Text)
-    (had_failed failed : Bool) (n : Next) → Keeps old mid
+kept_reports : (source : MomentSource) (o : BorrowedOutput) (number : ℕ) (old mid new before after : Option Text)
+    (had_failed failed : Bool) (n : NextLine) → Keeps old mid
     → ReportsNext source o number mid new before after had_failed failed n
     → ReportsNext source o number old new before after had_failed failed n
 kept_reports source o number None mid new before after had_failed failed (nexts.Lines n) same is =
@@ -132,9 +132,9 @@ kept_reports source o number (Some x) None new before after had_failed failed n 
 kept_reports source o number (Some x) (Some y) new before after had_failed failed n same is =
     subst (λ z. ReportsNext source o number (Some z) new before after had_failed failed n) same is
 
-pub after_nothing : (source : Source) (o : BorrowedOutput) (number : ℕ)
-    (old mid new written_before written_after before after : Option Text) (had_failed failed : Bool) (t : Taken)
-    (r : Result Next RunError) → t ≡ takes.Nothing → IsTaken source o old mid written_before written_after t
+pub after_nothing : (source : MomentSource) (o : BorrowedOutput) (number : ℕ)
+    (old mid new written_before written_after before after : Option Text) (had_failed failed : Bool) (t : BatchTaken)
+    (r : Result NextLine RunError) → t ≡ takes.Nothing → IsTaken source o old mid written_before written_after t
     → IfOk r (ReportsNext source o number mid new before after had_failed failed)
     → IfOk r (ReportsNext source o number old new before after had_failed failed)
 after_nothing source o number old mid new written_before written_after before after had_failed failed t (Err e) is taken
@@ -144,8 +144,8 @@ after_nothing source o number old mid new written_before written_after before af
     kept_reports source o number old mid new before after had_failed failed n
     (subst (λ x. IsTaken source o old mid written_before written_after x) is taken).1 next
 
-pub line_reported : (source : Source) (o : BorrowedOutput) (number : ℕ) (old new before after : Option Text)
-    (had_failed failed : Bool) (line word : Text) (one : Tally) (r : LineRead) → r ≡ reads.Line
+pub line_reported : (source : MomentSource) (o : BorrowedOutput) (number : ℕ) (old new before after : Option Text)
+    (had_failed failed : Bool) (line word : Text) (one : WordTally) (r : LineRead) → r ≡ reads.Line
     → IsRead old new line r → word ≡ without_newline line
     → ReportsWord source o (Some number) word before after had_failed failed
     → ReportsNext source o number old new before after had_failed failed (nexts.Line one)
@@ -155,25 +155,25 @@ line_reported source o number old new before after had_failed failed line word o
   subst (λ w. ReportsWord source o (Some number) w before after had_failed failed) without reported,
 )
 
-pub no_line_reported : (source : Source) (o : BorrowedOutput) (number : ℕ) (old new before : Option Text)
+pub no_line_reported : (source : MomentSource) (o : BorrowedOutput) (number : ℕ) (old new before : Option Text)
     (failed : Bool) (line : Text) (r : LineRead) → r ≡ reads.End → IsRead old new line r
     → ReportsNext source o number old new before before failed failed nexts.End
 no_line_reported source o number old new before failed line r is read =
     (subst (λ x. IsRead old new line x) is read, gets_nothing before failed)
 
 -- Reporting the rest of the lines, from this number on, after what is reported reports all.
-abbrev pub CompletesReports : Source → BorrowedOutput → ℕ → ℕ → Option Text → Option Text → Option Text → Option Text
+abbrev pub CompletesReports : MomentSource → BorrowedOutput → ℕ → ℕ → Option Text → Option Text → Option Text → Option Text
     → Bool → Bool → Type 0
 CompletesReports source o first number bytes left before between had_failed has_failed = (unread : Bool)
     (after : Option Text) (failed : Bool)
     → ReportsLinesFrom source o number unread left between after has_failed failed
     → ReportsLinesFrom source o first unread bytes before after had_failed failed
 
-pub starts : (source : Source) (o : BorrowedOutput) (number : ℕ) (bytes before : Option Text) (failed : Bool)
+pub starts : (source : MomentSource) (o : BorrowedOutput) (number : ℕ) (bytes before : Option Text) (failed : Bool)
     → CompletesReports source o number number bytes bytes before before failed failed
 starts source o number bytes before had_failed unread after failed more = more
 
-one_more : (source : Source) (o : BorrowedOutput) (first number : ℕ) (bytes left rest : Option Text) (line : Text)
+one_more : (source : MomentSource) (o : BorrowedOutput) (first number : ℕ) (bytes left rest : Option Text) (line : Text)
     (before between next : Option Text) (had_failed has_failed then_failed : Bool)
     → CompletesReports source o first number bytes left before between had_failed has_failed
     → IsNextLine left line rest
@@ -190,7 +190,7 @@ one_more source o first number bytes left rest line before between next had_fail
     )
 
 -- Nothing is reported meanwhile.
-silent : (source : Source) (o : BorrowedOutput) (first number : ℕ) (bytes left before between next : Option Text)
+silent : (source : MomentSource) (o : BorrowedOutput) (first number : ℕ) (bytes left before between next : Option Text)
     (had_failed has_failed then_failed : Bool)
     → CompletesReports source o first number bytes left before between had_failed has_failed
     → Gets [] between next has_failed then_failed
@@ -211,7 +211,7 @@ shown_by : (x : Result Text Unshown) (shown : Text) → with_newline x ≡ Ok sh
 shown_by (Ok text) shown is = tt
 shown_by (Err u) shown is = absurd cc
 
-shown_more : (source : Source) (o : BorrowedOutput) (first number : ℕ) (bytes left rest : Option Text)
+shown_more : (source : MomentSource) (o : BorrowedOutput) (first number : ℕ) (bytes left rest : Option Text)
     (line shown : Text) (before between : Option Text) (had_failed has_failed : Bool)
     → CompletesReports source o first number bytes left before between had_failed has_failed → IsWholeLine line
     → IsShownAs source o (without_newline line) shown → Consumes left rest line
@@ -225,7 +225,7 @@ shown_more source o first number bytes left rest line shown before between had_f
 pub after_each : (number n : ℕ) → line_after (line_after number (suc n)) 1 ≡ line_after number (suc (suc n))
 after_each number n = omega arith
 
-lines_more : (source : Source) (o : BorrowedOutput) (first number n : ℕ) (read written : Text)
+lines_more : (source : MomentSource) (o : BorrowedOutput) (first number n : ℕ) (read written : Text)
     (bytes left rest before between : Option Text) (had_failed has_failed : Bool)
     → CompletesReports source o first number bytes left before between had_failed has_failed
     → AreLinesShown source o (suc n) read written → Consumes left rest read
@@ -243,7 +243,7 @@ lines_more source o first number (suc n) read written bytes left rest before bet
     (lines_more source o first number n are.0 are.2 bytes left mid.0 before between had_failed has_failed so_far are.4
     mid.1) are.5 are.6 mid.2)
 
-some_more : (source : Source) (o : BorrowedOutput) (first number n : ℕ) (read written : Text)
+some_more : (source : MomentSource) (o : BorrowedOutput) (first number n : ℕ) (read written : Text)
     (bytes left rest before between : Option Text) (had_failed has_failed : Bool) → 1 ≤ n
     → CompletesReports source o first number bytes left before between had_failed has_failed
     → AreLinesShown source o n read written → Consumes left rest read
@@ -255,8 +255,8 @@ some_more source o first number (suc n) read written bytes left rest before betw
     lines_more source o first number n read written bytes left rest before between had_failed has_failed so_far are
     consumed
 
-pub batch_more : (source : Source) (o : BorrowedOutput) (first number later : ℕ)
-    (bytes left rest before between next : Option Text) (had_failed has_failed then_failed : Bool) (n : ℕ) (r : Next)
+pub batch_more : (source : MomentSource) (o : BorrowedOutput) (first number later : ℕ)
+    (bytes left rest before between next : Option Text) (had_failed has_failed then_failed : Bool) (n : ℕ) (r : NextLine)
     → r ≡ nexts.Lines n → CompletesReports source o first number bytes left before between had_failed has_failed
     → ReportsNext source o number left rest between next has_failed then_failed r → later ≡ line_after number n
     → CompletesReports source o first later bytes rest before next had_failed then_failed
@@ -268,9 +268,9 @@ batch_more source o first number later bytes left rest before between next had_f
     (some_more source o first number n lines.0 lines.1 bytes left rest before between had_failed has_failed lines.2
     so_far lines.3 lines.4) lines.5)
 
-pub line_more : (source : Source) (o : BorrowedOutput) (first number later : ℕ)
-    (bytes left rest before between next : Option Text) (had_failed has_failed then_failed : Bool) (one : Tally)
-    (r : Next) → r ≡ nexts.Line one
+pub line_more : (source : MomentSource) (o : BorrowedOutput) (first number later : ℕ)
+    (bytes left rest before between next : Option Text) (had_failed has_failed then_failed : Bool) (one : WordTally)
+    (r : NextLine) → r ≡ nexts.Line one
     → CompletesReports source o first number bytes left before between had_failed has_failed
     → ReportsNext source o number left rest between next has_failed then_failed r → later ≡ line_after number 1
     → CompletesReports source o first later bytes rest before next had_failed then_failed
@@ -283,8 +283,8 @@ line_more source o first number later bytes left rest before between next had_fa
 
 -- The end of the input, and a read that failed.
 
-pub all_reported : (source : Source) (o : BorrowedOutput) (number : ℕ)
-    (bytes left rest before between after : Option Text) (had_failed has_failed failed unread : Bool) (r : Next)
+pub all_reported : (source : MomentSource) (o : BorrowedOutput) (number : ℕ)
+    (bytes left rest before between after : Option Text) (had_failed has_failed failed unread : Bool) (r : NextLine)
     → r ≡ nexts.End → CompletesReports source o 1 number bytes left before between had_failed has_failed
     → ReportsNext source o number left rest between after has_failed failed r → unread ≡ false
     → ReportsLines source o unread bytes before after had_failed failed
@@ -294,8 +294,8 @@ all_reported source o number bytes left rest before between after had_failed has
     subst (λ u. ReportsLinesFrom source o 1 u bytes before after had_failed failed) (sym unread_is)
     (so_far false after failed ([], [], no_line_left left end.0, refl, end.1))
 
-pub some_reported : (source : Source) (o : BorrowedOutput) (number : ℕ)
-    (bytes left rest before between after : Option Text) (had_failed has_failed failed unread : Bool) (r : Next)
+pub some_reported : (source : MomentSource) (o : BorrowedOutput) (number : ℕ)
+    (bytes left rest before between after : Option Text) (had_failed has_failed failed unread : Bool) (r : NextLine)
     → r ≡ nexts.Failed → CompletesReports source o 1 number bytes left before between had_failed has_failed
     → ReportsNext source o number left rest between after has_failed failed r → unread ≡ true
     → ReportsLines source o unread bytes before after had_failed failed
@@ -306,17 +306,17 @@ some_reported source o number bytes left rest before between after had_failed ha
     (so_far true after failed ([], [], no_line_read left, refl, gets))
 
 -- Words, one after another.
-abbrev pub CompletesWords : Source → BorrowedOutput → List Text → List Text → Option Text → Option Text → Bool → Bool
+abbrev pub CompletesWords : MomentSource → BorrowedOutput → List Text → List Text → Option Text → Option Text → Bool → Bool
     → Type 0
 CompletesWords source o words rest before between had_failed has_failed = (after : Option Text) (failed : Bool)
     → ReportsWords source o rest between after has_failed failed
     → ReportsWords source o words before after had_failed failed
 
-pub words_start : (source : Source) (o : BorrowedOutput) (words : List Text) (before : Option Text) (failed : Bool)
+pub words_start : (source : MomentSource) (o : BorrowedOutput) (words : List Text) (before : Option Text) (failed : Bool)
     → CompletesWords source o words words before before failed failed
 words_start source o words before had_failed after failed more = more
 
-pub word_more : (source : Source) (o : BorrowedOutput) (words rest others : List Text) (word : Text)
+pub word_more : (source : MomentSource) (o : BorrowedOutput) (words rest others : List Text) (word : Text)
     (before between next : Option Text) (had_failed has_failed then_failed : Bool) → rest ≡ word ∷ others
     → CompletesWords source o words rest before between had_failed has_failed
     → ReportsWord source o None word between next has_failed then_failed
@@ -330,7 +330,7 @@ word_more source o words rest others word before between next had_failed has_fai
       gets_more reported.0 more.0 between next after has_failed then_failed failed reported.2 more.2,
     ))
 
-pub words_done : (source : Source) (o : BorrowedOutput) (words rest : List (Bor Text)) (before after : Option Text)
+pub words_done : (source : MomentSource) (o : BorrowedOutput) (words rest : List (Bor Text)) (before after : Option Text)
     (had_failed failed : Bool) → length rest < 1
     → CompletesWords source o (texts words) (texts rest) before after had_failed failed
     → ReportsWords source o (texts words) before after had_failed failed

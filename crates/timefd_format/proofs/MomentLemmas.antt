@@ -12,7 +12,7 @@ use Rattle.timefd_format.specs.FromJiff.Annotated.{IsReadAnnotated}
 use Rattle.timefd_date_moment.specs.declared.moment.Moment.{Moment}
 use Rattle.timefd_format.specs.declared.moment.MomentError.{MomentError}
 use Rattle.timefd_format.specs.declared.moment.MomentError.TheVariants as fails
-use Rattle.timefd_format.specs.declared.source.Source.{Source}
+use Rattle.timefd_format.specs.declared.source.MomentSource.{MomentSource}
 use Rattle.timefd_format.specs.Moments.{IsChecked, IsOfText}
 use Rattle.timefd_format.specs.Sources.{IsFoundIn, IsOnClockIn}
 use Rattle.timefd_format.specs.Zones.{IsShownBy}
@@ -32,6 +32,6 @@ pub not_stored : (zones : TimeZoneDatabase) (name : Text) (e : Error) → IsNoZo
 not_stored zones name e (inl memory) is = absurd cc
 not_stored zones name e (inr none) is = none.1
 
-pub shown_on_clock : (source : Source) (zone : TimeZone) (word : Text) (found r : Result Moment MomentError)
+pub shown_on_clock : (source : MomentSource) (zone : TimeZone) (word : Text) (found r : Result Moment MomentError)
     → IsFoundIn source None word found → IsShownBy (Some zone) found r → IsOnClockIn source zone word r
 shown_on_clock source zone word found r is shown = (found, is, shown)

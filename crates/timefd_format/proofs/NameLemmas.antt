@@ -9,12 +9,12 @@ use Rattle.timefd_lang_component.specs.Tree.{Text}
 use Rattle.timefd_format.specs.declared.from_jiff.annotated.Annotated.{Annotated}
 use Rattle.timefd_format.specs.declared.from_jiff.annotated.Annotation.{Annotation}
 use Rattle.timefd_date_moment.specs.declared.moment.Moment.{Moment}
-use Rattle.timefd_format.specs.declared.names.Names.{Names}
+use Rattle.timefd_format.specs.declared.names.GivenNames.{GivenNames}
 use Rattle.timefd_format.specs.Moments.{IsChecked, IsNamed, IsOfText, IsOfWord, IsWritten}
 use Rattle.timefd_format.specs.Seconds.{after_at}
 use Rattle.timefd_format.specs.Spelled.{IsSpelled}
 
-pub named : (names : Names) (word : Text) (m : Moment) → IsSpelled word m
+pub named : (names : GivenNames) (word : Text) (m : Moment) → IsSpelled word m
     → ends_with nat_eq word (codes "]") ≡ false → IsNamed names word (Ok m)
 named names [] m spelled none = absurd (let digit = spelled.4 in cc)
 named names (c ∷ cs) m spelled shut =

@@ -7,7 +7,7 @@ use Rattle.std.proofs.Math.Seq.{drop-append-add, drop-append_seam, take-append_s
 use Rattle.memchr.specs.Find.{IsFirstByte, is_byte, is_byte2}
 use Rattle.timefd_lang_component.specs.Tree.{Text}
 use Rattle.timefd_lint_rewrite.specs.Lines.{end_of, without_newline}
-use Rattle.timefd_format.specs.declared.quoting.Quoting.TheVariants.{Start}
+use Rattle.timefd_format.specs.declared.quoting.FieldQuoting.TheVariants.{Start}
 use Rattle.timefd_format.specs.Fields.{field_after, fields, joined, with_field}
 use Rattle.timefd_format.specs.PlainCells.{IsAhead, IsFieldLen}
 use Rattle.timefd_format.specs.RecordBatches.{IsPlainRecord}
@@ -145,12 +145,12 @@ cell_is row content text front field after n left from len is ahead none first f
     ∙ sym (append_assoc ahead.front (take len text) (drop len text ++ end_of row)) in
     let reach : from + len ≡ length (ahead.front ++ take len text) =
     omega (arith, size, length-append ahead.front (take len text), length-take len text, first.within) in
-    let behind : after ≡ drop len text ++ end_of row =
+    let rest_is : after ≡ drop len text ++ end_of row =
     after_is ∙ ap (λ k. drop k row) reach ∙ ap (drop (length (ahead.front ++ take len text))) long
     ∙ drop-append_seam (ahead.front ++ take len text) (drop len text ++ end_of row) in (
       ap (λ c. field_after n (fields c)) (sym is) ∙ ahead.finds ∙ ap (λ k. field_after k (fields text)) none
           ∙ ap (field_after 0) first.first ∙ ap Some (sym field_is),
-      λ new. ap (λ f. f ++ (new ++ after)) before ∙ ap (λ a. ahead.front ++ (new ++ a)) behind
+      λ new. ap (λ f. f ++ (new ++ after)) before ∙ ap (λ a. ahead.front ++ (new ++ a)) rest_is
           ∙ ap (λ t. ahead.front ++ t) (sym (append_assoc new (drop len text) (end_of row)))
           ∙ sym (append_assoc ahead.front (new ++ drop len text) (end_of row))
           ∙ ap (λ t. (ahead.front ++ t) ++ end_of row) (sym (first.joins new))

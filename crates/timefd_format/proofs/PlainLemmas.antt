@@ -6,12 +6,12 @@ use Rattle.std.proofs.lemmas.List.Elements.{All-from_get_or, All-head, All-tail}
 use Rattle.std.proofs.lemmas.Bool.Decides.{nat_tests}
 use Rattle.memchr.specs.Find.{IsFirstByte, Passes, is_byte, is_byte2}
 use Rattle.timefd_lang_component.specs.Tree.{Text}
-use Rattle.timefd_format.specs.declared.quoting.Quoting.{Quoting}
-use Rattle.timefd_format.specs.declared.quoting.Quoting.TheVariants.{Start, Bare, Inside, Closed}
+use Rattle.timefd_format.specs.declared.quoting.FieldQuoting.{FieldQuoting}
+use Rattle.timefd_format.specs.declared.quoting.FieldQuoting.TheVariants.{Start, Bare, Inside, Closed}
 use Rattle.timefd_format.specs.Fields.{after, after_all, bare_after, ends_field, fields, fields_from, shown, text_from, text_of, with_front}
 use Rattle.timefd_format.proofs.FieldLemmas.{last_of, next_of}
 
-abbrev pub IsOutside : Quoting → Type 0
+abbrev pub IsOutside : FieldQuoting → Type 0
 IsOutside Start = ⊤
 IsOutside Bare = ⊤
 IsOutside Inside = ⊥
@@ -27,7 +27,7 @@ other_by x y false is differs = is
 other : (x y : ℕ) → x ≢ y → nat_eq x y ≡ false
 other x y is = other_by x y (nat_eq x y) refl is
 
-after_outside : (q : Quoting) (b : ℕ) → IsOutside q → b ≢ 34 → after q b ≡ bare_after b
+after_outside : (q : FieldQuoting) (b : ℕ) → IsOutside q → b ≢ 34 → after q b ≡ bare_after b
 after_outside Start b out plain = rw (other b 34 plain) refl
 after_outside Bare b out plain = refl
 after_outside Inside b out plain = absurd out
@@ -37,16 +37,16 @@ bare_by : (c : Bool) → IsOutside (cond c Start Bare)
 bare_by true = tt
 bare_by false = tt
 
-pub stays : (q : Quoting) (b : ℕ) → IsOutside q → b ≢ 34 → IsOutside (after q b)
+pub stays : (q : FieldQuoting) (b : ℕ) → IsOutside q → b ≢ 34 → IsOutside (after q b)
 stays q b out plain = subst IsOutside (sym (after_outside q b out plain)) (bare_by (nat_eq b 44))
 
-shown_outside : (q : Quoting) (b : ℕ) → IsOutside q → b ≢ 34 → shown q b ≡ b ∷ []
+shown_outside : (q : FieldQuoting) (b : ℕ) → IsOutside q → b ≢ 34 → shown q b ≡ b ∷ []
 shown_outside Start b out plain = rw (other b 34 plain) refl
 shown_outside Bare b out plain = refl
 shown_outside Inside b out plain = absurd out
 shown_outside Closed b out plain = absurd out
 
-text_from_plain : (q : Quoting) (bs : Text) → IsOutside q → All (λ b. b ≢ 34) bs → text_from q bs ≡ bs
+text_from_plain : (q : FieldQuoting) (bs : Text) → IsOutside q → All (λ b. b ≢ 34) bs → text_from q bs ≡ bs
 text_from_plain q [] out plain = refl
 text_from_plain q (b ∷ bs) out plain =
     let first = All-head (λ x. x ≢ 34) b bs plain in
@@ -58,7 +58,7 @@ pub text_plain : (field : Text) → All (λ b. b ≢ 34) field → text_of field
 text_plain field plain = text_from_plain Start field tt plain
 
 -- The state after bytes without a quote is that after the last of them.
-after_last : (q : Quoting) (front : Text) (b : ℕ) → IsOutside q → All (λ x. x ≢ 34) (front ++ b ∷ [])
+after_last : (q : FieldQuoting) (front : Text) (b : ℕ) → IsOutside q → All (λ x. x ≢ 34) (front ++ b ∷ [])
     → after_all q (front ++ b ∷ []) ≡ bare_after b
 after_last q [] b out plain = after_outside q b out (All-head (λ x. x ≢ 34) b [] plain)
 after_last q (x ∷ xs) b out plain =
@@ -94,19 +94,19 @@ comma_within row at found = found.0.high
 
 -- The first field up to its comma.
 
-ends_outside : (q : Quoting) → IsOutside q → ends_field q 44 ≡ true
+ends_outside : (q : FieldQuoting) → IsOutside q → ends_field q 44 ≡ true
 ends_outside Start out = refl
 ends_outside Bare out = refl
 ends_outside Inside out = absurd out
 ends_outside Closed out = absurd out
 
-goes_outside : (q : Quoting) (b : ℕ) → IsOutside q → b ≢ 44 → ends_field q b ≡ false
+goes_outside : (q : FieldQuoting) (b : ℕ) → IsOutside q → b ≢ 44 → ends_field q b ≡ false
 goes_outside Start b out plain = other b 44 plain
 goes_outside Bare b out plain = other b 44 plain
 goes_outside Inside b out plain = absurd out
 goes_outside Closed b out plain = absurd out
 
-up_to_comma : (q : Quoting) (front more : Text) → IsOutside q → All IsPlain front
+up_to_comma : (q : FieldQuoting) (front more : Text) → IsOutside q → All IsPlain front
     → fields_from q (front ++ 44 ∷ more) ≡ front ∷ fields more
 up_to_comma q [] more out plain = last_of q 44 more (ends_outside q out)
 up_to_comma q (b ∷ bs) more out plain =
@@ -115,7 +115,7 @@ up_to_comma q (b ∷ bs) more out plain =
     ∙ ap (with_front (b ∷ []))
     (up_to_comma (after q b) bs more (stays q b out first.1) (All-tail IsPlain b bs plain))
 
-up_to_end : (q : Quoting) (row : Text) → IsOutside q → All IsPlain row → fields_from q row ≡ row ∷ []
+up_to_end : (q : FieldQuoting) (row : Text) → IsOutside q → All IsPlain row → fields_from q row ≡ row ∷ []
 up_to_end q [] out plain = refl
 up_to_end q (b ∷ bs) out plain =
     let first = All-head IsPlain b bs plain in
@@ -158,7 +158,7 @@ last_is bytes some =
     sym (take_all (length bytes - 1 + 1) bytes (omega (arith, some)))
     ∙ take_more bytes (length bytes - 1) 0 (omega (arith, some))
 
-after_outer : (q : Quoting) (bytes : Text) (last : ℕ) (r : Quoting) → IsOutside q → 1 ≤ length bytes
+after_outer : (q : FieldQuoting) (bytes : Text) (last : ℕ) (r : FieldQuoting) → IsOutside q → 1 ≤ length bytes
     → All (λ b. b ≢ 34) bytes → last ≡ get_or bytes (length bytes - 1) 0 → r ≡ bare_after last
     → r ≡ after_all q bytes
 after_outer q bytes last r out some plain is_last is =
@@ -167,13 +167,13 @@ after_outer q bytes last r out some plain is_last is =
     is ∙ sym (after_last q (take (length bytes - 1) bytes) last out (subst (All (λ b. b ≢ 34)) split plain))
     ∙ sym (ap (after_all q) split)
 
-pub after_start : (q : Quoting) (bytes : Text) (last : ℕ) (r : Quoting) → q ≡ Start → 1 ≤ length bytes
+pub after_start : (q : FieldQuoting) (bytes : Text) (last : ℕ) (r : FieldQuoting) → q ≡ Start → 1 ≤ length bytes
     → All (λ b. b ≢ 34) bytes → last ≡ get_or bytes (length bytes - 1) 0 → r ≡ bare_after last
     → r ≡ after_all q bytes
 after_start q bytes last r begins some plain is_last is =
     after_outer q bytes last r (subst IsOutside (sym begins) tt) some plain is_last is
 
-pub after_bare : (q : Quoting) (bytes : Text) (last : ℕ) (r : Quoting) → q ≡ Bare → 1 ≤ length bytes
+pub after_bare : (q : FieldQuoting) (bytes : Text) (last : ℕ) (r : FieldQuoting) → q ≡ Bare → 1 ≤ length bytes
     → All (λ b. b ≢ 34) bytes → last ≡ get_or bytes (length bytes - 1) 0 → r ≡ bare_after last
     → r ≡ after_all q bytes
 after_bare q bytes last r bare some plain is_last is =

@@ -7,8 +7,8 @@ use Rattle.std.proofs.lemmas.List.Elements.{All-from_get_or, All-head, All-push,
 use Rattle.std.specs.Io.KnownBytes.{Consumes}
 use Rattle.memchr.specs.Find.{IsFirstByte, Passes, is_byte, is_byte2}
 use Rattle.timefd_lang_component.specs.Tree.{Text}
-use Rattle.timefd_format.specs.declared.quoting.Quoting.{Quoting}
-use Rattle.timefd_format.specs.declared.quoting.Quoting.TheVariants.{Start, Bare, Inside, Closed}
+use Rattle.timefd_format.specs.declared.quoting.FieldQuoting.{FieldQuoting}
+use Rattle.timefd_format.specs.declared.quoting.FieldQuoting.TheVariants.{Start, Bare, Inside, Closed}
 use Rattle.timefd_format.specs.Fields.{after, after_all, is_inside}
 use Rattle.timefd_format.specs.RecordBatches.{IsPlainRecord}
 use Rattle.timefd_format.specs.Records.{IsNextRecord, ends_record, is_open, left_from, record_from}
@@ -46,19 +46,19 @@ up_to_newline text k found newline =
 
 -- A record without quotes is the next record.
 
-goes_on : (q : Quoting) (b : ℕ) → b ≢ 10 → ends_record q b ≡ false
+goes_on : (q : FieldQuoting) (b : ℕ) → b ≢ 10 → ends_record q b ≡ false
 goes_on q b other = let e : (b == 10) ≡ false = grind (arith, nat_tests, other) in rw e refl
 
-shut : (q : Quoting) → IsOutside q → is_inside q ≡ false
+shut : (q : FieldQuoting) → IsOutside q → is_inside q ≡ false
 shut Start out = refl
 shut Bare out = refl
 shut Inside out = absurd out
 shut Closed out = absurd out
 
-ends : (q : Quoting) → IsOutside q → ends_record q 10 ≡ true
+ends : (q : FieldQuoting) → IsOutside q → ends_record q 10 ≡ true
 ends q out = rw (shut q out) refl
 
-taken : (q : Quoting) (text rest : Text) → IsOutside q → All IsInner text
+taken : (q : FieldQuoting) (text rest : Text) → IsOutside q → All IsInner text
     → (record_from q (text ++ 10 ∷ rest) ≡ text ++ 10 ∷ []) × (left_from q (text ++ 10 ∷ rest) ≡ rest)
 taken q [] rest out plain = (rw (ends q out) refl, rw (ends q out) refl)
 taken q (b ∷ bs) rest out plain =
@@ -80,7 +80,7 @@ is_next (Some x) (Some y) row plain consumed =
       ap Some (sym (ap (left_from Start) joined ∙ cut.1)),
     )
 
-stays_outside : (q : Quoting) (text : Text) → IsOutside q → All (λ b. b ≢ 34) text → IsOutside (after_all q text)
+stays_outside : (q : FieldQuoting) (text : Text) → IsOutside q → All (λ b. b ≢ 34) text → IsOutside (after_all q text)
 stays_outside q [] out plain = out
 stays_outside q (b ∷ bs) out plain =
     stays_outside (after q b) bs (stays q b out (All-head (λ x. x ≢ 34) b bs plain)) (All-tail (λ x. x ≢ 34) b bs plain)

@@ -14,8 +14,8 @@ use Rattle.timefd_lang_node_list.specs.LeafMeaning.{leaf_tree}
 use Rattle.timefd_parse.specs.declared.parsing.BorrowedOutput.{BorrowedOutput}
 use Rattle.timefd_format.specs.declared.fast.batch.Batch.{Batch}
 use Rattle.timefd_format.specs.declared.frame.Cell.{Cell}
-use Rattle.timefd_format.specs.declared.frame.Frame.TheVariants as frames
-use Rattle.timefd_format.specs.declared.source.Source.{Source}
+use Rattle.timefd_format.specs.declared.frame.LineFrame.TheVariants as frames
+use Rattle.timefd_format.specs.declared.source.MomentSource.{MomentSource}
 use Rattle.timefd_format.specs.Batches.{no_batch}
 use Rattle.timefd_format.specs.Fields.{IsCell, text_of}
 use Rattle.timefd_format.specs.Frames.{field_of, framed, is_quoted, wants_quotes}
@@ -96,7 +96,7 @@ appended_text : (x : Result Text Unshown) (old new : Text) (at end : ℕ) → Tr
 appended_text (Ok text) old new at end put = (text, refl, put)
 appended_text (Err u) old new at end put = absurd put
 
-pub record_appended : (source : Source) (o : BorrowedOutput) (n : ℕ) (row old new : Text) (at : ℕ) (cell : Cell)
+pub record_appended : (source : MomentSource) (o : BorrowedOutput) (n : ℕ) (row old new : Text) (at : ℕ) (cell : Cell)
     (m : Moment) (r : Option ℕ) → IsCell n row cell → All (λ b. b ≢ 34) cell.field.now
     → (length cell.field.now == 0) ≡ false → IsMomentIn source o cell.field.now (Ok m)
     → TriesToAppend (in_cell cell (written_of m o)) old at new r
@@ -118,11 +118,11 @@ record_appended source o n row old new at cell m (Some end) is plain some moment
 
 -- A batch that grows.
 
-pub empty_batch : (source : Source) (o : BorrowedOutput) (n : ℕ) (text room : Text)
+pub empty_batch : (source : MomentSource) (o : BorrowedOutput) (n : ℕ) (text room : Text)
     → IsRecordBatch source o n text room no_batch
 empty_batch source o n text room = ((refl, refl), omega arith, omega arith, omega arith)
 
-pub same_batch : (source : Source) (o : BorrowedOutput) (n : ℕ) (text old new : Text) (batch : Batch)
+pub same_batch : (source : MomentSource) (o : BorrowedOutput) (n : ℕ) (text old new : Text) (batch : Batch)
     → IsRecordBatch source o n text old batch → IsKept old batch.written new → IsRecordBatch source o n text new batch
 same_batch source o n text old new batch is same = (
   subst (λ w. AreRecordsShown source o n batch.line_count (take batch.read text) w) (sym same.front) is.0,
@@ -131,7 +131,7 @@ same_batch source o n text old new batch is same = (
   omega (arith, is.3, same.same),
 )
 
-pub one_more : (source : Source) (o : BorrowedOutput) (n : ℕ) (text rest row old new : Text) (batch : Batch)
+pub one_more : (source : MomentSource) (o : BorrowedOutput) (n : ℕ) (text rest row old new : Text) (batch : Batch)
     (len end : ℕ) → IsRecordBatch source o n text old batch → rest ≡ drop batch.read text → len ≤ length rest
     → IsPlainRecord (take len rest) → row ≡ take len rest
     → TriesToAppendRecord source o n row old batch.written new (Some end)

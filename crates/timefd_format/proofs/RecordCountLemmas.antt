@@ -9,7 +9,7 @@ use Rattle.timefd_lang_component.specs.Tree.{Text}
 use Rattle.timefd_lint_rewrite.specs.Lines.{IsNextLine}
 use Rattle.timefd_format.specs.declared.lines.LineRead.{LineRead}
 use Rattle.timefd_format.specs.declared.lines.LineRead.TheVariants as lines
-use Rattle.timefd_format.specs.declared.quoting.Quoting.{Quoting}
+use Rattle.timefd_format.specs.declared.quoting.FieldQuoting.{FieldQuoting}
 use Rattle.timefd_format.specs.declared.records.RecordRead.{RecordRead}
 use Rattle.timefd_format.specs.declared.records.RecordRead.TheVariants as reads
 use Rattle.timefd_format.specs.Fields.{is_inside}
@@ -71,7 +71,7 @@ after_line row line longer ys new count more (inr none) one_more is read =
     absurd (no_line_of line (Some ys) ys read.0 read.1 refl none)
 
 -- One more line of a record is counted.
-pub row_counted : (old left new : Option Text) (row longer : Text) (q : Quoting) (count more : ℕ) (r : LineRead)
+pub row_counted : (old left new : Option Text) (row longer : Text) (q : FieldQuoting) (count more : ℕ) (r : LineRead)
     → IsSoFar old left row q → AreLinesOfRecord old row left count → IsReadMore left new row longer r
     → r ≡ lines.Line → more ≡ u64_saturate (count + 1) → AreLinesOfRecord old longer new more
 row_counted None left new row longer q count more r so_far counted read is one_more = tt
@@ -85,13 +85,13 @@ last_by : (old new : Option Text) (row : Text) (is_open : Bool) → AreLinesOfRe
 last_by old new row true counted = counted
 last_by old new row false counted = counted
 
-ended : (old new : Option Text) (row : Text) (q : Quoting) → AreLinesOfRecord old row new 1
+ended : (old new : Option Text) (row : Text) (q : FieldQuoting) → AreLinesOfRecord old row new 1
     → CountsLines old row new (at_end row q)
 ended old new [] q counted = tt
 ended old new (b ∷ bs) q counted = last_by old new (b ∷ bs) (is_inside q) counted
 
 -- What ends the input has no line after it.
-pub rest_counted : (old left new : Option Text) (row longer : Text) (q : Quoting) (r : LineRead) (answer : RecordRead)
+pub rest_counted : (old left new : Option Text) (row longer : Text) (q : FieldQuoting) (r : LineRead) (answer : RecordRead)
     → IsSoFar old left row q → IsReadMore left new row longer r → r ≡ lines.End → answer ≡ at_end longer q
     → CountsLines old longer new answer
 rest_counted None left new row longer q r answer so_far read is answer_is =

@@ -10,8 +10,8 @@ use Rattle.timefd_lang_component.specs.Tree.{Text}
 use Rattle.timefd_lint_rewrite.specs.Lines.{IsNextLine}
 use Rattle.timefd_format.specs.declared.lines.LineRead.{LineRead}
 use Rattle.timefd_format.specs.declared.lines.LineRead.TheVariants as lines
-use Rattle.timefd_format.specs.declared.quoting.Quoting.{Quoting}
-use Rattle.timefd_format.specs.declared.quoting.Quoting.TheVariants.{Start, Bare, Inside, Closed}
+use Rattle.timefd_format.specs.declared.quoting.FieldQuoting.{FieldQuoting}
+use Rattle.timefd_format.specs.declared.quoting.FieldQuoting.TheVariants.{Start, Bare, Inside, Closed}
 use Rattle.timefd_format.specs.declared.records.RecordRead.{RecordRead}
 use Rattle.timefd_format.specs.declared.records.RecordRead.TheVariants as reads
 use Rattle.timefd_format.specs.Failures.{IsSourceAfterLine, IsSourceAfterRecord}
@@ -20,27 +20,27 @@ use Rattle.timefd_format.specs.Records.{IsNextRecord, IsRecordRead, at_end, ends
 use Rattle.timefd_format.specs.Written.{IsReadMore}
 use Rattle.timefd_format.proofs.FieldLemmas.{slice_to_end}
 
-after_more : (q : Quoting) (xs ys : Text) → after_all q (xs ++ ys) ≡ after_all (after_all q xs) ys
+after_more : (q : FieldQuoting) (xs ys : Text) → after_all q (xs ++ ys) ≡ after_all (after_all q xs) ys
 after_more q [] ys = refl
 after_more q (x ∷ xs) ys = after_more (after q x) xs ys
 
 -- A line that leaves no quotes open ends the record.
-abbrev pub EndsBy : Quoting → Text → Type 0
+abbrev pub EndsBy : FieldQuoting → Text → Type 0
 EndsBy q ys = (record_from q ys ≡ take_through 10 ys) × (left_from q ys ≡ drop_through 10 ys)
 
 -- A line that leaves quotes open does not.
-abbrev pub GoesOn : Quoting → Text → Type 0
+abbrev pub GoesOn : FieldQuoting → Text → Type 0
 GoesOn q ys =
     (record_from q ys ≡ take_through 10 ys ++ record_from (after_all q (take_through 10 ys)) (drop_through 10 ys))
     × (left_from q ys ≡ left_from (after_all q (take_through 10 ys)) (drop_through 10 ys))
 
-shut_at_newline : (q : Quoting) → is_inside (after q 10) ≡ false → is_inside q ≡ false
+shut_at_newline : (q : FieldQuoting) → is_inside (after q 10) ≡ false → is_inside q ≡ false
 shut_at_newline Start is = refl
 shut_at_newline Bare is = refl
 shut_at_newline Inside is = is
 shut_at_newline Closed is = refl
 
-open_at_newline : (q : Quoting) → is_inside (after q 10) ≡ true → (is_inside q ≡ true) × (after q 10 ≡ q)
+open_at_newline : (q : FieldQuoting) → is_inside (after q 10) ≡ true → (is_inside q ≡ true) × (after q 10 ≡ q)
 open_at_newline Start is = absurd cc
 open_at_newline Bare is = absurd cc
 open_at_newline Inside is = (refl, refl)
@@ -49,20 +49,20 @@ open_at_newline Closed is = absurd cc
 ten : (y : ℕ) → (y == 10) ≡ true → y ≡ 10
 ten y is = grind (arith, nat_tests)
 
-not_ending : (q : Quoting) (y : ℕ) → (y == 10) ≡ false → ends_record q y ≡ false
+not_ending : (q : FieldQuoting) (y : ℕ) → (y == 10) ≡ false → ends_record q y ≡ false
 not_ending q y is = rw is refl
 
-ending : (q : Quoting) → is_inside q ≡ false → ends_record q 10 ≡ true
+ending : (q : FieldQuoting) → is_inside q ≡ false → ends_record q 10 ≡ true
 ending q is = rw is refl
 
-inside_goes_on : (q : Quoting) → is_inside q ≡ true → ends_record q 10 ≡ false
+inside_goes_on : (q : FieldQuoting) → is_inside q ≡ true → ends_record q 10 ≡ false
 inside_goes_on q is = rw is refl
 
-record_at_newline : (q : Quoting) (ys : Text) → is_inside q ≡ false → EndsBy q (10 ∷ ys)
+record_at_newline : (q : FieldQuoting) (ys : Text) → is_inside q ≡ false → EndsBy q (10 ∷ ys)
 record_at_newline q ys is =
     (rw (ending q is) refl, rw (ending q is) refl)
 
-record_over_newline : (q : Quoting) (ys : Text) → is_inside q ≡ true → after q 10 ≡ q → GoesOn q (10 ∷ ys)
+record_over_newline : (q : FieldQuoting) (ys : Text) → is_inside q ≡ true → after q 10 ≡ q → GoesOn q (10 ∷ ys)
 record_over_newline q ys is same =
     (rw (inside_goes_on q is) refl, rw (inside_goes_on q is) refl)
 
@@ -72,15 +72,15 @@ through_more y ys is = rw is refl
 drop_more : (y : ℕ) (ys : Text) → (y == 10) ≡ false → drop_through 10 (y ∷ ys) ≡ drop_through 10 ys
 drop_more y ys is = rw is refl
 
-record_more : (q : Quoting) (y : ℕ) (ys : Text) → (y == 10) ≡ false
+record_more : (q : FieldQuoting) (y : ℕ) (ys : Text) → (y == 10) ≡ false
     → record_from q (y ∷ ys) ≡ y ∷ record_from (after q y) ys
 record_more q y ys is = rw (not_ending q y is) refl
 
-left_more : (q : Quoting) (y : ℕ) (ys : Text) → (y == 10) ≡ false
+left_more : (q : FieldQuoting) (y : ℕ) (ys : Text) → (y == 10) ≡ false
     → left_from q (y ∷ ys) ≡ left_from (after q y) ys
 left_more q y ys is = rw (not_ending q y is) refl
 
-ends_by : (q : Quoting) (y : ℕ) (ys : Text) (b : Bool) → (y == 10) ≡ b
+ends_by : (q : FieldQuoting) (y : ℕ) (ys : Text) (b : Bool) → (y == 10) ≡ b
     → is_inside (after_all q (take_through 10 (y ∷ ys))) ≡ false
     → (is_inside (after_all (after q y) (take_through 10 ys)) ≡ false → EndsBy (after q y) ys)
     → EndsBy q (y ∷ ys)
@@ -94,11 +94,11 @@ ends_by q y ys false is shut more =
       left_more q y ys is ∙ rest.1 ∙ sym (drop_more y ys is),
     )
 
-ends : (q : Quoting) (ys : Text) → is_inside (after_all q (take_through 10 ys)) ≡ false → EndsBy q ys
+ends : (q : FieldQuoting) (ys : Text) → is_inside (after_all q (take_through 10 ys)) ≡ false → EndsBy q ys
 ends q [] shut = (refl, refl)
 ends q (y ∷ ys) shut = ends_by q y ys (y == 10) refl shut (ends (after q y) ys)
 
-goes_by : (q : Quoting) (y : ℕ) (ys : Text) (b : Bool) → (y == 10) ≡ b
+goes_by : (q : FieldQuoting) (y : ℕ) (ys : Text) (b : Bool) → (y == 10) ≡ b
     → is_inside (after_all q (take_through 10 (y ∷ ys))) ≡ true
     → (is_inside (after_all (after q y) (take_through 10 ys)) ≡ true → GoesOn (after q y) ys)
     → GoesOn q (y ∷ ys)
@@ -118,21 +118,21 @@ goes_by q y ys false is wide more =
           ∙ ap (λ d. left_from (after_all q (take_through 10 (y ∷ ys))) d) (sym (drop_more y ys is)),
     )
 
-goes : (q : Quoting) (ys : Text) → is_inside (after_all q (take_through 10 ys)) ≡ true → GoesOn q ys
+goes : (q : FieldQuoting) (ys : Text) → is_inside (after_all q (take_through 10 ys)) ≡ true → GoesOn q ys
 goes q [] wide = (refl, refl)
 goes q (y ∷ ys) wide = goes_by q y ys (y == 10) refl wide (goes (after q y) ys)
 
 -- What is read of a record so far.
-abbrev pub IsKnown : Option Text → Option Text → Text → Quoting → Type 0
+abbrev pub IsKnown : Option Text → Option Text → Text → FieldQuoting → Type 0
 IsKnown None left row q = ⊤
 IsKnown (Some xs) None row q = ⊥
 IsKnown (Some xs) (Some ys) row q = (record_from Start xs ≡ row ++ record_from q ys)
     × (left_from Start xs ≡ left_from q ys)
 
-pub IsSoFar : Option Text → Option Text → Text → Quoting → Type 0
+pub IsSoFar : Option Text → Option Text → Text → FieldQuoting → Type 0
 IsSoFar old left row q = (q ≡ after_all Start row) × IsKnown old left row q
 
-pub known_so_far : (old left : Option Text) (row : Text) (q : Quoting) → IsSoFar old left row q → IsKnown old left row q
+pub known_so_far : (old left : Option Text) (row : Text) (q : FieldQuoting) → IsSoFar old left row q → IsKnown old left row q
 unfolding IsSoFar
 known_so_far old left row q so_far = so_far.1
 
@@ -141,13 +141,13 @@ unfolding IsSoFar
 starts None = (refl, tt)
 starts (Some xs) = (refl, (refl, refl))
 
-longer_is : (row line longer : Text) (q next : Quoting) → q ≡ after_all Start row
+longer_is : (row line longer : Text) (q next : FieldQuoting) → q ≡ after_all Start row
     → longer ≡ row ++ line → next ≡ after_all q line → next ≡ after_all Start longer
 longer_is row line longer q next so_far is next_is =
     next_is ∙ ap (λ s. after_all s line) so_far ∙ sym (after_more Start row line)
     ∙ ap (after_all Start) (sym is)
 
-known_more : (old left new : Option Text) (row line longer : Text) (q next : Quoting)
+known_more : (old left new : Option Text) (row line longer : Text) (q next : FieldQuoting)
     → IsKnown old left row q → longer ≡ row ++ line → IsNextLine left line new
     → next ≡ after_all q line → is_inside next ≡ true → IsKnown old new longer next
 known_more None left new row line longer q next so_far is read next_is wide = tt
@@ -167,7 +167,7 @@ known_more (Some xs) (Some ys) new row line longer q next so_far is read next_is
     ))
 
 -- One more line, after which quotes are open.
-pub goes_on : (old left new : Option Text) (row line longer : Text) (q next : Quoting)
+pub goes_on : (old left new : Option Text) (row line longer : Text) (q next : FieldQuoting)
     → IsSoFar old left row q → longer ≡ row ++ line → IsNextLine left line new
     → next ≡ after_all q line → is_inside next ≡ true → IsSoFar old new longer next
 unfolding IsSoFar
@@ -180,7 +180,7 @@ no_line : (row line : Text) → row ++ line ≡ [] → line ≡ []
 no_line [] line none = none
 no_line (b ∷ bs) line none = absurd cc
 
-record_done : (old left new : Option Text) (row line longer : Text) (q next : Quoting)
+record_done : (old left new : Option Text) (row line longer : Text) (q next : FieldQuoting)
     → IsKnown old left row q → longer ≡ row ++ line → IsNextLine left line new
     → next ≡ after_all q line → is_inside next ≡ false → IsNextRecord old longer new
 record_done None left new row line longer q next so_far is read next_is shut = tt
@@ -196,7 +196,7 @@ record_done (Some xs) (Some ys) new row line longer q next so_far is read next_i
     )
 
 -- One more line, after which no quotes are open.
-pub is_done : (old left new : Option Text) (row line longer : Text) (q next : Quoting)
+pub is_done : (old left new : Option Text) (row line longer : Text) (q next : FieldQuoting)
     → IsSoFar old left row q → longer ≡ row ++ line → IsNextLine left line new
     → next ≡ after_all q line → is_inside next ≡ false
     → IsNextRecord old longer new × (is_open longer ≡ false)
@@ -215,14 +215,14 @@ no_record : (xs : Text) → record_from Start xs ≡ [] → xs ≡ []
 no_record [] none = refl
 no_record (x ∷ xs) none = absurd (some_record x xs (ends_record Start x) none)
 
-nothing_left : (old left : Option Text) (q : Quoting) → IsSoFar old left [] q → IsAtEnd left → IsAtEnd old
+nothing_left : (old left : Option Text) (q : FieldQuoting) → IsSoFar old left [] q → IsAtEnd left → IsAtEnd old
 unfolding IsSoFar
 nothing_left None left q so_far end = tt
 nothing_left (Some xs) None q so_far end = absurd so_far.1
 nothing_left (Some xs) (Some ys) q so_far end =
     no_record xs (so_far.1.0 ∙ ap (record_from q) end)
 
-whole_is : (old left new : Option Text) (b : ℕ) (bs : Text) (q : Quoting) → IsKnown old left (b ∷ bs) q
+whole_is : (old left new : Option Text) (b : ℕ) (bs : Text) (q : FieldQuoting) → IsKnown old left (b ∷ bs) q
     → IsAtEnd left → IfSome left (λ xs. new ≡ Some []) → IsNextRecord old (b ∷ bs) new
 whole_is None left new b bs q known end none = tt
 whole_is (Some xs) None new b bs q known end none = absurd known
@@ -232,7 +232,7 @@ whole_is (Some xs) (Some ys) new b bs q known end none = (
   none ∙ ap Some (sym (known.1 ∙ ap (left_from q) end)),
 )
 
-some_left : (old left new : Option Text) (b : ℕ) (bs : Text) (q : Quoting) (is : Bool) → is_inside q ≡ is
+some_left : (old left new : Option Text) (b : ℕ) (bs : Text) (q : FieldQuoting) (is : Bool) → is_inside q ≡ is
     → IsSoFar old left (b ∷ bs) q → IsAtEnd left → IfSome left (λ xs. new ≡ Some [])
     → IsRecordRead old new (b ∷ bs) (at_end (b ∷ bs) q)
 unfolding IsSoFar
@@ -242,7 +242,7 @@ some_left old left new b bs q false is so_far end none =
     rw is (whole_is old left new b bs q so_far.1 end none, ap is_inside (sym so_far.0) ∙ is)
 
 -- No line is left.
-pub ended : (old left new : Option Text) (row : Text) (q : Quoting) → IsSoFar old left row q
+pub ended : (old left new : Option Text) (row : Text) (q : FieldQuoting) → IsSoFar old left row q
     → IsAtEnd left → IfSome left (λ xs. new ≡ Some []) → IsRecordRead old new row (at_end row q)
 ended old left new [] q so_far end none = nothing_left old left q so_far end
 ended old left new (b ∷ bs) q so_far end none =
@@ -254,7 +254,7 @@ piece_is row line longer piece is cut =
     cut ∙ ap (drop (length row)) is ∙ drop-append_seam row line
 
 -- One more line, after which quotes are open.
-pub line_more : (old left new : Option Text) (row longer piece : Text) (q next : Quoting) (r : LineRead)
+pub line_more : (old left new : Option Text) (row longer piece : Text) (q next : FieldQuoting) (r : LineRead)
     → IsSoFar old left row q → IsReadMore left new row longer r → r ≡ lines.Line
     → piece ≡ drop (length row) longer → next ≡ after_all q piece → is_inside next ≡ true
     → IsSoFar old new longer next
@@ -264,7 +264,7 @@ line_more old left new row longer piece q next r so_far read is cut next_is wide
     (next_is ∙ ap (after_all q) (piece_is row at.0 longer piece at.1 cut)) wide
 
 -- One more line, after which no quotes are open.
-pub row_done : (old left new : Option Text) (row longer piece : Text) (q next : Quoting) (r : LineRead)
+pub row_done : (old left new : Option Text) (row longer piece : Text) (q next : FieldQuoting) (r : LineRead)
     (count : ℕ) → IsSoFar old left row q → IsReadMore left new row longer r → r ≡ lines.Line
     → piece ≡ drop (length row) longer → next ≡ after_all q piece → is_inside next ≡ false
     → IsRecordRead old new longer (reads.Record count)
@@ -274,7 +274,7 @@ row_done old left new row longer piece q next r count so_far read is cut next_is
     (next_is ∙ ap (after_all q) (piece_is row at.0 longer piece at.1 cut)) shut
 
 -- No more line.
-pub row_ended : (old left new : Option Text) (row longer : Text) (q : Quoting) (r : LineRead)
+pub row_ended : (old left new : Option Text) (row longer : Text) (q : FieldQuoting) (r : LineRead)
     (answer : RecordRead) → IsSoFar old left row q → IsReadMore left new row longer r → r ≡ lines.End
     → answer ≡ at_end longer q → IsRecordRead old new longer answer
 row_ended old left new row longer q r answer so_far read is answer_is =
@@ -298,12 +298,12 @@ last_counted : (old new : ℕ) (failed is_open : Bool) → new < old
 last_counted old new failed true fewer = fewer
 last_counted old new failed false fewer = fewer
 
-counted_at_end : (old new : ℕ) (failed : Bool) (row : Text) (q : Quoting) → new < old
+counted_at_end : (old new : ℕ) (failed : Bool) (row : Text) (q : FieldQuoting) → new < old
     → IsSourceAfterRecord old new failed (at_end row q)
 counted_at_end old new failed [] q fewer = tt
 counted_at_end old new failed (b ∷ bs) q fewer = last_counted old new failed (is_inside q) fewer
 
-pub end_counted : (old left new : ℕ) (failed : Bool) (row : Text) (q : Quoting) (r : LineRead)
+pub end_counted : (old left new : ℕ) (failed : Bool) (row : Text) (q : FieldQuoting) (r : LineRead)
     (answer : RecordRead) → left ≤ old → IsSourceAfterLine left new failed r → r ≡ lines.End
     → answer ≡ at_end row q → IsSourceAfterRecord old new failed answer
 end_counted old left new failed row q r answer few read is answer_is =

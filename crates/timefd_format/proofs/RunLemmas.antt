@@ -7,16 +7,16 @@ use Rattle.timefd_lang_component.specs.Tree.{Text}
 use Rattle.timefd_lint_diagnosis.specs.Words.{texts}
 use Rattle.timefd_parse.specs.declared.parsing.BorrowedOutput.{BorrowedOutput}
 use Rattle.timefd_lint_rewrite.specs.Lines.{AreLinesOf, IsNextLine, without_newline}
-use Rattle.timefd_format.specs.declared.frame.Frame.TheVariants as frames
+use Rattle.timefd_format.specs.declared.frame.LineFrame.TheVariants as frames
 use Rattle.timefd_format.specs.declared.otherwise.Otherwise.{Otherwise}
-use Rattle.timefd_format.specs.declared.outcome.Outcome.{Outcome}
-use Rattle.timefd_format.specs.declared.outcome.Tally.{Tally}
-use Rattle.timefd_format.specs.declared.source.Source.{Source}
+use Rattle.timefd_format.specs.declared.outcome.WordOutcome.{WordOutcome}
+use Rattle.timefd_format.specs.declared.outcome.WordTally.{WordTally}
+use Rattle.timefd_format.specs.declared.source.MomentSource.{MomentSource}
 use Rattle.timefd_format.specs.Tallies.{at_end, tally_of, both}
 use Rattle.timefd_format.specs.declared.column.Column.{Column}
-use Rattle.timefd_format.specs.declared.description.Reading.{Reading}
-use Rattle.timefd_format.specs.declared.description.Reading.TheVariants as readings
-use Rattle.timefd_format.specs.declared.end.RunEnd.TheVariants as ends
+use Rattle.timefd_format.specs.declared.description.DescriptionReading.{DescriptionReading}
+use Rattle.timefd_format.specs.declared.description.DescriptionReading.TheVariants as readings
+use Rattle.timefd_format.specs.declared.end.RunOutcome.TheVariants as ends
 use Rattle.timefd_format.specs.declared.language.Languages.{Languages}
 use Rattle.timefd_format.specs.declared.warned.Warned.{Warned}
 use Rattle.timefd_format.specs.declared.lines.LineRead.{LineRead}
@@ -38,10 +38,10 @@ or_assoc : (a b c : Bool) → ((a || b) || c) ≡ (a || (b || c))
 or_assoc true b c = refl
 or_assoc false b c = refl
 
-made : Bool → Bool → Bool → Tally
+made : Bool → Bool → Bool → WordTally
 made refused text failed = record { is_refused = refused; not_text = text; has_failed = failed }
 
-tally_is : (a b : Tally) → a.is_refused ≡ b.is_refused → a.not_text ≡ b.not_text
+tally_is : (a b : WordTally) → a.is_refused ≡ b.is_refused → a.not_text ≡ b.not_text
     → a.has_failed ≡ b.has_failed → a ≡ b
 unfolding made
 tally_is a b refused text failed =
@@ -49,41 +49,41 @@ tally_is a b refused text failed =
     ∙ (ap (λ x. made b.is_refused x a.has_failed) text
     ∙ ap (λ x. made b.is_refused b.not_text x) failed)
 
-pub none_more : (t : Tally) → both t (at_end false) ≡ t
+pub none_more : (t : WordTally) → both t (at_end false) ≡ t
 none_more t =
     tally_is (both t (at_end false)) t (or_false t.is_refused) (or_false t.not_text) (or_false t.has_failed)
 
-pub both_assoc : (a b c : Tally) → both (both a b) c ≡ both a (both b c)
+pub both_assoc : (a b c : WordTally) → both (both a b) c ≡ both a (both b c)
 both_assoc a b c =
     tally_is (both (both a b) c) (both a (both b c))
     (or_assoc a.is_refused b.is_refused c.is_refused) (or_assoc a.not_text b.not_text c.not_text)
     (or_assoc a.has_failed b.has_failed c.has_failed)
 
 -- No read failed in either part.
-pub both_read : (a b sum : Tally) → sum ≡ both a b → a.has_failed ≡ false → b.has_failed ≡ false
+pub both_read : (a b sum : WordTally) → sum ≡ both a b → a.has_failed ≡ false → b.has_failed ≡ false
     → sum.has_failed ≡ false
 both_read a b sum is first second =
     ap (λ t. t.has_failed) is ∙ (ap (λ f. f || b.has_failed) first ∙ second)
 
 -- A read failed in the second part.
-pub failed_after : (a failing sum : Tally) → failing ≡ at_end true → sum ≡ both a failing → sum.has_failed ≡ true
+pub failed_after : (a failing sum : WordTally) → failing ≡ at_end true → sum ≡ both a failing → sum.has_failed ≡ true
 failed_after a failing sum failing_is is =
     ap (λ t. t.has_failed) is ∙ (ap (λ t. a.has_failed || t.has_failed) failing_is ∙ or_true a.has_failed)
 
 -- Running the rest after what is done runs all.
-abbrev pub Completes : Otherwise → Source → BorrowedOutput → List Text → List Text → Option Text
-    → Option Text → Tally → Type 0
-Completes otherwise source o words rest before between tally = (after : Option Text) (more : Tally)
+abbrev pub Completes : Otherwise → MomentSource → BorrowedOutput → List Text → List Text → Option Text
+    → Option Text → WordTally → Type 0
+Completes otherwise source o words rest before between tally = (after : Option Text) (more : WordTally)
     → Runs false otherwise source o rest between after more
     → Runs false otherwise source o words before after (both tally more)
 
-pub starts : (otherwise : Otherwise) (source : Source) (o : BorrowedOutput) (words : List Text) (before : Option Text)
-    (tally : Tally) → tally ≡ at_end false → Completes otherwise source o words words before before tally
+pub starts : (otherwise : Otherwise) (source : MomentSource) (o : BorrowedOutput) (words : List Text) (before : Option Text)
+    (tally : WordTally) → tally ≡ at_end false → Completes otherwise source o words words before before tally
 starts otherwise source o words before tally none after more runs =
     subst (λ t. Runs false otherwise source o words before after (both t more)) (sym none) runs
 
-pub goes_on : (otherwise : Otherwise) (source : Source) (o : BorrowedOutput) (words rest after : List Text)
-    (word : Text) (before between next : Option Text) (tally one sum : Tally) (outcome : Outcome)
+pub goes_on : (otherwise : Otherwise) (source : MomentSource) (o : BorrowedOutput) (words rest after : List Text)
+    (word : Text) (before between next : Option Text) (tally one sum : WordTally) (outcome : WordOutcome)
     → rest ≡ word ∷ after → Completes otherwise source o words rest before between tally
     → IsOne otherwise source o frames.Line word between next outcome → one ≡ tally_of outcome → sum ≡ both tally one
     → Completes otherwise source o words after before next sum
@@ -100,8 +100,8 @@ pub none_left : (words : List (Bor Text)) → length words < 1 → words ≡ []
 none_left [] short = refl
 none_left (word ∷ words) short = absurd (omega (arith, short))
 
-pub is_done : (otherwise : Otherwise) (source : Source) (o : BorrowedOutput) (words rest : List (Bor Text))
-    (before after : Option Text) (tally : Tally) → length rest < 1
+pub is_done : (otherwise : Otherwise) (source : MomentSource) (o : BorrowedOutput) (words rest : List (Bor Text))
+    (before after : Option Text) (tally : WordTally) → length rest < 1
     → Completes otherwise source o (texts words) (texts rest) before after tally
     → Runs false otherwise source o (texts words) before after tally
 is_done otherwise source o words rest before after tally short so_far =
@@ -122,14 +122,14 @@ split_texts (word ∷ rest) n d bytes same some is =
     ∙ ap (λ r. word.now ∷ texts r) (take-length rest))
 
 -- Running the rest of the lines after what is done runs all.
-abbrev pub CompletesLines : Otherwise → Source → BorrowedOutput → Option Text → Option Text → Option Text
-    → Option Text → Tally → Type 0
+abbrev pub CompletesLines : Otherwise → MomentSource → BorrowedOutput → Option Text → Option Text → Option Text
+    → Option Text → WordTally → Type 0
 CompletesLines otherwise source o bytes left before between tally = (failed : Bool) (after : Option Text)
-    (more : Tally) → RunsOn failed otherwise source o left between after more
+    (more : WordTally) → RunsOn failed otherwise source o left between after more
     → RunsOn failed otherwise source o bytes before after (both tally more)
 
-pub lines_start : (otherwise : Otherwise) (source : Source) (o : BorrowedOutput) (bytes before : Option Text)
-    (tally : Tally) → tally ≡ at_end false → CompletesLines otherwise source o bytes bytes before before tally
+pub lines_start : (otherwise : Otherwise) (source : MomentSource) (o : BorrowedOutput) (bytes before : Option Text)
+    (tally : WordTally) → tally ≡ at_end false → CompletesLines otherwise source o bytes bytes before before tally
 lines_start otherwise source o bytes before tally none failed after more runs =
     subst (λ t. RunsOn failed otherwise source o bytes before after (both t more)) (sym none) runs
 
@@ -143,9 +143,9 @@ more_lines (Some xs) rest line lines true next are =
 more_lines (Some xs) rest line lines false next are =
     (next.0, next.1, subst (λ r. AreLinesOf r lines false) next.2 are)
 
-pub line_more : (otherwise : Otherwise) (source : Source) (o : BorrowedOutput) (bytes left rest : Option Text)
-    (line word : Text) (before between next : Option Text) (tally one sum : Tally)
-    (outcome : Outcome) (r : LineRead) → r ≡ Line
+pub line_more : (otherwise : Otherwise) (source : MomentSource) (o : BorrowedOutput) (bytes left rest : Option Text)
+    (line word : Text) (before between next : Option Text) (tally one sum : WordTally)
+    (outcome : WordOutcome) (r : LineRead) → r ≡ Line
     → CompletesLines otherwise source o bytes left before between tally
     → IsRead left rest line r → word ≡ without_newline line
     → IsOne otherwise source o frames.Line word between next outcome → one ≡ tally_of outcome → sum ≡ both tally one
@@ -170,8 +170,8 @@ pub no_line_read : (left : Option Text) → AreLinesOf left [] true
 no_line_read None = tt
 no_line_read (Some xs) = (xs, refl)
 
-pub lines_end : (otherwise : Otherwise) (source : Source) (o : BorrowedOutput) (bytes left rest before after : Option Text)
-    (line : Text) (tally : Tally) (r : LineRead) → r ≡ End
+pub lines_end : (otherwise : Otherwise) (source : MomentSource) (o : BorrowedOutput) (bytes left rest before after : Option Text)
+    (line : Text) (tally : WordTally) (r : LineRead) → r ≡ End
     → CompletesLines otherwise source o bytes left before after tally → IsRead left rest line r
     → RunsOver otherwise source o bytes before after tally
 lines_end otherwise source o bytes left rest before after line tally r is so_far read = (
@@ -181,8 +181,8 @@ lines_end otherwise source o bytes left rest before after line tally r is so_far
       ([], no_line_left left (subst (λ x. IsRead left rest line x) is read), (refl, refl))),
 )
 
-pub lines_fail : (otherwise : Otherwise) (source : Source) (o : BorrowedOutput) (bytes left before after : Option Text)
-    (tally failing sum : Tally) → CompletesLines otherwise source o bytes left before after tally
+pub lines_fail : (otherwise : Otherwise) (source : MomentSource) (o : BorrowedOutput) (bytes left before after : Option Text)
+    (tally failing sum : WordTally) → CompletesLines otherwise source o bytes left before after tally
     → failing ≡ at_end true → sum ≡ both tally failing
     → RunsOver otherwise source o bytes before after sum
 lines_fail otherwise source o bytes left before after tally failing sum so_far is is_sum = (
@@ -193,9 +193,9 @@ lines_fail otherwise source o bytes left before after tally failing sum so_far i
 )
 
 -- A run by a description that was read.
-pub ran : (column : Option Column) (otherwise : Otherwise) (source : Source) (quiet : Bool) (languages : Languages) (text : Text)
-    (words : List Text) (input before after : Option Text) (r : Reading) (o : BorrowedOutput)
-    (warned : Warned) (tally : Tally) → r ≡ readings.Description o
+pub ran : (column : Option Column) (otherwise : Otherwise) (source : MomentSource) (quiet : Bool) (languages : Languages) (text : Text)
+    (words : List Text) (input before after : Option Text) (r : DescriptionReading) (o : BorrowedOutput)
+    (warned : Warned) (tally : WordTally) → r ≡ readings.Description o
     → IsReading languages.written text r → warned ≡ warned_by quiet languages source o
     → IsRunOf column otherwise source o words input before after tally
     → IsRunFrom column otherwise source quiet languages text words input before after (ends.Done warned tally)

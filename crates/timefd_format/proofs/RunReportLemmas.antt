@@ -6,15 +6,15 @@ use Rattle.timefd_lint_drawing.specs.declared.position.Origin.{Origin}
 use Rattle.timefd_lint_drawing.specs.People.{for_people}
 use Rattle.timefd_parse.specs.declared.parsing.BorrowedOutput.{BorrowedOutput}
 use Rattle.timefd_format.specs.declared.column.Column.{Column}
-use Rattle.timefd_format.specs.declared.description.Reading.{Reading}
-use Rattle.timefd_format.specs.declared.description.Reading.TheVariants as readings
-use Rattle.timefd_format.specs.declared.end.RunEnd.{RunEnd}
-use Rattle.timefd_format.specs.declared.end.RunEnd.TheVariants as ends
+use Rattle.timefd_format.specs.declared.description.DescriptionReading.{DescriptionReading}
+use Rattle.timefd_format.specs.declared.description.DescriptionReading.TheVariants as readings
+use Rattle.timefd_format.specs.declared.end.RunOutcome.{RunOutcome}
+use Rattle.timefd_format.specs.declared.end.RunOutcome.TheVariants as ends
 use Rattle.timefd_format.specs.declared.language.Languages.{Languages}
 use Rattle.timefd_format.specs.declared.outcome.RunError.{RunError}
-use Rattle.timefd_format.specs.declared.outcome.Tally.{Tally}
+use Rattle.timefd_format.specs.declared.outcome.WordTally.{WordTally}
 use Rattle.timefd_format.specs.declared.source.Clocks.{Clocks}
-use Rattle.timefd_format.specs.declared.source.Source.{Source}
+use Rattle.timefd_format.specs.declared.source.MomentSource.{MomentSource}
 use Rattle.timefd_format.specs.declared.warned.Texts.{Texts}
 use Rattle.timefd_format.specs.declared.warned.Warned.{Warned}
 use Rattle.timefd_format.specs.Descriptions.{IsReading}
@@ -31,9 +31,9 @@ pub gets_warnings : (colored : Bool) (texts : Texts) (w : Warned) (before after 
 gets_warnings colored texts w before after had_failed failed read written text of_read of_written is gets =
     (read, written, of_read, of_written, subst (λ t. Gets (for_people colored t) before after had_failed failed) is gets)
 
-pub ran : (column : Option Column) (source : Source) (colored : Bool) (languages : Languages)
+pub ran : (column : Option Column) (source : MomentSource) (colored : Bool) (languages : Languages)
     (read : Option (Bor Text)) (text : Bor Text) (words : List Text) (input before between after : Option Text)
-    (had_failed has_failed failed : Bool) (r : Reading) (o : BorrowedOutput) (warned : Warned) (tally : Tally)
+    (had_failed has_failed failed : Bool) (r : DescriptionReading) (o : BorrowedOutput) (warned : Warned) (tally : WordTally)
     → r ≡ readings.Description o → IsReading languages.written text.now r
     → GetsWarnings colored (record { read = read; written = text }) warned before between had_failed has_failed
     → ReportsMoments column source o words input between after has_failed failed tally
@@ -43,9 +43,9 @@ ran column source colored languages read text words input before between after h
     tally is reading warnings moments =
     (o, between, has_failed, subst (λ x. IsReading languages.written text.now x) is reading, warnings, moments)
 
-pub run_reported : (column : Option Column) (clocks : Clocks) (source : Source) (colored : Bool) (languages : Languages)
+pub run_reported : (column : Option Column) (clocks : Clocks) (source : MomentSource) (colored : Bool) (languages : Languages)
     (read : Option (Bor Text)) (text : Bor Text) (words : List Text) (input before between after : Option Text)
-    (had_failed has_failed failed : Bool) (found : Option Source) (r : Result RunEnd RunError)
+    (had_failed has_failed failed : Bool) (found : Option MomentSource) (r : Result RunOutcome RunError)
     → found ≡ Some source → IsSourceOf clocks languages.read read found
     → IsSilentOn before between had_failed has_failed found
     → IfOk r (ReportsRunFrom column source colored languages read text words input between after has_failed failed)

@@ -138,11 +138,11 @@ nothing (c ∷ cs) none = absurd (omega (arith, none))
 -- An offset.
 
 made : Bool → ℕ → ℕ → Numeric
-made behind h m = record { negative = behind; hours = h; minutes = Some m; seconds = None; nanoseconds = None }
+made is_minus h m = record { negative = is_minus; hours = h; minutes = Some m; seconds = None; nanoseconds = None }
 
-numeric_is : (behind : Bool) (text b : Text) (h m : ℕ) → two_digits text ≡ Some (h, 58 ∷ b)
+numeric_is : (is_minus : Bool) (text b : Text) (h m : ℕ) → two_digits text ≡ Some (h, 58 ∷ b)
     → two_digits b ≡ Some (m, []) → h ≤ 25 → m ≤ 59
-    → parse_numeric datetime_parser (sign_of behind ∷ text) ≡ Ok (made behind h m, [])
+    → parse_numeric datetime_parser (sign_of is_minus ∷ text) ≡ Ok (made is_minus h m, [])
 unfolding parse_numeric made
 numeric_is true text b h m h_is m_is h_most m_most =
     let hours = field_is Syntax.Offset 0 25 Bound.OffsetHours text (58 ∷ b) h h_is (omega arith) h_most in
@@ -153,29 +153,29 @@ numeric_is false text b h m h_is m_is h_most m_most =
     let minutes = field_is Syntax.Offset 0 59 Bound.OffsetMinutes b [] m m_is (omega arith) m_most in
     rw (hours, minutes)
 
-same_sign : (behind : Bool) (n : ℕ) → signed_by behind n ≡ signed behind n
+same_sign : (is_minus : Bool) (n : ℕ) → signed_by is_minus n ≡ signed is_minus n
 same_sign true n = refl
 same_sign false n = refl
 
-seconds_is : (behind : Bool) (h m total : ℕ) → h ≤ 25 → m ≤ 59 → total ≡ 3600 * h + 60 * m
-    → numeric_seconds (made behind h m) ≡ Ok (signed behind total)
+seconds_is : (is_minus : Bool) (h m total : ℕ) → h ≤ 25 → m ≤ 59 → total ≡ 3600 * h + 60 * m
+    → numeric_seconds (made is_minus h m) ≡ Ok (signed is_minus total)
 unfolding made
-seconds_is behind h m total h_most m_most is =
+seconds_is is_minus h m total h_most m_most is =
     let same : h * 3600 + m * 60 + 0 + 0 ≡ total = omega (arith, is) in
     let within : nat_lt 93599 total ≡ false = grind (arith, nat_tests, h_most, m_most, is) in
-    rw (same, within) (ap Ok (same_sign behind total))
+    rw (same, within) (ap Ok (same_sign is_minus total))
 
-pub offset_read : (behind : Bool) (text a b rest : Text) (h m total : ℕ) (o : UtcOffset)
+pub offset_read : (is_minus : Bool) (text a b rest : Text) (h m total : ℕ) (o : UtcOffset)
     → two_digits text ≡ Some (h, a) → a ≡ 58 ∷ b → two_digits b ≡ Some (m, rest) → true ≡ (length rest == 0) → h ≤ 25 → m ≤ 59
-    → total ≡ 3600 * h + 60 * m → signed o.is_negative o.seconds ≡ signed behind total
-    → IsOffsetSpelledAfter behind text o
-offset_read behind text a b rest h m total o h_is colon m_is none h_most m_most total_is is = (
-  made behind h m,
-  numeric_is behind text b h m (h_is ∙ ap (λ x. Some (h, x)) colon) (m_is ∙ ap (λ x. Some (m, x)) (nothing rest (no_length (length rest) (sym none)))) h_most m_most,
-  seconds_is behind h m total h_most m_most total_is ∙ ap Ok (sym is),
+    → total ≡ 3600 * h + 60 * m → signed o.is_negative o.seconds ≡ signed is_minus total
+    → IsOffsetSpelledAfter is_minus text o
+offset_read is_minus text a b rest h m total o h_is colon m_is none h_most m_most total_is is = (
+  made is_minus h m,
+  numeric_is is_minus text b h m (h_is ∙ ap (λ x. Some (h, x)) colon) (m_is ∙ ap (λ x. Some (m, x)) (nothing rest (no_length (length rest) (sym none)))) h_most m_most,
+  seconds_is is_minus h m total h_most m_most total_is ∙ ap Ok (sym is),
 )
 
-pub sign_kept : (behind : Bool) (n : ℕ) → signed (behind && not (n == 0)) n ≡ signed behind n
+pub sign_kept : (is_minus : Bool) (n : ℕ) → signed (is_minus && not (n == 0)) n ≡ signed is_minus n
 sign_kept false n = refl
 sign_kept true zero = refl
 sign_kept true (suc n) =
@@ -200,8 +200,8 @@ zulu [] o none seconds ahead = (
 zulu (c ∷ cs) o none seconds ahead = absurd (omega (arith, none))
 
 -- With its sign.
-pub with_sign : (behind : Bool) (text rest : Text) (o : UtcOffset) → text ≡ sign_of behind ∷ rest
-    → IsOffsetSpelledAfter behind rest o → IsOffsetSpelled text (Some o)
+pub with_sign : (is_minus : Bool) (text rest : Text) (o : UtcOffset) → text ≡ sign_of is_minus ∷ rest
+    → IsOffsetSpelledAfter is_minus rest o → IsOffsetSpelled text (Some o)
 unfolding parse_optional parse temporal_fraction
 with_sign true text rest o is spelled =
     rw is (

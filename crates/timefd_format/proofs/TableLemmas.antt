@@ -6,11 +6,11 @@ use Rattle.timefd_language.specs.Grammar.{is_empty}
 use Rattle.timefd_parse.specs.declared.parsing.BorrowedOutput.{BorrowedOutput}
 use Rattle.timefd_lint_rewrite.specs.Lines.{without_newline}
 use Rattle.timefd_format.specs.declared.frame.Cell.{Cell}
-use Rattle.timefd_format.specs.declared.frame.Frame.TheVariants as frames
+use Rattle.timefd_format.specs.declared.frame.LineFrame.TheVariants as frames
 use Rattle.timefd_format.specs.declared.otherwise.Otherwise.{Otherwise}
 use Rattle.timefd_format.specs.declared.outcome.RunError.{RunError}
-use Rattle.timefd_format.specs.declared.outcome.Tally.{Tally}
-use Rattle.timefd_format.specs.declared.source.Source.{Source}
+use Rattle.timefd_format.specs.declared.outcome.WordTally.{WordTally}
+use Rattle.timefd_format.specs.declared.source.MomentSource.{MomentSource}
 use Rattle.timefd_format.specs.Fields.{IsCell, text_of}
 use Rattle.timefd_format.specs.Records.{AreRecordsOf, IsNextRecord, is_open}
 use Rattle.timefd_format.specs.Tables.{IsRecord, RunsRecordsOn, RunsRecordsOver}
@@ -19,14 +19,14 @@ use Rattle.timefd_format.specs.Written.{IsTallyOf}
 use Rattle.timefd_format.proofs.RunLemmas.{both_assoc, none_more}
 
 -- Writing the rest after what is done gives all.
-pub Completes : Otherwise → Source → BorrowedOutput → ℕ → Option Text → Option Text → Option Text
-    → Option Text → Tally → Type 0
+pub Completes : Otherwise → MomentSource → BorrowedOutput → ℕ → Option Text → Option Text → Option Text
+    → Option Text → WordTally → Type 0
 Completes otherwise source o n bytes left before between tally = (failed : Bool) (after : Option Text)
-    (more : Tally) → RunsRecordsOn failed otherwise source o n left between after more
+    (more : WordTally) → RunsRecordsOn failed otherwise source o n left between after more
     → RunsRecordsOn failed otherwise source o n bytes before after (both tally more)
 
-pub starts : (otherwise : Otherwise) (source : Source) (o : BorrowedOutput) (n : ℕ) (bytes before : Option Text)
-    (tally : Tally) → tally ≡ at_end false
+pub starts : (otherwise : Otherwise) (source : MomentSource) (o : BorrowedOutput) (n : ℕ) (bytes before : Option Text)
+    (tally : WordTally) → tally ≡ at_end false
     → Completes otherwise source o n bytes bytes before before tally
 unfolding Completes
 starts otherwise source o n bytes before tally none failed after more runs =
@@ -42,9 +42,9 @@ more_records (Some xs) rest row records true next are =
 more_records (Some xs) rest row records false next are =
     (next.0, next.1, subst (λ r. AreRecordsOf r records false) next.2 are)
 
-pub record_more : (otherwise : Otherwise) (source : Source) (o : BorrowedOutput) (n : ℕ)
+pub record_more : (otherwise : Otherwise) (source : MomentSource) (o : BorrowedOutput) (n : ℕ)
     (bytes left rest : Option Text) (row : Text) (before between next : Option Text)
-    (tally one sum : Tally) → Completes otherwise source o n bytes left before between tally
+    (tally one sum : WordTally) → Completes otherwise source o n bytes left before between tally
     → IsNextRecord left row rest → IsRecord otherwise source o n row between next one
     → sum ≡ both tally one → Completes otherwise source o n bytes rest before next sum
 unfolding Completes
@@ -66,8 +66,8 @@ pub no_record_read : (left : Option Text) → AreRecordsOf left [] true
 no_record_read None = tt
 no_record_read (Some xs) = (xs, refl)
 
-pub records_end : (otherwise : Otherwise) (source : Source) (o : BorrowedOutput) (n : ℕ)
-    (bytes left before after : Option Text) (tally : Tally)
+pub records_end : (otherwise : Otherwise) (source : MomentSource) (o : BorrowedOutput) (n : ℕ)
+    (bytes left before after : Option Text) (tally : WordTally)
     → Completes otherwise source o n bytes left before after tally → IsAtEnd left
     → RunsRecordsOver otherwise source o n bytes before after tally
 unfolding Completes
@@ -77,8 +77,8 @@ records_end otherwise source o n bytes left before after tally so_far end = (
       (so_far false after (at_end false) ([], no_record_left left end, (refl, refl))),
 )
 
-pub records_fail : (otherwise : Otherwise) (source : Source) (o : BorrowedOutput) (n : ℕ)
-    (bytes left before after : Option Text) (tally failing sum : Tally)
+pub records_fail : (otherwise : Otherwise) (source : MomentSource) (o : BorrowedOutput) (n : ℕ)
+    (bytes left before after : Option Text) (tally failing sum : WordTally)
     → Completes otherwise source o n bytes left before after tally → failing ≡ at_end true
     → sum ≡ both tally failing → RunsRecordsOver otherwise source o n bytes before after sum
 unfolding Completes
@@ -90,8 +90,8 @@ records_fail otherwise source o n bytes left before after tally failing sum so_f
 )
 
 -- What the field of a record becomes.
-pub of_cell : (otherwise : Otherwise) (source : Source) (o : BorrowedOutput) (n : ℕ) (row text : Text)
-    (cell : Cell) (before after : Option Text) (tally : Tally) → is_open row ≡ false
+pub of_cell : (otherwise : Otherwise) (source : MomentSource) (o : BorrowedOutput) (n : ℕ) (row text : Text)
+    (cell : Cell) (before after : Option Text) (tally : WordTally) → is_open row ≡ false
     → is_empty (without_newline row) ≡ false → IsCell n row cell → text ≡ text_of cell.field.now
     → IsTallyOf otherwise source o (frames.Field cell) text before after tally
     → IsRecord otherwise source o n row before after tally
@@ -102,8 +102,8 @@ of_cell otherwise source o n row text cell before after tally shut some is text_
       subst (λ t. IsTallyOf otherwise source o (frames.Field cell) t before after tally) text_is one,
     )))
 
-pub of_cell_ok : (otherwise : Otherwise) (source : Source) (o : BorrowedOutput) (n : ℕ) (row text : Text)
-    (cell : Cell) (before after : Option Text) (r : Result Tally RunError) → is_open row ≡ false
+pub of_cell_ok : (otherwise : Otherwise) (source : MomentSource) (o : BorrowedOutput) (n : ℕ) (row text : Text)
+    (cell : Cell) (before after : Option Text) (r : Result WordTally RunError) → is_open row ≡ false
     → is_empty (without_newline row) ≡ false → IsCell n row cell → text ≡ text_of cell.field.now
     → IfOk r (IsTallyOf otherwise source o (frames.Field cell) text before after)
     → IfOk r (IsRecord otherwise source o n row before after)

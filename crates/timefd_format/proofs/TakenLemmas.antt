@@ -10,18 +10,18 @@ use Rattle.timefd_date_format.specs.declared.unshown.Unshown.{Unshown}
 use Rattle.timefd_parse.specs.declared.parsing.BorrowedOutput.{BorrowedOutput}
 use Rattle.timefd_lint_rewrite.specs.Lines.{IsNextLine, without_newline}
 use Rattle.timefd_format.specs.declared.fast.batch.Batch.{Batch}
-use Rattle.timefd_format.specs.declared.fast.take.Taken.{Taken}
-use Rattle.timefd_format.specs.declared.fast.take.Taken.TheVariants as takes
-use Rattle.timefd_format.specs.declared.frame.Frame.TheVariants as frames
+use Rattle.timefd_format.specs.declared.fast.take.BatchTaken.{BatchTaken}
+use Rattle.timefd_format.specs.declared.fast.take.BatchTaken.TheVariants as takes
+use Rattle.timefd_format.specs.declared.frame.LineFrame.TheVariants as frames
 use Rattle.timefd_format.specs.declared.lines.LineRead.{LineRead}
 use Rattle.timefd_format.specs.declared.lines.LineRead.TheVariants as reads
-use Rattle.timefd_format.specs.declared.lines.Next.{Next}
-use Rattle.timefd_format.specs.declared.lines.Next.TheVariants as nexts
+use Rattle.timefd_format.specs.declared.lines.NextLine.{NextLine}
+use Rattle.timefd_format.specs.declared.lines.NextLine.TheVariants as nexts
 use Rattle.timefd_format.specs.declared.otherwise.Otherwise.{Otherwise}
-use Rattle.timefd_format.specs.declared.outcome.Outcome.TheVariants as came
+use Rattle.timefd_format.specs.declared.outcome.WordOutcome.TheVariants as came
 use Rattle.timefd_format.specs.declared.outcome.RunError.{RunError}
-use Rattle.timefd_format.specs.declared.outcome.Tally.{Tally}
-use Rattle.timefd_format.specs.declared.source.Source.{Source}
+use Rattle.timefd_format.specs.declared.outcome.WordTally.{WordTally}
+use Rattle.timefd_format.specs.declared.source.MomentSource.{MomentSource}
 use Rattle.timefd_format.specs.Batches.{AreLinesShown, IsBatch, IsNext, IsShownAs, IsTaken, IsWholeLine, with_newline}
 use Rattle.timefd_format.specs.Failures.{IsSourceAfterBatch, IsSourceAfterNext}
 use Rattle.timefd_format.specs.Tallies.{at_end, both, tally_of}
@@ -75,8 +75,8 @@ line_in_frame : (x : Result Text Unshown) (before after : Option Text) → Appen
 line_in_frame (Ok text) before after sent = sent
 line_in_frame (Err u) before after sent = absurd sent
 
-shown_more : (otherwise : Otherwise) (source : Source) (o : BorrowedOutput) (bytes left rest : Option Text)
-    (line shown : Text) (before between next : Option Text) (tally : Tally)
+shown_more : (otherwise : Otherwise) (source : MomentSource) (o : BorrowedOutput) (bytes left rest : Option Text)
+    (line shown : Text) (before between next : Option Text) (tally : WordTally)
     → CompletesLines otherwise source o bytes left before between tally → IsWholeLine line
     → IsShownAs source o (without_newline line) shown → Consumes left rest line → Appends between next shown
     → CompletesLines otherwise source o bytes rest before next tally
@@ -91,8 +91,8 @@ shown_more otherwise source o bytes left rest line shown before between next tal
     (next_line left rest line whole consumed) refl (is.1, framed) refl refl)
 
 -- A batch of one line, and of more.
-lines_more : (otherwise : Otherwise) (source : Source) (o : BorrowedOutput) (n : ℕ) (read written : Text)
-    (bytes left rest before between next : Option Text) (tally : Tally)
+lines_more : (otherwise : Otherwise) (source : MomentSource) (o : BorrowedOutput) (n : ℕ) (read written : Text)
+    (bytes left rest before between next : Option Text) (tally : WordTally)
     → CompletesLines otherwise source o bytes left before between tally
     → AreLinesShown source o (suc n) read written → Consumes left rest read → Appends between next written
     → CompletesLines otherwise source o bytes rest before next tally
@@ -107,8 +107,8 @@ lines_more otherwise source o (suc n) read written bytes left rest before betwee
     (lines_more otherwise source o n are.0 are.2 bytes left mid.0 before between then.0 tally so_far are.4 mid.1 then.1)
     are.5 are.6 mid.2 then.2
 
-some_more : (otherwise : Otherwise) (source : Source) (o : BorrowedOutput) (n : ℕ) (read written : Text)
-    (bytes left rest before between next : Option Text) (tally : Tally) → 1 ≤ n
+some_more : (otherwise : Otherwise) (source : MomentSource) (o : BorrowedOutput) (n : ℕ) (read written : Text)
+    (bytes left rest before between next : Option Text) (tally : WordTally) → 1 ≤ n
     → CompletesLines otherwise source o bytes left before between tally
     → AreLinesShown source o n read written → Consumes left rest read → Appends between next written
     → CompletesLines otherwise source o bytes rest before next tally
@@ -118,8 +118,8 @@ some_more otherwise source o (suc n) read written bytes left rest before between
     sent =
     lines_more otherwise source o n read written bytes left rest before between next tally so_far are consumed sent
 
-pub batch_more : (otherwise : Otherwise) (source : Source) (o : BorrowedOutput)
-    (bytes left rest before between after : Option Text) (tally : Tally) (n : ℕ) (r : Next) → r ≡ nexts.Lines n
+pub batch_more : (otherwise : Otherwise) (source : MomentSource) (o : BorrowedOutput)
+    (bytes left rest before between after : Option Text) (tally : WordTally) (n : ℕ) (r : NextLine) → r ≡ nexts.Lines n
     → CompletesLines otherwise source o bytes left before between tally
     → IsNext otherwise source o left rest between after r
     → CompletesLines otherwise source o bytes rest before after tally
@@ -129,8 +129,8 @@ batch_more otherwise source o bytes left rest before between after tally n r is 
     lines.4 lines.5
 
 -- A line that is looked at by itself.
-pub next_more : (otherwise : Otherwise) (source : Source) (o : BorrowedOutput)
-    (bytes left rest before between next : Option Text) (tally one sum : Tally) (n : Next) → n ≡ nexts.Line one
+pub next_more : (otherwise : Otherwise) (source : MomentSource) (o : BorrowedOutput)
+    (bytes left rest before between next : Option Text) (tally one sum : WordTally) (n : NextLine) → n ≡ nexts.Line one
     → CompletesLines otherwise source o bytes left before between tally
     → IsNext otherwise source o left rest between next n → sum ≡ both tally one
     → CompletesLines otherwise source o bytes rest before next sum
@@ -139,8 +139,8 @@ next_more otherwise source o bytes left rest before between next tally one sum n
     line_more otherwise source o bytes left rest line.0 (without_newline line.0) before between next tally one sum
     line.1.0 reads.Line refl so_far line.2 refl line.1.1 line.1.2 is_sum
 
-pub line_looked : (otherwise : Otherwise) (source : Source) (o : BorrowedOutput)
-    (old new before after : Option Text) (line word : Text) (one : Tally) (r : LineRead) → r ≡ reads.Line
+pub line_looked : (otherwise : Otherwise) (source : MomentSource) (o : BorrowedOutput)
+    (old new before after : Option Text) (line word : Text) (one : WordTally) (r : LineRead) → r ≡ reads.Line
     → IsRead old new line r → word ≡ without_newline line
     → IsTallyOf otherwise source o frames.Line word before after one
     → IsNext otherwise source o old new before after (nexts.Line one)
@@ -150,7 +150,7 @@ line_looked otherwise source o old new before after line word one r is read with
   subst (λ x. IsRead old new line x) is read,
 )
 
-pub no_line_looked : (otherwise : Otherwise) (source : Source) (o : BorrowedOutput) (old new before : Option Text)
+pub no_line_looked : (otherwise : Otherwise) (source : MomentSource) (o : BorrowedOutput) (old new before : Option Text)
     (line : Text) (r : LineRead) → r ≡ reads.End → IsRead old new line r
     → IsNext otherwise source o old new before before nexts.End
 no_line_looked otherwise source o old new before line r is read =
@@ -158,8 +158,8 @@ no_line_looked otherwise source o old new before line r is read =
 
 -- The end of the input, and a read that failed.
 
-run_ends : (otherwise : Otherwise) (source : Source) (o : BorrowedOutput)
-    (bytes left before between after : Option Text) (tally : Tally)
+run_ends : (otherwise : Otherwise) (source : MomentSource) (o : BorrowedOutput)
+    (bytes left before between after : Option Text) (tally : WordTally)
     → CompletesLines otherwise source o bytes left before between tally → (after ≡ between) × IsAtEnd left
     → RunsOver otherwise source o bytes before after tally
 run_ends otherwise source o bytes left before between after tally so_far end = (
@@ -168,16 +168,16 @@ run_ends otherwise source o bytes left before between after tally so_far end = (
       (so_far false after (at_end false) ([], no_line_left left end.1, (end.0, refl))),
 )
 
-pub next_ends : (otherwise : Otherwise) (source : Source) (o : BorrowedOutput)
-    (bytes left rest before between after : Option Text) (tally : Tally) (n : Next) → n ≡ nexts.End
+pub next_ends : (otherwise : Otherwise) (source : MomentSource) (o : BorrowedOutput)
+    (bytes left rest before between after : Option Text) (tally : WordTally) (n : NextLine) → n ≡ nexts.End
     → CompletesLines otherwise source o bytes left before between tally
     → IsNext otherwise source o left rest between after n → RunsOver otherwise source o bytes before after tally
 next_ends otherwise source o bytes left rest before between after tally n is so_far looked =
     run_ends otherwise source o bytes left before between after tally so_far
     (subst (λ x. IsNext otherwise source o left rest between after x) is looked)
 
-run_fails : (otherwise : Otherwise) (source : Source) (o : BorrowedOutput)
-    (bytes left before between after : Option Text) (tally failing sum : Tally)
+run_fails : (otherwise : Otherwise) (source : MomentSource) (o : BorrowedOutput)
+    (bytes left before between after : Option Text) (tally failing sum : WordTally)
     → CompletesLines otherwise source o bytes left before between tally → after ≡ between
     → failing ≡ at_end true → sum ≡ both tally failing
     → RunsOver otherwise source o bytes before after sum
@@ -185,8 +185,8 @@ run_fails otherwise source o bytes left before between after tally failing sum s
     subst (λ a. RunsOver otherwise source o bytes before a sum) (sym same)
     (lines_fail otherwise source o bytes left before between tally failing sum so_far is is_sum)
 
-pub next_fails : (otherwise : Otherwise) (source : Source) (o : BorrowedOutput)
-    (bytes left rest before between after : Option Text) (tally failing sum : Tally) (n : Next) → n ≡ nexts.Failed
+pub next_fails : (otherwise : Otherwise) (source : MomentSource) (o : BorrowedOutput)
+    (bytes left rest before between after : Option Text) (tally failing sum : WordTally) (n : NextLine) → n ≡ nexts.Failed
     → CompletesLines otherwise source o bytes left before between tally
     → IsNext otherwise source o left rest between after n → failing ≡ at_end true → sum ≡ both tally failing
     → RunsOver otherwise source o bytes before after sum
@@ -196,26 +196,26 @@ next_fails otherwise source o bytes left rest before between after tally failing
 
 -- What comes next is a batch, or else what comes next after none.
 
-pub lines_next : (otherwise : Otherwise) (source : Source) (o : BorrowedOutput) (old new before after : Option Text)
-    (n : ℕ) (t : Taken) → t ≡ takes.Lines n → IsTaken source o old new before after t
+pub lines_next : (otherwise : Otherwise) (source : MomentSource) (o : BorrowedOutput) (old new before after : Option Text)
+    (n : ℕ) (t : BatchTaken) → t ≡ takes.Lines n → IsTaken source o old new before after t
     → IsNext otherwise source o old new before after (nexts.Lines n)
 lines_next otherwise source o old new before after n t is taken =
     subst (λ x. IsTaken source o old new before after x) is taken
 
-pub end_next : (otherwise : Otherwise) (source : Source) (o : BorrowedOutput) (old new before after : Option Text)
-    (t : Taken) → t ≡ takes.End → IsTaken source o old new before after t
+pub end_next : (otherwise : Otherwise) (source : MomentSource) (o : BorrowedOutput) (old new before after : Option Text)
+    (t : BatchTaken) → t ≡ takes.End → IsTaken source o old new before after t
     → IsNext otherwise source o old new before after nexts.End
 end_next otherwise source o old new before after t is taken =
     subst (λ x. IsTaken source o old new before after x) is taken
 
-pub failed_next : (otherwise : Otherwise) (source : Source) (o : BorrowedOutput) (old new before after : Option Text)
-    (t : Taken) → t ≡ takes.Failed → IsTaken source o old new before after t
+pub failed_next : (otherwise : Otherwise) (source : MomentSource) (o : BorrowedOutput) (old new before after : Option Text)
+    (t : BatchTaken) → t ≡ takes.Failed → IsTaken source o old new before after t
     → IsNext otherwise source o old new before after nexts.Failed
 failed_next otherwise source o old new before after t is taken =
     subst (λ x. IsTaken source o old new before after x) is taken
 
-kept_next : (otherwise : Otherwise) (source : Source) (o : BorrowedOutput) (old mid new before after : Option Text)
-    (n : Next) → Keeps old mid → IsNext otherwise source o mid new before after n
+kept_next : (otherwise : Otherwise) (source : MomentSource) (o : BorrowedOutput) (old mid new before after : Option Text)
+    (n : NextLine) → Keeps old mid → IsNext otherwise source o mid new before after n
     → IsNext otherwise source o old new before after n
 kept_next otherwise source o None mid new before after (nexts.Lines n) same is = (is.0, is.1, is.2, is.3, tt, is.5)
 kept_next otherwise source o None mid new before after (nexts.Line t) same is = (is.0, is.1, tt)
@@ -225,8 +225,8 @@ kept_next otherwise source o (Some x) None new before after n same is = absurd s
 kept_next otherwise source o (Some x) (Some y) new before after n same is =
     subst (λ z. IsNext otherwise source o (Some z) new before after n) same is
 
-pub nothing_next : (otherwise : Otherwise) (source : Source) (o : BorrowedOutput)
-    (old mid new before between after : Option Text) (t : Taken) (r : Result Next RunError) → t ≡ takes.Nothing
+pub nothing_next : (otherwise : Otherwise) (source : MomentSource) (o : BorrowedOutput)
+    (old mid new before between after : Option Text) (t : BatchTaken) (r : Result NextLine RunError) → t ≡ takes.Nothing
     → IsTaken source o old mid before between t → IfOk r (IsNext otherwise source o mid new between after)
     → IfOk r (IsNext otherwise source o old new before after)
 nothing_next otherwise source o old mid new before between after t (Err e) is taken next = tt
@@ -249,7 +249,7 @@ kept_consumed (Some x) None new bytes kept consumed = absurd kept
 kept_consumed (Some x) (Some y) None bytes kept consumed = absurd consumed
 kept_consumed (Some x) (Some y) (Some z) bytes kept consumed = sym kept ∙ consumed
 
-pub batch_taken : (source : Source) (o : BorrowedOutput) (old mid new before after : Option Text)
+pub batch_taken : (source : MomentSource) (o : BorrowedOutput) (old mid new before after : Option Text)
     (text buffer room : Text) (batch : Batch) → IsBatch source o text room batch → 1 ≤ batch.line_count
     → Keeps old mid → text ≡ buffer → Consumes mid new (take batch.read buffer)
     → Appends before after (take batch.written room)
@@ -265,7 +265,7 @@ batch_taken source o old mid new before after text buffer room batch of_batch so
 )
 
 -- What the source is after the next lines, if no batch of them was taken.
-pub source_after : (old mid new : ℕ) (failed failed_first : Bool) (t : Taken) (r : Result Next RunError)
+pub source_after : (old mid new : ℕ) (failed failed_first : Bool) (t : BatchTaken) (r : Result NextLine RunError)
     → t ≡ takes.Nothing → IsSourceAfterBatch old mid failed_first t → IfOk r (IsSourceAfterNext mid new failed)
     → IfOk r (IsSourceAfterNext old new failed)
 source_after old mid new failed failed_first t (Err e) is first after = tt
@@ -278,7 +278,7 @@ source_after old mid new failed failed_first t (Ok nexts.End) is first after = t
 source_after old mid new failed failed_first t (Ok nexts.Failed) is first after = after
 
 -- A line that was looked at is no failed read.
-pub line_read : (old new : ℕ) (failed : Bool) (tally : Tally) (n : Next) → n ≡ nexts.Line tally
+pub line_read : (old new : ℕ) (failed : Bool) (tally : WordTally) (n : NextLine) → n ≡ nexts.Line tally
     → IsSourceAfterNext old new failed n → tally.has_failed ≡ false
 line_read old new failed tally n is after =
     (subst (λ x. IsSourceAfterNext old new failed x) is after).1

@@ -6,7 +6,7 @@ use Rattle.timefd_lang_dialect.specs.Limits.{all_limits}
 use Rattle.timefd_lang_dialect.specs.Reasons.{sentence, cure}
 use Rattle.timefd_lang_dialect.specs.declared.dialect.Dialect.{Dialect}
 use Rattle.timefd_lang_dialect.specs.declared.error.DialectError.{DialectError}
-use Rattle.timefd_lang_dialect.specs.declared.error.Refusal.{Refusal}
+use Rattle.timefd_lang_dialect.specs.declared.error.RefusedPart.{RefusedPart}
 use Rattle.timefd_lang_dialect.specs.declared.reason.Reason.{Reason}
 use Rattle.timefd_lang_dialect.specs.declared.limits.Limits.{Limits}
 use Rattle.timefd_language.specs.declared.description_version.DescriptionVersion.TheVariants.{Three}
@@ -49,18 +49,18 @@ why reason = sentence reason ++ (codes ". " ++ cure reason)
 abbrev pub at_index : ℕ → Text
 at_index index = codes "at byte " ++ (decimal index ++ codes " of the format: ")
 
-abbrev pub refused_sentence : Refusal → Text
+abbrev pub refused_sentence : RefusedPart → Text
 refused_sentence refusal = at_index refusal.index ++ why refusal.reason
 
 -- the sentence for moments from this year on
 abbrev pub from_year : ℕ → Bool → Text
 from_year year true =
     codes "the format writes this from the year " ++ (decimal year
-    ++ codes " on, of offsets of whole minutes")
+    ++ codes " on, for offsets of whole minutes")
 from_year year false = codes "the format writes this from the year " ++ (decimal year ++ codes " on")
 
 abbrev pub of_all_years : Bool → Option Text
-of_all_years true = Some (codes "the format writes this of offsets of whole minutes")
+of_all_years true = Some (codes "the format writes this for offsets of whole minutes")
 of_all_years false = None
 
 -- the sentence on the moments for which a format writes the same

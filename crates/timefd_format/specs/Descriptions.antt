@@ -10,8 +10,8 @@ use Rattle.timefd_parse.specs.declared.parsing.BorrowedOutput.{BorrowedOutput}
 use Rattle.timefd_parse.specs.declared.parsing.BorrowedOutput.TheVariants.{Items, Description}
 use Rattle.timefd_parse.specs.Answers.{IsOutput}
 use Rattle.timefd_parse.specs.Language.{SpellsIn, FaultIn}
-use Rattle.timefd_format.specs.declared.description.Reading.{Reading}
-use Rattle.timefd_format.specs.declared.description.Reading.TheVariants as read
+use Rattle.timefd_format.specs.declared.description.DescriptionReading.{DescriptionReading}
+use Rattle.timefd_format.specs.declared.description.DescriptionReading.TheVariants as read
 
 abbrev pub IsSpelled : Language → Text → Type 0
 IsSpelled language text = (list : List Tree) × SpellsIn language nesting_limit text list
@@ -31,6 +31,6 @@ IsDescribed language text output = (list : List Tree)
     × SpellsIn language nesting_limit text list × IsOutputIn language list output
 
 -- A text is refused only for the fault that the rules assign to it.
-abbrev pub IsReading : Language → Text → Reading → Type 0
+abbrev pub IsReading : Language → Text → DescriptionReading → Type 0
 IsReading language text (read.Description output) = IsDescribed language text output
 IsReading language text (read.Refused d) = FaultIn language nesting_limit text (fault_of d.fault)

@@ -6,12 +6,12 @@ use Rattle.timefd_lang_node_list.specs.Item.Meaning.{item_tree}
 use Rattle.timefd_lang_node_list.specs.LeafMeaning.{leaf_tree}
 use Rattle.timefd_parse.specs.declared.parsing.BorrowedOutput.{BorrowedOutput}
 use Rattle.timefd_date_moment.specs.declared.fields.fault.ReadError.{ReadError}
-use Rattle.timefd_date_moment.specs.declared.fields.fault.Reason.{Reason}
-use Rattle.timefd_date_moment.specs.declared.fields.fault.Reason.TheVariants as for
+use Rattle.timefd_date_moment.specs.declared.fields.fault.UnreadReason.{UnreadReason}
+use Rattle.timefd_date_moment.specs.declared.fields.fault.UnreadReason.TheVariants as for
 use Rattle.timefd_date_moment.specs.Fields.Reads.{fields_of}
 use Rattle.timefd_format.specs.declared.expected.Parts.{Parts}
 use Rattle.timefd_format.specs.declared.expected.Parts.TheVariants as parts
-use Rattle.timefd_format.specs.declared.source.Source.{Source}
+use Rattle.timefd_format.specs.declared.source.MomentSource.{MomentSource}
 use Rattle.timefd_format.specs.declared.source.SourceKind.{SourceKind}
 use Rattle.timefd_format.specs.declared.source.SourceKind.TheVariants as kinds
 use Rattle.timefd_format.specs.ReadBack.{tree_of}
@@ -20,7 +20,7 @@ abbrev pub part_trees : Parts → List Tree
 part_trees (parts.Leaves leaves) = map leaf_tree leaves.now
 part_trees (parts.Items items) = map item_tree items.now
 
-abbrev pub is_literal : Reason → Bool
+abbrev pub is_literal : UnreadReason → Bool
 is_literal (for.Unread c) = false
 is_literal (for.Contradiction c) = false
 is_literal for.Literal = true
@@ -56,5 +56,5 @@ IsExpectedOfKind (kinds.Names n) text bytes = ⊥
 IsExpectedOfKind (kinds.Texts o) text bytes = IsExpectedBy o text bytes
 
 -- The description has this literal where the text fails to match it.
-abbrev pub IsExpectedIn : Source → Text → Text → Type 0
+abbrev pub IsExpectedIn : MomentSource → Text → Text → Type 0
 IsExpectedIn source text bytes = IsExpectedOfKind source.kind text bytes

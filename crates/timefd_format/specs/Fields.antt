@@ -5,32 +5,32 @@ use Rattle.timefd_lang_component.specs.Tree.{Text}
 use Rattle.timefd_lint_rewrite.specs.Lines.{end_of, without_newline}
 use Rattle.timefd_format.specs.declared.fields.Split.{Split}
 use Rattle.timefd_format.specs.declared.frame.Cell.{Cell}
-use Rattle.timefd_format.specs.declared.quoting.Quoting.{Quoting}
-use Rattle.timefd_format.specs.declared.quoting.Quoting.TheVariants.{Start, Bare, Inside, Closed}
+use Rattle.timefd_format.specs.declared.quoting.FieldQuoting.{FieldQuoting}
+use Rattle.timefd_format.specs.declared.quoting.FieldQuoting.TheVariants.{Start, Bare, Inside, Closed}
 
 -- after a byte outside of quotes: a comma begins another field
-abbrev pub bare_after : ℕ → Quoting
+abbrev pub bare_after : ℕ → FieldQuoting
 bare_after b = if nat_eq b 44 then Start else Bare
 
 -- A quote opens the quotes of a field only at its start. Within quotes, two quotes mean one.
-abbrev pub after : Quoting → ℕ → Quoting
+abbrev pub after : FieldQuoting → ℕ → FieldQuoting
 after Start b = if nat_eq b 34 then Inside else bare_after b
 after Bare b = bare_after b
 after Inside b = if nat_eq b 34 then Closed else Inside
 after Closed b = if nat_eq b 34 then Inside else bare_after b
 
-abbrev pub after_all : Quoting → Text → Quoting
+abbrev pub after_all : FieldQuoting → Text → FieldQuoting
 after_all q [] = q
 after_all q (b ∷ bs) = after_all (after q b) bs
 
-abbrev pub is_inside : Quoting → Bool
+abbrev pub is_inside : FieldQuoting → Bool
 is_inside Start = false
 is_inside Bare = false
 is_inside Inside = true
 is_inside Closed = false
 
 -- a comma outside of quotes
-abbrev pub ends_field : Quoting → ℕ → Bool
+abbrev pub ends_field : FieldQuoting → ℕ → Bool
 ends_field Start b = nat_eq b 44
 ends_field Bare b = nat_eq b 44
 ends_field Inside b = false
@@ -42,7 +42,7 @@ with_front front [] = []
 with_front front (field ∷ fields) = (front ++ field) ∷ fields
 
 -- the fields of the rest of a record, byte for byte
-abbrev pub fields_from : Quoting → Text → List Text
+abbrev pub fields_from : FieldQuoting → Text → List Text
 fields_from q [] = [] ∷ []
 fields_from q (b ∷ bs) =
     if ends_field q b then [] ∷ fields_from Start bs
@@ -66,13 +66,13 @@ IsSplit row split = (fields row ≡ split.field.now ∷ fields_of_rest split.res
     × (row ≡ split.field.now ++ after_field split.rest)
 
 -- what a byte adds to the text of its field: a quote that opens or closes adds nothing
-abbrev pub shown : Quoting → ℕ → Text
+abbrev pub shown : FieldQuoting → ℕ → Text
 shown Start b = if nat_eq b 34 then [] else b ∷ []
 shown Bare b = b ∷ []
 shown Inside b = if nat_eq b 34 then [] else b ∷ []
 shown Closed b = b ∷ []
 
-abbrev pub text_from : Quoting → Text → Text
+abbrev pub text_from : FieldQuoting → Text → Text
 text_from q [] = []
 text_from q (b ∷ bs) = shown q b ++ text_from (after q b) bs
 

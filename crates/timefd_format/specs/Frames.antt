@@ -3,8 +3,8 @@ use Rattle.std.specs.Prelude.{ℕ, ◌≡◌, Bool, ◌||◌, nat_eq, List, [], 
 use Rattle.std.specs.Io.KnownBytes.{Appends}
 use Rattle.std.specs.List.{list_any, starts_with}
 use Rattle.timefd_lang_component.specs.Tree.{Text}
-use Rattle.timefd_format.specs.declared.frame.Frame.{Frame}
-use Rattle.timefd_format.specs.declared.frame.Frame.TheVariants.{Line, Field}
+use Rattle.timefd_format.specs.declared.frame.LineFrame.{LineFrame}
+use Rattle.timefd_format.specs.declared.frame.LineFrame.TheVariants.{Line, Field}
 use Rattle.timefd_format.specs.declared.otherwise.Otherwise.{Otherwise}
 use Rattle.timefd_format.specs.declared.otherwise.Otherwise.TheVariants as otherwise
 use Rattle.timefd_format.specs.declared.outcome.RunError.{RunError}
@@ -34,24 +34,24 @@ field_of old text =
     if is_quoted old || list_any wants_quotes text then quoted text else text
 
 -- a text with what is written around it
-abbrev pub framed : Frame → Text → Text
+abbrev pub framed : LineFrame → Text → Text
 framed Line text = text ++ codes "\n"
 framed (Field cell) text =
     cell.front.now ++ (field_of cell.field.now text ++ cell.after.now)
 
 -- a text as it was read
-abbrev pub kept : Frame → Text → Text
+abbrev pub kept : LineFrame → Text → Text
 kept Line text = text ++ codes "\n"
 kept (Field cell) text = cell.front.now ++ (cell.field.now ++ cell.after.now)
 
 -- nothing, on a line of its own or as a field
-abbrev pub emptied : Frame → Text
+abbrev pub emptied : LineFrame → Text
 emptied Line = codes "\n"
 emptied (Field cell) = cell.front.now ++ cell.after.now
 
 -- What is written instead of a moment that has no text. If the run should fail there, it doesn't go
 -- on.
-abbrev pub Replaces : Otherwise → Frame → Text → Option Text → Option Text → Type 0
+abbrev pub Replaces : Otherwise → LineFrame → Text → Option Text → Option Text → Type 0
 Replaces otherwise.Nothing frame text before after = after ≡ before
 Replaces otherwise.Keep frame text before after = Appends before after (kept frame text)
 Replaces otherwise.Empty frame text before after = Appends before after (emptied frame)

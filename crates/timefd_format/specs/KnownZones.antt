@@ -1,12 +1,16 @@
 -- The time zones that are read for a run, and what is reported about a name that none of them has.
-use Rattle.std.specs.Prelude.{◌≡◌, ◌⊎◌, ◌++◌, Bool, true, false, List, codes, Option, Some, None}
+use Rattle.std.specs.Prelude.{◌≡◌, ◌⊎◌, ◌++◌, Bool, true, false, List, codes, Option, Some, None, ⊤}
 use Rattle.jiff_tz.specs.declared.db.TimeZoneDatabase.{TimeZoneDatabase}
 use Rattle.jiff_tz.specs.declared.timezone.TimeZone.{TimeZone}
 use Rattle.jiff_tz.specs.Database.{IsInserted, IsZoneNamed, stored}
+use Rattle.timefd_date_moment.specs.declared.unix_time.UnixTime.{UnixTime}
 use Rattle.timefd_lang_component.specs.Tree.{Text}
 use Rattle.timefd_lint_diagnosis.specs.Nearest.{IsNearest}
 use Rattle.timefd_lint_drawing.specs.Shown.{safe}
+use Rattle.timefd_format.specs.declared.names.Now.{Now}
+use Rattle.timefd_format.specs.declared.names.Now.TheVariants.{Shown, NoClock, NoZone}
 use Rattle.timefd_format.specs.declared.zones.Zones.{Zones}
+use Rattle.timefd_format.specs.FromJiff.Zones.{IsOnClock, instant}
 
 -- Whether a name gives a zone.
 abbrev pub Gives : TimeZoneDatabase → Text → Bool → Type 0
@@ -25,6 +29,12 @@ IsWith before name after =
     ((after ≡ before) × ((before.is_whole ≡ true) ⊎ Gives before.database name true))
     ⊎ ((before.is_whole ≡ false) × (stored before.database name ≡ None)
     × ((Adds name before.database after.database true × (after.is_whole ≡ false)) ⊎ (after.is_whole ≡ true)))
+
+-- What `now` names is what the clock of a zone shows at an instant, if it is known.
+abbrev pub IsNow : Now → Type 0
+IsNow (Shown moment) = (zone : TimeZone) × (known : UnixTime) × IsOnClock zone (instant known) moment
+IsNow NoClock = ⊤
+IsNow NoZone = ⊤
 
 -- the sentence for a name that no zone has, and what to write instead
 abbrev pub unknown_sentence : Text → Option Text → Text

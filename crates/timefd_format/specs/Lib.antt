@@ -32,5 +32,6 @@ pub mod Converted
 pub mod ToRead
 pub mod Guessed
 pub mod GuessRuns
+pub mod Statuses
 pub mod Completing
 pub mod FromJiff

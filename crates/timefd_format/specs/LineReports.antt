@@ -7,11 +7,11 @@ use Rattle.timefd_lint_drawing.specs.People.{for_people}
 use Rattle.timefd_date_format.specs.declared.unshown.Unshown.{Unshown}
 use Rattle.timefd_parse.specs.declared.parsing.BorrowedOutput.{BorrowedOutput}
 use Rattle.timefd_lint_rewrite.specs.Lines.{AreLinesOf, IsNextLine, without_newline}
-use Rattle.timefd_format.specs.declared.lines.Next.{Next}
-use Rattle.timefd_format.specs.declared.lines.Next.TheVariants as nexts
-use Rattle.timefd_format.specs.declared.outcome.Outcome.{Outcome}
-use Rattle.timefd_format.specs.declared.outcome.Outcome.TheVariants as came
-use Rattle.timefd_format.specs.declared.source.Source.{Source}
+use Rattle.timefd_format.specs.declared.lines.NextLine.{NextLine}
+use Rattle.timefd_format.specs.declared.lines.NextLine.TheVariants as nexts
+use Rattle.timefd_format.specs.declared.outcome.WordOutcome.{WordOutcome}
+use Rattle.timefd_format.specs.declared.outcome.WordOutcome.TheVariants as came
+use Rattle.timefd_format.specs.declared.source.MomentSource.{MomentSource}
 use Rattle.timefd_format.specs.Batches.{AreLinesShown}
 use Rattle.timefd_format.specs.Messages.{IsUnreadMessage, unshown_message}
 use Rattle.timefd_format.specs.Reports.{Gets}
@@ -24,7 +24,7 @@ not_text = codes "timefd_format: a line isn't UTF-8\n"
 
 -- What is reported of a word that has this outcome, with the number of its line if it is in one. Nothing is
 -- reported of a moment that is written.
-abbrev pub IsReportOn : Source → Option ℕ → Text → Outcome → Text → Type 0
+abbrev pub IsReportOn : MomentSource → Option ℕ → Text → WordOutcome → Text → Type 0
 IsReportOn source number word (came.Written m) report = report ≡ []
 IsReportOn source number word (came.Unshown m u) report = report ≡ for_people false (unshown_message word u)
 IsReportOn source number word (came.Unread e) report = (message : Text)
@@ -37,15 +37,15 @@ IsShown (Ok text) = ⊤
 IsShown (Err u) = ⊥
 
 -- the outcome of a word
-abbrev pub IsOutcome : Source → BorrowedOutput → Text → Outcome → Type 0
+abbrev pub IsOutcome : MomentSource → BorrowedOutput → Text → WordOutcome → Type 0
 IsOutcome source o word (came.Written m) = IsMomentIn source o word (Ok m) × IsShown (written_of m o)
 IsOutcome source o word (came.Unshown m u) = IsMomentIn source o word (Ok m) × (written_of m o ≡ Err u)
 IsOutcome source o word (came.Unread e) = IsMomentIn source o word (Err e)
 IsOutcome source o word came.NotText = ¬ IsUtf8 word
 
 -- What is reported of a word: a message if it isn't written, and else nothing.
-abbrev pub IsReportOf : Source → BorrowedOutput → Option ℕ → Text → Text → Type 0
-IsReportOf source o number word report = (outcome : Outcome) × IsOutcome source o word outcome
+abbrev pub IsReportOf : MomentSource → BorrowedOutput → Option ℕ → Text → Text → Type 0
+IsReportOf source o number word report = (outcome : WordOutcome) × IsOutcome source o word outcome
     × IsReportOn source number word outcome report
 
 -- The number of the line that comes after so many, from a line on. It stops at the largest number of 64 bits.
@@ -59,19 +59,19 @@ next_number (Some number) = Some (line_after number 1)
 
 -- What is reported of words, one after another: the first of them is in the line with this number, and each other
 -- one is in the line after.
-abbrev pub AreReportsOf : Source → BorrowedOutput → Option ℕ → List Text → Text → Type 0
+abbrev pub AreReportsOf : MomentSource → BorrowedOutput → Option ℕ → List Text → Text → Type 0
 AreReportsOf source o number [] reports = reports ≡ []
 AreReportsOf source o number (word ∷ words) reports = (one : Text) × (more : Text)
     × IsReportOf source o number word one × AreReportsOf source o (next_number number) words more
     × (reports ≡ one ++ more)
 
 -- The stream of messages gets what is reported of a word that has this outcome.
-abbrev pub ReportsOutcome : Source → Option ℕ → Text → Outcome → Option Text → Option Text → Bool → Bool → Type 0
+abbrev pub ReportsOutcome : MomentSource → Option ℕ → Text → WordOutcome → Option Text → Option Text → Bool → Bool → Type 0
 ReportsOutcome source number word outcome before after had_failed failed = (report : Text)
     × IsReportOn source number word outcome report × Gets report before after had_failed failed
 
 -- The same of a word that names or shows a moment: a message if a component can't show it, and else nothing.
-abbrev pub ReportsMoment : Text → Outcome → Option Text → Option Text → Bool → Bool → Type 0
+abbrev pub ReportsMoment : Text → WordOutcome → Option Text → Option Text → Bool → Bool → Type 0
 ReportsMoment word (came.Written m) before after had_failed failed = Gets [] before after had_failed failed
 ReportsMoment word (came.Unshown m u) before after had_failed failed =
     Gets (for_people false (unshown_message word u)) before after had_failed failed
@@ -79,18 +79,18 @@ ReportsMoment word (came.Unread e) before after had_failed failed = ⊥
 ReportsMoment word came.NotText before after had_failed failed = ⊥
 
 -- The same of a word, whatever its outcome is.
-abbrev pub ReportsWord : Source → BorrowedOutput → Option ℕ → Text → Option Text → Option Text → Bool → Bool
+abbrev pub ReportsWord : MomentSource → BorrowedOutput → Option ℕ → Text → Option Text → Option Text → Bool → Bool
     → Type 0
 ReportsWord source o number word before after had_failed failed = (report : Text)
     × IsReportOf source o number word report × Gets report before after had_failed failed
 
 -- The same of words that have no lines.
-abbrev pub ReportsWords : Source → BorrowedOutput → List Text → Option Text → Option Text → Bool → Bool → Type 0
+abbrev pub ReportsWords : MomentSource → BorrowedOutput → List Text → Option Text → Option Text → Bool → Bool → Type 0
 ReportsWords source o words before after had_failed failed = (reports : Text)
     × AreReportsOf source o None words reports × Gets reports before after had_failed failed
 
 -- The same of the lines of a reader, from the line with this number on: of all of them, unless a read failed.
-abbrev pub ReportsLinesFrom : Source → BorrowedOutput → ℕ → Bool → Option Text → Option Text → Option Text → Bool
+abbrev pub ReportsLinesFrom : MomentSource → BorrowedOutput → ℕ → Bool → Option Text → Option Text → Option Text → Bool
     → Bool → Type 0
 ReportsLinesFrom source o number unread bytes before after had_failed failed =
     (lines : List Text) × (reports : Text) × AreLinesOf bytes lines unread
@@ -98,15 +98,15 @@ ReportsLinesFrom source o number unread bytes before after had_failed failed =
     × Gets reports before after had_failed failed
 
 -- The lines of a reader are counted from 1.
-abbrev pub ReportsLines : Source → BorrowedOutput → Bool → Option Text → Option Text → Option Text → Bool → Bool
+abbrev pub ReportsLines : MomentSource → BorrowedOutput → Bool → Option Text → Option Text → Option Text → Bool → Bool
     → Type 0
 ReportsLines source o unread bytes before after had_failed failed =
     ReportsLinesFrom source o 1 unread bytes before after had_failed failed
 
 -- What is reported of the next lines, the first of which has this number: nothing of those of a batch, and a message
 -- on one that is looked at by itself, if it isn't written.
-abbrev pub ReportsNext : Source → BorrowedOutput → ℕ → Option Text → Option Text → Option Text → Option Text → Bool
-    → Bool → Next → Type 0
+abbrev pub ReportsNext : MomentSource → BorrowedOutput → ℕ → Option Text → Option Text → Option Text → Option Text → Bool
+    → Bool → NextLine → Type 0
 ReportsNext source o number old new before after had_failed failed (nexts.Lines n) = (read : Text) × (written : Text)
     × (1 ≤ n) × AreLinesShown source o n read written × Consumes old new read × Gets [] before after had_failed failed
 ReportsNext source o number old new before after had_failed failed (nexts.Line tally) = (line : Text)

@@ -9,14 +9,14 @@ use Rattle.timefd_date_moment.specs.Display.{offset_text}
 use Rattle.timefd_date_moment.specs.declared.fields.fault.ReadError.{ReadError}
 use Rattle.timefd_date_moment.specs.Reading.Sentences.{sentence}
 use Rattle.timefd_description.specs.Sentences.{unread_sentence}
-use Rattle.timefd_format.specs.declared.asked.OptionError.{OptionError}
-use Rattle.timefd_format.specs.declared.asked.OptionError.TheVariants as errors
-use Rattle.timefd_format.specs.declared.conflict.Conflict.{Conflict}
+use Rattle.timefd_format.specs.declared.asked.CommandLineError.{CommandLineError}
+use Rattle.timefd_format.specs.declared.asked.CommandLineError.TheVariants as errors
+use Rattle.timefd_format.specs.declared.conflict.OffsetConflict.{OffsetConflict}
 use Rattle.timefd_format.specs.declared.header.HeaderError.{HeaderError}
 use Rattle.timefd_format.specs.declared.header.HeaderError.TheVariants as header
 use Rattle.timefd_format.specs.declared.moment.MomentError.{MomentError}
 use Rattle.timefd_format.specs.declared.moment.MomentError.TheVariants as fails
-use Rattle.timefd_format.specs.declared.source.Source.{Source}
+use Rattle.timefd_format.specs.declared.source.MomentSource.{MomentSource}
 use Rattle.timefd_format.specs.declared.word.LanguageOption.{LanguageOption}
 use Rattle.timefd_format.specs.declared.word.LanguageOption.TheVariants as options
 use Rattle.timefd_format.specs.Absent.{absent_sentence}
@@ -43,7 +43,7 @@ no_moment word why =
     codes "timefd_format: `" ++ (safe word ++ (codes "` isn't a moment: " ++ (why ++ codes "\n")))
 
 -- the message for a word whose offset isn't the one that the time zone in brackets has
-abbrev pub conflicting : Text → Conflict → Text
+abbrev pub conflicting : Text → OffsetConflict → Text
 conflicting word c =
     codes "timefd_format: `" ++ (safe word ++ (codes "` isn't a moment: its offset is " ++ (offset_text c.written
     ++ (codes ", and the time zone in brackets has " ++ (offset_text c.zone ++ codes " then\n")))))
@@ -53,14 +53,14 @@ expected_sentence literal index =
     codes "`" ++ (safe literal ++ (codes "` was expected at byte " ++ decimal index))
 
 -- Why a part of a word doesn't read. Names the literal that was expected, if it can be found.
-abbrev pub IsStopSentence : Source → Text → ReadError → Text → Type 0
+abbrev pub IsStopSentence : MomentSource → Text → ReadError → Text → Type 0
 IsStopSentence source word u why =
     (why ≡ unread_sentence u)
     ⊎ ((literal : Text) × IsExpectedIn source word literal × (why ≡ expected_sentence literal u.index))
 
 -- The message for a word that names or shows no moment. Why a text isn't a moment is in the words of the library
 -- jiff, which quote nothing.
-abbrev pub IsUnreadMessage : Source → Option ℕ → Text → MomentError → Text → Type 0
+abbrev pub IsUnreadMessage : MomentSource → Option ℕ → Text → MomentError → Text → Type 0
 IsUnreadMessage source line word fails.Clock message =
     message ≡ codes "timefd_format: the clock can't be read\n"
 IsUnreadMessage source line word fails.LocalZone message =
@@ -121,7 +121,7 @@ no_language options.Written word =
     codes "`" ++ (safe word ++ codes "` isn't a value of `--to-language`: one of 1, 2, 3, strftime, python, c, gnu, chrono, jiff, ruby, java, go, moment")
 
 -- the sentence that says what is wrong with the arguments
-abbrev pub option_sentence : OptionError → Text
+abbrev pub option_sentence : CommandLineError → Text
 option_sentence (errors.Unknown word) =
     codes "there is no option `" ++ (safe word.now
     ++ codes "`; --help lists them, and after `--` it is a description")

@@ -12,7 +12,7 @@ use Rattle.timefd_format.specs.FromJiff.Annotated.{AreAnnotated}
 use Rattle.timefd_date_moment.specs.declared.moment.Moment.{Moment}
 use Rattle.timefd_format.specs.declared.moment.MomentError.{MomentError}
 use Rattle.timefd_format.specs.declared.moment.MomentError.TheVariants as fails
-use Rattle.timefd_format.specs.declared.names.Names.{Names}
+use Rattle.timefd_format.specs.declared.names.GivenNames.{GivenNames}
 use Rattle.timefd_format.specs.declared.names.Now.{Now}
 use Rattle.timefd_format.specs.declared.names.Now.TheVariants.{Shown, NoClock, NoZone}
 use Rattle.timefd_format.specs.Brackets.{IsInAgreement, closes_once}
@@ -54,9 +54,9 @@ abbrev pub IsOfWord : Option Text → TimeZoneDatabase → Text → Result Momen
 IsOfWord (Some seconds) zones word r = IsAtSeconds seconds r
 IsOfWord None zones word r = IsWritten zones word r
 
-abbrev pub IsNamedBy : Bool → Names → Text → Result Moment MomentError → Type 0
+abbrev pub IsNamedBy : Bool → GivenNames → Text → Result Moment MomentError → Type 0
 IsNamedBy true names word r = IsOfNow names.now r
 IsNamedBy false names word r = IsOfWord (after_at word) names.zones.now word r
 
-abbrev pub IsNamed : Names → Text → Result Moment MomentError → Type 0
+abbrev pub IsNamed : GivenNames → Text → Result Moment MomentError → Type 0
 IsNamed names word r = IsNamedBy (bytes_eq word (codes "now")) names word r

@@ -7,15 +7,15 @@ use Rattle.timefd_date_format.specs.declared.unshown.Unshown.{Unshown}
 use Rattle.timefd_date_moment.specs.declared.moment.Moment.{Moment}
 use Rattle.timefd_parse.specs.declared.parsing.BorrowedOutput.{BorrowedOutput}
 use Rattle.timefd_format.specs.declared.fast.batch.Batch.{Batch}
-use Rattle.timefd_format.specs.declared.fast.take.Taken.{Taken}
-use Rattle.timefd_format.specs.declared.fast.take.Taken.TheVariants as takes
+use Rattle.timefd_format.specs.declared.fast.take.BatchTaken.{BatchTaken}
+use Rattle.timefd_format.specs.declared.fast.take.BatchTaken.TheVariants as takes
 use Rattle.timefd_format.specs.declared.frame.Cell.{Cell}
-use Rattle.timefd_format.specs.declared.frame.Frame.TheVariants as frames
+use Rattle.timefd_format.specs.declared.frame.LineFrame.TheVariants as frames
 use Rattle.timefd_format.specs.declared.next_record.NextRecords.{NextRecords}
 use Rattle.timefd_format.specs.declared.next_record.NextRecords.TheVariants as next
 use Rattle.timefd_format.specs.declared.otherwise.Otherwise.{Otherwise}
-use Rattle.timefd_format.specs.declared.outcome.Tally.{Tally}
-use Rattle.timefd_format.specs.declared.source.Source.{Source}
+use Rattle.timefd_format.specs.declared.outcome.WordTally.{WordTally}
+use Rattle.timefd_format.specs.declared.source.MomentSource.{MomentSource}
 use Rattle.timefd_format.specs.Fields.{IsCell, text_of}
 use Rattle.timefd_format.specs.Frames.{framed}
 use Rattle.timefd_format.specs.Records.{IsNextRecord}
@@ -34,13 +34,13 @@ in_cell cell (Err u) = Err u
 
 -- The field at this index isn't empty, it names or shows a moment, and this is the record with the text of that
 -- moment in its place.
-abbrev pub IsRecordShownAs : Source → BorrowedOutput → ℕ → Text → Text → Type 0
+abbrev pub IsRecordShownAs : MomentSource → BorrowedOutput → ℕ → Text → Text → Type 0
 IsRecordShownAs source o n row shown = (cell : Cell) × (m : Moment) × IsCell n row cell × (cell.field.now ≢ [])
     × IsMomentIn source o (text_of cell.field.now) (Ok m) × (in_cell cell (written_of m o) ≡ Ok shown)
 
 -- This many records without quotes are read, and what is written are the records with the texts of their
 -- moments, one after another.
-abbrev pub AreRecordsShown : Source → BorrowedOutput → ℕ → ℕ → Text → Text → Type 0
+abbrev pub AreRecordsShown : MomentSource → BorrowedOutput → ℕ → ℕ → Text → Text → Type 0
 AreRecordsShown source o n zero read written = (read ≡ []) × (written ≡ [])
 AreRecordsShown source o n (suc k) read written = (front : Text) × (row : Text) × (done : Text) × (shown : Text)
     × AreRecordsShown source o n k front done × IsPlainRecord row × IsRecordShownAs source o n row shown
@@ -48,25 +48,25 @@ AreRecordsShown source o n (suc k) read written = (front : Text) × (row : Text)
 
 -- The record with the text of its moment is appended. If it isn't, only what is in front is promised to be as it
 -- was.
-abbrev pub TriesToAppendRecord : Source → BorrowedOutput → ℕ → Text → Text → ℕ → Text → Option ℕ → Type 0
+abbrev pub TriesToAppendRecord : MomentSource → BorrowedOutput → ℕ → Text → Text → ℕ → Text → Option ℕ → Type 0
 TriesToAppendRecord source o n row old at new None = IsKept old at new
 TriesToAppendRecord source o n row old at new (Some end) = (shown : Text) × IsRecordShownAs source o n row shown
     × IsAppended shown old at new end
 
 -- The records at the front of a text, and what is written for them at the front of a room. Each is a line.
-abbrev pub IsRecordBatch : Source → BorrowedOutput → ℕ → Text → Text → Batch → Type 0
+abbrev pub IsRecordBatch : MomentSource → BorrowedOutput → ℕ → Text → Text → Batch → Type 0
 IsRecordBatch source o n text room batch =
     AreRecordsShown source o n batch.line_count (take batch.read text) (take batch.written room)
     × (batch.line_count ≤ batch.read) × (batch.read ≤ length text) × (batch.written ≤ length room)
 
 -- The batch grows. If it doesn't, it stays what it is.
-abbrev pub TriesToGrowByRecord : Source → BorrowedOutput → ℕ → Text → Batch → Text → Option Batch → Type 0
+abbrev pub TriesToGrowByRecord : MomentSource → BorrowedOutput → ℕ → Text → Batch → Text → Option Batch → Type 0
 TriesToGrowByRecord source o n text batch room None = IsRecordBatch source o n text room batch
 TriesToGrowByRecord source o n text batch room (Some more) = IsRecordBatch source o n text room more
 
 -- What taking a batch of records does to what a reader has left and to what is written.
-abbrev pub AreRecordsTaken : Source → BorrowedOutput → ℕ → Option Text → Option Text → Option Text → Option Text
-    → Taken → Type 0
+abbrev pub AreRecordsTaken : MomentSource → BorrowedOutput → ℕ → Option Text → Option Text → Option Text → Option Text
+    → BatchTaken → Type 0
 AreRecordsTaken source o n old new before after (takes.Lines k) = (read : Text) × (written : Text)
     × (1 ≤ k) × AreRecordsShown source o n k read written × Consumes old new read × Appends before after written
 AreRecordsTaken source o n old new before after takes.Nothing = (after ≡ before) × Keeps old new
@@ -74,7 +74,7 @@ AreRecordsTaken source o n old new before after takes.End = (after ≡ before) �
 AreRecordsTaken source o n old new before after takes.Failed = after ≡ before
 
 -- What the next records do: those of a batch, or one that is looked at by itself.
-abbrev pub IsNextRecords : Otherwise → Source → BorrowedOutput → ℕ → Option Text → Option Text → Option Text
+abbrev pub IsNextRecords : Otherwise → MomentSource → BorrowedOutput → ℕ → Option Text → Option Text → Option Text
     → Option Text → NextRecords → Type 0
 IsNextRecords otherwise source o n old new before after (next.Batch k) = (read : Text) × (written : Text)
     × (1 ≤ k) × AreRecordsShown source o n k read written × Consumes old new read × Appends before after written

@@ -7,23 +7,23 @@ use Rattle.timefd_lang_component.specs.Tree.{Text}
 use Rattle.timefd_lint_rewrite.specs.Lines.{without_newline}
 use Rattle.timefd_format.specs.declared.header.HeaderError.{HeaderError}
 use Rattle.timefd_format.specs.declared.header.HeaderError.TheVariants.{Missing, Twice}
-use Rattle.timefd_format.specs.declared.quoting.Quoting.{Quoting}
-use Rattle.timefd_format.specs.declared.quoting.Quoting.TheVariants.{Start}
+use Rattle.timefd_format.specs.declared.quoting.FieldQuoting.{FieldQuoting}
+use Rattle.timefd_format.specs.declared.quoting.FieldQuoting.TheVariants.{Start}
 use Rattle.timefd_format.specs.declared.records.RecordRead.{RecordRead}
 use Rattle.timefd_format.specs.declared.records.RecordRead.TheVariants as reads
 use Rattle.timefd_format.specs.Fields.{after, after_all, fields, is_inside, text_of}
 
 -- a newline outside of quotes
-abbrev pub ends_record : Quoting → ℕ → Bool
+abbrev pub ends_record : FieldQuoting → ℕ → Bool
 ends_record q b = b == 10 && not (is_inside q)
 
 -- the rest of a record, up to its newline or to the end of the bytes
-abbrev pub record_from : Quoting → Text → Text
+abbrev pub record_from : FieldQuoting → Text → Text
 record_from q [] = []
 record_from q (b ∷ bs) = if ends_record q b then b ∷ [] else b ∷ record_from (after q b) bs
 
 -- what follows the record
-abbrev pub left_from : Quoting → Text → Text
+abbrev pub left_from : FieldQuoting → Text → Text
 left_from q [] = []
 left_from q (b ∷ bs) = if ends_record q b then bs else left_from (after q b) bs
 
@@ -58,7 +58,7 @@ IsRecordRead old new row reads.End = IsAtEnd old
 IsRecordRead old new row reads.Failed = ⊤
 
 -- what the end of the input means after some bytes of a record
-abbrev pub at_end : Text → Quoting → RecordRead
+abbrev pub at_end : Text → FieldQuoting → RecordRead
 at_end [] q = reads.End
 at_end (b ∷ bs) q = if is_inside q then reads.Open else reads.Record 1
 

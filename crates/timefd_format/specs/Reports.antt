@@ -7,12 +7,12 @@ use Rattle.timefd_lint_diagnosis.specs.declared.diagnostic.Diagnostic.{Diagnosti
 use Rattle.timefd_lint_drawing.specs.declared.draw.Format.TheVariants.{Human}
 use Rattle.timefd_lint_drawing.specs.Drawing.{drawn}
 use Rattle.timefd_lint_drawing.specs.People.{AllSeen, for_people}
-use Rattle.timefd_format.specs.declared.report.Reported.{Reported}
-use Rattle.timefd_format.specs.declared.report.Reported.TheVariants.{Seen, Failed}
+use Rattle.timefd_format.specs.declared.report.MessageFate.{MessageFate}
+use Rattle.timefd_format.specs.declared.report.MessageFate.TheVariants.{Seen, Failed}
 
 -- The message is written as people see it, and all of that is seen: a terminal gets no character that it would
 -- obey or hide, except for newlines and, in a message with colours, those. If it isn't seen, the stream has failed.
-abbrev pub ReachesPeople : Bool → Text → Option Text → Option Text → Bool → Reported → Type 0
+abbrev pub ReachesPeople : Bool → Text → Option Text → Option Text → Bool → MessageFate → Type 0
 ReachesPeople colored message before after failed Seen =
     Appends before after (for_people colored message) × AllSeen colored (chars (for_people colored message))
 ReachesPeople colored message before after failed Failed = IsTrue failed

@@ -6,13 +6,13 @@ use Rattle.timefd_lint_drawing.specs.declared.position.Origin.{Origin}
 use Rattle.timefd_lint_drawing.specs.People.{for_people}
 use Rattle.timefd_parse.specs.declared.parsing.BorrowedOutput.{BorrowedOutput}
 use Rattle.timefd_format.specs.declared.column.Column.{Column}
-use Rattle.timefd_format.specs.declared.end.RunEnd.{RunEnd}
-use Rattle.timefd_format.specs.declared.end.RunEnd.TheVariants as ends
+use Rattle.timefd_format.specs.declared.end.RunOutcome.{RunOutcome}
+use Rattle.timefd_format.specs.declared.end.RunOutcome.TheVariants as ends
 use Rattle.timefd_format.specs.declared.language.Languages.{Languages}
 use Rattle.timefd_format.specs.declared.message.Manner.{Manner}
-use Rattle.timefd_format.specs.declared.outcome.Tally.{Tally}
+use Rattle.timefd_format.specs.declared.outcome.WordTally.{WordTally}
 use Rattle.timefd_format.specs.declared.source.Clocks.{Clocks}
-use Rattle.timefd_format.specs.declared.source.Source.{Source}
+use Rattle.timefd_format.specs.declared.source.MomentSource.{MomentSource}
 use Rattle.timefd_format.specs.declared.warned.Texts.{Texts}
 use Rattle.timefd_format.specs.declared.warned.Warned.{Warned}
 use Rattle.timefd_format.specs.Descriptions.{IsDescribed}
@@ -23,16 +23,16 @@ use Rattle.timefd_format.specs.TableReports.{ReportsTable}
 use Rattle.timefd_format.specs.Warned.{IsNamed, warned_text}
 
 -- The reports are on the input's lines, or on the records of a table if a column is asked for.
-abbrev pub ReportsInput : Option Column → Source → BorrowedOutput → Option Text → Option Text → Option Text → Bool
-    → Bool → Tally → Type 0
+abbrev pub ReportsInput : Option Column → MomentSource → BorrowedOutput → Option Text → Option Text → Option Text → Bool
+    → Bool → WordTally → Type 0
 ReportsInput None source o input before after had_failed failed tally =
     ReportsLines source o tally.has_failed input before after had_failed failed
 ReportsInput (Some column) source o input before after had_failed failed tally =
     ReportsTable source o column tally.has_failed input before after had_failed failed
 
 -- The reports are on the words, or on the input if there is no word.
-abbrev pub ReportsMoments : Option Column → Source → BorrowedOutput → List Text → Option Text → Option Text
-    → Option Text → Bool → Bool → Tally → Type 0
+abbrev pub ReportsMoments : Option Column → MomentSource → BorrowedOutput → List Text → Option Text → Option Text
+    → Option Text → Bool → Bool → WordTally → Type 0
 ReportsMoments column source o [] input before after had_failed failed tally =
     ReportsInput column source o input before after had_failed failed tally
 ReportsMoments column source o (word ∷ words) input before after had_failed failed tally =
@@ -46,8 +46,8 @@ GetsWarnings colored texts warned before after had_failed failed = (read : Origi
 
 -- The warnings about the descriptions come first, and the messages on moments after them. Nothing is said here of a
 -- description that is refused.
-abbrev pub ReportsRunFrom : Option Column → Source → Bool → Languages → Option (Bor Text) → Bor Text → List Text
-    → Option Text → Option Text → Option Text → Bool → Bool → RunEnd → Type 0
+abbrev pub ReportsRunFrom : Option Column → MomentSource → Bool → Languages → Option (Bor Text) → Bor Text → List Text
+    → Option Text → Option Text → Option Text → Bool → Bool → RunOutcome → Type 0
 ReportsRunFrom column source colored languages read text words input before after had_failed failed ends.Refused = ⊤
 ReportsRunFrom column source colored languages read text words input before after had_failed failed
     (ends.Done warned tally) =
@@ -57,10 +57,10 @@ ReportsRunFrom column source colored languages read text words input before afte
 
 -- The same of a run whose descriptions are given as texts.
 abbrev pub ReportsRun : Option Column → Clocks → Bool → Languages → Option (Bor Text) → Bor Text → List Text
-    → Option Text → Option Text → Option Text → Bool → Bool → RunEnd → Type 0
+    → Option Text → Option Text → Option Text → Bool → Bool → RunOutcome → Type 0
 ReportsRun column clocks colored languages read text words input before after had_failed failed ends.Refused = ⊤
 ReportsRun column clocks colored languages read text words input before after had_failed failed
     (ends.Done warned tally) =
-    (source : Source) × IsSourceOf clocks languages.read read (Some source)
+    (source : MomentSource) × IsSourceOf clocks languages.read read (Some source)
     × ReportsRunFrom column source colored languages read text words input before after had_failed failed
     (ends.Done warned tally)

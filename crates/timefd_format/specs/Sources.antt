@@ -11,9 +11,9 @@ use Rattle.timefd_language.specs.declared.language.Language.{Language}
 use Rattle.timefd_parse.specs.declared.parsing.BorrowedOutput.{BorrowedOutput}
 use Rattle.timefd_parse.specs.Language.{FaultIn}
 use Rattle.timefd_format.specs.declared.moment.MomentError.{MomentError}
-use Rattle.timefd_format.specs.declared.names.Names.{Names}
+use Rattle.timefd_format.specs.declared.names.GivenNames.{GivenNames}
 use Rattle.timefd_format.specs.declared.source.Clocks.{Clocks}
-use Rattle.timefd_format.specs.declared.source.Source.{Source}
+use Rattle.timefd_format.specs.declared.source.MomentSource.{MomentSource}
 use Rattle.timefd_format.specs.declared.source.SourceKind.{SourceKind}
 use Rattle.timefd_format.specs.declared.source.SourceKind.TheVariants as kinds
 use Rattle.timefd_format.specs.Descriptions.{IsDescribed}
@@ -25,14 +25,14 @@ use Rattle.timefd_format.specs.Zones.{IsShownBy}
 abbrev pub IsFaulty : Language → Text → Type 0
 IsFaulty language text = (f : Fault) × FaultIn language nesting_limit text f
 
-abbrev pub IsKindOf : Names → Language → Option (Bor Text) → SourceKind → Type 0
+abbrev pub IsKindOf : GivenNames → Language → Option (Bor Text) → SourceKind → Type 0
 IsKindOf names language None (kinds.Names n) = n ≡ names
 IsKindOf names language None (kinds.Texts o) = ⊥
 IsKindOf names language (Some text) (kinds.Names n) = ⊥
 IsKindOf names language (Some text) (kinds.Texts o) = IsDescribed language text.now o
 
 -- Words are texts of a description if one is given, and names otherwise.
-abbrev pub IsSourceOf : Clocks → Language → Option (Bor Text) → Option Source → Type 0
+abbrev pub IsSourceOf : Clocks → Language → Option (Bor Text) → Option MomentSource → Type 0
 IsSourceOf clocks language None None = ⊥
 IsSourceOf clocks language (Some text) None = IsFaulty language text.now
 IsSourceOf clocks language text (Some source) =
@@ -43,20 +43,20 @@ IsFoundBy (kinds.Names n) written word r = IsNamed n word r
 IsFoundBy (kinds.Texts o) written word r = IsReadBack o written word r
 
 -- What a word names, or shows by the description. It may be written by the other description, if there is one.
-abbrev pub IsFoundIn : Source → Option BorrowedOutput → Text → Result Moment MomentError → Type 0
+abbrev pub IsFoundIn : MomentSource → Option BorrowedOutput → Text → Result Moment MomentError → Type 0
 IsFoundIn source written word r = IsFoundBy source.kind written word r
 
 -- The moment of a word, as the clock of a zone shows it. Part of a date isn't enough for that.
-abbrev pub IsOnClockIn : Source → TimeZone → Text → Result Moment MomentError → Type 0
+abbrev pub IsOnClockIn : MomentSource → TimeZone → Text → Result Moment MomentError → Type 0
 IsOnClockIn source zone word r =
     (found : Result Moment MomentError) × IsFoundIn source None word found × IsShownBy (Some zone) found r
 
-abbrev pub IsMomentBy : Option TimeZone → Source → BorrowedOutput → Text → Result Moment MomentError → Type 0
+abbrev pub IsMomentBy : Option TimeZone → MomentSource → BorrowedOutput → Text → Result Moment MomentError → Type 0
 IsMomentBy None source written word r = IsFoundIn source (Some written) word r
 IsMomentBy (Some zone) source written word r = IsOnClockIn source zone word r
 
 -- The moment of a word that is written by the description, on the clock of the zone if there is one.
-abbrev pub IsMomentIn : Source → BorrowedOutput → Text → Result Moment MomentError → Type 0
+abbrev pub IsMomentIn : MomentSource → BorrowedOutput → Text → Result Moment MomentError → Type 0
 IsMomentIn source written word r = IsMomentBy source.zone source written word r
 
 abbrev pub IsTextOfKind : SourceKind → List Leaf → Type 0
@@ -64,15 +64,15 @@ IsTextOfKind (kinds.Names n) leaves = ⊥
 IsTextOfKind (kinds.Texts o) leaves = IsMadeOf o leaves
 
 -- The description to read by is the sequence of these components and literals.
-abbrev pub IsTextOf : Source → List Leaf → Type 0
+abbrev pub IsTextOf : MomentSource → List Leaf → Type 0
 IsTextOf source leaves = IsTextOfKind source.kind leaves
 
 -- If leaves are given, they are those of that description.
-abbrev pub AreLeavesIn : Source → Option (Bor (List Leaf)) → Type 0
+abbrev pub AreLeavesIn : MomentSource → Option (Bor (List Leaf)) → Type 0
 AreLeavesIn source None = ⊤
 AreLeavesIn source (Some leaves) = IsTextOf source leaves.now
 
 -- Nothing is reported where there is a source.
-abbrev pub IsSilentOn : Option Text → Option Text → Bool → Bool → Option Source → Type 0
+abbrev pub IsSilentOn : Option Text → Option Text → Bool → Bool → Option MomentSource → Type 0
 IsSilentOn before after had_failed failed None = ⊤
 IsSilentOn before after had_failed failed (Some source) = (after ≡ before) × (failed ≡ had_failed)

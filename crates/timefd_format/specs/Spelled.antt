@@ -35,12 +35,12 @@ abbrev pub IsAfterSeparator : Text → Bor Text → Type 0
 IsAfterSeparator text rest = (text ≡ 84 ∷ rest.now) ⊎ (text ≡ 32 ∷ rest.now)
 
 abbrev pub sign_of : Bool → ℕ
-sign_of behind = if behind then 45 else 43
+sign_of is_minus = if is_minus then 45 else 43
 
 -- With a sign in front, the whole text is this offset.
 abbrev pub IsOffsetSpelledAfter : Bool → Text → UtcOffset → Type 0
-IsOffsetSpelledAfter behind text o = (n : Numeric)
-    × (parse_numeric datetime_parser (sign_of behind ∷ text) ≡ Ok (n, []))
+IsOffsetSpelledAfter is_minus text o = (n : Numeric)
+    × (parse_numeric datetime_parser (sign_of is_minus ∷ text) ≡ Ok (n, []))
     × (numeric_seconds n ≡ Ok (signed o.is_negative o.seconds))
 
 -- The whole text is this offset, or nothing. It is no fraction of a second.

@@ -14,7 +14,7 @@ use Rattle.timefd_format.specs.declared.next_record.NextRecords.{NextRecords}
 use Rattle.timefd_format.specs.declared.next_record.NextRecords.TheVariants as nexts
 use Rattle.timefd_format.specs.declared.records.RecordRead.{RecordRead}
 use Rattle.timefd_format.specs.declared.records.RecordRead.TheVariants as reads
-use Rattle.timefd_format.specs.declared.source.Source.{Source}
+use Rattle.timefd_format.specs.declared.source.MomentSource.{MomentSource}
 use Rattle.timefd_format.specs.Fields.{field_after, fields, text_of}
 use Rattle.timefd_format.specs.LineReports.{IsReportOf, line_after}
 use Rattle.timefd_format.specs.Messages.{no_field_message, no_header_message, open_message, unnamed_message}
@@ -31,7 +31,7 @@ newlines (b ∷ bs) = if b == 10 then suc (newlines bs) else newlines bs
 abbrev pub AreLinesIn : Text → Option Text → ℕ → Type 0
 AreLinesIn row rest lines = (lines ≡ u64_saturate (newlines row)) ⊎ (rest ≡ Some [])
 
--- How many lines a record has that was read. Nothing is known of a reader that doesn't tell its bytes.
+-- How many lines a record has that was read. Nothing is known of a reader that doesn't say which bytes it has.
 abbrev pub AreLinesOfRecord : Option Text → Text → Option Text → ℕ → Type 0
 AreLinesOfRecord None row rest lines = ⊤
 AreLinesOfRecord (Some bytes) row rest lines = AreLinesIn row rest lines
@@ -44,30 +44,30 @@ CountsLines old row rest reads.End = ⊤
 CountsLines old row rest reads.Failed = ⊤
 
 -- What is reported of a record that begins in the line with this number, by its field, if it has one.
-abbrev pub IsFieldReport : Option Text → Source → BorrowedOutput → ℕ → Text → Type 0
+abbrev pub IsFieldReport : Option Text → MomentSource → BorrowedOutput → ℕ → Text → Type 0
 IsFieldReport None source o number report = report ≡ for_people false (no_field_message number)
 IsFieldReport (Some field) source o number report = IsReportOf source o (Some number) (text_of field) report
 
 -- The same of a record whose quotes are closed, by whether it is an empty line: nothing is reported of one.
-abbrev pub IsWholeReport : Bool → Source → BorrowedOutput → ℕ → ℕ → Text → Text → Type 0
+abbrev pub IsWholeReport : Bool → MomentSource → BorrowedOutput → ℕ → ℕ → Text → Text → Type 0
 IsWholeReport true source o n number row report = report ≡ []
 IsWholeReport false source o n number row report =
     IsFieldReport (field_after n (fields (without_newline row))) source o number report
 
 -- The same of any record, by whether its quotes stay open, which is what the message says then.
-abbrev pub IsReportBy : Bool → Source → BorrowedOutput → ℕ → ℕ → Text → Text → Type 0
+abbrev pub IsReportBy : Bool → MomentSource → BorrowedOutput → ℕ → ℕ → Text → Text → Type 0
 IsReportBy true source o n number row report = report ≡ for_people false (open_message number)
 IsReportBy false source o n number row report =
     IsWholeReport (is_empty (without_newline row)) source o n number row report
 
 -- What is reported of a record that begins in the line with this number: a message if its field isn't written, and
 -- else nothing.
-abbrev pub IsRecordReport : Source → BorrowedOutput → ℕ → ℕ → Text → Text → Type 0
+abbrev pub IsRecordReport : MomentSource → BorrowedOutput → ℕ → ℕ → Text → Text → Type 0
 IsRecordReport source o n number row report = IsReportBy (is_open row) source o n number row report
 
 -- What is reported of records, one after another: the first of them begins in the line with this number, and each
 -- other one as many lines further on as the one before it has newlines.
-abbrev pub AreRecordReports : Source → BorrowedOutput → ℕ → ℕ → List Text → Text → Type 0
+abbrev pub AreRecordReports : MomentSource → BorrowedOutput → ℕ → ℕ → List Text → Text → Type 0
 AreRecordReports source o n number [] reports = reports ≡ []
 AreRecordReports source o n number (row ∷ records) reports = (one : Text) × (more : Text)
     × IsRecordReport source o n number row one
@@ -75,12 +75,12 @@ AreRecordReports source o n number (row ∷ records) reports = (one : Text) × (
     × (reports ≡ one ++ more)
 
 -- The stream of messages gets what is reported of a record.
-abbrev pub ReportsRecord : Source → BorrowedOutput → ℕ → ℕ → Text → Option Text → Option Text → Bool → Bool → Type 0
+abbrev pub ReportsRecord : MomentSource → BorrowedOutput → ℕ → ℕ → Text → Option Text → Option Text → Bool → Bool → Type 0
 ReportsRecord source o n number row before after had_failed failed = (report : Text)
     × IsRecordReport source o n number row report × Gets report before after had_failed failed
 
--- The same of the records of a reader that tells its bytes: of all of them, unless a read failed.
-abbrev pub ReportsRecords : Source → BorrowedOutput → ℕ → ℕ → Bool → Option Text → Option Text → Option Text → Bool
+-- The same of the records of a reader that says which bytes it has: of all of them, unless a read failed.
+abbrev pub ReportsRecords : MomentSource → BorrowedOutput → ℕ → ℕ → Bool → Option Text → Option Text → Option Text → Bool
     → Bool → Type 0
 ReportsRecords source o n number unread None before after had_failed failed = ⊤
 ReportsRecords source o n number unread (Some bytes) before after had_failed failed =
@@ -88,7 +88,7 @@ ReportsRecords source o n number unread (Some bytes) before after had_failed fai
     × AreRecordReports source o n number records reports × Gets reports before after had_failed failed
 
 -- What is reported after a first record, by the column that it names.
-abbrev pub ReportsAfterHeader : Result ℕ HeaderError → Source → BorrowedOutput → Text → Text → Bool → Option Text
+abbrev pub ReportsAfterHeader : Result ℕ HeaderError → MomentSource → BorrowedOutput → Text → Text → Bool → Option Text
     → Option Text → Option Text → Bool → Bool → Type 0
 ReportsAfterHeader (Ok n) source o name header unread rest before after had_failed failed =
     ReportsRecords source o n (line_after 1 (newlines header)) unread rest before after had_failed failed
@@ -97,7 +97,7 @@ ReportsAfterHeader (Err e) source o name header unread rest before after had_fai
 
 -- What is reported of a table whose first record names its columns: there is none, or it can't be read, or there is
 -- one.
-abbrev pub ReportsNamed : Source → BorrowedOutput → Text → Bool → Option Text → Option Text → Option Text → Bool
+abbrev pub ReportsNamed : MomentSource → BorrowedOutput → Text → Bool → Option Text → Option Text → Option Text → Bool
     → Bool → Type 0
 ReportsNamed source o name unread None before after had_failed failed = ⊤
 ReportsNamed source o name unread (Some bytes) before after had_failed failed =
@@ -107,7 +107,7 @@ ReportsNamed source o name unread (Some bytes) before after had_failed failed =
     × ReportsAfterHeader (named_in name header) source o name header unread rest before after had_failed failed))
 
 -- What is reported of a table, by the column that is rewritten. Lines are counted from 1.
-abbrev pub ReportsTable : Source → BorrowedOutput → Column → Bool → Option Text → Option Text → Option Text → Bool
+abbrev pub ReportsTable : MomentSource → BorrowedOutput → Column → Bool → Option Text → Option Text → Option Text → Bool
     → Bool → Type 0
 ReportsTable source o (columns.After n) unread bytes before after had_failed failed =
     ReportsRecords source o n 1 unread bytes before after had_failed failed
@@ -116,7 +116,7 @@ ReportsTable source o (columns.Named name) unread bytes before after had_failed 
 
 -- What is reported of the next records, the first of which begins in the line with this number: nothing of those of a
 -- batch, and a message on one that is looked at by itself, if it isn't written.
-abbrev pub ReportsNextRecords : Source → BorrowedOutput → ℕ → ℕ → Option Text → Option Text → Option Text
+abbrev pub ReportsNextRecords : MomentSource → BorrowedOutput → ℕ → ℕ → Option Text → Option Text → Option Text
     → Option Text → Bool → Bool → NextRecords → Type 0
 ReportsNextRecords source o n number old new before after had_failed failed (nexts.Batch k) =
     (read : Text) × (written : Text) × (1 ≤ k) × AreRecordsShown source o n k read written × Consumes old new read

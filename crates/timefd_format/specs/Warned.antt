@@ -11,13 +11,13 @@ use Rattle.timefd_parse.specs.declared.parsing.BorrowedOutput.{BorrowedOutput}
 use Rattle.timefd_lang_warnings.specs.declared.levels.Level.{Level}
 use Rattle.timefd_lang_warnings.specs.declared.levels.Level.TheVariants.{Allowed, Warned}
 use Rattle.timefd_lang_warnings.specs.declared.levels.Levels.{Levels}
-use Rattle.timefd_lang_warnings.specs.declared.warned.Style.{Style}
+use Rattle.timefd_lang_warnings.specs.declared.warned.LanguageStyle.{LanguageStyle}
 use Rattle.timefd_lang_warnings.specs.declared.warning.Warning.TheVariants.{NoComponent, OtherLanguage}
 use Rattle.timefd_lang_warnings.specs.Levels.{all_at, with_level}
 use Rattle.timefd_lang_warnings.specs.Warns.{warns}
 use Rattle.timefd_format.specs.declared.language.Languages.{Languages}
-use Rattle.timefd_format.specs.declared.report.Reported.{Reported}
-use Rattle.timefd_format.specs.declared.source.Source.{Source}
+use Rattle.timefd_format.specs.declared.report.MessageFate.{MessageFate}
+use Rattle.timefd_format.specs.declared.source.MomentSource.{MomentSource}
 use Rattle.timefd_format.specs.declared.source.SourceKind.{SourceKind}
 use Rattle.timefd_format.specs.declared.source.SourceKind.TheVariants.{Names, Texts}
 use Rattle.timefd_format.specs.declared.warned.Texts as reported_texts
@@ -25,7 +25,7 @@ use Rattle.timefd_format.specs.declared.warned.Warned as reported
 use Rattle.timefd_format.specs.Reports.{ReachesPeople}
 
 -- how components are written in the language
-abbrev pub spelling_of : Language → Style
+abbrev pub spelling_of : Language → LanguageStyle
 spelling_of language = style_of language
 
 abbrev pub level_if : Bool → Level
@@ -34,7 +34,7 @@ level_if false = Allowed
 
 -- Two warnings, each if the parts call for it: that there is no component, and that another language reads
 -- one in a literal. All others are allowed.
-abbrev pub warned_in : Style → List Tree → Levels
+abbrev pub warned_in : LanguageStyle → List Tree → Levels
 warned_in style ts =
     with_level (with_level (all_at Allowed) NoComponent (level_if (warns style NoComponent ts))) OtherLanguage
     (level_if (warns style OtherLanguage ts))
@@ -48,11 +48,11 @@ abbrev pub warned_of_kind : Language → SourceKind → Levels
 warned_of_kind language (Names now) = all_at Allowed
 warned_of_kind language (Texts o) = warned_of language o
 
-abbrev pub warned_of_source : Language → Source → Levels
+abbrev pub warned_of_source : Language → MomentSource → Levels
 warned_of_source language source = warned_of_kind language source.kind
 
 -- Each description gets the warnings of its own language and parts, unless they are left out.
-abbrev pub warned_by : Bool → Languages → Source → BorrowedOutput → reported.Warned
+abbrev pub warned_by : Bool → Languages → MomentSource → BorrowedOutput → reported.Warned
 warned_by true languages source o = record { read = all_at Allowed; written = all_at Allowed }
 warned_by false languages source o = record {
   read = warned_of_source languages.read source;
@@ -76,7 +76,7 @@ IsNamed name origin = (origin.file.now ≡ name) × (origin.line ≡ 1)
 
 -- People see them, unless the stream has failed.
 abbrev pub ReportsWarnings : Bool → reported_texts.Texts → reported.Warned → Option Text → Option Text → Bool
-    → Reported → Type 0
+    → MessageFate → Type 0
 ReportsWarnings colored texts warned before after failed r =
     (read : Origin) × (written : Origin) × IsNamed (codes "<read>") read × IsNamed (codes "<description>") written
     × ReachesPeople colored (warned_text colored read written texts warned) before after failed r

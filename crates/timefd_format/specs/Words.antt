@@ -16,8 +16,8 @@ use Rattle.timefd_format.specs.declared.language.Wording.{Wording}
 use Rattle.timefd_format.specs.declared.language.Wording.TheVariants.{Own, Other}
 use Rattle.timefd_format.specs.declared.word.LanguageOption.{LanguageOption}
 use Rattle.timefd_format.specs.declared.word.LanguageOption.TheVariants as options
-use Rattle.timefd_format.specs.declared.word.Word.{Word}
-use Rattle.timefd_format.specs.declared.word.Word.TheVariants as words
+use Rattle.timefd_format.specs.declared.word.GivenWord.{GivenWord}
+use Rattle.timefd_format.specs.declared.word.GivenWord.TheVariants as words
 
 -- the option as it is written, if its value is a language
 abbrev pub option_name : LanguageOption → Text
@@ -25,11 +25,11 @@ option_name options.Both = codes "--language"
 option_name options.Written = codes "--to-language"
 
 -- a word that begins with a dash looks like an option
-abbrev pub other_word : Text → Word
+abbrev pub other_word : Text → GivenWord
 other_word word =
     if starts_with nat_eq word (codes "-") then words.Unknown else words.Description
 
-abbrev pub word_of : Text → Word
+abbrev pub word_of : Text → GivenWord
 word_of word =
     if bytes_eq word (codes "--language") then words.Language options.Both
     else if bytes_eq word (codes "--to-language") then words.Language options.Written

@@ -17,15 +17,15 @@ use Rattle.timefd_date_moment.specs.declared.moment.Moment.{Moment}
 use Rattle.timefd_parse.specs.declared.parsing.BorrowedOutput.{BorrowedOutput}
 use Rattle.timefd_parse.specs.declared.parsing.BorrowedOutput.TheVariants.{Items, Description}
 use Rattle.timefd_lint_rewrite.specs.Lines.{AreLinesOf, IsNextLine, without_newline}
-use Rattle.timefd_format.specs.declared.frame.Frame.{Frame}
-use Rattle.timefd_format.specs.declared.frame.Frame.TheVariants.{Line}
+use Rattle.timefd_format.specs.declared.frame.LineFrame.{LineFrame}
+use Rattle.timefd_format.specs.declared.frame.LineFrame.TheVariants.{Line}
 use Rattle.timefd_format.specs.declared.lines.LineRead.{LineRead}
 use Rattle.timefd_format.specs.declared.lines.LineRead.TheVariants as reads
 use Rattle.timefd_format.specs.declared.otherwise.Otherwise.{Otherwise}
-use Rattle.timefd_format.specs.declared.outcome.Outcome.{Outcome}
-use Rattle.timefd_format.specs.declared.outcome.Outcome.TheVariants as came
-use Rattle.timefd_format.specs.declared.outcome.Tally.{Tally}
-use Rattle.timefd_format.specs.declared.source.Source.{Source}
+use Rattle.timefd_format.specs.declared.outcome.WordOutcome.{WordOutcome}
+use Rattle.timefd_format.specs.declared.outcome.WordOutcome.TheVariants as came
+use Rattle.timefd_format.specs.declared.outcome.WordTally.{WordTally}
+use Rattle.timefd_format.specs.declared.source.MomentSource.{MomentSource}
 use Rattle.timefd_format.specs.Frames.{Replaces, framed}
 use Rattle.timefd_format.specs.Sources.{IsMomentIn}
 use Rattle.timefd_format.specs.Tallies.{at_end, tally_of, both}
@@ -63,18 +63,18 @@ IsLine (Err v) (Err (fails.Unshown u)) = u ≡ v
 IsLine (Err v) (Err (fails.Memory e)) = ⊤
 
 -- That text is appended with what is written around it, and no other byte.
-abbrev pub AppendsIn : Frame → Result Text Unshown → Option Text → Option Text → Type 0
+abbrev pub AppendsIn : LineFrame → Result Text Unshown → Option Text → Option Text → Type 0
 AppendsIn frame (Ok text) before after = Appends before after (framed frame text)
 AppendsIn frame (Err u) before after = ⊥
 
 -- That text is appended. Or this component can't show the moment, and nothing is appended.
-abbrev pub IsSent : Frame → Result Text Unshown → Option Text → Option Text → Option Unshown → Type 0
+abbrev pub IsSent : LineFrame → Result Text Unshown → Option Text → Option Text → Option Unshown → Type 0
 IsSent frame written before after None = AppendsIn frame written before after
 IsSent frame written before after (Some u) = (written ≡ Err u) × (after ≡ before)
 
 -- What the moment of a word becomes, and how that changes what is written.
-abbrev pub IsOneOfMoment : Otherwise → Frame → Text → Moment → BorrowedOutput → Option Text → Option Text
-    → Outcome → Type 0
+abbrev pub IsOneOfMoment : Otherwise → LineFrame → Text → Moment → BorrowedOutput → Option Text → Option Text
+    → WordOutcome → Type 0
 IsOneOfMoment otherwise frame word m o before after (came.Written n) =
     (n ≡ m) × AppendsIn frame (written_of m o) before after
 IsOneOfMoment otherwise frame word m o before after (came.Unshown n u) =
@@ -84,8 +84,8 @@ IsOneOfMoment otherwise frame word m o before after came.NotText = ⊥
 
 -- What a word becomes. If it names or shows a moment that the description can show, that is written;
 -- otherwise what `--else` asks for.
-abbrev pub IsOne : Otherwise → Source → BorrowedOutput → Frame → Text → Option Text → Option Text
-    → Outcome → Type 0
+abbrev pub IsOne : Otherwise → MomentSource → BorrowedOutput → LineFrame → Text → Option Text → Option Text
+    → WordOutcome → Type 0
 IsOne otherwise source o frame word before after (came.Written m) =
     IsMomentIn source o word (Ok m) × AppendsIn frame (written_of m o) before after
 IsOne otherwise source o frame word before after (came.Unshown m u) =
@@ -96,29 +96,29 @@ IsOne otherwise source o frame word before after came.NotText =
     (¬ IsUtf8 word) × Replaces otherwise frame word before after
 
 -- what a word adds to the tally
-abbrev pub IsTallyOf : Otherwise → Source → BorrowedOutput → Frame → Text → Option Text → Option Text
-    → Tally → Type 0
+abbrev pub IsTallyOf : Otherwise → MomentSource → BorrowedOutput → LineFrame → Text → Option Text → Option Text
+    → WordTally → Type 0
 IsTallyOf otherwise source o frame word before after tally =
-    (outcome : Outcome) × IsOne otherwise source o frame word before after outcome
+    (outcome : WordOutcome) × IsOne otherwise source o frame word before after outcome
     × (tally ≡ tally_of outcome)
 
 -- What the words become, one after another, and what the end after them is: whether a read failed.
-abbrev pub Runs : Bool → Otherwise → Source → BorrowedOutput → List Text → Option Text → Option Text
-    → Tally → Type 0
+abbrev pub Runs : Bool → Otherwise → MomentSource → BorrowedOutput → List Text → Option Text → Option Text
+    → WordTally → Type 0
 Runs failed otherwise source o [] before after tally = (after ≡ before) × (tally ≡ at_end failed)
-Runs failed otherwise source o (word ∷ words) before after tally = (outcome : Outcome) × (between : Option Text)
-    × (more : Tally) × IsOne otherwise source o Line word before between outcome
+Runs failed otherwise source o (word ∷ words) before after tally = (outcome : WordOutcome) × (between : Option Text)
+    × (more : WordTally) × IsOne otherwise source o Line word before between outcome
     × Runs failed otherwise source o words between after more × (tally ≡ both (tally_of outcome) more)
 
 -- The words are the lines of a reader: all of them, unless a read failed.
-abbrev pub RunsOn : Bool → Otherwise → Source → BorrowedOutput → Option Text → Option Text → Option Text
-    → Tally → Type 0
+abbrev pub RunsOn : Bool → Otherwise → MomentSource → BorrowedOutput → Option Text → Option Text → Option Text
+    → WordTally → Type 0
 RunsOn failed otherwise source o bytes before after tally = (lines : List Text)
     × AreLinesOf bytes lines failed
     × Runs failed otherwise source o (map without_newline lines) before after tally
 
-abbrev pub RunsOver : Otherwise → Source → BorrowedOutput → Option Text → Option Text → Option Text
-    → Tally → Type 0
+abbrev pub RunsOver : Otherwise → MomentSource → BorrowedOutput → Option Text → Option Text → Option Text
+    → WordTally → Type 0
 RunsOver otherwise source o bytes before after tally =
     (failed : Bool) × RunsOn failed otherwise source o bytes before after tally
 

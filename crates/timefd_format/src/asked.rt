@@ -7,7 +7,7 @@ use crate::bare::is_bare;
 use crate::column::{Column, column_named};
 use crate::language::{Wording, Wordings, default_wording, wording_named};
 use crate::otherwise::{Otherwise, otherwise_named};
-use crate::word::{LanguageOption, Word, word_of};
+use crate::word::{GivenWord, LanguageOption, word_of};
 
 /// A run that writes moments by a description.
 #[derive(Clone, Copy)]
@@ -57,7 +57,7 @@ pub enum Asked<'a> {
 
 /// Why the words are not a valid command line.
 #[derive(Clone, Copy)]
-pub enum OptionError<'a> {
+pub enum CommandLineError<'a> {
     /// The word looks like an option, but isn't one.
     Unknown(&'a str),
     /// No word follows the option.
@@ -103,7 +103,7 @@ enum Wanted {
 
 /// What the words so far have set.
 #[derive(Clone, Copy)]
-pub(crate) struct State<'a> {
+pub(crate) struct AskedSoFar<'a> {
     pub(crate) language: Wording,
     pub(crate) to_language: Option<Wording>,
     pub(crate) read: Option<&'a str>,
@@ -116,17 +116,17 @@ pub(crate) struct State<'a> {
 
 // What one more word leads to: a new state, or the end.
 #[derive(Clone, Copy)]
-enum Step<'a> {
-    Next(State<'a>),
-    Done(Result<Asked<'a>, OptionError<'a>>),
+enum AskedStep<'a> {
+    Next(AskedSoFar<'a>),
+    Done(Result<Asked<'a>, CommandLineError<'a>>),
 }
 
 /// What the words after the program's name ask for, or what is wrong with them.
 #[tactic(auto, using(crate::proofs::AskedLemmas::goes_on, crate::proofs::AskedLemmas::is_done))]
-pub fn asked_of<'a>(words: &'a [&'a str]) -> Result<Asked<'a>, OptionError<'a>>
+pub fn asked_of<'a>(words: &'a [&'a str]) -> Result<Asked<'a>, CommandLineError<'a>>
     ensures { result ≡ spec.asked_of words.now }
 {
-    let mut state = State {
+    let mut state = AskedSoFar {
         language: default_wording(),
         to_language: None,
         read: None,
@@ -139,8 +139,8 @@ pub fn asked_of<'a>(words: &'a [&'a str]) -> Result<Asked<'a>, OptionError<'a>>
     let mut rest = words;
     'words: while let [word, after @ ..] = rest {
         match one_more(state, word, after) {
-            Step::Next(next) => state = next,
-            Step::Done(asked) => return asked,
+            AskedStep::Next(next) => state = next,
+            AskedStep::Done(asked) => return asked,
         }
         rest = after;
     }
@@ -148,34 +148,34 @@ pub fn asked_of<'a>(words: &'a [&'a str]) -> Result<Asked<'a>, OptionError<'a>>
 }
 
 // What is missing if there are no more words.
-fn at_end(wanted: Wanted) -> OptionError<'static>
+fn at_end(wanted: Wanted) -> CommandLineError<'static>
     ensures { result ≡ spec.at_end wanted }
 {
     match wanted {
-        Wanted::Nothing => OptionError::NoDescription,
-        Wanted::Language(option) => OptionError::MissingLanguage(option),
-        Wanted::Read => OptionError::MissingRead,
-        Wanted::Column => OptionError::MissingColumn,
-        Wanted::Otherwise => OptionError::MissingOtherwise,
-        Wanted::Zone => OptionError::MissingZone,
+        Wanted::Nothing => CommandLineError::NoDescription,
+        Wanted::Language(option) => CommandLineError::MissingLanguage(option),
+        Wanted::Read => CommandLineError::MissingRead,
+        Wanted::Column => CommandLineError::MissingColumn,
+        Wanted::Otherwise => CommandLineError::MissingOtherwise,
+        Wanted::Zone => CommandLineError::MissingZone,
     }
 }
 
 // Takes one more word. Some options take all the words that follow it too.
-fn one_more<'a>(state: State<'a>, word: &'a str, after: &'a [&'a str]) -> Step<'a>
+fn one_more<'a>(state: AskedSoFar<'a>, word: &'a str, after: &'a [&'a str]) -> AskedStep<'a>
     ensures { result ≡ spec.one_more state.entry word.entry after.now }
 {
     match state.wanted {
         Wanted::Nothing => first(state, word, after),
         Wanted::Language(option) => with_language(state, option, word),
-        Wanted::Read => Step::Next(State {
+        Wanted::Read => AskedStep::Next(AskedSoFar {
             read: Some(word),
             wanted: Wanted::Nothing,
             ..state
         }),
         Wanted::Column => with_column(state, word),
         Wanted::Otherwise => with_otherwise(state, word),
-        Wanted::Zone => Step::Next(State {
+        Wanted::Zone => AskedStep::Next(AskedSoFar {
             zone: Some(word),
             wanted: Wanted::Nothing,
             ..state
@@ -184,54 +184,58 @@ fn one_more<'a>(state: State<'a>, word: &'a str, after: &'a [&'a str]) -> Step<'
 }
 
 // Takes a word as the name of the column.
-fn with_column<'a>(state: State<'a>, word: &'a str) -> Step<'a>
+fn with_column<'a>(state: AskedSoFar<'a>, word: &'a str) -> AskedStep<'a>
     ensures { result ≡ spec.with_column state.entry word.entry }
 {
     match column_named(word) {
-        Some(column) => Step::Next(State {
+        Some(column) => AskedStep::Next(AskedSoFar {
             column: Some(column),
             wanted: Wanted::Nothing,
             ..state
         }),
-        None => Step::Done(Err(OptionError::NoColumn)),
+        None => AskedStep::Done(Err(CommandLineError::NoColumn)),
     }
 }
 
 // Takes a word as the value of `--else`.
-fn with_otherwise<'a>(state: State<'a>, word: &'a str) -> Step<'a>
+fn with_otherwise<'a>(state: AskedSoFar<'a>, word: &'a str) -> AskedStep<'a>
     ensures { result ≡ spec.with_otherwise state.entry word.entry }
 {
     match otherwise_named(word) {
-        Some(otherwise) => Step::Next(State {
+        Some(otherwise) => AskedStep::Next(AskedSoFar {
             otherwise: Some(otherwise),
             wanted: Wanted::Nothing,
             ..state
         }),
-        None => Step::Done(Err(OptionError::NoOtherwise(word))),
+        None => AskedStep::Done(Err(CommandLineError::NoOtherwise(word))),
     }
 }
 
 // Takes a word as the language of an option.
-fn with_language<'a>(state: State<'a>, option: LanguageOption, word: &'a str) -> Step<'a>
+fn with_language<'a>(state: AskedSoFar<'a>, option: LanguageOption, word: &'a str) -> AskedStep<'a>
     ensures { result ≡ spec.with_language state.entry option word.entry }
 {
     match wording_named(word) {
-        Some(language) => Step::Next(with_option(state, option, language)),
-        None => Step::Done(Err(OptionError::NoLanguage(option, word))),
+        Some(language) => AskedStep::Next(with_option(state, option, language)),
+        None => AskedStep::Done(Err(CommandLineError::NoLanguage(option, word))),
     }
 }
 
 // The state with this language for the option.
-fn with_option<'a>(state: State<'a>, option: LanguageOption, language: Wording) -> State<'a>
+fn with_option<'a>(
+    state: AskedSoFar<'a>,
+    option: LanguageOption,
+    language: Wording,
+) -> AskedSoFar<'a>
     ensures { result ≡ spec.with_option state.entry option language }
 {
     match option {
-        LanguageOption::Both => State {
+        LanguageOption::Both => AskedSoFar {
             language,
             wanted: Wanted::Nothing,
             ..state
         },
-        LanguageOption::Written => State {
+        LanguageOption::Written => AskedSoFar {
             to_language: Some(language),
             wanted: Wanted::Nothing,
             ..state
@@ -240,44 +244,44 @@ fn with_option<'a>(state: State<'a>, option: LanguageOption, language: Wording) 
 }
 
 // Takes a word that may be an option.
-fn first<'a>(state: State<'a>, word: &'a str, after: &'a [&'a str]) -> Step<'a>
+fn first<'a>(state: AskedSoFar<'a>, word: &'a str, after: &'a [&'a str]) -> AskedStep<'a>
     ensures { result ≡ spec.first state.entry word.entry after.now }
 {
     match word_of(word) {
-        Word::Language(option) => Step::Next(State {
+        GivenWord::Language(option) => AskedStep::Next(AskedSoFar {
             wanted: Wanted::Language(option),
             ..state
         }),
-        Word::Read => before_read(state),
-        Word::Csv => before_column(state),
-        Word::Else => Step::Next(State {
+        GivenWord::Read => before_read(state),
+        GivenWord::Csv => before_column(state),
+        GivenWord::Else => AskedStep::Next(AskedSoFar {
             wanted: Wanted::Otherwise,
             ..state
         }),
-        Word::Guess => Step::Done(guess(state, after)),
-        Word::Zone => Step::Next(State {
+        GivenWord::Guess => AskedStep::Done(guess(state, after)),
+        GivenWord::Zone => AskedStep::Next(AskedSoFar {
             wanted: Wanted::Zone,
             ..state
         }),
-        Word::Quiet => Step::Next(State {
+        GivenWord::Quiet => AskedStep::Next(AskedSoFar {
             is_quiet: true,
             ..state
         }),
-        Word::Help => Step::Done(Ok(Asked::Help)),
-        Word::Version => Step::Done(Ok(Asked::Version)),
-        Word::Unknown => Step::Done(Err(OptionError::Unknown(word))),
-        Word::End => Step::Done(after_end(state, after)),
-        Word::Description => Step::Done(requested(state, word, after)),
+        GivenWord::Help => AskedStep::Done(Ok(Asked::Help)),
+        GivenWord::Version => AskedStep::Done(Ok(Asked::Version)),
+        GivenWord::Unknown => AskedStep::Done(Err(CommandLineError::Unknown(word))),
+        GivenWord::End => AskedStep::Done(after_end(state, after)),
+        GivenWord::Description => AskedStep::Done(requested(state, word, after)),
     }
 }
 
 // `--read`, which may be given once.
-fn before_read<'a>(state: State<'a>) -> Step<'a>
+fn before_read<'a>(state: AskedSoFar<'a>) -> AskedStep<'a>
     ensures { result ≡ spec.before_read state.entry }
 {
     match state.read {
-        Some(_) => Step::Done(Err(OptionError::ReadTwice)),
-        None => Step::Next(State {
+        Some(_) => AskedStep::Done(Err(CommandLineError::ReadTwice)),
+        None => AskedStep::Next(AskedSoFar {
             wanted: Wanted::Read,
             ..state
         }),
@@ -285,11 +289,11 @@ fn before_read<'a>(state: State<'a>) -> Step<'a>
 }
 
 // `--guess`: all the words that follow are texts.
-fn guess<'a>(state: State<'a>, words: &'a [&'a str]) -> Result<Asked<'a>, OptionError<'a>>
+fn guess<'a>(state: AskedSoFar<'a>, words: &'a [&'a str]) -> Result<Asked<'a>, CommandLineError<'a>>
     ensures { result ≡ spec.guess state.entry words.now }
 {
     if !is_bare(state) {
-        return Err(OptionError::GuessBeside);
+        return Err(CommandLineError::GuessBeside);
     }
     Ok(Asked::Guess(GuessRequest {
         text_count: words.len(),
@@ -298,12 +302,12 @@ fn guess<'a>(state: State<'a>, words: &'a [&'a str]) -> Result<Asked<'a>, Option
 }
 
 // `--csv`, which may be given once.
-fn before_column<'a>(state: State<'a>) -> Step<'a>
+fn before_column<'a>(state: AskedSoFar<'a>) -> AskedStep<'a>
     ensures { result ≡ spec.before_column state.entry }
 {
     match state.column {
-        Some(_) => Step::Done(Err(OptionError::ColumnTwice)),
-        None => Step::Next(State {
+        Some(_) => AskedStep::Done(Err(CommandLineError::ColumnTwice)),
+        None => AskedStep::Next(AskedSoFar {
             wanted: Wanted::Column,
             ..state
         }),
@@ -311,27 +315,30 @@ fn before_column<'a>(state: State<'a>) -> Step<'a>
 }
 
 // After `--` comes the description, then its moments.
-fn after_end<'a>(state: State<'a>, words: &'a [&'a str]) -> Result<Asked<'a>, OptionError<'a>>
+fn after_end<'a>(
+    state: AskedSoFar<'a>,
+    words: &'a [&'a str],
+) -> Result<Asked<'a>, CommandLineError<'a>>
     ensures { result ≡ spec.after_end state.entry words.now }
 {
     match words {
-        [] => Err(OptionError::NoDescription),
+        [] => Err(CommandLineError::NoDescription),
         [description, moments @ ..] => requested(state, description, moments),
     }
 }
 
 fn requested<'a>(
-    state: State<'a>,
+    state: AskedSoFar<'a>,
     description: &'a str,
     moments: &[&str],
-) -> Result<Asked<'a>, OptionError<'a>>
+) -> Result<Asked<'a>, CommandLineError<'a>>
     ensures { result ≡ spec.requested state.entry description.entry moments.now }
 {
     let Some(wordings) = wordings_of(state) else {
-        return Err(OptionError::NothingRead);
+        return Err(CommandLineError::NothingRead);
     };
     match (state.column, moments) {
-        (Some(_), [_, ..]) => Err(OptionError::MomentBesideColumn),
+        (Some(_), [_, ..]) => Err(CommandLineError::MomentBesideColumn),
         _ => Ok(Asked::Run(Request {
             wordings,
             read: state.read,
@@ -347,7 +354,7 @@ fn requested<'a>(
 
 // What is written where a moment can't be. Without `--else`, a record of a table stays as it is, and a
 // line is left out.
-fn otherwise_of(state: State<'_>) -> Otherwise
+fn otherwise_of(state: AskedSoFar<'_>) -> Otherwise
     ensures { result ≡ spec.otherwise_of state.entry }
 {
     match (state.otherwise, state.column) {
@@ -358,7 +365,7 @@ fn otherwise_of(state: State<'_>) -> Otherwise
 }
 
 // The wordings of both descriptions. `None` if a language to write in is named, but nothing to read by.
-fn wordings_of(state: State<'_>) -> Option<Wordings>
+fn wordings_of(state: AskedSoFar<'_>) -> Option<Wordings>
     ensures { result ≡ spec.wordings_of state.entry }
 {
     match (state.to_language, state.read) {

@@ -3,12 +3,12 @@
 ghost use Rattle.std.specs.Prelude.{◌≡◌};
 ghost use Rattle.timefd_format.specs.Asked as spec;
 
-use crate::asked::State;
+use crate::asked::AskedSoFar;
 use crate::language::Wording;
 use timefd_parse::{DescriptionVersion, Language};
 
 /// Whether all options but `--quiet` are as they are by default.
-pub(crate) fn is_bare(state: State<'_>) -> bool
+pub(crate) fn is_bare(state: AskedSoFar<'_>) -> bool
     ensures { result ≡ spec.is_bare state.entry }
 {
     is_version_three(state.language)
@@ -28,7 +28,7 @@ fn is_version_three(wording: Wording) -> bool
     }
 }
 
-fn has_no_description(state: State<'_>) -> bool
+fn has_no_description(state: AskedSoFar<'_>) -> bool
     ensures { result ≡ spec.has_no_description state.entry.to_language state.entry.read }
 {
     match (state.to_language, state.read) {
@@ -37,7 +37,7 @@ fn has_no_description(state: State<'_>) -> bool
     }
 }
 
-fn has_no_table(state: State<'_>) -> bool
+fn has_no_table(state: AskedSoFar<'_>) -> bool
     ensures { result ≡ spec.has_no_table state.entry.column state.entry.otherwise }
 {
     match (state.column, state.otherwise) {
@@ -46,7 +46,7 @@ fn has_no_table(state: State<'_>) -> bool
     }
 }
 
-fn has_no_zone(state: State<'_>) -> bool
+fn has_no_zone(state: AskedSoFar<'_>) -> bool
     ensures { result ≡ spec.has_no_zone state.entry.zone }
 {
     match state.zone {

@@ -5,7 +5,7 @@ ghost use Rattle.std.specs.List.{ends_with, position_from};
 ghost use Rattle.timefd_format.specs.Brackets as spec;
 ghost use Rattle.timefd_format.specs.Brackets.{HasOffsetOf, IsCompared, IsInAgreement};
 
-use crate::conflict::Conflict;
+use crate::conflict::OffsetConflict;
 use crate::from_jiff::{Error, offset_in_zone};
 use crate::moment::MomentError;
 use crate::zone::instant_of;
@@ -83,7 +83,7 @@ fn compared(moment: Moment, offset: UtcOffset) -> Result<Moment, MomentError>
     if written.whole_seconds() == offset.whole_seconds() {
         Ok(moment)
     } else {
-        Err(MomentError::Conflict(Conflict {
+        Err(MomentError::Conflict(OffsetConflict {
             written,
             zone: offset,
         }))

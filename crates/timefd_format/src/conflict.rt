@@ -5,7 +5,7 @@ use timefd_date_moment::UtcOffset;
 /// The offset that is written, and the different one that the time zone in brackets has at that
 /// moment.
 #[derive(Clone, Copy)]
-pub struct Conflict {
+pub struct OffsetConflict {
     /// The offset before the brackets.
     pub written: UtcOffset,
     /// The offset of the time zone at that moment.

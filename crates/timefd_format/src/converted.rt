@@ -7,7 +7,7 @@ ghost use Rattle.timefd_format.specs.ToRead.{IsReported};
 
 use crate::language::Wording;
 use std::alloc::{AllocError, Global};
-use timefd_lang_dialect::{Converted, DialectError, Limits, Reason, Refusal, to_version_three};
+use timefd_lang_dialect::{Converted, DialectError, Limits, Reason, RefusedPart, to_version_three};
 use timefd_parse::{DescriptionVersion, Language};
 
 /// A description in a language of `time`.
@@ -72,7 +72,7 @@ pub fn own_description<'a>(
 }
 
 /// A sentence that says why a format is refused, and what to do. An `Err` says that memory ran out.
-pub fn refused_sentence(alloc: Global, refusal: Refusal) -> Result<String, AllocError>
+pub fn refused_sentence(alloc: Global, refusal: RefusedPart) -> Result<String, AllocError>
     ensures { IfOk result (λ text. string_bytes text ≡ spec.refused_sentence refusal) }
 {
     let mut text = at_index(alloc, refusal.index)?;
@@ -111,7 +111,7 @@ fn of_all_years(alloc: Global, whole_minutes: bool) -> Result<Option<String>, Al
     ensures { IfOk result (IsReported (spec.of_all_years whole_minutes)) }
 {
     if whole_minutes {
-        Ok(Some(String::from_str(alloc, "the format writes this of offsets of whole minutes")?))
+        Ok(Some(String::from_str(alloc, "the format writes this for offsets of whole minutes")?))
     } else {
         Ok(None)
     }
@@ -122,7 +122,7 @@ fn from_year(alloc: Global, year: u16, whole_minutes: bool) -> Result<String, Al
 {
     if whole_minutes {
         format!(in alloc;
-            "the format writes this from the year {year} on, of offsets of whole minutes"
+            "the format writes this from the year {year} on, for offsets of whole minutes"
         )
     } else {
         format!(in alloc; "the format writes this from the year {year} on")

@@ -7,7 +7,7 @@ ghost use Rattle.timefd_lang_warnings.specs.Parts.{parts};
 ghost use Rattle.timefd_format.specs.Descriptions.{IsDescribed, IsReading, IsSpelled};
 
 use std::alloc::{AllocError, Global};
-use timefd_lang_warnings::Description;
+use timefd_lang_warnings::ReadDescription;
 use timefd_lint_diagnosis::{Diagnostic, diagnose};
 use timefd_parse::{
     BorrowedOutput, DescriptionVersion, Language, ParseError, StrftimeTables, parse_borrowed,
@@ -16,7 +16,7 @@ use timefd_parse::{
 
 /// What reading a text as a description comes to.
 #[derive(Drop)]
-pub enum Reading<'a> {
+pub enum DescriptionReading<'a> {
     /// A description.
     Description(BorrowedOutput<'a>),
     /// The text isn't a description, and this is wrong with it.
@@ -29,12 +29,12 @@ pub fn read<'a>(
     language: Language,
     tables: &'a StrftimeTables<'a>,
     text: &'a str,
-) -> Result<Reading<'a>, AllocError>
+) -> Result<DescriptionReading<'a>, AllocError>
     ensures { IfOk result (IsReading language text.now) }
 {
     match diagnose(alloc, language, text)? {
-        Some(diagnostic) => Ok(Reading::Refused(diagnostic)),
-        None => Ok(Reading::Description(described(alloc, language, tables, text)?)),
+        Some(diagnostic) => Ok(DescriptionReading::Refused(diagnostic)),
+        None => Ok(DescriptionReading::Description(described(alloc, language, tables, text)?)),
     }
 }
 
@@ -85,11 +85,11 @@ fn of_strftime<'a>(
 }
 
 /// A description that was read, borrowed for looking at its parts.
-pub fn borrowed<'o, 'a>(output: &'o BorrowedOutput<'a>) -> Description<'o, 'a>
+pub fn borrowed<'o, 'a>(output: &'o BorrowedOutput<'a>) -> ReadDescription<'o, 'a>
     ensures { parts result ≡ output_parts output.now }
 {
     match output {
-        BorrowedOutput::Items(items) => Description::Items(items),
-        BorrowedOutput::Description(description) => Description::Version3(description.view()),
+        BorrowedOutput::Items(items) => ReadDescription::Items(items),
+        BorrowedOutput::Description(description) => ReadDescription::Version3(description.view()),
     }
 }

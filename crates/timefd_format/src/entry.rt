@@ -8,13 +8,13 @@ ghost use Rattle.timefd_format.specs.Sources.{AreLeavesIn};
 ghost use Rattle.timefd_format.specs.Written.{IsOne, IsOneOfMoment, IsSent, IsTallyOf, written_of};
 
 use crate::field::write_field;
-use crate::frame::{Entry, Frame, replace};
+use crate::frame::{LineFrame, MomentText, replace};
 use crate::line::write_line;
 use crate::message::{NOT_TEXT, unread_message, unshown_message};
 use crate::otherwise::Otherwise;
-use crate::outcome::{Outcome, RunError, Tally};
+use crate::outcome::{RunError, WordOutcome, WordTally};
 use crate::report::report;
-use crate::source::{Source, moment_in};
+use crate::source::{MomentSource, moment_in};
 use std::alloc::Global;
 use std::str;
 use timefd_bin_streams::Sink;
@@ -32,16 +32,16 @@ use timefd_parse::BorrowedOutput;
 /// Other errors say that memory ran out or that the output failed.
 pub fn tally_one<W: Sink, E: Sink>(
     alloc: Global,
-    source: &Source<'_>,
+    source: &MomentSource<'_>,
     source_leaves: Option<&[Leaf<'_>]>,
     description: &BorrowedOutput<'_>,
     leaves: Option<&[Leaf<'_>]>,
     otherwise: Otherwise,
-    entry: Entry<'_>,
+    entry: MomentText<'_>,
     room: &mut [u8],
     output: &mut W,
     errors: &mut E,
-) -> Result<Tally, RunError>
+) -> Result<WordTally, RunError>
     requires source { AreLeavesIn source.now source_leaves }
     requires written { AreLeavesOf description.now leaves }
     ensures one { IfOk result (IsTallyOf otherwise source.now description.now entry.entry.frame entry.entry.text.now
@@ -63,7 +63,7 @@ pub fn tally_one<W: Sink, E: Sink>(
         output,
         errors,
     )?;
-    Ok(Tally::of(outcome))
+    Ok(WordTally::of(outcome))
 }
 
 // Writes the moment that a text names or shows, or reports why there is none.
@@ -71,16 +71,16 @@ pub fn tally_one<W: Sink, E: Sink>(
 #[tactic(auto, using(crate::proofs::LineReportLemmas::unread_reported))]
 fn write_one<W: Sink, E: Sink>(
     alloc: Global,
-    source: &Source<'_>,
+    source: &MomentSource<'_>,
     source_leaves: Option<&[Leaf<'_>]>,
     description: &BorrowedOutput<'_>,
     leaves: Option<&[Leaf<'_>]>,
     otherwise: Otherwise,
-    entry: Entry<'_>,
+    entry: MomentText<'_>,
     room: &mut [u8],
     output: &mut W,
     errors: &mut E,
-) -> Result<Outcome, RunError>
+) -> Result<WordOutcome, RunError>
     requires source { AreLeavesIn source.now source_leaves }
     requires written { AreLeavesOf description.now leaves }
     ensures one { IfOk result (IsOne otherwise source.now description.now entry.entry.frame entry.entry.text.now
@@ -92,7 +92,7 @@ fn write_one<W: Sink, E: Sink>(
     let Ok(text) = str::from_utf8(entry.text) else {
         report(alloc, errors, NOT_TEXT.as_bytes())?;
         replace(otherwise, entry, output)?;
-        return Ok(Outcome::NotText);
+        return Ok(WordOutcome::NotText);
     };
     match moment_in(source, source_leaves, description, text) {
         Ok(moment) => write_moment(
@@ -111,7 +111,7 @@ fn write_one<W: Sink, E: Sink>(
             let message = unread_message(alloc, source, entry.line, text, error)?;
             report(alloc, errors, message.as_bytes())?;
             replace(otherwise, entry, output)?;
-            Ok(Outcome::Unread(error))
+            Ok(WordOutcome::Unread(error))
         }
     }
 }
@@ -124,12 +124,12 @@ fn write_moment<W: Sink, E: Sink>(
     description: &BorrowedOutput<'_>,
     leaves: Option<&[Leaf<'_>]>,
     otherwise: Otherwise,
-    entry: Entry<'_>,
+    entry: MomentText<'_>,
     text: &str,
     room: &mut [u8],
     output: &mut W,
     errors: &mut E,
-) -> Result<Outcome, RunError>
+) -> Result<WordOutcome, RunError>
     requires { AreLeavesOf description.now leaves }
     ensures one { IfOk result (IsOneOfMoment otherwise entry.entry.frame entry.entry.text.now moment description.now
         (W.contents output.old) (W.contents output.new)) }
@@ -146,12 +146,12 @@ fn write_moment<W: Sink, E: Sink>(
         room,
         output,
     )? {
-        None => Ok(Outcome::Written(moment)),
+        None => Ok(WordOutcome::Written(moment)),
         Some(unshown) => {
             let message = unshown_message(alloc, text, unshown)?;
             report(alloc, errors, message.as_bytes())?;
             replace(otherwise, entry, output)?;
-            Ok(Outcome::Unshown(moment, unshown))
+            Ok(WordOutcome::Unshown(moment, unshown))
         }
     }
 }
@@ -163,7 +163,7 @@ fn write_in<W: Sink>(
     moment: Moment,
     description: &BorrowedOutput<'_>,
     leaves: Option<&[Leaf<'_>]>,
-    frame: Frame<'_>,
+    frame: LineFrame<'_>,
     room: &mut [u8],
     output: &mut W,
 ) -> Result<Option<Unshown>, RunError>
@@ -173,8 +173,8 @@ fn write_in<W: Sink>(
     ensures error { IfErr result (IsFailure (W.has_failed output.new)) }
 {
     match frame {
-        Frame::Line => write_line(alloc, moment, description, leaves, room, output),
-        Frame::Field(cell) => {
+        LineFrame::Line => write_line(alloc, moment, description, leaves, room, output),
+        LineFrame::Field(cell) => {
             write_field(alloc, moment, description, leaves, cell, room, output)
         }
     }

@@ -9,10 +9,10 @@ ghost use Rattle.timefd_format.specs.Expected.{IsExpected, IsExpectedBy, IsExpec
 ghost use Rattle.timefd_format.specs.ReadBack.{AreLeavesOf};
 ghost use Rattle.timefd_format.specs.Sources.{AreLeavesIn};
 
-use crate::source::{Source, SourceKind};
+use crate::source::{MomentSource, SourceKind};
 use std::str;
 use timefd_date_moment::fields::{
-    NO_FIELDS, ReadError, Reason, fill_item_fields, fill_leaf_fields,
+    NO_FIELDS, ReadError, UnreadReason, fill_item_fields, fill_leaf_fields,
 };
 use timefd_lang_node_list::Leaf;
 use timefd_lang_node_list::item::BorrowedFormatItem;
@@ -28,7 +28,7 @@ enum Parts<'p, 's> {
 /// The literal of the description that the word lacks, at the first part that doesn't match. `None` means
 /// that it isn't known: the literal may be part of an alternative, or of something optional.
 pub fn expected_in<'s>(
-    source: &'s Source<'_>,
+    source: &'s MomentSource<'_>,
     leaves: Option<&[Leaf<'s>]>,
     word: &str,
 ) -> Option<&'s str>
@@ -131,8 +131,9 @@ fn is_literal(read: Result<(), ReadError>) -> bool
     match read {
         Ok(()) => false,
         Err(error) => match error.reason {
-            Reason::Literal => true,
-            Reason::Unread(_) | Reason::Contradiction(_) | Reason::Trailing => false,
+            UnreadReason::Literal => true,
+            UnreadReason::Unread(_) | UnreadReason::Contradiction(_) | UnreadReason::Trailing =>
+                false,
         },
     }
 }

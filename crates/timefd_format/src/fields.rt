@@ -7,7 +7,7 @@ ghost use Rattle.timefd_format.specs.Fields.{IsCell, IsSplit};
 
 use crate::fast::plain::{has_quote, plain_field};
 use crate::frame::Cell;
-use crate::quoting::Quoting;
+use crate::quoting::FieldQuoting;
 use std::alloc::AllocError;
 use timefd_lint_rewrite::without_newline;
 
@@ -35,7 +35,7 @@ pub fn split_field(row: &[u8]) -> Split<'_>
 fn split_by_bytes(row: &[u8]) -> Split<'_>
     ensures { IsSplit row.now result }
 {
-    let mut quoting = Quoting::Start;
+    let mut quoting = FieldQuoting::Start;
     let mut rest = row;
     'bytes: while let [byte, more @ ..] = rest {
         if quoting.ends_field(*byte) {
@@ -93,7 +93,7 @@ pub fn text_in(field: &[u8], bytes: &mut Vec<u8>) -> Result<(), AllocError>
         bytes.extend_from_slice(field)?;
         return Ok(());
     }
-    let mut quoting = Quoting::Start;
+    let mut quoting = FieldQuoting::Start;
     let mut rest = field;
     'bytes: while let [byte, more @ ..] = rest {
         if quoting.shows(*byte) {

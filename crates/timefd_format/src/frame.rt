@@ -3,7 +3,7 @@
 ghost use Rattle.std.specs.Prelude.{◌≡◌, ◌++◌, IfErr, OnOk};
 ghost use Rattle.std.specs.Io.KnownBytes.{Appends};
 ghost use Rattle.timefd_format.specs.declared.otherwise.Otherwise.TheVariants as otherwise;
-ghost use Rattle.timefd_format.specs.declared.frame.Frame.TheVariants as frames;
+ghost use Rattle.timefd_format.specs.declared.frame.LineFrame.TheVariants as frames;
 ghost use Rattle.timefd_format.specs.Frames as spec;
 ghost use Rattle.timefd_format.specs.Frames.{EndsOnlyAsAsked, IsWriteFailure, Replaces};
 
@@ -24,7 +24,7 @@ pub struct Cell<'a> {
 
 /// Where the text of a moment is written.
 #[derive(Clone, Copy)]
-pub enum Frame<'a> {
+pub enum LineFrame<'a> {
     /// On a line of its own.
     Line,
     /// Instead of a field.
@@ -33,13 +33,13 @@ pub enum Frame<'a> {
 
 /// A text that should be a moment, and where the moment is written.
 #[derive(Clone, Copy)]
-pub struct Entry<'a> {
+pub struct MomentText<'a> {
     /// The number of its line, if the text came from a line.
     pub line: Option<u64>,
     /// The text.
     pub text: &'a [u8],
     /// Where the moment is written.
-    pub frame: Frame<'a>,
+    pub frame: LineFrame<'a>,
 }
 
 /// Writes some bytes.
@@ -68,7 +68,7 @@ fn send_both<W: Sink>(first: &[u8], second: &[u8], output: &mut W) -> Result<(),
 /// asks for the end of the run; nothing is written then.
 pub fn replace<W: Sink>(
     otherwise: Otherwise,
-    entry: Entry<'_>,
+    entry: MomentText<'_>,
     output: &mut W,
 ) -> Result<(), RunError>
     ensures replaced { OnOk result (Replaces otherwise entry.entry.frame entry.entry.text.now (W.contents output.old)
@@ -84,26 +84,26 @@ pub fn replace<W: Sink>(
 }
 
 // Writes the text as it was read.
-fn keep<W: Sink>(entry: Entry<'_>, output: &mut W) -> Result<(), RunError>
+fn keep<W: Sink>(entry: MomentText<'_>, output: &mut W) -> Result<(), RunError>
     ensures sent { OnOk result (Appends (W.contents output.old) (W.contents output.new)
         (spec.kept entry.entry.frame entry.entry.text.now)) }
     ensures error { IfErr result (IsWriteFailure (W.has_failed output.new)) }
 {
     match entry.frame {
-        Frame::Line => send_both(entry.text, b"\n", output),
-        Frame::Field(cell) => send_around(cell, cell.field, output),
+        LineFrame::Line => send_both(entry.text, b"\n", output),
+        LineFrame::Field(cell) => send_around(cell, cell.field, output),
     }
 }
 
 // Writes an empty line, or a record whose field is empty.
-fn empty<W: Sink>(frame: Frame<'_>, output: &mut W) -> Result<(), RunError>
+fn empty<W: Sink>(frame: LineFrame<'_>, output: &mut W) -> Result<(), RunError>
     ensures sent { OnOk result (Appends (W.contents output.old) (W.contents output.new)
         (spec.emptied frame.entry)) }
     ensures error { IfErr result (IsWriteFailure (W.has_failed output.new)) }
 {
     match frame {
-        Frame::Line => send(b"\n", output),
-        Frame::Field(cell) => send_both(cell.front, cell.after, output),
+        LineFrame::Line => send(b"\n", output),
+        LineFrame::Field(cell) => send_both(cell.front, cell.after, output),
     }
 }
 

@@ -1,7 +1,7 @@
 //! The text of a moment, written on a line of its own.
 
 ghost use Rattle.std.specs.Prelude.{◌≡◌, ◌≤◌, IfErr, IfOk, IfSome, Ok, length, take};
-ghost use Rattle.timefd_format.specs.declared.frame.Frame.TheVariants as frames;
+ghost use Rattle.timefd_format.specs.declared.frame.LineFrame.TheVariants as frames;
 ghost use Rattle.timefd_format.specs.Frames.{IsFailure};
 ghost use Rattle.timefd_format.specs.ReadBack.{AreLeavesOf};
 ghost use Rattle.timefd_format.specs.Written.{EndsWith, EndsWithLine, IsLine, IsLineOf, IsSent, written_of};

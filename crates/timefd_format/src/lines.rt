@@ -11,12 +11,12 @@ ghost use Rattle.timefd_format.specs.Written as spec;
 ghost use Rattle.timefd_format.specs.Written.{IsRead, IsReadMore, RunsOver};
 
 use crate::entry::tally_one;
-use crate::fast::take::{Taken, batch_room, take_batch};
-use crate::frame::{Entry, Frame};
+use crate::fast::take::{BatchTaken, batch_room, take_batch};
+use crate::frame::{LineFrame, MomentText};
 use crate::otherwise::Otherwise;
-use crate::outcome::{RunError, Tally};
+use crate::outcome::{RunError, WordTally};
 use crate::read_back::leaves_of;
-use crate::source::{Source, source_leaves};
+use crate::source::{MomentSource, source_leaves};
 use std::alloc::{AllocError, Global};
 use timefd_bin_streams::{BufferedError, BufferedSource, Sink};
 use timefd_lang_node_list::Leaf;
@@ -109,13 +109,13 @@ fn room_of(description: &BorrowedOutput<'_>) -> usize
 #[tactic(auto, using(crate::proofs::LineLemmas::borrowed_in, crate::proofs::LineLemmas::borrowed_of))]
 pub fn write_lines<R: BufferedSource, W: Sink, E: Sink>(
     alloc: Global,
-    source: &Source<'_>,
+    source: &MomentSource<'_>,
     description: &BorrowedOutput<'_>,
     otherwise: Otherwise,
     reader: &mut R,
     output: &mut W,
     errors: &mut E,
-) -> Result<Tally, RunError>
+) -> Result<WordTally, RunError>
     ensures runs { IfOk result (RunsOver otherwise source.now description.now (R.remaining reader.old)
         (W.contents output.old) (W.contents output.new)) }
     ensures unread { IfOk result (IsUnreadOnlyIf (R.has_failed reader.new)) }
@@ -143,7 +143,7 @@ pub fn write_lines<R: BufferedSource, W: Sink, E: Sink>(
 #[tactic(auto, using(crate::proofs::RunLemmas::lines_start, crate::proofs::LineReportLemmas::starts, crate::proofs::TakenLemmas::batch_more, crate::proofs::TakenLemmas::next_more, crate::proofs::TakenLemmas::next_ends, crate::proofs::TakenLemmas::next_fails))]
 fn write_by<R: BufferedSource, W: Sink, E: Sink>(
     alloc: Global,
-    source: &Source<'_>,
+    source: &MomentSource<'_>,
     source_leaves: Option<&[Leaf<'_>]>,
     description: &BorrowedOutput<'_>,
     leaves: Option<&[Leaf<'_>]>,
@@ -151,7 +151,7 @@ fn write_by<R: BufferedSource, W: Sink, E: Sink>(
     reader: &mut R,
     output: &mut W,
     errors: &mut E,
-) -> Result<Tally, RunError>
+) -> Result<WordTally, RunError>
     requires source { AreLeavesIn source.now source_leaves }
     requires written { AreLeavesOf description.now leaves }
     ensures runs { IfOk result (RunsOver otherwise source.now description.now (R.remaining reader.old)
@@ -162,7 +162,7 @@ fn write_by<R: BufferedSource, W: Sink, E: Sink>(
         (E.has_failed errors.new)) }
     ensures ends { IfErr result (EndsOnlyAsAsked otherwise (W.has_failed output.new)) }
 {
-    let mut tally = Tally::at_end(false);
+    let mut tally = WordTally::at_end(false);
     let mut line: u64 = 1;
     let mut bytes = Vec::new(alloc);
     let mut room = line_room(alloc, description)?;
@@ -183,24 +183,24 @@ fn write_by<R: BufferedSource, W: Sink, E: Sink>(
             output,
             errors,
         )? {
-            Next::Lines(count) => line = line.saturating_add(count as u64),
-            Next::Line(one) => {
+            NextLine::Lines(count) => line = line.saturating_add(count as u64),
+            NextLine::Line(one) => {
                 tally = tally.and(one);
                 line = line.saturating_add(1);
             }
-            Next::End => return Ok(tally),
-            Next::Failed => return Ok(tally.and(Tally::at_end(true))),
+            NextLine::End => return Ok(tally),
+            NextLine::Failed => return Ok(tally.and(WordTally::at_end(true))),
         }
     }
 }
 
 /// What came next.
 #[derive(Clone, Copy)]
-pub enum Next {
+pub enum NextLine {
     /// This many lines, each of which is written.
     Lines(usize),
     /// A line that adds this to the tally.
-    Line(Tally),
+    Line(WordTally),
     /// The end of the input.
     End,
     /// A read that failed.
@@ -212,7 +212,7 @@ pub enum Next {
 #[tactic(auto, using(crate::proofs::TakenLemmas::lines_next, crate::proofs::TakenLemmas::end_next, crate::proofs::TakenLemmas::failed_next, crate::proofs::TakenLemmas::nothing_next, crate::proofs::TakenLemmas::source_after, crate::proofs::LineReportLemmas::batch_reported, crate::proofs::LineReportLemmas::after_nothing, crate::proofs::LineReportLemmas::end_reported, crate::proofs::LineReportLemmas::failure_reported))]
 fn write_next<R: BufferedSource, W: Sink, E: Sink>(
     alloc: Global,
-    source: &Source<'_>,
+    source: &MomentSource<'_>,
     source_leaves: Option<&[Leaf<'_>]>,
     description: &BorrowedOutput<'_>,
     leaves: Option<&[Leaf<'_>]>,
@@ -224,7 +224,7 @@ fn write_next<R: BufferedSource, W: Sink, E: Sink>(
     reader: &mut R,
     output: &mut W,
     errors: &mut E,
-) -> Result<Next, RunError>
+) -> Result<NextLine, RunError>
     requires source { AreLeavesIn source.now source_leaves }
     requires written { AreLeavesOf description.now leaves }
     ensures next { IfOk result (IsNext otherwise source.now description.now (R.remaining reader.old)
@@ -245,8 +245,8 @@ fn write_next<R: BufferedSource, W: Sink, E: Sink>(
         reader,
         output,
     )? {
-        Taken::Lines(count) => Ok(Next::Lines(count)),
-        Taken::Nothing => write_line_by_itself(
+        BatchTaken::Lines(count) => Ok(NextLine::Lines(count)),
+        BatchTaken::Nothing => write_line_by_itself(
             alloc,
             source,
             source_leaves,
@@ -260,8 +260,8 @@ fn write_next<R: BufferedSource, W: Sink, E: Sink>(
             output,
             errors,
         ),
-        Taken::End => Ok(Next::End),
-        Taken::Failed => Ok(Next::Failed),
+        BatchTaken::End => Ok(NextLine::End),
+        BatchTaken::Failed => Ok(NextLine::Failed),
     }
 }
 
@@ -269,7 +269,7 @@ fn write_next<R: BufferedSource, W: Sink, E: Sink>(
 #[tactic(auto, using(crate::proofs::TakenLemmas::line_looked, crate::proofs::TakenLemmas::no_line_looked, crate::proofs::LineReportLemmas::line_reported, crate::proofs::LineReportLemmas::no_line_reported, crate::proofs::LineReportLemmas::failure_reported))]
 fn write_line_by_itself<R: BufferedSource, W: Sink, E: Sink>(
     alloc: Global,
-    source: &Source<'_>,
+    source: &MomentSource<'_>,
     source_leaves: Option<&[Leaf<'_>]>,
     description: &BorrowedOutput<'_>,
     leaves: Option<&[Leaf<'_>]>,
@@ -280,7 +280,7 @@ fn write_line_by_itself<R: BufferedSource, W: Sink, E: Sink>(
     reader: &mut R,
     output: &mut W,
     errors: &mut E,
-) -> Result<Next, RunError>
+) -> Result<NextLine, RunError>
     requires source { AreLeavesIn source.now source_leaves }
     requires written { AreLeavesOf description.now leaves }
     ensures next { IfOk result (IsNext otherwise source.now description.now (R.remaining reader.old)
@@ -301,18 +301,18 @@ fn write_line_by_itself<R: BufferedSource, W: Sink, E: Sink>(
                 description,
                 leaves,
                 otherwise,
-                Entry {
+                MomentText {
                     line: Some(line),
                     text: without_newline(bytes.as_slice()),
-                    frame: Frame::Line,
+                    frame: LineFrame::Line,
                 },
                 room,
                 output,
                 errors,
             )?;
-            Ok(Next::Line(one))
+            Ok(NextLine::Line(one))
         }
-        LineRead::End => Ok(Next::End),
-        LineRead::Failed => Ok(Next::Failed),
+        LineRead::End => Ok(NextLine::End),
+        LineRead::Failed => Ok(NextLine::Failed),
     }
 }

@@ -58,41 +58,40 @@ use asked::{Asked, GuessRequest, asked_of};
 use guess_run::{GuessEnd, guess_end};
 use running::run_status;
 use status::{
-    FAILED, NOT_TEXT, REFUSED, WRONG_ARGUMENTS, no_memory, reported, write_failed, written,
-    wrong_arguments,
+    WRONG_ARGUMENTS, errors, guess_status, no_memory, reported, written, wrong_arguments,
 };
 use std::alloc::AllocError;
+use std::env;
 use std::io::{BufReader, BufWriter};
 use std::process::ExitCode;
-use timefd_bin_streams::{FromBufReader, ToWriter, WordsError, all_words, borrowed};
+use timefd_bin_streams::{FromBufReader, ToWriter, WordsError, borrowed, words_of};
 
 // Does what the words after the program's name ask for, and returns the status.
 fn words_status(rt: &HostRuntime, words: &[&str]) -> u8 {
     match asked_of(words) {
-        Ok(Asked::Help) => written(rt, usage::USAGE),
-        Ok(Asked::Version) => written(rt, usage::VERSION),
+        Ok(Asked::Help) => shown(rt, usage::USAGE),
+        Ok(Asked::Version) => shown(rt, usage::VERSION),
         Ok(Asked::Run(request)) => {
             let from = words.len().saturating_sub(request.moment_count);
             run_status(rt, request, words.get(from..).unwrap_or(&[]))
         }
         Ok(Asked::Guess(request)) => {
             let from = words.len().saturating_sub(request.text_count);
-            guess_status(rt, request, words.get(from..).unwrap_or(&[]))
+            let end = end_of_guess(rt, request, words.get(from..).unwrap_or(&[]));
+            guess_status(rt.alloc(), &mut errors(rt), end)
         }
-        Err(error) => wrong_arguments(rt, error),
+        Err(error) => wrong_arguments(rt.alloc(), &mut errors(rt), error),
     }
 }
 
-fn guess_status(rt: &HostRuntime, request: GuessRequest, texts: &[&str]) -> u8 {
-    match end_of_guess(rt, request, texts) {
-        GuessEnd::Found => 0,
-        GuessEnd::NotFound => reported(rt, REFUSED, "no description that is known reads all texts"),
-        GuessEnd::NoText => reported(rt, REFUSED, "there is no text to find a description of"),
-        GuessEnd::NotText => reported(rt, NOT_TEXT, "a line isn't UTF-8"),
-        GuessEnd::Memory => no_memory(rt),
-        GuessEnd::Read => reported(rt, FAILED, "the standard input can't be read"),
-        GuessEnd::Write => write_failed(rt),
-    }
+// Writes a text to the standard output, and returns the status.
+fn shown(rt: &HostRuntime, text: &str) -> u8 {
+    written(
+        rt.alloc(),
+        &mut ToWriter::new(rt.stdout()),
+        &mut errors(rt),
+        text,
+    )
 }
 
 // Looks for a description of the texts, or of the lines of the standard input if there are none.
@@ -109,7 +108,7 @@ fn end_of_guess(rt: &HostRuntime, request: GuessRequest, texts: &[&str]) -> Gues
         texts,
         &mut FromBufReader::new(input),
         &mut ToWriter::new(output),
-        &mut ToWriter::new(rt.stderr()),
+        &mut errors(rt),
     )
 }
 
@@ -119,15 +118,20 @@ fn args_status(rt: &HostRuntime, args: &[String]) -> u8 {
     };
     match borrowed(rt.alloc(), words) {
         Ok(words) => words_status(rt, &words),
-        Err(AllocError) => no_memory(rt),
+        Err(AllocError) => no_memory(&mut errors(rt)),
     }
 }
 
 fn main(rt: HostRuntime) -> ExitCode {
-    let status = match all_words(&rt) {
+    let status = match words_of(rt.alloc(), env::args(&rt)) {
         Ok(words) => args_status(&rt, &words),
-        Err(WordsError::NotText) => reported(&rt, WRONG_ARGUMENTS, "an argument isn't UTF-8"),
-        Err(WordsError::Memory) => no_memory(&rt),
+        Err(WordsError::NotText) => reported(
+            rt.alloc(),
+            &mut errors(&rt),
+            WRONG_ARGUMENTS,
+            "an argument isn't UTF-8",
+        ),
+        Err(WordsError::Memory) => no_memory(&mut errors(&rt)),
     };
     ExitCode::from(status)
 }

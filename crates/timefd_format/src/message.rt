@@ -4,14 +4,14 @@ ghost use Rattle.std.specs.Prelude.{◌≡◌, IfOk, string_bytes};
 ghost use Rattle.timefd_format.specs.Messages as spec;
 
 use crate::absent::absent_sentence;
-use crate::conflict::Conflict;
+use crate::conflict::OffsetConflict;
 use crate::expected::expected_in;
 use crate::header::HeaderError;
 use crate::moment::MomentError;
-use crate::source::{Source, source_leaves};
+use crate::source::{MomentSource, source_leaves};
 use std::alloc::{AllocError, Global};
 use timefd_date_format::Unshown;
-use timefd_date_moment::fields::{ReadError, Reason};
+use timefd_date_moment::fields::{ReadError, UnreadReason};
 use timefd_description::unread_sentence;
 use timefd_lint_drawing::shown::safe;
 
@@ -58,7 +58,7 @@ const NO_DATE: &str = "no date agrees with all that was read";
 #[tactic(auto, using(crate::proofs::MessageLemmas::unread, crate::proofs::MessageLemmas::no_text))]
 pub fn unread_message(
     alloc: Global,
-    source: &Source<'_>,
+    source: &MomentSource<'_>,
     line: Option<u64>,
     word: &str,
     error: MomentError,
@@ -101,15 +101,15 @@ pub fn unread_message(
 #[tactic(auto, using(crate::proofs::MessageLemmas::plain))]
 fn stop_sentence(
     alloc: Global,
-    source: &Source<'_>,
+    source: &MomentSource<'_>,
     word: &str,
     error: ReadError,
 ) -> Result<String, AllocError>
     ensures { IfOk result (λ text. spec.IsStopSentence source.now word.now error (string_bytes text)) }
 {
     match error.reason {
-        Reason::Literal => literal_sentence(alloc, source, word, error),
-        Reason::Unread(_) | Reason::Contradiction(_) | Reason::Trailing => {
+        UnreadReason::Literal => literal_sentence(alloc, source, word, error),
+        UnreadReason::Unread(_) | UnreadReason::Contradiction(_) | UnreadReason::Trailing => {
             unread_sentence(alloc, error)
         }
     }
@@ -118,7 +118,7 @@ fn stop_sentence(
 #[tactic(auto, using(crate::proofs::MessageLemmas::plain, crate::proofs::MessageLemmas::named))]
 fn literal_sentence(
     alloc: Global,
-    source: &Source<'_>,
+    source: &MomentSource<'_>,
     word: &str,
     error: ReadError,
 ) -> Result<String, AllocError>
@@ -147,7 +147,7 @@ fn no_moment(alloc: Global, word: &str, reason: &str) -> Result<String, AllocErr
 }
 
 // The message for a word whose offset isn't the one that the time zone in brackets has.
-fn conflicting(alloc: Global, word: &str, conflict: Conflict) -> Result<String, AllocError>
+fn conflicting(alloc: Global, word: &str, conflict: OffsetConflict) -> Result<String, AllocError>
     ensures { IfOk result (λ message. string_bytes message ≡ spec.conflicting word.now conflict) }
 {
     let word = safe(alloc, word)?;

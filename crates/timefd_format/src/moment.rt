@@ -4,9 +4,9 @@ ghost use Rattle.timefd_format.specs.Moments.{IsChecked, IsNamed, IsWritten};
 
 use crate::absent::AbsentDay;
 use crate::bracket::{closes_once, ends_in_bracket, in_agreement};
-use crate::conflict::Conflict;
+use crate::conflict::OffsetConflict;
 use crate::from_jiff::{Annotated, Annotation, Error, read_annotated};
-use crate::names::Names;
+use crate::names::GivenNames;
 use crate::seconds::{after_at, moment_at};
 use jiff_tz::TimeZoneDatabase;
 use timefd_date_moment::Moment;
@@ -30,7 +30,7 @@ pub enum MomentError {
     /// The time zone in its brackets is unknown.
     NoZone,
     /// Its offset isn't the one that the time zone in its brackets has at that instant.
-    Conflict(Conflict),
+    Conflict(OffsetConflict),
     /// Its year is outside of those in which the offsets of time zones are known.
     Years,
     /// It should be shown on the clock of a time zone, but is not an instant: its date, time or offset
@@ -53,7 +53,7 @@ pub enum MomentError {
 /// The moment that a word names: `now`; `@` and a number of seconds since 1970 began in UTC; or a date,
 /// which a time of day, an offset and a time zone in brackets may follow. That time zone must have this
 /// offset at that instant.
-pub fn moment_named(names: Names<'_>, word: &str) -> Result<Moment, MomentError>
+pub fn moment_named(names: GivenNames<'_>, word: &str) -> Result<Moment, MomentError>
     ensures { IsNamed names.entry word.now result }
 {
     if word == "now" {

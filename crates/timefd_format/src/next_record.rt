@@ -8,12 +8,12 @@ ghost use Rattle.timefd_format.specs.RecordBatches.{IsNextRecords};
 ghost use Rattle.timefd_format.specs.Sources.{AreLeavesIn};
 ghost use Rattle.timefd_format.specs.TableReports.{ReportsNextRecords};
 
-use crate::fast::take::Taken;
+use crate::fast::take::BatchTaken;
 use crate::fast::take_records::take_records;
 use crate::otherwise::Otherwise;
-use crate::outcome::{RunError, Tally};
+use crate::outcome::{RunError, WordTally};
 use crate::records::{RecordRead, read_record};
-use crate::source::Source;
+use crate::source::MomentSource;
 use crate::table::{tally_open, tally_record};
 use std::alloc::Global;
 use timefd_bin_streams::{BufferedSource, Sink};
@@ -26,7 +26,7 @@ pub enum NextRecords {
     /// This many records of one line each, all of which are written.
     Batch(usize),
     /// A record that adds this to the tally, and that has this many lines.
-    Record(Tally, u64),
+    Record(WordTally, u64),
     /// The end of the input.
     End,
     /// A read that failed.
@@ -38,7 +38,7 @@ pub enum NextRecords {
 #[tactic(auto, using(crate::proofs::RecordTakenLemmas::batch_next, crate::proofs::RecordTakenLemmas::end_next, crate::proofs::RecordTakenLemmas::failed_next, crate::proofs::RecordTakenLemmas::nothing_next, crate::proofs::RecordTakenLemmas::source_after, crate::proofs::TableReportLemmas::batch_reported, crate::proofs::TableReportLemmas::after_nothing, crate::proofs::TableReportLemmas::end_reported, crate::proofs::TableReportLemmas::failure_reported))]
 pub fn write_next_records<R: BufferedSource, W: Sink, E: Sink>(
     alloc: Global,
-    source: &Source<'_>,
+    source: &MomentSource<'_>,
     source_leaves: Option<&[Leaf<'_>]>,
     description: &BorrowedOutput<'_>,
     leaves: Option<&[Leaf<'_>]>,
@@ -74,8 +74,8 @@ pub fn write_next_records<R: BufferedSource, W: Sink, E: Sink>(
         reader,
         output,
     )? {
-        Taken::Lines(record_count) => Ok(NextRecords::Batch(record_count)),
-        Taken::Nothing => write_record_by_itself(
+        BatchTaken::Lines(record_count) => Ok(NextRecords::Batch(record_count)),
+        BatchTaken::Nothing => write_record_by_itself(
             alloc,
             source,
             source_leaves,
@@ -91,8 +91,8 @@ pub fn write_next_records<R: BufferedSource, W: Sink, E: Sink>(
             output,
             errors,
         ),
-        Taken::End => Ok(NextRecords::End),
-        Taken::Failed => Ok(NextRecords::Failed),
+        BatchTaken::End => Ok(NextRecords::End),
+        BatchTaken::Failed => Ok(NextRecords::Failed),
     }
 }
 
@@ -100,7 +100,7 @@ pub fn write_next_records<R: BufferedSource, W: Sink, E: Sink>(
 #[tactic(auto, using(crate::proofs::RecordTakenLemmas::record_looked, crate::proofs::RecordTakenLemmas::open_looked, crate::proofs::RecordTakenLemmas::no_record_looked, crate::proofs::RecordTakenLemmas::source_after_record, crate::proofs::RecordTakenLemmas::source_after_open, crate::proofs::RecordTakenLemmas::source_failed, crate::proofs::TableReportLemmas::record_reported, crate::proofs::TableReportLemmas::open_reported, crate::proofs::TableReportLemmas::no_record_reported, crate::proofs::TableReportLemmas::failure_reported))]
 fn write_record_by_itself<R: BufferedSource, W: Sink, E: Sink>(
     alloc: Global,
-    source: &Source<'_>,
+    source: &MomentSource<'_>,
     source_leaves: Option<&[Leaf<'_>]>,
     description: &BorrowedOutput<'_>,
     leaves: Option<&[Leaf<'_>]>,

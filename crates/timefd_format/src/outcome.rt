@@ -32,7 +32,7 @@ impl From<AllocError> for RunError {
 
 /// What becomes of a word that should name a moment.
 #[derive(Clone, Copy)]
-pub enum Outcome {
+pub enum WordOutcome {
     /// This moment is written.
     Written(Moment),
     /// A component can't show this moment, and nothing is written.
@@ -45,7 +45,7 @@ pub enum Outcome {
 
 /// What the words so far have come to.
 #[derive(Clone, Copy)]
-pub struct Tally {
+pub struct WordTally {
     /// A word names no moment, or its moment can't be shown.
     pub is_refused: bool,
     /// A line isn't UTF-8.
@@ -54,12 +54,12 @@ pub struct Tally {
     pub has_failed: bool,
 }
 
-impl Tally {
+impl WordTally {
     /// The tally of no words, after a read that failed or didn't.
-    pub fn at_end(has_failed: bool) -> Tally
+    pub fn at_end(has_failed: bool) -> WordTally
         ensures { result ≡ spec.at_end has_failed }
     {
-        Tally {
+        WordTally {
             is_refused: false,
             not_text: false,
             has_failed,
@@ -67,10 +67,10 @@ impl Tally {
     }
 
     /// The tally of a record without the field that is asked for, or of a table without its column.
-    pub fn refused() -> Tally
+    pub fn refused() -> WordTally
         ensures { result ≡ spec.refused }
     {
-        Tally {
+        WordTally {
             is_refused: true,
             not_text: false,
             has_failed: false,
@@ -78,21 +78,21 @@ impl Tally {
     }
 
     /// The tally of one word.
-    pub fn of(outcome: Outcome) -> Tally
+    pub fn of(outcome: WordOutcome) -> WordTally
         ensures { result ≡ spec.tally_of outcome }
     {
-        Tally {
-            is_refused: matches!(outcome, Outcome::Unshown(_, _) | Outcome::Unread(_)),
-            not_text: matches!(outcome, Outcome::NotText),
+        WordTally {
+            is_refused: matches!(outcome, WordOutcome::Unshown(_, _) | WordOutcome::Unread(_)),
+            not_text: matches!(outcome, WordOutcome::NotText),
             has_failed: false,
         }
     }
 
     /// The tally of these words and others.
-    pub fn and(self, other: Tally) -> Tally
+    pub fn and(self, other: WordTally) -> WordTally
         ensures { result ≡ spec.both self other }
     {
-        Tally {
+        WordTally {
             is_refused: self.is_refused || other.is_refused,
             not_text: self.not_text || other.not_text,
             has_failed: self.has_failed || other.has_failed,

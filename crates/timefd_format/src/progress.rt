@@ -1,5 +1,7 @@
 //! Shows at a terminal how many lines of the standard input are read.
 
+ghost use Rattle.std.specs.Prelude.{◌≡◌};
+
 use std::cell::Cell;
 use std::io::{self, IsTerminal, Read, Stdin};
 use std::time::{Duration, Instant};
@@ -26,7 +28,7 @@ pub struct Progress<'a> {
 
 impl<'a> Progress<'a> {
     /// The progress of a run that begins at this moment.
-    pub fn new(rt: &'a HostRuntime) -> Progress<'a> {
+    pub(crate) fn new(rt: &'a HostRuntime) -> Progress<'a> {
         Progress {
             rt,
             shows: rt.stderr().is_terminal()
@@ -39,7 +41,7 @@ impl<'a> Progress<'a> {
     }
 
     /// Removes the line of progress, if there is one.
-    pub fn end(&self) {
+    pub(crate) fn end(&self) {
         if self.has_shown.get() {
             let _ = eprint!(self.rt; "{CLEAR}");
         }
@@ -89,7 +91,9 @@ pub struct Watched<'a> {
 
 impl<'a> Watched<'a> {
     /// The input with its lines counted for this progress.
-    pub fn new(progress: &'a Progress<'a>, input: Stdin) -> Watched<'a> {
+    pub(crate) fn new(progress: &'a Progress<'a>, input: Stdin) -> Watched<'a>
+        ensures { result.progress ≡ progress.entry }
+    {
         Watched { progress, input }
     }
 }

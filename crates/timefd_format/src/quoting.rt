@@ -7,7 +7,7 @@ use crate::fast::plain::has_quote;
 
 /// Where a byte is in its field.
 #[derive(Clone, Copy)]
-pub enum Quoting {
+pub enum FieldQuoting {
     /// At its start.
     Start,
     /// After its start, not in quotes.
@@ -18,16 +18,16 @@ pub enum Quoting {
     Closed,
 }
 
-impl Quoting {
+impl FieldQuoting {
     /// The state after one more byte.
-    pub fn after(self, byte: u8) -> Quoting
+    pub fn after(self, byte: u8) -> FieldQuoting
         ensures { result ≡ spec.after self byte }
     {
         match self {
-            Quoting::Start => after_first(byte),
-            Quoting::Bare => bare_after(byte),
-            Quoting::Inside => after_inner(byte),
-            Quoting::Closed => after_quote(byte),
+            FieldQuoting::Start => after_first(byte),
+            FieldQuoting::Bare => bare_after(byte),
+            FieldQuoting::Inside => after_inner(byte),
+            FieldQuoting::Closed => after_quote(byte),
         }
     }
 
@@ -36,8 +36,8 @@ impl Quoting {
         ensures { result ≡ spec.ends_field self byte }
     {
         match self {
-            Quoting::Start | Quoting::Bare | Quoting::Closed => byte == b',',
-            Quoting::Inside => false,
+            FieldQuoting::Start | FieldQuoting::Bare | FieldQuoting::Closed => byte == b',',
+            FieldQuoting::Inside => false,
         }
     }
 
@@ -47,8 +47,8 @@ impl Quoting {
         ensures { spec.shown self byte ≡ if result then byte ∷ [] else [] }
     {
         match self {
-            Quoting::Start | Quoting::Inside => byte != b'"',
-            Quoting::Bare | Quoting::Closed => true,
+            FieldQuoting::Start | FieldQuoting::Inside => byte != b'"',
+            FieldQuoting::Bare | FieldQuoting::Closed => true,
         }
     }
 
@@ -57,13 +57,13 @@ impl Quoting {
         ensures { result ≡ spec.is_inside self }
     {
         match self {
-            Quoting::Inside => true,
-            Quoting::Start | Quoting::Bare | Quoting::Closed => false,
+            FieldQuoting::Inside => true,
+            FieldQuoting::Start | FieldQuoting::Bare | FieldQuoting::Closed => false,
         }
     }
 
     /// The state after these bytes.
-    pub fn after_all(self, bytes: &[u8]) -> Quoting
+    pub fn after_all(self, bytes: &[u8]) -> FieldQuoting
         ensures { result ≡ spec.after_all self bytes.now }
     {
         match self.after_plain(bytes) {
@@ -74,7 +74,7 @@ impl Quoting {
 
     // The state after bytes without a quote, outside of quotes. `None` says nothing about the bytes.
     #[tactic(auto, using(crate::proofs::PlainLemmas::after_start, crate::proofs::PlainLemmas::after_bare))]
-    fn after_plain(self, bytes: &[u8]) -> Option<Quoting>
+    fn after_plain(self, bytes: &[u8]) -> Option<FieldQuoting>
         ensures { IfSome result (λ quoting. quoting ≡ spec.after_all self bytes.now) }
     {
         if bytes.is_empty() || has_quote(bytes) {
@@ -82,15 +82,15 @@ impl Quoting {
         }
         let last = bytes[bytes.len() - 1];
         match self {
-            Quoting::Start => Some(bare_after(last)),
-            Quoting::Bare => Some(bare_after(last)),
-            Quoting::Inside | Quoting::Closed => None,
+            FieldQuoting::Start => Some(bare_after(last)),
+            FieldQuoting::Bare => Some(bare_after(last)),
+            FieldQuoting::Inside | FieldQuoting::Closed => None,
         }
     }
 
     // The state after these bytes, found byte by byte.
     #[tactic(auto, using(crate::proofs::FieldLemmas::nothing))]
-    fn after_each(self, bytes: &[u8]) -> Quoting
+    fn after_each(self, bytes: &[u8]) -> FieldQuoting
         ensures { result ≡ spec.after_all self bytes.now }
     {
         let mut quoting = self;
@@ -103,43 +103,43 @@ impl Quoting {
     }
 }
 
-fn after_first(byte: u8) -> Quoting
-    ensures { result ≡ spec.after Quoting.Start byte }
+fn after_first(byte: u8) -> FieldQuoting
+    ensures { result ≡ spec.after FieldQuoting.Start byte }
 {
     if byte == b'"' {
-        Quoting::Inside
+        FieldQuoting::Inside
     } else {
         bare_after(byte)
     }
 }
 
-fn after_inner(byte: u8) -> Quoting
-    ensures { result ≡ spec.after Quoting.Inside byte }
+fn after_inner(byte: u8) -> FieldQuoting
+    ensures { result ≡ spec.after FieldQuoting.Inside byte }
 {
     if byte == b'"' {
-        Quoting::Closed
+        FieldQuoting::Closed
     } else {
-        Quoting::Inside
+        FieldQuoting::Inside
     }
 }
 
-fn after_quote(byte: u8) -> Quoting
-    ensures { result ≡ spec.after Quoting.Closed byte }
+fn after_quote(byte: u8) -> FieldQuoting
+    ensures { result ≡ spec.after FieldQuoting.Closed byte }
 {
     if byte == b'"' {
-        Quoting::Inside
+        FieldQuoting::Inside
     } else {
         bare_after(byte)
     }
 }
 
 // The state after a byte outside of quotes.
-fn bare_after(byte: u8) -> Quoting
+fn bare_after(byte: u8) -> FieldQuoting
     ensures { result ≡ spec.bare_after byte }
 {
     if byte == b',' {
-        Quoting::Start
+        FieldQuoting::Start
     } else {
-        Quoting::Bare
+        FieldQuoting::Bare
     }
 }

@@ -1,6 +1,8 @@
 //! The moment that a text shows, read by a description.
 
-ghost use Rattle.std.specs.Prelude.{◌≡◌, IfOk, IfSome};
+ghost use Rattle.std.specs.Prelude.{◌≡◌, IfOk, IfSome, map};
+ghost use Rattle.timefd_lang_node_list.specs.Item.Meaning.{item_tree, item_trees};
+ghost use Rattle.timefd_lang_node_list.specs.LeafMeaning.{leaf_tree};
 ghost use Rattle.timefd_date_moment.specs.Fields.Reads.{Fills, fields_of};
 ghost use Rattle.timefd_format.specs.Absent.{absent_day};
 ghost use Rattle.timefd_format.specs.ReadBack as spec;
@@ -17,6 +19,7 @@ use timefd_date_moment::fields::{
 };
 use timefd_date_moment::reading::{Part, ValueError, moment, moment_of_numbers};
 use timefd_lang_node_list::Leaf;
+use timefd_lang_node_list::item::BorrowedFormatItem;
 use timefd_parse::BorrowedOutput;
 
 /// The components and literals of a description, if it is only a sequence of those. They are found once, so
@@ -28,8 +31,39 @@ pub fn leaves_of<'d>(
     ensures { IfOk result (λ found. IfSome found (λ leaves. IsMadeOf description.now leaves.items)) }
 {
     match description {
-        BorrowedOutput::Items(_) => Ok(None),
+        BorrowedOutput::Items(items) => item_leaves(alloc, items),
         BorrowedOutput::Description(description) => leaves_in_turn(alloc, description.view()),
+    }
+}
+
+// The items as components and literals. `None` if another one is among them, like a composite letter of strftime.
+fn item_leaves<'d>(
+    alloc: Global,
+    items: &'d [BorrowedFormatItem<'_>],
+) -> Result<Option<Vec<Leaf<'d>>>, AllocError>
+    ensures { IfOk result (λ found. IfSome found
+        (λ leaves. item_trees items.now ≡ map leaf_tree leaves.items)) }
+{
+    let mut leaves = Vec::new(alloc);
+    'items: for item in items {
+        match item_leaf(item) {
+            Some(leaf) => leaves.push(leaf)?,
+            None => return Ok(None),
+        }
+    }
+    Ok(Some(leaves))
+}
+
+fn item_leaf<'d>(item: &'d BorrowedFormatItem<'_>) -> Option<Leaf<'d>>
+    ensures { IfSome result (λ leaf. item_tree item.now ≡ leaf_tree leaf) }
+{
+    match *item {
+        BorrowedFormatItem::Component(component) => Some(Leaf::Component(component)),
+        BorrowedFormatItem::StringLiteral(text) => Some(Leaf::Literal(text)),
+        BorrowedFormatItem::Literal(_)
+        | BorrowedFormatItem::Compound(_)
+        | BorrowedFormatItem::Optional(_)
+        | BorrowedFormatItem::First(_) => None,
     }
 }
 

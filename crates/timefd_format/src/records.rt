@@ -8,7 +8,7 @@ ghost use Rattle.timefd_format.specs.TableReports.{CountsLines};
 
 use crate::lines::{LineRead, read_more};
 use crate::outcome::RunError;
-use crate::quoting::Quoting;
+use crate::quoting::FieldQuoting;
 use timefd_bin_streams::BufferedSource;
 
 /// What reading a record came to.
@@ -38,7 +38,7 @@ pub fn read_record<R: BufferedSource>(
     ensures memory { IfErr result (λ error. error ≡ RunError.Memory) }
 {
     row.clear();
-    let mut quoting = Quoting::Start;
+    let mut quoting = FieldQuoting::Start;
     let mut count: u64 = 0;
     'lines: loop {
         count = count.saturating_add(1);
@@ -57,7 +57,7 @@ pub fn read_record<R: BufferedSource>(
 }
 
 // What the end of the input means after these bytes of a record.
-fn at_end(row: &[u8], quoting: Quoting) -> RecordRead
+fn at_end(row: &[u8], quoting: FieldQuoting) -> RecordRead
     ensures { result ≡ spec.at_end row.now quoting }
 {
     if row.is_empty() {

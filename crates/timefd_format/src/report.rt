@@ -1,7 +1,7 @@
 //! The only way for messages to reach people, who read them at a terminal: the terminal obeys and hides
 //! nothing of what they quote.
 
-ghost use Rattle.std.specs.Prelude.{◌≡◌, chars, false, IfOk, OnOk};
+ghost use Rattle.std.specs.Prelude.{◌≡◌, chars, false, IfOk, OnErr, OnOk};
 ghost use Rattle.timefd_lint_drawing.specs.People.{AllSeen, for_people};
 ghost use Rattle.timefd_format.specs.Reports as spec;
 
@@ -13,7 +13,7 @@ use timefd_lint_drawing::{Format, Origin, Style, drawn};
 
 /// What became of a message.
 #[derive(Clone, Copy)]
-pub enum Reported {
+pub enum MessageFate {
     /// People see all of it.
     Seen,
     /// A write of it failed. That isn't reported, since it couldn't be written either.
@@ -25,9 +25,10 @@ pub fn report<E: Sink>(
     alloc: Global,
     errors: &mut E,
     message: &[u8],
-) -> Result<Reported, AllocError>
+) -> Result<MessageFate, AllocError>
     ensures seen { IfOk result (spec.ReachesPeople false message.now (E.contents errors.old)
         (E.contents errors.new) (E.has_failed errors.new)) }
+    ensures untold { OnErr result (E.contents errors.new ≡ E.contents errors.old) }
     ensures gets { OnOk result (spec.Gets (for_people false message.now) (E.contents errors.old)
         (E.contents errors.new) (E.has_failed errors.old) (E.has_failed errors.new)) }
 {
@@ -40,9 +41,10 @@ pub fn report_sentence<E: Sink>(
     alloc: Global,
     errors: &mut E,
     sentence: &str,
-) -> Result<Reported, AllocError>
-    ensures { IfOk result (spec.ReachesPeople false (spec.line_of sentence.now) (E.contents errors.old)
+) -> Result<MessageFate, AllocError>
+    ensures seen { IfOk result (spec.ReachesPeople false (spec.line_of sentence.now) (E.contents errors.old)
         (E.contents errors.new) (E.has_failed errors.new)) }
+    ensures untold { OnErr result (E.contents errors.new ≡ E.contents errors.old) }
 {
     let message = format!(in alloc; "timefd_format: {sentence}\n")?;
     report(alloc, errors, message.as_bytes())
@@ -56,16 +58,17 @@ pub fn report_drawn<E: Sink>(
     is_colored: bool,
     errors: &mut E,
     message: &[u8],
-) -> Result<Reported, AllocError>
+) -> Result<MessageFate, AllocError>
     ensures seen { IfOk result (spec.ReachesPeople is_colored message.now (E.contents errors.old)
         (E.contents errors.new) (E.has_failed errors.new)) }
+    ensures untold { OnErr result (E.contents errors.new ≡ E.contents errors.old) }
     ensures gets { OnOk result (spec.Gets (for_people is_colored message.now) (E.contents errors.old)
         (E.contents errors.new) (E.has_failed errors.old) (E.has_failed errors.new)) }
 {
     let shown = shown_to_people(alloc, is_colored, message)?;
     match errors.put_all(&shown) {
-        Ok(()) => Ok(Reported::Seen),
-        Err(Failed) => Ok(Reported::Failed),
+        Ok(()) => Ok(MessageFate::Seen),
+        Err(Failed) => Ok(MessageFate::Failed),
     }
 }
 
@@ -90,7 +93,7 @@ pub fn report_fault<E: Sink>(
     text: &str,
     diagnostic: &Diagnostic,
     errors: &mut E,
-) -> Result<Reported, AllocError>
+) -> Result<MessageFate, AllocError>
     ensures { IfOk result (spec.ReachesPeople is_colored
         (spec.fault_text is_colored name.entry text.now diagnostic.now) (E.contents errors.old)
         (E.contents errors.new) (E.has_failed errors.new)) }

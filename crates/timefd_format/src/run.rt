@@ -8,15 +8,15 @@ ghost use Rattle.timefd_format.specs.RunReports.{ReportsInput, ReportsMoments, R
 ghost use Rattle.timefd_format.specs.Runs.{IsInputRun, IsRun, IsRunFrom, IsRunOf};
 
 use crate::column::Column;
-use crate::description::{Reading, read};
-use crate::end::RunEnd;
+use crate::description::{DescriptionReading, read};
+use crate::end::RunOutcome;
 use crate::language::Languages;
 use crate::lines::write_lines;
 use crate::message::Manner;
 use crate::otherwise::Otherwise;
-use crate::outcome::{RunError, Tally};
+use crate::outcome::{RunError, WordTally};
 use crate::report::report_fault;
-use crate::source::{Clocks, Source, source_of};
+use crate::source::{Clocks, MomentSource, source_of};
 use crate::table::write_table;
 use crate::warned::{Texts, WRITTEN, report_warnings, warned_by};
 use crate::words::write_words;
@@ -42,7 +42,7 @@ pub fn run<I: BufferedSource, W: Sink, E: Sink>(
     input: &mut I,
     output: &mut W,
     errors: &mut E,
-) -> Result<RunEnd, RunError>
+) -> Result<RunOutcome, RunError>
     ensures ends { IfErr result (EndsOnlyAsAsked otherwise (W.has_failed output.new)) }
     ensures unread { IfOk result (IsUnreadEndOnlyIf (I.has_failed input.new)) }
     ensures run { IfOk result (IsRun column.entry otherwise clocks.entry manner.is_quiet languages read.entry description.now
@@ -76,14 +76,14 @@ pub fn run<I: BufferedSource, W: Sink, E: Sink>(
             output,
             errors,
         ),
-        None => Ok(RunEnd::Refused),
+        None => Ok(RunOutcome::Refused),
     }
 }
 
 // Reports the warnings about the descriptions, and writes the moments that the words name or show.
 fn run_from<I: BufferedSource, W: Sink, E: Sink>(
     alloc: Global,
-    source: &Source<'_>,
+    source: &MomentSource<'_>,
     manner: Manner,
     languages: Languages,
     read_by: Option<&str>,
@@ -94,7 +94,7 @@ fn run_from<I: BufferedSource, W: Sink, E: Sink>(
     input: &mut I,
     output: &mut W,
     errors: &mut E,
-) -> Result<RunEnd, RunError>
+) -> Result<RunOutcome, RunError>
     ensures ends { IfErr result (EndsOnlyAsAsked otherwise (W.has_failed output.new)) }
     ensures unread { IfOk result (IsUnreadEndOnlyIf (I.has_failed input.new)) }
     ensures run { IfOk result (IsRunFrom column.entry otherwise source.now manner.is_quiet languages description.now
@@ -110,7 +110,7 @@ fn run_from<I: BufferedSource, W: Sink, E: Sink>(
         written: description,
     };
     match read(alloc, languages.written, &tables, description)? {
-        Reading::Refused(diagnostic) => {
+        DescriptionReading::Refused(diagnostic) => {
             report_fault(
                 alloc,
                 manner.is_colored,
@@ -119,9 +119,9 @@ fn run_from<I: BufferedSource, W: Sink, E: Sink>(
                 &diagnostic,
                 errors,
             )?;
-            Ok(RunEnd::Refused)
+            Ok(RunOutcome::Refused)
         }
-        Reading::Description(description) => {
+        DescriptionReading::Description(description) => {
             let warned = warned_by(manner.is_quiet, languages, source, &description);
             report_warnings(alloc, manner.is_colored, texts, warned, errors)?;
             let tally = write_all(
@@ -135,7 +135,7 @@ fn run_from<I: BufferedSource, W: Sink, E: Sink>(
                 output,
                 errors,
             )?;
-            Ok(RunEnd::Done(warned, tally))
+            Ok(RunOutcome::Done(warned, tally))
         }
     }
 }
@@ -143,7 +143,7 @@ fn run_from<I: BufferedSource, W: Sink, E: Sink>(
 // Writes the moments of the words, or those of the input.
 fn write_all<I: BufferedSource, W: Sink, E: Sink>(
     alloc: Global,
-    source: &Source<'_>,
+    source: &MomentSource<'_>,
     description: &BorrowedOutput<'_>,
     otherwise: Otherwise,
     column: Option<Column<'_>>,
@@ -151,7 +151,7 @@ fn write_all<I: BufferedSource, W: Sink, E: Sink>(
     input: &mut I,
     output: &mut W,
     errors: &mut E,
-) -> Result<Tally, RunError>
+) -> Result<WordTally, RunError>
     ensures ends { IfErr result (EndsOnlyAsAsked otherwise (W.has_failed output.new)) }
     ensures unread { IfOk result (IsUnreadOnlyIf (I.has_failed input.new)) }
     ensures run { IfOk result (IsRunOf column.entry otherwise source.now description.now (texts words.now) (I.remaining input.old)
@@ -179,14 +179,14 @@ fn write_all<I: BufferedSource, W: Sink, E: Sink>(
 // Writes the moments of the input: one from each line, or from a column.
 fn write_input<I: BufferedSource, W: Sink, E: Sink>(
     alloc: Global,
-    source: &Source<'_>,
+    source: &MomentSource<'_>,
     description: &BorrowedOutput<'_>,
     otherwise: Otherwise,
     column: Option<Column<'_>>,
     input: &mut I,
     output: &mut W,
     errors: &mut E,
-) -> Result<Tally, RunError>
+) -> Result<WordTally, RunError>
     ensures unread { IfOk result (IsUnreadOnlyIf (I.has_failed input.new)) }
     ensures run { IfOk result (IsInputRun column.entry otherwise source.now description.now (I.remaining input.old)
         (W.contents output.old) (W.contents output.new)) }

@@ -4,9 +4,9 @@ ghost use Rattle.std.specs.Prelude.{◌≡◌, IfErr, IfOk, IfSome};
 ghost use Rattle.timefd_format.specs.ReadBack.{now};
 ghost use Rattle.timefd_format.specs.Sources.{AreLeavesIn, IsFoundIn, IsMomentIn, IsOnClockIn, IsSilentOn, IsSourceOf, IsTextOf};
 
-use crate::description::{Reading, read};
+use crate::description::{DescriptionReading, read};
 use crate::moment::{MomentError, moment_named};
-use crate::names::Names;
+use crate::names::GivenNames;
 use crate::outcome::RunError;
 use crate::read_back::{leaves_of, moment_read};
 use crate::report::report_fault;
@@ -23,14 +23,14 @@ use timefd_parse::{BorrowedOutput, Language, StrftimeTables};
 #[derive(Drop)]
 pub enum SourceKind<'a> {
     /// Names of moments.
-    Names(Names<'a>),
+    Names(GivenNames<'a>),
     /// Texts of this description.
     Texts(BorrowedOutput<'a>),
 }
 
 /// What the words of a run are, and how the moments that they name or show are changed.
 #[derive(Drop)]
-pub struct Source<'a> {
+pub struct MomentSource<'a> {
     /// What the words are.
     pub kind: SourceKind<'a>,
     /// The time zone whose clock shows the moments. Without one they stay as they are.
@@ -41,7 +41,7 @@ pub struct Source<'a> {
 #[derive(Clone, Copy)]
 pub struct Clocks<'a> {
     /// What names on the command line refer to.
-    pub names: Names<'a>,
+    pub names: GivenNames<'a>,
     /// The time zone whose clock shows the moments.
     pub zone: Option<TimeZone<'a>>,
 }
@@ -56,25 +56,25 @@ pub fn source_of<'a, E: Sink>(
     tables: &'a StrftimeTables<'a>,
     description: Option<&'a str>,
     errors: &mut E,
-) -> Result<Option<Source<'a>>, RunError>
+) -> Result<Option<MomentSource<'a>>, RunError>
     ensures source { IfOk result (IsSourceOf clocks.entry language description.entry) }
     ensures reports { IfOk result (IsSilentOn (E.contents errors.old) (E.contents errors.new)
         (E.has_failed errors.old) (E.has_failed errors.new)) }
     ensures memory { IfErr result (λ error. error ≡ RunError.Memory) }
 {
     let Some(text) = description else {
-        return Ok(Some(Source {
+        return Ok(Some(MomentSource {
             kind: SourceKind::Names(clocks.names),
             zone: clocks.zone,
         }));
     };
     match read(alloc, language, tables, text)? {
-        Reading::Refused(diagnostic) => {
+        DescriptionReading::Refused(diagnostic) => {
             report_fault(alloc, is_colored, READ, text, &diagnostic, errors)?;
             Ok(None)
         }
-        Reading::Description(description) => {
-            Ok(Some(Source {
+        DescriptionReading::Description(description) => {
+            Ok(Some(MomentSource {
                 kind: SourceKind::Texts(description),
                 zone: clocks.zone,
             }))
@@ -86,7 +86,7 @@ pub fn source_of<'a, E: Sink>(
 /// says that memory ran out.
 pub fn source_leaves<'s>(
     alloc: Global,
-    source: &'s Source<'_>,
+    source: &'s MomentSource<'_>,
 ) -> Result<Option<Vec<Leaf<'s>>>, AllocError>
     ensures { IfOk result (λ found. IfSome found (λ leaves. IsTextOf source.now leaves.items)) }
 {
@@ -99,7 +99,7 @@ pub fn source_leaves<'s>(
 /// The moment that a word names, or shows by the description or its leaves, to be written by the other
 /// description. If the source has a time zone, its clock shows the moment; part of a date isn't enough then.
 pub fn moment_in(
-    source: &Source<'_>,
+    source: &MomentSource<'_>,
     leaves: Option<&[Leaf<'_>]>,
     written: &BorrowedOutput<'_>,
     word: &str,
@@ -116,7 +116,7 @@ pub fn moment_in(
 // The moment, as the clock of the time zone shows it.
 #[tactic(auto, using(crate::proofs::MomentLemmas::shown_on_clock))]
 fn moment_on_clock(
-    source: &Source<'_>,
+    source: &MomentSource<'_>,
     leaves: Option<&[Leaf<'_>]>,
     zone: &TimeZone<'_>,
     word: &str,
@@ -132,7 +132,7 @@ fn moment_on_clock(
 
 // The moment that a word names, or shows by the description or its leaves.
 fn moment_found(
-    source: &Source<'_>,
+    source: &MomentSource<'_>,
     leaves: Option<&[Leaf<'_>]>,
     written: Option<&BorrowedOutput<'_>>,
     word: &str,

@@ -17,17 +17,17 @@ use crate::column::Column;
 use crate::entry::tally_one;
 use crate::fast::take::batch_room;
 use crate::fields::{cell_after, text_in};
-use crate::frame::{Entry, Frame, send};
+use crate::frame::{LineFrame, MomentText, send};
 use crate::header::named_in;
 use crate::lines::line_room;
 use crate::message::{no_field_message, no_header_message, open_message, unnamed_message};
 use crate::next_record::{NextRecords, write_next_records};
 use crate::otherwise::Otherwise;
-use crate::outcome::{RunError, Tally};
+use crate::outcome::{RunError, WordTally};
 use crate::read_back::leaves_of;
 use crate::records::{RecordRead, read_record};
 use crate::report::report;
-use crate::source::{Source, source_leaves};
+use crate::source::{MomentSource, source_leaves};
 use std::alloc::Global;
 use timefd_bin_streams::{BufferedSource, Sink};
 use timefd_lang_node_list::Leaf;
@@ -40,14 +40,14 @@ use timefd_parse::BorrowedOutput;
 #[tactic(auto, using(crate::proofs::LineLemmas::borrowed_in, crate::proofs::LineLemmas::borrowed_of))]
 pub fn write_table<R: BufferedSource, W: Sink, E: Sink>(
     alloc: Global,
-    source: &Source<'_>,
+    source: &MomentSource<'_>,
     description: &BorrowedOutput<'_>,
     otherwise: Otherwise,
     column: Column<'_>,
     reader: &mut R,
     output: &mut W,
     errors: &mut E,
-) -> Result<Tally, RunError>
+) -> Result<WordTally, RunError>
     ensures table { IfOk result (IsTable otherwise source.now description.now column.entry
         (R.remaining reader.old) (W.contents output.old) (W.contents output.new)) }
     ensures unread { IfOk result (IsUnreadOnlyIf (R.has_failed reader.new)) }
@@ -91,7 +91,7 @@ pub fn write_table<R: BufferedSource, W: Sink, E: Sink>(
 #[tactic(auto, using(crate::proofs::TableReportLemmas::no_header_reported, crate::proofs::TableReportLemmas::header_unread, crate::proofs::TableReportLemmas::unnamed_reported, crate::proofs::TableReportLemmas::named_reported))]
 fn write_named<R: BufferedSource, W: Sink, E: Sink>(
     alloc: Global,
-    source: &Source<'_>,
+    source: &MomentSource<'_>,
     source_leaves: Option<&[Leaf<'_>]>,
     description: &BorrowedOutput<'_>,
     leaves: Option<&[Leaf<'_>]>,
@@ -100,7 +100,7 @@ fn write_named<R: BufferedSource, W: Sink, E: Sink>(
     reader: &mut R,
     output: &mut W,
     errors: &mut E,
-) -> Result<Tally, RunError>
+) -> Result<WordTally, RunError>
     requires source { AreLeavesIn source.now source_leaves }
     requires written { AreLeavesOf description.now leaves }
     ensures table { IfOk result (IsNamedTable otherwise source.now description.now name.now
@@ -118,9 +118,9 @@ fn write_named<R: BufferedSource, W: Sink, E: Sink>(
         RecordRead::End => {
             let message = no_header_message(alloc, name)?;
             report(alloc, errors, message.as_bytes())?;
-            return Ok(Tally::refused());
+            return Ok(WordTally::refused());
         }
-        RecordRead::Failed => return Ok(Tally::at_end(true)),
+        RecordRead::Failed => return Ok(WordTally::at_end(true)),
     };
     match named_in(alloc, name, &header)? {
         Ok(count) => {
@@ -142,7 +142,7 @@ fn write_named<R: BufferedSource, W: Sink, E: Sink>(
         Err(error) => {
             let message = unnamed_message(alloc, name, error)?;
             report(alloc, errors, message.as_bytes())?;
-            Ok(Tally::refused())
+            Ok(WordTally::refused())
         }
     }
 }
@@ -151,7 +151,7 @@ fn write_named<R: BufferedSource, W: Sink, E: Sink>(
 #[tactic(auto, using(crate::proofs::TableLemmas::starts, crate::proofs::TableReportLemmas::starts, crate::proofs::TableLemmas::records_fail, crate::proofs::RecordTakenLemmas::batch_more, crate::proofs::RecordTakenLemmas::next_more, crate::proofs::RecordTakenLemmas::next_ends, crate::proofs::RecordTakenLemmas::next_fails))]
 fn write_records<R: BufferedSource, W: Sink, E: Sink>(
     alloc: Global,
-    source: &Source<'_>,
+    source: &MomentSource<'_>,
     source_leaves: Option<&[Leaf<'_>]>,
     description: &BorrowedOutput<'_>,
     leaves: Option<&[Leaf<'_>]>,
@@ -161,7 +161,7 @@ fn write_records<R: BufferedSource, W: Sink, E: Sink>(
     reader: &mut R,
     output: &mut W,
     errors: &mut E,
-) -> Result<Tally, RunError>
+) -> Result<WordTally, RunError>
     requires source { AreLeavesIn source.now source_leaves }
     requires written { AreLeavesOf description.now leaves }
     ensures runs { IfOk result (RunsRecordsOver otherwise source.now description.now count
@@ -172,7 +172,7 @@ fn write_records<R: BufferedSource, W: Sink, E: Sink>(
         (E.has_failed errors.new)) }
     ensures ends { IfErr result (EndsOnlyAsAsked otherwise (W.has_failed output.new)) }
 {
-    let mut tally = Tally::at_end(false);
+    let mut tally = WordTally::at_end(false);
     let mut line = first_line;
     let mut row = Vec::new(alloc);
     let mut text = Vec::new(alloc);
@@ -202,7 +202,7 @@ fn write_records<R: BufferedSource, W: Sink, E: Sink>(
                 line = line.saturating_add(lines);
             }
             NextRecords::End => return Ok(tally),
-            NextRecords::Failed => return Ok(tally.and(Tally::at_end(true))),
+            NextRecords::Failed => return Ok(tally.and(WordTally::at_end(true))),
         }
     }
 }
@@ -212,7 +212,7 @@ fn write_records<R: BufferedSource, W: Sink, E: Sink>(
 #[tactic(auto, using(crate::proofs::TableLemmas::of_cell, crate::proofs::TableReportLemmas::empty_reported))]
 pub fn tally_record<W: Sink, E: Sink>(
     alloc: Global,
-    source: &Source<'_>,
+    source: &MomentSource<'_>,
     source_leaves: Option<&[Leaf<'_>]>,
     description: &BorrowedOutput<'_>,
     leaves: Option<&[Leaf<'_>]>,
@@ -224,7 +224,7 @@ pub fn tally_record<W: Sink, E: Sink>(
     room: &mut [u8],
     output: &mut W,
     errors: &mut E,
-) -> Result<Tally, RunError>
+) -> Result<WordTally, RunError>
     requires source { AreLeavesIn source.now source_leaves }
     requires written { AreLeavesOf description.now leaves }
     requires closed { is_open row.now ≡ false }
@@ -237,7 +237,7 @@ pub fn tally_record<W: Sink, E: Sink>(
 {
     if without_newline(row).is_empty() {
         send(row, output)?;
-        return Ok(Tally::at_end(false));
+        return Ok(WordTally::at_end(false));
     }
     match cell_after(count, row) {
         Some(cell) => {
@@ -249,10 +249,10 @@ pub fn tally_record<W: Sink, E: Sink>(
                 description,
                 leaves,
                 otherwise,
-                Entry {
+                MomentText {
                     line: Some(line),
                     text: text.as_slice(),
-                    frame: Frame::Field(cell),
+                    frame: LineFrame::Field(cell),
                 },
                 room,
                 output,
@@ -263,7 +263,7 @@ pub fn tally_record<W: Sink, E: Sink>(
             let message = no_field_message(alloc, line)?;
             report(alloc, errors, message.as_bytes())?;
             replace_record(otherwise, row, output)?;
-            Ok(Tally::refused())
+            Ok(WordTally::refused())
         }
     }
 }
@@ -276,7 +276,7 @@ pub fn tally_open<W: Sink, E: Sink>(
     row: &[u8],
     output: &mut W,
     errors: &mut E,
-) -> Result<Tally, RunError>
+) -> Result<WordTally, RunError>
     ensures replaced { OnOk result (ReplacesRecord otherwise row.now (W.contents output.old)
         (W.contents output.new)) }
     ensures tally { IfOk result (λ tally. tally ≡ refused) }
@@ -287,7 +287,7 @@ pub fn tally_open<W: Sink, E: Sink>(
     let message = open_message(alloc, line)?;
     report(alloc, errors, message.as_bytes())?;
     replace_record(otherwise, row, output)?;
-    Ok(Tally::refused())
+    Ok(WordTally::refused())
 }
 
 // Writes what `--else` asks for instead of a record that has no such field.

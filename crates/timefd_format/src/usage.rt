@@ -3,7 +3,7 @@
 ghost use Rattle.std.specs.Prelude.{◌≡◌, IfOk, string_bytes};
 ghost use Rattle.timefd_format.specs.Messages as spec;
 
-use crate::asked::OptionError;
+use crate::asked::CommandLineError;
 use crate::word::LanguageOption;
 use std::alloc::{AllocError, Global};
 use timefd_lint_drawing::shown::safe;
@@ -48,67 +48,67 @@ UTF-8.
 ";
 
 /// A sentence that says what is wrong with the arguments. An `Err` says that memory ran out.
-pub fn sentence(alloc: Global, error: OptionError<'_>) -> Result<String, AllocError>
+pub fn sentence(alloc: Global, error: CommandLineError<'_>) -> Result<String, AllocError>
     ensures { IfOk result (λ text. string_bytes text ≡ spec.option_sentence error.entry) }
 {
     match error {
-        OptionError::Unknown(word) => {
+        CommandLineError::Unknown(word) => {
             let word = safe(alloc, word)?;
             format!(in alloc;
                 "there is no option `{word}`; --help lists them, and after `--` it is a description"
             )
         }
-        OptionError::MissingLanguage(option) => {
+        CommandLineError::MissingLanguage(option) => {
             let name = option.name();
             format!(in alloc;
                 "`{name}` needs a value: one of 1, 2, 3, strftime, python, c, gnu, chrono, \
                 jiff, ruby, java, go, moment"
             )
         }
-        OptionError::MissingRead => {
+        CommandLineError::MissingRead => {
             String::from_str(alloc, "`--read` needs a value: a description to read by")
         }
-        OptionError::ReadTwice => String::from_str(alloc, "`--read` is given twice"),
-        OptionError::NoLanguage(option, word) => no_language(alloc, option, word),
-        OptionError::MissingColumn => String::from_str(
+        CommandLineError::ReadTwice => String::from_str(alloc, "`--read` is given twice"),
+        CommandLineError::NoLanguage(option, word) => no_language(alloc, option, word),
+        CommandLineError::MissingColumn => String::from_str(
             alloc,
             "`--csv` needs a value: the number of a column, or its name in the first line",
         ),
-        OptionError::ColumnTwice => {
+        CommandLineError::ColumnTwice => {
             String::from_str(
                 alloc,
                 "`--csv` is given twice, and one run changes one column",
             )
         }
-        OptionError::NoColumn => {
+        CommandLineError::NoColumn => {
             String::from_str(alloc, "`--csv` counts from 1; there is no column 0")
         }
-        OptionError::MissingOtherwise => {
+        CommandLineError::MissingOtherwise => {
             String::from_str(alloc, "`--else` needs a value: one of keep, empty, fail")
         }
-        OptionError::NoOtherwise(word) => {
+        CommandLineError::NoOtherwise(word) => {
             let word = safe(alloc, word)?;
             format!(in alloc; "`{word}` isn't a value of `--else`: one of keep, empty, fail")
         }
-        OptionError::MissingZone => {
+        CommandLineError::MissingZone => {
             String::from_str(
                 alloc,
                 "`--zone` needs a value: a time zone, as Europe/Berlin",
             )
         }
-        OptionError::MomentBesideColumn => String::from_str(
+        CommandLineError::MomentBesideColumn => String::from_str(
             alloc,
             "`--csv` reads the standard input; no moment follows the description then",
         ),
-        OptionError::NothingRead => String::from_str(
+        CommandLineError::NothingRead => String::from_str(
             alloc,
             "`--to-language` goes with `--read`; without it `--language` names the language",
         ),
-        OptionError::GuessBeside => String::from_str(
+        CommandLineError::GuessBeside => String::from_str(
             alloc,
             "`--guess` goes with no option but `--quiet`; it finds a description",
         ),
-        OptionError::NoDescription => {
+        CommandLineError::NoDescription => {
             String::from_str(alloc, "there is no description; --help shows the usage")
         }
     }

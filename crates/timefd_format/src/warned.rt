@@ -8,11 +8,13 @@ ghost use Rattle.timefd_format.specs.Warned as spec;
 
 use crate::description::borrowed;
 use crate::language::Languages;
-use crate::report::{Reported, report_drawn};
-use crate::source::{Source, SourceKind};
+use crate::report::{MessageFate, report_drawn};
+use crate::source::{MomentSource, SourceKind};
 use std::alloc::{AllocError, Global};
 use timefd_bin_streams::Sink;
-use timefd_lang_warnings::{Description, Level, Levels, Style as Spelling, Warning, warns};
+use timefd_lang_warnings::{
+    LanguageStyle as Spelling, Level, Levels, ReadDescription, Warning, warns,
+};
 use timefd_lint_drawing::{Format, Origin, Style};
 use timefd_lint_warnings::messages;
 use timefd_parse::{BorrowedOutput, Language};
@@ -49,7 +51,7 @@ pub fn report_warnings<E: Sink>(
     texts: Texts<'_>,
     warned: Warned,
     errors: &mut E,
-) -> Result<Reported, AllocError>
+) -> Result<MessageFate, AllocError>
     ensures seen { IfOk result (spec.ReportsWarnings is_colored texts.entry warned (E.contents errors.old)
         (E.contents errors.new) (E.has_failed errors.new)) }
     ensures gets { OnOk result (GetsWarnings is_colored texts.entry warned (E.contents errors.old)
@@ -106,7 +108,7 @@ fn warned_text(
 pub fn warned_by(
     is_quiet: bool,
     languages: Languages,
-    source: &Source<'_>,
+    source: &MomentSource<'_>,
     description: &BorrowedOutput<'_>,
 ) -> Warned
     ensures { result ≡ spec.warned_by is_quiet languages source.now description.now }
@@ -123,7 +125,7 @@ pub fn warned_by(
     }
 }
 
-fn warned_of_source(language: Language, source: &Source<'_>) -> Levels
+fn warned_of_source(language: Language, source: &MomentSource<'_>) -> Levels
     ensures { result ≡ spec.warned_of_source language source.now }
 {
     match &source.kind {
@@ -140,7 +142,7 @@ fn warned_of(language: Language, description: &BorrowedOutput<'_>) -> Levels
 }
 
 // Checks for two warnings. All others are left to the linter.
-fn warned_in(spelling: Spelling, description: Description<'_, '_>) -> Levels
+fn warned_in(spelling: Spelling, description: ReadDescription<'_, '_>) -> Levels
     ensures { result ≡ spec.warned_in spelling (parts description.entry) }
 {
     let no_component = level_if(warns(spelling, description, Warning::NoComponent));

@@ -26,7 +26,7 @@ impl LanguageOption {
 
 /// What a word means where an option may be given.
 #[derive(Clone, Copy)]
-pub enum Word {
+pub enum GivenWord {
     /// `--language` or `--to-language`. The next word is its value.
     Language(LanguageOption),
     /// `--read`. The next word is its value.
@@ -54,32 +54,32 @@ pub enum Word {
 }
 
 /// What a word means where an option may be given.
-pub fn word_of(word: &str) -> Word
+pub fn word_of(word: &str) -> GivenWord
     ensures { result ≡ spec.word_of word.now }
 {
     match word {
-        "--language" => Word::Language(LanguageOption::Both),
-        "--to-language" => Word::Language(LanguageOption::Written),
-        "--read" => Word::Read,
-        "--csv" => Word::Csv,
-        "--else" => Word::Else,
-        "--guess" => Word::Guess,
-        "--zone" => Word::Zone,
-        "--quiet" | "-q" => Word::Quiet,
-        "--help" | "-h" => Word::Help,
-        "--version" | "-V" => Word::Version,
-        "--" => Word::End,
+        "--language" => GivenWord::Language(LanguageOption::Both),
+        "--to-language" => GivenWord::Language(LanguageOption::Written),
+        "--read" => GivenWord::Read,
+        "--csv" => GivenWord::Csv,
+        "--else" => GivenWord::Else,
+        "--guess" => GivenWord::Guess,
+        "--zone" => GivenWord::Zone,
+        "--quiet" | "-q" => GivenWord::Quiet,
+        "--help" | "-h" => GivenWord::Help,
+        "--version" | "-V" => GivenWord::Version,
+        "--" => GivenWord::End,
         _ => other_word(word),
     }
 }
 
 // What a word means that isn't an option.
-fn other_word(word: &str) -> Word
+fn other_word(word: &str) -> GivenWord
     ensures { result ≡ spec.other_word word.now }
 {
     if word.as_bytes().starts_with(b"-") {
-        Word::Unknown
+        GivenWord::Unknown
     } else {
-        Word::Description
+        GivenWord::Description
     }
 }

@@ -7,10 +7,10 @@ ghost use Rattle.timefd_format.specs.LineReports.{ReportsWords};
 ghost use Rattle.timefd_format.specs.Written.{Runs};
 
 use crate::entry::tally_one;
-use crate::frame::{Entry, Frame};
+use crate::frame::{LineFrame, MomentText};
 use crate::otherwise::Otherwise;
-use crate::outcome::{RunError, Tally};
-use crate::source::Source;
+use crate::outcome::{RunError, WordTally};
+use crate::source::MomentSource;
 use std::alloc::Global;
 use timefd_bin_streams::Sink;
 use timefd_parse::BorrowedOutput;
@@ -20,13 +20,13 @@ use timefd_parse::BorrowedOutput;
 #[tactic(auto, using(crate::proofs::RunLemmas::starts, crate::proofs::RunLemmas::is_done, crate::proofs::RunLemmas::both_read, crate::proofs::LineReportLemmas::words_start, crate::proofs::LineReportLemmas::words_done))]
 pub fn write_words<W: Sink, E: Sink>(
     alloc: Global,
-    source: &Source<'_>,
+    source: &MomentSource<'_>,
     description: &BorrowedOutput<'_>,
     otherwise: Otherwise,
     words: &[&str],
     output: &mut W,
     errors: &mut E,
-) -> Result<Tally, RunError>
+) -> Result<WordTally, RunError>
     ensures runs { IfOk result (Runs false otherwise source.now description.now (texts words.now)
         (W.contents output.old) (W.contents output.new)) }
     ensures read { IfOk result (λ tally. tally.has_failed ≡ false) }
@@ -34,7 +34,7 @@ pub fn write_words<W: Sink, E: Sink>(
         (E.contents errors.old) (E.contents errors.new) (E.has_failed errors.old) (E.has_failed errors.new)) }
     ensures ends { IfErr result (EndsOnlyAsAsked otherwise (W.has_failed output.new)) }
 {
-    let mut tally = Tally::at_end(false);
+    let mut tally = WordTally::at_end(false);
     let mut rest = words;
     'words: while let [word, after @ ..] = rest {
         let one = tally_one(
@@ -44,10 +44,10 @@ pub fn write_words<W: Sink, E: Sink>(
             description,
             None,
             otherwise,
-            Entry {
+            MomentText {
                 line: None,
                 text: word.as_bytes(),
-                frame: Frame::Line,
+                frame: LineFrame::Line,
             },
             &mut [],
             output,

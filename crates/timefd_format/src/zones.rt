@@ -114,7 +114,9 @@ fn is_known(zones: &TimeZoneDatabase, name: &str) -> Result<bool, AllocError>
 
 /// The current moment, on the clock of the zone that `TZ` names. If `TZ` isn't set, the zone is that of
 /// `/etc/localtime`, or UTC if there is no such file. An `Err` says that memory ran out.
-pub fn now_of(rt: &HostRuntime) -> Result<Now, AllocError> {
+pub(crate) fn now_of(rt: &HostRuntime) -> Result<Now, AllocError>
+    ensures { IfOk result spec.IsNow }
+{
     match SystemTimeZone::read(rt) {
         Ok(system) => now_in(rt, &system),
         Err(Error::OutOfMemory) => Err(AllocError),
@@ -128,7 +130,9 @@ fn is_set(rt: &HostRuntime) -> bool {
     !matches!(env::var(rt, "TZ"), Err(env::VarError::NotPresent))
 }
 
-fn now_in(rt: &HostRuntime, system: &SystemTimeZone) -> Result<Now, AllocError> {
+fn now_in(rt: &HostRuntime, system: &SystemTimeZone) -> Result<Now, AllocError>
+    ensures { IfOk result spec.IsNow }
+{
     let mut zones = TimeZoneDatabase::new(rt.alloc());
     if let SystemTimeZone::Name { name, .. } = system {
         let _ = insert_zone(rt, &mut zones, name)?;
@@ -140,7 +144,9 @@ fn now_in(rt: &HostRuntime, system: &SystemTimeZone) -> Result<Now, AllocError> 
     }
 }
 
-fn now_at(rt: &HostRuntime, zone: &TimeZone<'_>) -> Now {
+fn now_at(rt: &HostRuntime, zone: &TimeZone<'_>) -> Now
+    ensures { spec.IsNow result }
+{
     match moment_now(rt, zone) {
         Some(moment) => Now::Shown(moment),
         None => Now::NoClock,

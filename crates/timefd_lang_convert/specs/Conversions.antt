@@ -14,6 +14,7 @@ use Rattle.timefd_lang_fault.specs.Faults.{Fault}
 use Rattle.timefd_language.specs.declared.description_version.DescriptionVersion.TheVariants.{One, Two, Three}
 use Rattle.timefd_lang_fault.specs.declared.parse_error.ParseError.{ParseError}
 use Rattle.timefd_language.specs.Grammar.{nesting_limit}
+use Rattle.timefd_language.specs.Spans.{HasSpanWithin}
 use Rattle.timefd_lang_fault.specs.Reported.{IsFaultOrMemory}
 use Rattle.timefd_lift.specs.Answers.{HasItemsOf, IsRewritten, IsTextOrMemory}
 use Rattle.timefd_lift.specs.Modernized.{IsWrittenOf, KeepsItemsOf}
@@ -86,6 +87,7 @@ pub record Converts (conversion : Conversion) (text : Text) (r : Result (String 
   pub refused : (f : Fault) → FaultIn (language_of conversion) nesting_limit text f
       → MatchResult r (λ _. ⊥) (IsFaultOrMemory f)
   pub position : IfErr r (HasPlacedFault text)
+  pub span : IfErr r (HasSpanWithin (language_of conversion) text)
   pub within : IfOk r (λ answer. FitsIn conversion (length text) (length (string_bytes answer)))
   pub empty : text ≡ [] → IsOk r
 

@@ -13,7 +13,7 @@ mod strftime;
 pub mod printing;
 
 pub use conversion::{Conversion, conversion_between};
-pub use converting::{ConvertError, convert, convert_by, convert_by_borrowed};
-pub use from_one::{v1_to_v3, v1_to_v3_borrowed};
-pub use normal::{normalize_v3, normalize_v3_borrowed};
-pub use strftime::{strftime_to_v3, strftime_to_v3_borrowed};
+pub use converting::{ConvertError, convert, convert_by};
+pub use from_one::v1_to_v3;
+pub use normal::normalize_v3;
+pub use strftime::strftime_to_v3;

@@ -2,68 +2,32 @@
 
 ghost use Rattle.std.specs.Prelude.{◌≡◌, [], List, IfOk, IsOk, MatchResult, string_bytes};
 ghost use Rattle.std.specs.Result.{IfErr};
+ghost use Rattle.timefd_language.specs.declared.language.Language as spec_language;
+ghost use Rattle.timefd_language.specs.Spans.{HasSpan};
 ghost use Rattle.timefd_lang_fault.specs.BorrowedFaults.{HasShortFault, IsBorrowed, IsBorrowedOf, IsMemory};
-ghost use Rattle.timefd_lang_fault.specs.Placed.{HasPlacedFault, IsPlaced};
+ghost use Rattle.timefd_lang_fault.specs.Placed.{IsPlaced};
 ghost use Rattle.timefd_lang_component.specs.Tree.{Tree, pack};
 ghost use Rattle.timefd_lang_convert.specs.Answers.{IsNormalOf, KeepsTree};
 ghost use Rattle.timefd_lang_fault.specs.Faults as spec;
 ghost use Rattle.timefd_language.specs.Broken.{FaultOf};
 ghost use Rattle.timefd_language.specs.Grammar.{Spells, nesting_limit};
-ghost use Rattle.timefd_lang_fault.specs.Reported.{IsFaultOrMemory};
 ghost use Rattle.timefd_language.specs.declared.description_version.DescriptionVersion.TheVariants.{Three};
-ghost use Rattle.timefd_lift.specs.Answers.{IsTextOrMemory};
-ghost use Rattle.timefd_parse.specs.Answers.{IsAssigned};
 ghost use Rattle.timefd_lang_convert.specs.Printing.Printed.{printed};
 
 use crate::printing::laws::reads_back;
 use crate::printing::{PrintError, print_v3};
 use std::alloc::Global;
 use timefd_parse::{
-    BorrowedOutput, BorrowedParseError, DescriptionVersion, NESTING_LIMIT, ParseError,
-    parse_all_borrowed,
+    BorrowedOutput, BorrowedParseError, DescriptionVersion, NESTING_LIMIT, parse_all_borrowed,
 };
 
 /// The normal form of a text of version 3: what `print_v3` prints for the description that it spells.
 /// The normal form spells the same description, and all texts that spell it have the same normal
 /// form.
 ///
-/// The error is the fault that version 3 finds in the text, or `Memory` if memory ran out. A fault
-/// that quotes nothing of the text is reported even then. This call is this port's own.
-pub fn normalize_v3(alloc: Global, s: &str) -> Result<String, ParseError>
-    // The result is the normal form of what the text spells, and spells the same. It is its own
-    // normal form. A text that is refused is refused for the fault that the rules of version 3
-    // assign.
-    ensures normal { IfOk result (λ answer. IsNormalOf s.now (string_bytes answer)) }
-    ensures same_items { IfOk result (λ answer. KeepsTree s.now (string_bytes answer)) }
-    ensures again { IfOk result (λ answer.
-        IsNormalOf (string_bytes answer) (string_bytes answer)) }
-    ensures fault { IfErr result (IsAssigned Three nesting_limit s.now) }
-
-    // What version 3 spells is printed unless memory runs out. A text with a fault is refused for it,
-    // unless the fault quotes the text and memory runs out for the quote.
-    ensures spelled { (list : List Tree) → Spells Three nesting_limit 0 s.now list
-        → IsTextOrMemory (printed (pack list)) result }
-    ensures refused { (f : spec.Fault) → FaultOf Three nesting_limit s.now f
-        → MatchResult result (λ _. ⊥) (IsFaultOrMemory f) }
-
-    // The fault's index lies in the text or at its end, between two characters.
-    ensures position { IfErr result (HasPlacedFault s.now) }
-
-    // The empty text takes no memory.
-    ensures empty { s.now ≡ [] → IsOk result }
-{
-    match normalize_v3_borrowed(alloc, s) {
-        Ok(answer) => Ok(answer),
-        Err(error) => Err(error.into_owned(alloc)),
-    }
-}
-
-/// The normal form of a text of version 3, as `normalize_v3` returns it, with a fault that borrows
-/// what it quotes. This call is this port's own.
-///
-/// The error is `Invalid` with the fault of the text, or `Memory` if memory ran out. A text that has
-/// a fault is refused for it even then.
-pub fn normalize_v3_borrowed(alloc: Global, s: &str) -> Result<String, BorrowedParseError<'_>>
+/// The error is `Invalid` with the fault of the text, or `Memory` if memory ran out. A text that has a
+/// fault is refused for it even then. This call is this port's own.
+pub fn normalize_v3(alloc: Global, s: &str) -> Result<String, BorrowedParseError<'_>>
     // The result is the normal form of what the text spells, and spells the same. It is its own
     // normal form. A text that is refused is refused for the fault that the rules of version 3
     // assign.
@@ -84,6 +48,9 @@ pub fn normalize_v3_borrowed(alloc: Global, s: &str) -> Result<String, BorrowedP
     // quotes are short, so that its sentence can be written.
     ensures position { IfErr result (IsBorrowedOf (IsPlaced s.now)) }
     ensures words { IfErr result HasShortFault }
+
+    // The fault ends after the name, the key, the value or the character at fault.
+    ensures span { IfErr result (HasSpan (spec_language.Language.Version Three) s.now) }
 
     // The empty text takes no memory.
     ensures empty { s.now ≡ [] → IsOk result }

@@ -3,69 +3,33 @@
 ghost use Rattle.std.specs.Prelude.{◌≡◌, ◌≤◌, ◌*◌, [], List, IfOk, IsOk, MatchResult, length, string_bytes};
 ghost use Rattle.std.specs.Result.{IfErr};
 ghost use Rattle.std.specs.String.{string_capacity};
+ghost use Rattle.timefd_language.specs.declared.language.Language as spec_language;
+ghost use Rattle.timefd_language.specs.Spans.{HasSpan};
 ghost use Rattle.timefd_lang_fault.specs.BorrowedFaults.{HasShortFault, IsBorrowed, IsBorrowedOf, IsMemory};
-ghost use Rattle.timefd_lang_fault.specs.Placed.{HasPlacedFault, IsPlaced};
+ghost use Rattle.timefd_lang_fault.specs.Placed.{IsPlaced};
 ghost use Rattle.timefd_lang_component.specs.Tree.{Tree, trees};
 ghost use Rattle.timefd_lang_convert.specs.Answers.{HasStrftimeItems, IsPrintedOf};
 ghost use Rattle.timefd_lang_convert.specs.Leaves.{AreShallowItems};
 ghost use Rattle.timefd_lang_fault.specs.Faults as spec;
 ghost use Rattle.timefd_lang_node_list.specs.Item.Meaning.{item_trees};
 ghost use Rattle.timefd_language.specs.Strftime.{SpellsStrftime, StrftimeFaultOf};
-ghost use Rattle.timefd_lang_fault.specs.Reported.{IsFaultOrMemory};
-ghost use Rattle.timefd_lift.specs.Answers.{IsTextOrMemory};
 ghost use Rattle.timefd_lang_convert.specs.Printing.Printed.{printed_all};
-ghost use Rattle.timefd_language.specs.Directives.StrftimeAnswers.{IsStrftimeFault};
 
 use crate::item::push_item;
 use crate::laws::flattening;
 use std::alloc::{AllocError, Global};
 use timefd_items::BorrowedFormatItem;
 use timefd_parse::{
-    BorrowedParseError, ParseError, StrftimeTables, count_strftime, parse_strftime_all_borrowed,
+    BorrowedParseError, StrftimeTables, count_strftime, parse_strftime_all_borrowed,
 };
 
 /// The text of version 3 that means the same as a text of strftime. Each letter becomes its exact
 /// components in their normal form, with those of a composite letter one after another. A `[`, `]` or
 /// `\` in a literal gets a `\` before it. Neighbouring literals become one literal.
 ///
-/// The error is the fault of the text by the rules of strftime, or `Memory` if memory ran out. A
-/// fault that quotes nothing of the text is reported even then. This call is this port's own.
-pub fn strftime_to_v3(alloc: Global, s: &str) -> Result<String, ParseError>
-    // The result is printed from what strftime spells, and has the same items. A text that is refused
-    // is refused for the fault that the rules of strftime assign.
-    ensures printed { IfOk result (λ answer. IsPrintedOf s.now (string_bytes answer)) }
-    ensures same_items { IfOk result (λ answer. HasStrftimeItems s.now (string_bytes answer)) }
-    ensures fault { IfErr result (IsStrftimeFault s.now) }
-
-    // What strftime spells is printed unless memory runs out. A text with a fault is refused for it,
-    // unless the fault quotes the text and memory runs out for the quote.
-    ensures spelled { (list : List Tree) → SpellsStrftime s.now list
-        → IsTextOrMemory (printed_all (trees list)) result }
-    ensures refused { (f : spec.Fault) → StrftimeFaultOf s.now f
-        → MatchResult result (λ _. ⊥) (IsFaultOrMemory f) }
-
-    // The fault's index lies in the text or at its end, between two characters.
-    ensures position { IfErr result (HasPlacedFault s.now) }
-
-    // The result has at most 53 times as many bytes as the text. `%c` gives the longest result for
-    // its length.
-    ensures within { IfOk result (λ answer. length (string_bytes answer) ≤ 53 * length s.now) }
-
-    // The empty text takes no memory.
-    ensures empty { s.now ≡ [] → IsOk result }
-{
-    match strftime_to_v3_borrowed(alloc, s) {
-        Ok(answer) => Ok(answer),
-        Err(error) => Err(error.into_owned(alloc)),
-    }
-}
-
-/// Converts a text of strftime as `strftime_to_v3` does, with a fault that borrows what it quotes.
-/// This call is this port's own.
-///
-/// The error is `Invalid` with the fault of the text, or `Memory` if memory ran out. A text that has
-/// a fault is refused for it even then.
-pub fn strftime_to_v3_borrowed(alloc: Global, s: &str) -> Result<String, BorrowedParseError<'_>>
+/// The error is `Invalid` with the fault of the text, or `Memory` if memory ran out. A text that has a
+/// fault is refused for it even then. This call is this port's own.
+pub fn strftime_to_v3(alloc: Global, s: &str) -> Result<String, BorrowedParseError<'_>>
     // The result is printed from what strftime spells, and has the same items. A text that is refused
     // is refused for the fault that the rules of strftime assign.
     ensures printed { IfOk result (λ answer. IsPrintedOf s.now (string_bytes answer)) }
@@ -83,6 +47,9 @@ pub fn strftime_to_v3_borrowed(alloc: Global, s: &str) -> Result<String, Borrowe
     // quotes are short, so that its sentence can be written.
     ensures position { IfErr result (IsBorrowedOf (IsPlaced s.now)) }
     ensures words { IfErr result HasShortFault }
+
+    // The fault ends after the name, the key, the value or the character at fault.
+    ensures span { IfErr result (HasSpan (spec_language.Language.Strftime) s.now) }
 
     // The result has at most 53 times as many bytes as the text. `%c` gives the longest result for
     // its length.
@@ -111,6 +78,7 @@ fn strftime_error(text: &str) -> BorrowedParseError<'_>
     ensures refused { (f : spec.Fault) → StrftimeFaultOf text.now f → IsBorrowed f result }
     ensures position { IsBorrowedOf (IsPlaced text.now) result }
     ensures words { HasShortFault result }
+    ensures span { HasSpan spec_language.Language.Strftime text.now result }
 {
     match count_strftime(text) {
         Ok(_) => BorrowedParseError::Memory(AllocError),

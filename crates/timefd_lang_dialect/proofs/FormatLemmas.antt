@@ -3,7 +3,7 @@ use Rattle.std.proofs.Common.{ℕ, ◌≡◌, ◌<◌, ◌-◌, Bool, true, fals
 use Rattle.std.specs.Borrow.{Bor}
 use Rattle.timefd_lang_component.specs.Tree.{Text}
 use Rattle.timefd_lang_dialect.specs.declared.dialect.Dialect.{Dialect}
-use Rattle.timefd_lang_dialect.specs.declared.error.Refusal.{Refusal}
+use Rattle.timefd_lang_dialect.specs.declared.error.RefusedPart.{RefusedPart}
 use Rattle.timefd_lang_dialect.specs.declared.reading.Converted.{Converted}
 use Rattle.timefd_lang_dialect.specs.declared.row.Row.{Row}
 use Rattle.timefd_lang_dialect.specs.Answers.{IsConverted}
@@ -113,7 +113,7 @@ lacking dialect description rest format index so_far there ends lacks is = recor
 
 -- A format that is asked for and that the dialect reads otherwise.
 
-pub refused_merged : (dialect : Dialect) (description format : Text) (refusal : Refusal)
+pub refused_merged : (dialect : Dialect) (description format : Text) (refusal : RefusedPart)
     → AsksFor dialect description format → RefusedAt dialect format refusal.reason refusal.index
     → IsMerged dialect description
 refused_merged dialect description format refusal asks at =

@@ -12,7 +12,7 @@ use Rattle.timefd_lang_component.specs.Tree.{Text}
 use Rattle.timefd_language.specs.Bytes.{is_special, left, ZeroOrMore, StopsBefore}
 use Rattle.timefd_lang_dialect.specs.declared.dialect.Dialect.{Dialect}
 use Rattle.timefd_lang_dialect.specs.declared.dialect.Dialect.TheVariants.{Python, C, Gnu, Chrono, Jiff, Ruby, Java, Go, Moment}
-use Rattle.timefd_lang_dialect.specs.declared.front.Step.{Step}
+use Rattle.timefd_lang_dialect.specs.declared.front.FrontStep.{FrontStep}
 use Rattle.timefd_lang_dialect.specs.declared.limits.Limits.{Limits}
 use Rattle.timefd_lang_dialect.specs.declared.row.Range.TheVariants.{Years0To9999}
 use Rattle.timefd_lang_dialect.specs.Dialects.{quoting_of}
@@ -274,7 +274,7 @@ run_within (suc n) dialect (b ∷ run) rest le all stops =
       within = more.within;
     }
 
-pub run_taken : (dialect : Dialect) (text run rest old new : Text) (step : Step)
+pub run_taken : (dialect : Dialect) (text run rest old new : Text) (step : FrontStep)
     → text ≡ run ++ rest → ZeroOrMore (is_plain dialect) run
     → StopsBefore (is_plain dialect) rest → IsUtf8 rest → 0 < length run → new ≡ old ++ run
     → step.rest.now ≡ rest → step.range ≡ Years0To9999 → TakesAll dialect text old new step

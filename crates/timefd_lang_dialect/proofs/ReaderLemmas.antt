@@ -3,7 +3,7 @@ use Rattle.std.proofs.Common.{ℕ, zero, suc, ◌≡◌, ◌<◌, ◌≤◌, ◌
 use Rattle.std.specs.List.{filter}
 use Rattle.timefd_lang_component.specs.Tree.{Text}
 use Rattle.timefd_lang_dialect.specs.declared.dialect.Dialect.{Dialect}
-use Rattle.timefd_lang_dialect.specs.declared.error.Refusal.{Refusal}
+use Rattle.timefd_lang_dialect.specs.declared.error.RefusedPart.{RefusedPart}
 use Rattle.timefd_lang_dialect.specs.declared.reading.Converted.{Converted}
 use Rattle.timefd_lang_dialect.specs.declared.reason.Reason.{Reason}
 use Rattle.timefd_lang_dialect.specs.Answers.{IsConverted}
@@ -62,7 +62,7 @@ converted_reads dialect text answer is converted e =
     e ∙ ap has_component converted.2
     ∙ sym (ap some_component ((pieces_law dialect text).meant converted.0 converted.1))
 
-pub refused_reads : (dialect : Dialect) (text : Text) (refusal : Refusal)
+pub refused_reads : (dialect : Dialect) (text : Text) (refusal : RefusedPart)
     → RefusedAt dialect text refusal.reason refusal.index → false ≡ reads text dialect
 refused_reads dialect text refusal at =
     sym (ap some_component ((pieces_law dialect text).refused refusal.reason refusal.index at))

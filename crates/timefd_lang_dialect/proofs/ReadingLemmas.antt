@@ -2,7 +2,7 @@
 use Rattle.std.proofs.Common.{◌≡◌, ◌≤◌, List, [], ◌∷◌, ◌++◌, append-nil, append_assoc, length, Result, Ok, Err, refl, sym, ap, ◌∙◌, subst, arith}
 use Rattle.timefd_lang_component.specs.Tree.{Text}
 use Rattle.timefd_lang_dialect.specs.declared.dialect.Dialect.{Dialect}
-use Rattle.timefd_lang_dialect.specs.declared.front.Step.{Step}
+use Rattle.timefd_lang_dialect.specs.declared.front.FrontStep.{FrontStep}
 use Rattle.timefd_lang_dialect.specs.declared.front.Stop.{Stop}
 use Rattle.timefd_lang_dialect.specs.declared.limits.Limits.{Limits}
 use Rattle.timefd_lang_dialect.specs.Limits.{all_limits, narrowed, limits_from}
@@ -39,7 +39,7 @@ limits_more limits (p ∷ ps) qs = limits_more (narrowed p.range limits) ps qs
 
 -- one piece
 
-one_taken : (dialect : Dialect) (text old new : Text) (step : Step)
+one_taken : (dialect : Dialect) (text old new : Text) (step : FrontStep)
     → Takes (front_of dialect text) text old new step → TakesAll dialect text old new step
 one_taken dialect text old new step one = record {
   taken = one.taken ∷ [];
@@ -49,7 +49,7 @@ one_taken dialect text old new step one = record {
   left = one.left;
 }
 
-pub gives_steps : (dialect : Dialect) (text old new : Text) (r : Result Step Stop)
+pub gives_steps : (dialect : Dialect) (text old new : Text) (r : Result FrontStep Stop)
     → GivesStep (front_of dialect text) text old new r → GivesSteps dialect text old new r
 gives_steps dialect text old new (Ok step) one = one_taken dialect text old new step one
 gives_steps dialect text old new (Err stop) one = one
@@ -59,7 +59,7 @@ pub nothing_read : (dialect : Dialect) (format : Text)
 nothing_read dialect format =
     record { pieces = []; leads = refl; written = refl; within = refl; left = omega arith }
 
-pub read_more : (dialect : Dialect) (format rest text next : Text) (limits : Limits) (step : Step)
+pub read_more : (dialect : Dialect) (format rest text next : Text) (limits : Limits) (step : FrontStep)
     → HasRead dialect format rest text limits → TakesAll dialect rest text next step
     → HasRead dialect format step.rest.now next (narrowed step.range limits)
 read_more dialect format rest text next limits step so_far more = record {

@@ -3,7 +3,7 @@ use Rattle.std.proofs.Common.{ℕ, ◌≡◌, ◌-◌, ◌<◌, ◌≤◌, ◌==
 use Rattle.std.proofs.lemmas.Bool.Decides.{nat_tests}
 use Rattle.timefd_lang_component.specs.Tree.{Text}
 use Rattle.timefd_lang_dialect.specs.declared.dialect.Dialect.{Dialect}
-use Rattle.timefd_lang_dialect.specs.declared.spot.Part.{Part}
+use Rattle.timefd_lang_dialect.specs.declared.spot.FormatPart.{FormatPart}
 use Rattle.timefd_lang_dialect.specs.declared.spot.Spot.{Spot}
 use Rattle.timefd_lang_dialect.specs.SpotSteps.{IsPart}
 use Rattle.timefd_lang_dialect.specs.Laws.{OneListOfTraps}
@@ -42,7 +42,7 @@ spots_more dialect len text (q ∷ ps) rest p splits =
     ∙ sym (append_assoc first (spots_of len q.rest ps)
     (spot_between p.role (len - length rest) (len - length p.rest)))
 
-pub more_spots : (dialect : Dialect) (format rest : Text) (spots next : List Spot) (part : Part)
+pub more_spots : (dialect : Dialect) (format rest : Text) (spots next : List Spot) (part : FormatPart)
     → HasSpots dialect format rest spots → 0 < length rest
     → IsPart (said_at dialect rest) rest part
     → next ≡ spots ++ spot_between part.role (length format - length rest)

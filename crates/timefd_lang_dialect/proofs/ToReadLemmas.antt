@@ -6,7 +6,7 @@ use Rattle.timefd_lang_component.specs.Tree.{Text}
 use Rattle.timefd_lang_dialect.specs.declared.dialect.Dialect.{Dialect}
 use Rattle.timefd_lang_dialect.specs.declared.error.DialectError.{DialectError}
 use Rattle.timefd_lang_dialect.specs.declared.error.DialectError.TheVariants.{Refused, Memory}
-use Rattle.timefd_lang_dialect.specs.declared.front.Step.{Step}
+use Rattle.timefd_lang_dialect.specs.declared.front.FrontStep.{FrontStep}
 use Rattle.timefd_lang_dialect.specs.declared.limits.Limits.{Limits}
 use Rattle.timefd_lang_dialect.specs.declared.reading.Converted.{Converted}
 use Rattle.timefd_lang_dialect.specs.declared.reason.Reason.{Reason}
@@ -50,7 +50,7 @@ nothing_to_read dialect format =
     record { pieces = []; leads = refl; written = refl; within = refl; left = omega arith }
 
 pub to_read_more : (dialect : Dialect) (format rest text next : Text) (limits : Limits)
-    (step : Step) → HasToRead dialect format rest text limits
+    (step : FrontStep) → HasToRead dialect format rest text limits
     → Takes (front_to_read dialect rest) rest text next step
     → HasToRead dialect format step.rest.now next (narrowed step.range limits)
 to_read_more dialect format rest text next limits step so_far one = record {

@@ -1,8 +1,8 @@
 -- Texts of version 3 as formats.
 use Rattle.std.specs.Prelude.{ℕ, ◌≡◌, ◌<◌, ◌+◌, true, List, ◌++◌, length, ⊤, string_bytes}
 use Rattle.timefd_lang_component.specs.Tree.{Text}
-use Rattle.timefd_lang_dialect.specs.declared.back.FormatError.{FormatError}
-use Rattle.timefd_lang_dialect.specs.declared.back.FormatError.TheVariants.{Lacking, Merged, Memory}
+use Rattle.timefd_lang_dialect.specs.declared.back.NoFormatError.{NoFormatError}
+use Rattle.timefd_lang_dialect.specs.declared.back.NoFormatError.TheVariants.{Lacking, Merged, Memory}
 use Rattle.timefd_lang_dialect.specs.declared.dialect.Dialect.{Dialect}
 use Rattle.timefd_lang_dialect.specs.declared.reading.Converted.{Converted}
 use Rattle.timefd_lang_dialect.specs.Asked.{AsksTo, AsksFor, ends_literal}
@@ -38,7 +38,7 @@ abbrev pub IsMerged : Dialect → Text → Type 0
 IsMerged dialect description =
     (format : Text) × AsksFor dialect description format × ¬ (MeansText dialect format description)
 
-abbrev pub IsLackIn : Dialect → Text → FormatError → Type 0
+abbrev pub IsLackIn : Dialect → Text → NoFormatError → Type 0
 IsLackIn dialect description (Lacking index) = LacksAt dialect description index
 IsLackIn dialect description Merged = IsMerged dialect description
 IsLackIn dialect description (Memory e) = ⊤

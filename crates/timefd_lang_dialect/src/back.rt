@@ -14,7 +14,7 @@ use std::alloc::{AllocError, Global};
 
 /// Why a text of version 3 has no format.
 #[derive(Debug, Clone, Copy)]
-pub enum FormatError {
+pub enum NoFormatError {
     /// The language has no directive for the bracket that begins at this index, in bytes.
     Lacking(usize),
     /// The dialect would read the format otherwise: directives or literals run into one another.
@@ -23,14 +23,14 @@ pub enum FormatError {
     Memory(AllocError),
 }
 
-impl From<AllocError> for FormatError {
+impl From<AllocError> for NoFormatError {
     ghost use Rattle.std.specs.Prelude.{◌≡◌};
-    ghost use Rattle.timefd_lang_dialect.specs.declared.back.FormatError.TheVariants.{Memory};
+    ghost use Rattle.timefd_lang_dialect.specs.declared.back.NoFormatError.TheVariants.{Memory};
 
     ghost from_gives = { λ e error. error ≡ Memory e };
 
     fn from(error: AllocError) -> Self {
-        FormatError::Memory(error)
+        NoFormatError::Memory(error)
     }
 }
 
@@ -45,7 +45,7 @@ pub fn from_version_three(
     alloc: Global,
     dialect: Dialect,
     description: &str,
-) -> Result<Converted, FormatError>
+) -> Result<Converted, NoFormatError>
     // The format means just this text, so `to_version_three` gives it back, with the same items.
     ensures format { IfOk result (spec.IsFormatOf dialect description.now) }
     ensures same_items { IfOk result (λ answer. IsSpelledBy dialect (string_bytes answer.text)
@@ -62,8 +62,8 @@ pub fn from_version_three(
     let format = format_of(alloc, dialect, description)?;
     let converted = match to_version_three(alloc, dialect, format.as_str()) {
         Ok(converted) => converted,
-        Err(DialectError::Refused(_)) => return Err(FormatError::Merged),
-        Err(DialectError::Memory(error)) => return Err(FormatError::Memory(error)),
+        Err(DialectError::Refused(_)) => return Err(NoFormatError::Merged),
+        Err(DialectError::Memory(error)) => return Err(NoFormatError::Memory(error)),
     };
     if converted.text.as_str() == description {
         Ok(Converted {
@@ -71,6 +71,6 @@ pub fn from_version_three(
             limits: converted.limits,
         })
     } else {
-        Err(FormatError::Merged)
+        Err(NoFormatError::Merged)
     }
 }

@@ -5,7 +5,7 @@ use std::alloc::AllocError;
 
 /// The part of a format that has no text of version 3.
 #[derive(Clone, Copy)]
-pub struct Refusal {
+pub struct RefusedPart {
     /// Why the part has none.
     pub reason: Reason,
     /// Where the part begins in the format: an index in bytes.
@@ -16,7 +16,7 @@ pub struct Refusal {
 #[derive(Clone, Copy)]
 pub enum DialectError {
     /// A part of the format has no text of version 3.
-    Refused(Refusal),
+    Refused(RefusedPart),
     /// Memory ran out.
     Memory(AllocError),
 }

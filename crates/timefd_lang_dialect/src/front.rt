@@ -22,7 +22,7 @@ use timefd_language::text::tail;
 
 /// What follows a piece, and for which moments the text of the piece writes the same.
 #[derive(Clone, Copy)]
-pub struct Step<'a> {
+pub struct FrontStep<'a> {
     pub rest: &'a str,
     pub range: Range,
 }
@@ -53,7 +53,7 @@ pub fn push_pieces<'a>(
     answer: &mut String,
     dialect: Dialect,
     text: &'a str,
-) -> Result<Step<'a>, Stop>
+) -> Result<FrontStep<'a>, Stop>
     requires { 0 < length text.now }
     ensures { GivesSteps dialect text.now (string_bytes answer.old) (string_bytes answer.new) result }
 {
@@ -70,7 +70,7 @@ pub fn push_front<'a>(
     answer: &mut String,
     dialect: Dialect,
     text: &'a str,
-) -> Result<Step<'a>, Stop>
+) -> Result<FrontStep<'a>, Stop>
     requires { 0 < length text.now }
     ensures { GivesStep (front_of dialect text.now) text.now (string_bytes answer.old)
         (string_bytes answer.new) result }
@@ -87,7 +87,7 @@ pub fn push_front<'a>(
 }
 
 /// Appends what is quoted after an opening apostrophe, and returns the rest.
-fn push_apostrophes<'a>(answer: &mut String, after: &'a str) -> Result<Step<'a>, Stop>
+fn push_apostrophes<'a>(answer: &mut String, after: &'a str) -> Result<FrontStep<'a>, Stop>
     ensures { GivesStep (front_quotation (quotation after.now)) (apostrophe ∷ after.now)
         (string_bytes answer.old) (string_bytes answer.new) result }
 {
@@ -102,7 +102,11 @@ fn push_apostrophes<'a>(answer: &mut String, after: &'a str) -> Result<Step<'a>,
 }
 
 /// Appends what is quoted between brackets, or else the longest row or a character.
-fn push_brackets<'a>(answer: &mut String, dialect: Dialect, text: &'a str) -> Result<Step<'a>, Stop>
+fn push_brackets<'a>(
+    answer: &mut String,
+    dialect: Dialect,
+    text: &'a str,
+) -> Result<FrontStep<'a>, Stop>
     requires there { 0 < length text.now }
     requires quoting { quoting_of dialect ≡ Quoting.Brackets }
     ensures { GivesStep (front_of dialect text.now) text.now (string_bytes answer.old)
@@ -121,7 +125,7 @@ fn push_brackets<'a>(answer: &mut String, dialect: Dialect, text: &'a str) -> Re
 }
 
 /// Appends what the longest row at the front of the text means, or else the first character.
-fn push_row<'a>(answer: &mut String, dialect: Dialect, text: &'a str) -> Result<Step<'a>, Stop>
+fn push_row<'a>(answer: &mut String, dialect: Dialect, text: &'a str) -> Result<FrontStep<'a>, Stop>
     requires { 0 < length text.now }
     ensures { GivesStep (front_row (longest_row (rows_of dialect) text.now) text.now) text.now
         (string_bytes answer.old) (string_bytes answer.new) result }
@@ -139,7 +143,7 @@ fn push_row<'a>(answer: &mut String, dialect: Dialect, text: &'a str) -> Result<
 }
 
 /// Appends what a row at the front of the text means.
-fn push_verdict<'a>(answer: &mut String, row: &Row, text: &'a str) -> Result<Step<'a>, Stop>
+fn push_verdict<'a>(answer: &mut String, row: &Row, text: &'a str) -> Result<FrontStep<'a>, Stop>
     requires there { 0 < length row.now.text.now }
     requires stands { stands (entry_of row.now) text.now ≡ true }
     ensures { GivesStep (front_meant (meaning_of row.now.verdict)
@@ -150,7 +154,7 @@ fn push_verdict<'a>(answer: &mut String, row: &Row, text: &'a str) -> Result<Ste
         Verdict::Refused(reason) => Err(Stop::Refused(reason)),
         Verdict::Written(written, range) => {
             answer.push_str(written)?;
-            Ok(Step {
+            Ok(FrontStep {
                 rest: after_row(row, text),
                 range,
             })
@@ -181,10 +185,10 @@ pub fn after_literal<'a>(text: &'a str, literal: &str) -> Option<&'a str>
 }
 
 /// A step past a literal, which writes the same at every moment.
-fn whole(rest: &str) -> Step<'_>
+fn whole(rest: &str) -> FrontStep<'_>
     ensures { (result.rest.now ≡ rest.now) × (result.range ≡ Range.Years0To9999) }
 {
-    Step {
+    FrontStep {
         rest,
         range: Range::Years0To9999,
     }

@@ -27,9 +27,9 @@ mod trap;
 mod trapping;
 mod writing;
 
-pub use back::{FormatError, from_version_three};
+pub use back::{NoFormatError, from_version_three};
 pub use dialect::Dialect;
-pub use error::{DialectError, Refusal};
+pub use error::{DialectError, RefusedPart};
 pub use limits::Limits;
 pub use readable::readers;
 pub use reading::{Converted, to_version_three};

@@ -8,7 +8,7 @@ ghost use Rattle.timefd_lang_dialect.specs.Reading.{Means, Piece, RefusedAt, tex
 ghost use Rattle.timefd_lang_dialect.specs.declared.reason.Reason.{Reason};
 
 use crate::dialect::Dialect;
-use crate::error::{DialectError, Refusal};
+use crate::error::{DialectError, RefusedPart};
 use crate::front::{Stop, push_pieces};
 use crate::limits::Limits;
 use std::alloc::Global;
@@ -64,7 +64,7 @@ fn text_of_format(alloc: Global, dialect: Dialect, format: &str) -> Result<Conve
                 limits = limits.narrowed(step.range);
                 rest = step.rest;
             }
-            Err(Stop::Refused(reason)) => return Err(DialectError::Refused(Refusal {
+            Err(Stop::Refused(reason)) => return Err(DialectError::Refused(RefusedPart {
                 reason,
                 index: format.len() - rest.len(),
             })),

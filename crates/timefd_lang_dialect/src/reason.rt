@@ -50,7 +50,7 @@ pub enum Reason {
     Reserved,
     /// No pattern repeats this letter so often.
     TooManyLetters,
-    /// It reads two digits of a year, which tell no century.
+    /// It reads two digits of a year, which leave the century open.
     TwoDigitYear,
     /// It writes a weekday in two letters.
     TwoLetterName,
@@ -62,7 +62,7 @@ pub enum Reason {
     UnknownDirective,
     /// The letter has no meaning and isn't quoted.
     UnknownLetter,
-    /// Libraries differ in what it means, or have it not.
+    /// Libraries differ in what it means, or lack it.
     Unsupported,
     /// It writes as many digits of a fraction as it has, or none.
     VariableFraction,
@@ -153,13 +153,13 @@ impl Reason {
             Reason::ReadingOnly => "it can be read, and not be written",
             Reason::Reserved => "the character is reserved",
             Reason::TooManyLetters => "no pattern repeats this letter so often",
-            Reason::TwoDigitYear => "it reads two digits of a year, which tell no century",
+            Reason::TwoDigitYear => "it reads two digits of a year, which leave the century open",
             Reason::TwoLetterName => "it writes a weekday in two letters",
             Reason::UnclosedQuote => "no quote closes this one",
             Reason::UnitOfDay => "it counts milliseconds or nanoseconds from midnight on",
             Reason::UnknownDirective => "the dialect has no such directive",
             Reason::UnknownLetter => "the letter has no meaning and isn't quoted",
-            Reason::Unsupported => "libraries differ in what it means, or have it not",
+            Reason::Unsupported => "libraries differ in what it means, or lack it",
             Reason::VariableFraction => "it writes as many digits of a fraction as it has, or none",
             Reason::VariableOffset => "it writes as much of an offset as there is",
             Reason::VariableWidth => "its width depends on the value",

@@ -9,7 +9,7 @@ ghost use Rattle.timefd_lang_dialect.specs.BackSteps.{IsAfter};
 ghost use Rattle.timefd_lang_dialect.specs.Best.{own_text, writes};
 ghost use Rattle.timefd_lang_dialect.specs.Rows.{entry_of, meaning_of};
 
-use crate::back::FormatError;
+use crate::back::NoFormatError;
 use crate::character::first_char;
 use crate::dialect::Dialect;
 use crate::front::after_literal;
@@ -22,7 +22,11 @@ use timefd_language::text::tail;
 
 /// The format that a text of version 3 asks for. The caller checks what the format means.
 #[tactic(auto, using(crate::proofs::FormatLemmas::nothing_asked, crate::proofs::FormatLemmas::row_more, crate::proofs::FormatLemmas::literal_more, crate::proofs::FormatLemmas::all_asked, crate::proofs::FormatLemmas::lacking))]
-pub fn format_of(alloc: Global, dialect: Dialect, description: &str) -> Result<String, FormatError>
+pub fn format_of(
+    alloc: Global,
+    dialect: Dialect,
+    description: &str,
+) -> Result<String, NoFormatError>
     ensures asked { IfOk result (λ format. spec.AsksFor dialect description.now
         (string_bytes format)) }
     ensures fault { IfErr result (IsLackIn dialect description.now) }
@@ -32,7 +36,7 @@ pub fn format_of(alloc: Global, dialect: Dialect, description: &str) -> Result<S
     'parts: while !rest.is_empty() {
         if ends_literal(rest) {
             let Some(row) = row_writing(dialect, rest) else {
-                return Err(FormatError::Lacking(description.len() - rest.len()));
+                return Err(NoFormatError::Lacking(description.len() - rest.len()));
             };
             format.push_str(row.text)?;
             rest = after_written(row, rest);

@@ -30,7 +30,7 @@ pub struct Spot {
 
 /// A part of a format, and what follows it.
 #[derive(Clone, Copy)]
-pub struct Part<'a> {
+pub struct FormatPart<'a> {
     /// What the part says, if it is a directive.
     pub role: Option<Role>,
     /// What follows the part.
@@ -70,7 +70,11 @@ fn push_spot(
 }
 
 /// The part at the front of a text. The buffer is overwritten with what is quoted there.
-fn part_at<'a>(quoted: &mut String, dialect: Dialect, text: &'a str) -> Result<Part<'a>, AllocError>
+fn part_at<'a>(
+    quoted: &mut String,
+    dialect: Dialect,
+    text: &'a str,
+) -> Result<FormatPart<'a>, AllocError>
     requires { 0 < length text.now }
     ensures { IfOk result (IsPart (spec.said_at dialect text.now) text.now) }
 {
@@ -86,7 +90,7 @@ fn part_at<'a>(quoted: &mut String, dialect: Dialect, text: &'a str) -> Result<P
 }
 
 /// What is quoted after an opening apostrophe.
-fn quotation_part<'a>(quoted: &mut String, after: &'a str) -> Result<Part<'a>, AllocError>
+fn quotation_part<'a>(quoted: &mut String, after: &'a str) -> Result<FormatPart<'a>, AllocError>
     ensures { IfOk result (IsPart (spec.said_quotation (quotation after.now))
         (apostrophe ∷ after.now)) }
 {
@@ -98,7 +102,7 @@ fn quotation_part<'a>(quoted: &mut String, after: &'a str) -> Result<Part<'a>, A
 }
 
 /// What is quoted between brackets, or else the longest row or a character.
-fn bracket_part(dialect: Dialect, text: &str) -> Part<'_>
+fn bracket_part(dialect: Dialect, text: &str) -> FormatPart<'_>
     requires there { 0 < length text.now }
     requires quoting { quoting_of dialect ≡ Quoting.Brackets }
     ensures { IsPart (spec.said_at dialect text.now) text.now result }
@@ -113,13 +117,13 @@ fn bracket_part(dialect: Dialect, text: &str) -> Part<'_>
 }
 
 /// The longest row at the front of a text, or else the first character.
-fn row_part(dialect: Dialect, text: &str) -> Part<'_>
+fn row_part(dialect: Dialect, text: &str) -> FormatPart<'_>
     requires { 0 < length text.now }
     ensures { IsPart (spec.said_row dialect (longest_row (rows_of dialect) text.now) text.now)
         text.now result }
 {
     match longest(dialect, text) {
-        Some(row) => Part {
+        Some(row) => FormatPart {
             role: Some(role_of(dialect, row)),
             rest: after_row(row, text),
         },
@@ -131,8 +135,8 @@ fn row_part(dialect: Dialect, text: &str) -> Part<'_>
 }
 
 /// A literal that this rest follows.
-fn literal_before(rest: &str) -> Part<'_>
+fn literal_before(rest: &str) -> FormatPart<'_>
     ensures { (result.role ≡ None) × (result.rest.now ≡ rest.now) }
 {
-    Part { role: None, rest }
+    FormatPart { role: None, rest }
 }

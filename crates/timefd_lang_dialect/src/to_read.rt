@@ -11,8 +11,8 @@ ghost use Rattle.timefd_lang_dialect.specs.ToRead.{IsToRead, IsUnreadFor, ReadsB
 ghost use Rattle.timefd_lang_dialect.specs.declared.reason.Reason.{Reason};
 
 use crate::dialect::Dialect;
-use crate::error::{DialectError, Refusal};
-use crate::front::{Step, Stop, push_front};
+use crate::error::{DialectError, RefusedPart};
+use crate::front::{FrontStep, Stop, push_front};
 use crate::limits::Limits;
 use crate::reading::Converted;
 use crate::row::{Row, Verdict};
@@ -57,7 +57,7 @@ fn text_to_read(alloc: Global, dialect: Dialect, format: &str) -> Result<Convert
                 limits = limits.narrowed(step.range);
                 rest = step.rest;
             }
-            Err(Stop::Refused(reason)) => return Err(DialectError::Refused(Refusal {
+            Err(Stop::Refused(reason)) => return Err(DialectError::Refused(RefusedPart {
                 reason,
                 index: format.len() - rest.len(),
             })),
@@ -73,7 +73,7 @@ fn push_front_to_read<'a>(
     answer: &mut String,
     dialect: Dialect,
     text: &'a str,
-) -> Result<Step<'a>, Stop>
+) -> Result<FrontStep<'a>, Stop>
     requires { 0 < length text.now }
     ensures { GivesStep (front_to_read dialect text.now) text.now (string_bytes answer.old)
         (string_bytes answer.new) result }
@@ -89,7 +89,7 @@ fn push_front_to_read<'a>(
             Verdict::Refused(reason) => Err(Stop::Refused(reason)),
             Verdict::Written(read, range) => {
                 answer.push_str(read)?;
-                Ok(Step {
+                Ok(FrontStep {
                     rest: step.rest,
                     range,
                 })

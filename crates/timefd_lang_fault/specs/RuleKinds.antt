@@ -23,7 +23,9 @@ abbrev pub rule_kind : Rule → Kind
 rule_kind rules.UnclosedBracket = unclosed_bracket
 rule_kind (rules.UnknownName name) = invalid_name name.now
 rule_kind (rules.UnknownLetter letter) = invalid_name letter.now
-rule_kind (rules.InvalidModifier value wanted) = invalid_modifier value.now
+rule_kind (rules.InvalidModifier word) = invalid_modifier word.now
+rule_kind (rules.UnknownKey word name) = invalid_modifier word.now
+rule_kind (rules.UnknownValue word key) = invalid_modifier word.now
 rule_kind rules.MissingName = missing_name
 rule_kind (rules.MissingModifier key) = missing_modifier key.now
 rule_kind rules.InvalidEscape = expected_escape

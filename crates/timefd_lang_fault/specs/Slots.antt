@@ -21,5 +21,24 @@ context_of refusers.LastTwo = codes "when `repr:last_two` is used"
 -- what should have been there, as the rule says that is broken
 abbrev pub wanted_by : Rule → Option Slot
 wanted_by (rules.UnknownName name) = Some slots.Name
-wanted_by (rules.InvalidModifier word wanted) = wanted
-wanted_by rule = None
+wanted_by (rules.UnknownKey word name) = Some (slots.Key name)
+wanted_by (rules.UnknownValue word key) = Some (slots.Value key)
+wanted_by (rules.UnknownLetter letter) = None
+wanted_by (rules.InvalidModifier word) = None
+wanted_by rules.UnclosedBracket = None
+wanted_by rules.MissingName = None
+wanted_by (rules.MissingModifier key) = None
+wanted_by rules.InvalidEscape = None
+wanted_by rules.UnescapedBracket = None
+wanted_by rules.MissingSpace = None
+wanted_by rules.MissingDescription = None
+wanted_by rules.MissingAlternative = None
+wanted_by rules.NestedTooDeep = None
+wanted_by rules.SeveralDescriptions = None
+wanted_by rules.OptionalItem = None
+wanted_by rules.FirstItem = None
+wanted_by rules.UnsupportedFlag = None
+wanted_by rules.UnsupportedLetter = None
+wanted_by rules.NestedInComponent = None
+wanted_by (rules.DuplicateModifier key) = None
+wanted_by (rules.RefusedModifier key refuser) = None

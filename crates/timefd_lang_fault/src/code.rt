@@ -57,7 +57,9 @@ impl Code {
         match rule {
             Rule::UnclosedBracket => Code::UnclosedBracket,
             Rule::UnknownName(_) | Rule::UnknownLetter(_) => Code::UnknownName,
-            Rule::InvalidModifier(_, _) => Code::InvalidModifier,
+            Rule::InvalidModifier(_) | Rule::UnknownKey(_, _) | Rule::UnknownValue(_, _) => {
+                Code::InvalidModifier
+            }
             Rule::MissingName => Code::MissingName,
             Rule::MissingModifier(_) => Code::MissingModifier,
             Rule::InvalidEscape => Code::InvalidEscape,

@@ -4,6 +4,8 @@ ghost use Rattle.std.specs.Prelude.{◌≡◌};
 ghost use Rattle.timefd_lang_fault.specs.RuleKinds.{kind_of, rule_kind};
 ghost use Rattle.timefd_lang_fault.specs.Slots.{wanted_by};
 
+use crate::key::Key;
+use crate::name::Name;
 use crate::refuser::Refuser;
 use crate::slot::Slot;
 
@@ -16,9 +18,14 @@ pub enum Rule<'a> {
     UnknownName(&'a str),
     /// A letter of strftime is one of its table. This is what is there instead.
     UnknownLetter(&'a str),
-    /// A modifier is a key of its component, a colon and a value. This is what isn't, and what it
-    /// should have been, if the name before it and the key of a value are known.
-    InvalidModifier(&'a str, Option<Slot>),
+    /// A modifier is a key, a colon and a value. This is what isn't, where the name of the bracket or
+    /// the key isn't known.
+    InvalidModifier(&'a str),
+    /// A key is one of those that its component takes. This is the word that is there instead, and the
+    /// name of the bracket.
+    UnknownKey(&'a str, Name),
+    /// A value is one of those of its key. This is the word that is there instead, and the key.
+    UnknownValue(&'a str, Key),
     /// A bracket has a name.
     MissingName,
     /// A component has each modifier that it needs. This is the key of the missing one.
@@ -62,7 +69,9 @@ impl<'a> Rule<'a> {
             Rule::UnclosedBracket => FaultKind::UnclosedBracket,
             Rule::UnknownName(name) => FaultKind::InvalidName(name),
             Rule::UnknownLetter(letter) => FaultKind::InvalidName(letter),
-            Rule::InvalidModifier(word, _) => FaultKind::InvalidModifier(word),
+            Rule::InvalidModifier(word) => FaultKind::InvalidModifier(word),
+            Rule::UnknownKey(word, _) => FaultKind::InvalidModifier(word),
+            Rule::UnknownValue(word, _) => FaultKind::InvalidModifier(word),
             Rule::MissingName => FaultKind::MissingName,
             Rule::MissingModifier(key) => FaultKind::MissingModifier(key),
             Rule::InvalidEscape => FaultKind::Expected("valid escape sequence"),
@@ -103,8 +112,10 @@ impl<'a> Rule<'a> {
     {
         match self {
             Rule::UnknownName(_) => Some(Slot::Name),
-            Rule::InvalidModifier(_, wanted) => wanted,
+            Rule::UnknownKey(_, name) => Some(Slot::Key(name)),
+            Rule::UnknownValue(_, key) => Some(Slot::Value(key)),
             Rule::UnknownLetter(_)
+            | Rule::InvalidModifier(_)
             | Rule::UnclosedBracket
             | Rule::MissingName
             | Rule::MissingModifier(_)

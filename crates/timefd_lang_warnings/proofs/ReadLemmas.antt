@@ -6,7 +6,7 @@ use Rattle.timefd_date_moment.specs.declared.fields.fields.Signed.{Signed}
 use Rattle.timefd_date_moment.specs.declared.reading.part.DatePart.{DatePart}
 use Rattle.timefd_date_moment.specs.Reading.Ways.{calendar, ordinal, iso_week, sunday_week, monday_week, or_else, lack, unless}
 use Rattle.timefd_date_moment.specs.Reading.Years.{years_read}
-use Rattle.timefd_lang_warnings.specs.declared.field.Field.{Field}
+use Rattle.timefd_lang_warnings.specs.declared.field.ShownField.{ShownField}
 use Rattle.timefd_lang_warnings.specs.Dates.{shows_month, shows_weekday}
 use Rattle.timefd_lang_warnings.specs.Reads.{IsReadOf, DeterminedAsRead}
 use Rattle.timefd_lang_warnings.specs.Sought.{shows}
@@ -128,7 +128,7 @@ determined_as_read ts f read =
     (rw read.iso_year (rw read.iso_century (rw read.iso_year_last_two
     (rw read.month (rw read.day (rw read.ordinal (rw read.weekday
     (rw read.iso_week (rw read.sunday_week (rw read.monday_week
-    (determined (shows Field.Year ts || (shows Field.Century ts && shows Field.YearLastTwo ts))
-    (shows Field.IsoYear ts || (shows Field.IsoCentury ts && shows Field.IsoYearLastTwo ts))
-    (shows_month ts) (shows Field.Day ts) (shows Field.Ordinal ts) (shows Field.IsoWeek ts)
-    (shows_weekday ts) (shows Field.SundayWeek ts) (shows Field.MondayWeek ts)))))))))))))))))
+    (determined (shows ShownField.Year ts || (shows ShownField.Century ts && shows ShownField.YearLastTwo ts))
+    (shows ShownField.IsoYear ts || (shows ShownField.IsoCentury ts && shows ShownField.IsoYearLastTwo ts))
+    (shows_month ts) (shows ShownField.Day ts) (shows ShownField.Ordinal ts) (shows ShownField.IsoWeek ts)
+    (shows_weekday ts) (shows ShownField.SundayWeek ts) (shows ShownField.MondayWeek ts)))))))))))))))))

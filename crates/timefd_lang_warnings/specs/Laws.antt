@@ -6,7 +6,7 @@ use Rattle.timefd_lang_component.specs.declared.component.Component.TheVariants.
 use Rattle.timefd_lang_component.specs.Tree.{Tree, component, literal}
 use Rattle.timefd_lang_warnings.specs.declared.warning.Warning.{Warning}
 use Rattle.timefd_lang_warnings.specs.declared.warning.Warning.TheVariants.{NoComponent, OtherLanguage, MonthForMinute, MinuteForMonth, HourWithoutPeriod, PeriodWithHour24, SubsecondWithoutSecond, WeekWithCalendarYear, DateWithIsoYear, ShownTwice, UndeterminedDate, UnsettledWidth, UnsettledYear, DeprecatedComponent}
-use Rattle.timefd_lang_warnings.specs.declared.warned.Style.{Style}
+use Rattle.timefd_lang_warnings.specs.declared.warned.LanguageStyle.{LanguageStyle}
 use Rattle.timefd_lang_warnings.specs.Warns.{warns}
 
 -- Parts with their defaults.
@@ -63,44 +63,44 @@ abbrev old_hour : Tree
 old_hour = component (Hour (record { padding = Padding.Zero; is_12_hour_clock = false }))
 
 -- the first has the warning, and the second doesn't
-abbrev pub Tells : Style → Warning → List Tree → List Tree → Type 0
-Tells style w suspect clear = (warns style w suspect ≡ true) × (warns style w clear ≡ false)
+abbrev pub Distinguishes : LanguageStyle → Warning → List Tree → List Tree → Type 0
+Distinguishes style w suspect clear = (warns style w suspect ≡ true) × (warns style w clear ≡ false)
 
 -- `%Y` and `[year]`; `[year]` in strftime; `100%` and a year
 abbrev pub TextExamples : Type 0
 TextExamples =
-    Tells Style.Brackets NoComponent (literal (codes "%Y") ∷ []) (year ∷ [])
-    × Tells Style.Brackets OtherLanguage (literal (codes "%Y-") ∷ month ∷ []) (literal (codes "100% ") ∷ year ∷ [])
-    × Tells Style.Percents OtherLanguage (literal (codes "[year]") ∷ []) (literal (codes "[") ∷ year ∷ [])
-    × Tells Style.Brackets DeprecatedComponent (old_hour ∷ []) (hour ∷ [])
+    Distinguishes LanguageStyle.Brackets NoComponent (literal (codes "%Y") ∷ []) (year ∷ [])
+    × Distinguishes LanguageStyle.Brackets OtherLanguage (literal (codes "%Y-") ∷ month ∷ []) (literal (codes "100% ") ∷ year ∷ [])
+    × Distinguishes LanguageStyle.Percents OtherLanguage (literal (codes "[year]") ∷ []) (literal (codes "[") ∷ year ∷ [])
+    × Distinguishes LanguageStyle.Brackets DeprecatedComponent (old_hour ∷ []) (hour ∷ [])
 
 -- `[hour]:[month]` and `[hour]:[minute]`; `[year]-[minute]` and `[year]-[month]`; `[hour repr:12]` alone and
 -- with `[period]`; `[hour] [period]` and `[hour repr:12] [period]`; `[minute].[subsecond]` and
 -- `[second].[subsecond]`, `[unix_timestamp].[subsecond]`
 abbrev pub ClockExamples : Type 0
 ClockExamples =
-    Tells Style.Brackets MonthForMinute (hour ∷ literal (codes ":") ∷ month ∷ []) (hour ∷ literal (codes ":") ∷ minute ∷ [])
-    × Tells Style.Brackets MinuteForMonth (year ∷ literal (codes "-") ∷ minute ∷ []) (year ∷ literal (codes "-") ∷ month ∷ [])
-    × Tells Style.Brackets HourWithoutPeriod (hour_12 ∷ []) (hour_12 ∷ literal (codes " ") ∷ period ∷ [])
-    × Tells Style.Brackets PeriodWithHour24 (hour ∷ period ∷ []) (hour_12 ∷ period ∷ [])
-    × Tells Style.Brackets SubsecondWithoutSecond (minute ∷ literal (codes ".") ∷ subsecond ∷ []) (second ∷ literal (codes ".") ∷ subsecond ∷ [])
-    × Tells Style.Brackets SubsecondWithoutSecond (subsecond ∷ []) (timestamp ∷ literal (codes ".") ∷ subsecond ∷ [])
+    Distinguishes LanguageStyle.Brackets MonthForMinute (hour ∷ literal (codes ":") ∷ month ∷ []) (hour ∷ literal (codes ":") ∷ minute ∷ [])
+    × Distinguishes LanguageStyle.Brackets MinuteForMonth (year ∷ literal (codes "-") ∷ minute ∷ []) (year ∷ literal (codes "-") ∷ month ∷ [])
+    × Distinguishes LanguageStyle.Brackets HourWithoutPeriod (hour_12 ∷ []) (hour_12 ∷ literal (codes " ") ∷ period ∷ [])
+    × Distinguishes LanguageStyle.Brackets PeriodWithHour24 (hour ∷ period ∷ []) (hour_12 ∷ period ∷ [])
+    × Distinguishes LanguageStyle.Brackets SubsecondWithoutSecond (minute ∷ literal (codes ".") ∷ subsecond ∷ []) (second ∷ literal (codes ".") ∷ subsecond ∷ [])
+    × Distinguishes LanguageStyle.Brackets SubsecondWithoutSecond (subsecond ∷ []) (timestamp ∷ literal (codes ".") ∷ subsecond ∷ [])
 
 -- `[year]-W[week_number]` and with `base:iso_week`; `[year base:iso_week]-[month]` and `[year]-[month]`;
 -- `[month]/[month]` and `[month repr:short] ([month])`; `[month]/[day]` and `[year]/[month]/[day]`, or an ISO
 -- year, week and weekday
 abbrev pub DateExamples : Type 0
 DateExamples =
-    Tells Style.Brackets WeekWithCalendarYear (year ∷ literal (codes "-W") ∷ week ∷ []) (iso_year ∷ literal (codes "-W") ∷ week ∷ [])
-    × Tells Style.Brackets DateWithIsoYear (iso_year ∷ literal (codes "-") ∷ month ∷ []) (year ∷ literal (codes "-") ∷ month ∷ [])
-    × Tells Style.Brackets ShownTwice (month ∷ literal (codes "/") ∷ month ∷ []) (month_name ∷ literal (codes " ") ∷ month ∷ [])
-    × Tells Style.Brackets UndeterminedDate (month ∷ literal (codes "/") ∷ day ∷ []) (year ∷ month ∷ day ∷ [])
-    × Tells Style.Brackets UndeterminedDate (iso_year ∷ week ∷ []) (iso_year ∷ week ∷ weekday ∷ [])
-    × Tells Style.Brackets UndeterminedDate (weekday ∷ []) (hour ∷ minute ∷ [])
+    Distinguishes LanguageStyle.Brackets WeekWithCalendarYear (year ∷ literal (codes "-W") ∷ week ∷ []) (iso_year ∷ literal (codes "-W") ∷ week ∷ [])
+    × Distinguishes LanguageStyle.Brackets DateWithIsoYear (iso_year ∷ literal (codes "-") ∷ month ∷ []) (year ∷ literal (codes "-") ∷ month ∷ [])
+    × Distinguishes LanguageStyle.Brackets ShownTwice (month ∷ literal (codes "/") ∷ month ∷ []) (month_name ∷ literal (codes " ") ∷ month ∷ [])
+    × Distinguishes LanguageStyle.Brackets UndeterminedDate (month ∷ literal (codes "/") ∷ day ∷ []) (year ∷ month ∷ day ∷ [])
+    × Distinguishes LanguageStyle.Brackets UndeterminedDate (iso_year ∷ week ∷ []) (iso_year ∷ week ∷ weekday ∷ [])
+    × Distinguishes LanguageStyle.Brackets UndeterminedDate (weekday ∷ []) (hour ∷ minute ∷ [])
 
 -- `[month padding:none][day]` and with a hyphen between; `[year range:extended][month]` and `[year][month]`
 abbrev pub WidthExamples : Type 0
 WidthExamples =
-    Tells Style.Brackets UnsettledWidth (bare_month ∷ day ∷ []) (bare_month ∷ literal (codes "-") ∷ day ∷ [])
-    × Tells Style.Brackets UnsettledWidth (subsecond ∷ literal (codes "0") ∷ []) (subsecond ∷ literal (codes "Z") ∷ [])
-    × Tells Style.Brackets UnsettledYear (long_year ∷ month ∷ []) (year ∷ month ∷ [])
+    Distinguishes LanguageStyle.Brackets UnsettledWidth (bare_month ∷ day ∷ []) (bare_month ∷ literal (codes "-") ∷ day ∷ [])
+    × Distinguishes LanguageStyle.Brackets UnsettledWidth (subsecond ∷ literal (codes "0") ∷ []) (subsecond ∷ literal (codes "Z") ∷ [])
+    × Distinguishes LanguageStyle.Brackets UnsettledYear (long_year ∷ month ∷ []) (year ∷ month ∷ [])

@@ -4,7 +4,7 @@ use Rattle.timefd_lang_component.specs.Tree.{Tree}
 use Rattle.timefd_lang_warnings.specs.declared.levels.Level.{Level}
 use Rattle.timefd_lang_warnings.specs.declared.levels.Level.TheVariants.{Allowed, Warned, Denied}
 use Rattle.timefd_lang_warnings.specs.declared.levels.Levels.{Levels}
-use Rattle.timefd_lang_warnings.specs.declared.warned.Style.{Style}
+use Rattle.timefd_lang_warnings.specs.declared.warned.LanguageStyle.{LanguageStyle}
 use Rattle.timefd_lang_warnings.specs.declared.warning.Warning.{Warning}
 use Rattle.timefd_lang_warnings.specs.declared.warning.Warning.TheVariants.{NoComponent, OtherLanguage, MonthForMinute, MinuteForMonth, HourWithoutPeriod, PeriodWithHour24, SubsecondWithoutSecond, WeekWithCalendarYear, DateWithIsoYear, ShownTwice, UndeterminedDate, UnsettledWidth, UnsettledYear, DeprecatedComponent}
 use Rattle.timefd_lang_warnings.specs.Codes.{all}
@@ -65,10 +65,10 @@ with_level l UnsettledYear level = record l { unsettled_year = level }
 with_level l DeprecatedComponent level = record l { deprecated_component = level }
 
 -- the level of a warning if a description with these parts has it, and `Allowed` otherwise
-abbrev pub found_at : Levels → Style → List Tree → Warning → Level
+abbrev pub found_at : Levels → LanguageStyle → List Tree → Warning → Level
 found_at levels style ts w = if warns style w ts then level_of levels w else Allowed
 
-abbrev pub found : Levels → Style → List Tree → Levels
+abbrev pub found : Levels → LanguageStyle → List Tree → Levels
 found levels style ts = by (found_at levels style ts)
 
 abbrev pub is_same : Level → Level → Bool
@@ -97,7 +97,7 @@ count level levels = count_among level levels all
 
 -- The level found for a warning is what its definition says.
 abbrev pub FoundAsDefined : Type 0
-FoundAsDefined = (levels : Levels) (style : Style) (ts : List Tree) (w : Warning)
+FoundAsDefined = (levels : Levels) (style : LanguageStyle) (ts : List Tree) (w : Warning)
     → level_of (found levels style ts) w ≡ found_at levels style ts w
 
 -- A level that is set for a warning is its level.

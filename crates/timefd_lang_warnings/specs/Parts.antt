@@ -5,9 +5,9 @@ use Rattle.timefd_lang_component.specs.Tree.{Tree, trees}
 use Rattle.timefd_lang_node_list.specs.Item.Meaning.{item_trees}
 use Rattle.timefd_lang_node_list.specs.Leaves.{leaves, leaves_all}
 use Rattle.timefd_lang_node_list.specs.Views.{view_tree}
-use Rattle.timefd_lang_warnings.specs.declared.parts.Description.{Description}
-use Rattle.timefd_lang_warnings.specs.declared.parts.Description.TheVariants as description
+use Rattle.timefd_lang_warnings.specs.declared.parts.ReadDescription.{ReadDescription}
+use Rattle.timefd_lang_warnings.specs.declared.parts.ReadDescription.TheVariants as description
 
-abbrev pub parts : Description → List Tree
+abbrev pub parts : ReadDescription → List Tree
 parts (description.Version3 view) = leaves (view_tree view)
 parts (description.Items items) = leaves_all (trees (item_trees items.now))

@@ -4,10 +4,10 @@ use Rattle.timefd_lang_component.specs.declared.component.Component.{Component}
 use Rattle.timefd_lang_component.specs.Equality.{same_component}
 use Rattle.timefd_lang_component.specs.Modern.{modern}
 use Rattle.timefd_lang_component.specs.Tree.{Text, Tree, component, literal}
-use Rattle.timefd_lang_warnings.specs.declared.field.Field.{Field}
+use Rattle.timefd_lang_warnings.specs.declared.field.ShownField.{ShownField}
 use Rattle.timefd_lang_warnings.specs.declared.width.Width.{Width}
 use Rattle.timefd_lang_warnings.specs.contracts.width.WidthPartialEq.TheImpl as width_eq
-use Rattle.timefd_lang_warnings.specs.declared.sought.Amount.{Amount}
+use Rattle.timefd_lang_warnings.specs.declared.sought.HowMany.{HowMany}
 use Rattle.timefd_lang_warnings.specs.declared.sought.Following.{Following}
 use Rattle.timefd_lang_warnings.specs.declared.sought.Scan.{Scan}
 use Rattle.timefd_lang_warnings.specs.declared.sought.Sought.{Sought}
@@ -38,7 +38,7 @@ abbrev pub after_of : List Tree → Following
 after_of [] = record { field = None; has_digit = false }
 after_of (t ∷ ts) = in_front t (after_of ts)
 
-abbrev pub is_next : Option Field → Field → Bool
+abbrev pub is_next : Option ShownField → ShownField → Bool
 is_next None field = false
 is_next (Some next) field = same_field next field
 
@@ -65,39 +65,39 @@ is_sought sought (component c) after = is_component sought c after
 is_sought sought (literal bytes) after = is_text sought bytes
 is_sought sought other after = false
 
-abbrev pub one_more : Amount → Amount
-one_more Amount.Absent = Amount.Once
-one_more Amount.Once = Amount.Several
-one_more Amount.Several = Amount.Several
+abbrev pub one_more : HowMany → HowMany
+one_more HowMany.Absent = HowMany.Once
+one_more HowMany.Once = HowMany.Several
+one_more HowMany.Several = HowMany.Several
 
-abbrev pub counted : Amount → Bool → Amount
+abbrev pub counted : HowMany → Bool → HowMany
 counted amount is_one = if is_one then one_more amount else amount
 
 -- how many of the parts are what is searched for
-abbrev pub amount_of : Sought → List Tree → Amount
-amount_of sought [] = Amount.Absent
+abbrev pub amount_of : Sought → List Tree → HowMany
+amount_of sought [] = HowMany.Absent
 amount_of sought (t ∷ ts) = counted (amount_of sought ts) (is_sought sought t (after_of ts))
 
-abbrev pub is_there : Amount → Bool
-is_there Amount.Absent = false
-is_there Amount.Once = true
-is_there Amount.Several = true
+abbrev pub is_there : HowMany → Bool
+is_there HowMany.Absent = false
+is_there HowMany.Once = true
+is_there HowMany.Several = true
 
 -- whether one of the parts is what is searched for
 abbrev pub has : Sought → List Tree → Bool
 has sought ts = is_there (amount_of sought ts)
 
-abbrev pub shows : Field → List Tree → Bool
+abbrev pub shows : ShownField → List Tree → Bool
 shows field ts = has (seek.Shows field) ts
 
 -- whether a component shows the first, and the next one the second
-abbrev pub shows_before : Field → Field → List Tree → Bool
+abbrev pub shows_before : ShownField → ShownField → List Tree → Bool
 shows_before front next ts = has (seek.Before front next) ts
 
 -- The walk over parts, from the last one to the first.
 
 abbrev pub start : Scan
-start = record { amount = Amount.Absent; after = after_of [] }
+start = record { amount = HowMany.Absent; after = after_of [] }
 
 abbrev pub with_part : Sought → Tree → Scan → Scan
 with_part sought t scan = record {

@@ -1,11 +1,11 @@
 -- Which warnings a description has, by its parts in order.
 use Rattle.std.specs.Prelude.{Bool, not, List}
 use Rattle.timefd_lang_component.specs.Tree.{Tree}
-use Rattle.timefd_lang_warnings.specs.declared.mark.Mark.{Mark}
+use Rattle.timefd_lang_warnings.specs.declared.mark.ComponentMark.{ComponentMark}
 use Rattle.timefd_lang_warnings.specs.declared.sought.Sought.TheVariants as seek
 use Rattle.timefd_lang_warnings.specs.declared.warning.Warning.{Warning}
 use Rattle.timefd_lang_warnings.specs.declared.warning.Warning.TheVariants.{NoComponent, OtherLanguage, MonthForMinute, MinuteForMonth, HourWithoutPeriod, PeriodWithHour24, SubsecondWithoutSecond, WeekWithCalendarYear, DateWithIsoYear, ShownTwice, UndeterminedDate, UnsettledWidth, UnsettledYear, DeprecatedComponent}
-use Rattle.timefd_lang_warnings.specs.declared.warned.Style.{Style}
+use Rattle.timefd_lang_warnings.specs.declared.warned.LanguageStyle.{LanguageStyle}
 use Rattle.timefd_lang_warnings.specs.declared.width.Width.{Width}
 use Rattle.timefd_lang_warnings.specs.Clock as clock
 use Rattle.timefd_lang_warnings.specs.Dates as dates
@@ -13,11 +13,11 @@ use Rattle.timefd_lang_warnings.specs.Sought.{has}
 use Rattle.timefd_lang_warnings.specs.Twice.{shown_twice}
 
 -- what begins a component of the other style
-abbrev pub other_mark : Style → Mark
-other_mark Style.Brackets = Mark.Percent
-other_mark Style.Percents = Mark.Bracket
+abbrev pub other_mark : LanguageStyle → ComponentMark
+other_mark LanguageStyle.Brackets = ComponentMark.Percent
+other_mark LanguageStyle.Percents = ComponentMark.Bracket
 
-abbrev pub warns : Style → Warning → List Tree → Bool
+abbrev pub warns : LanguageStyle → Warning → List Tree → Bool
 warns style NoComponent ts = not (has seek.Component ts)
 warns style OtherLanguage ts = has (seek.Text (other_mark style)) ts
 warns style MonthForMinute ts = clock.month_for_minute ts

@@ -3,7 +3,7 @@
 ghost use Rattle.std.specs.Prelude.{◌≡◌};
 ghost use Rattle.timefd_lang_warnings.specs.Elsewhere as spec;
 
-use crate::mark::{Mark, is_somewhere};
+use crate::mark::{ComponentMark, is_somewhere};
 
 /// A language that would read components in a text.
 #[derive(Debug, Clone, Copy, PartialEq, Eq)]
@@ -24,16 +24,16 @@ pub fn read_elsewhere(text: &str) -> Option<Elsewhere>
     ensures { result ≡ spec.read_elsewhere text.now }
 {
     let bytes = text.as_bytes();
-    if is_somewhere(Mark::Percent, bytes) {
+    if is_somewhere(ComponentMark::Percent, bytes) {
         return Some(Elsewhere::Strftime);
     }
-    if is_somewhere(Mark::Bracket, bytes) {
+    if is_somewhere(ComponentMark::Bracket, bytes) {
         return Some(Elsewhere::Brackets);
     }
-    if is_somewhere(Mark::Brace, bytes) {
+    if is_somewhere(ComponentMark::Brace, bytes) {
         return Some(Elsewhere::Braces);
     }
-    if is_somewhere(Mark::Twice, bytes) {
+    if is_somewhere(ComponentMark::Twice, bytes) {
         return Some(Elsewhere::Patterns);
     }
     None

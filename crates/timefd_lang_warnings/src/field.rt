@@ -8,7 +8,7 @@ use timefd_lang_component::Component;
 /// What a component shows. A month by name and a month by number are two fields, and so are
 /// weekdays, since one explains the other.
 #[derive(Clone, Copy, PartialEq, Eq)]
-pub enum Field {
+pub enum ShownField {
     Year,
     Century,
     YearLastTwo,
@@ -39,57 +39,57 @@ pub enum Field {
 }
 
 /// What a component shows.
-pub(crate) fn field_of(component: Component) -> Field
+pub(crate) fn field_of(component: Component) -> ShownField
     ensures { result ≡ spec.field_of component }
 {
     modern_field(component.modern())
 }
 
-fn modern_field(component: Component) -> Field
+fn modern_field(component: Component) -> ShownField
     ensures { result ≡ spec.modern_field component }
 {
     match component {
-        Component::Day(_) => Field::Day,
-        Component::MonthShort(_) => Field::MonthName,
-        Component::MonthLong(_) => Field::MonthName,
-        Component::MonthNumerical(_) => Field::MonthNumber,
-        Component::Ordinal(_) => Field::Ordinal,
-        Component::WeekdayShort(_) => Field::WeekdayName,
-        Component::WeekdayLong(_) => Field::WeekdayName,
-        Component::WeekdaySunday(_) => Field::WeekdayNumber,
-        Component::WeekdayMonday(_) => Field::WeekdayNumber,
-        Component::WeekNumberIso(_) => Field::IsoWeek,
-        Component::WeekNumberSunday(_) => Field::SundayWeek,
-        Component::WeekNumberMonday(_) => Field::MondayWeek,
-        Component::CalendarYearFullExtendedRange(_) => Field::Year,
-        Component::CalendarYearFullStandardRange(_) => Field::Year,
-        Component::CalendarYearCenturyExtendedRange(_) => Field::Century,
-        Component::CalendarYearCenturyStandardRange(_) => Field::Century,
-        Component::IsoYearFullExtendedRange(_) => Field::IsoYear,
-        Component::IsoYearFullStandardRange(_) => Field::IsoYear,
-        Component::IsoYearCenturyExtendedRange(_) => Field::IsoCentury,
-        Component::IsoYearCenturyStandardRange(_) => Field::IsoCentury,
-        Component::CalendarYearLastTwo(_) => Field::YearLastTwo,
-        Component::IsoYearLastTwo(_) => Field::IsoYearLastTwo,
-        Component::Hour12(_) => Field::Hour12,
-        Component::Hour24(_) => Field::Hour24,
-        Component::Minute(_) => Field::Minute,
-        Component::Period(_) => Field::Period,
-        Component::Second(_) => Field::Second,
-        Component::Subsecond(_) => Field::Subsecond,
-        Component::OffsetHour(_) => Field::OffsetHour,
-        Component::OffsetMinute(_) => Field::OffsetMinute,
-        Component::OffsetSecond(_) => Field::OffsetSecond,
-        Component::UnixTimestampSecond(_) => Field::Timestamp,
-        Component::UnixTimestampMillisecond(_) => Field::Timestamp,
-        Component::UnixTimestampMicrosecond(_) => Field::Timestamp,
-        Component::UnixTimestampNanosecond(_) => Field::Timestamp,
-        Component::Ignore(_) | Component::End(_) => Field::Nothing,
+        Component::Day(_) => ShownField::Day,
+        Component::MonthShort(_) => ShownField::MonthName,
+        Component::MonthLong(_) => ShownField::MonthName,
+        Component::MonthNumerical(_) => ShownField::MonthNumber,
+        Component::Ordinal(_) => ShownField::Ordinal,
+        Component::WeekdayShort(_) => ShownField::WeekdayName,
+        Component::WeekdayLong(_) => ShownField::WeekdayName,
+        Component::WeekdaySunday(_) => ShownField::WeekdayNumber,
+        Component::WeekdayMonday(_) => ShownField::WeekdayNumber,
+        Component::WeekNumberIso(_) => ShownField::IsoWeek,
+        Component::WeekNumberSunday(_) => ShownField::SundayWeek,
+        Component::WeekNumberMonday(_) => ShownField::MondayWeek,
+        Component::CalendarYearFullExtendedRange(_) => ShownField::Year,
+        Component::CalendarYearFullStandardRange(_) => ShownField::Year,
+        Component::CalendarYearCenturyExtendedRange(_) => ShownField::Century,
+        Component::CalendarYearCenturyStandardRange(_) => ShownField::Century,
+        Component::IsoYearFullExtendedRange(_) => ShownField::IsoYear,
+        Component::IsoYearFullStandardRange(_) => ShownField::IsoYear,
+        Component::IsoYearCenturyExtendedRange(_) => ShownField::IsoCentury,
+        Component::IsoYearCenturyStandardRange(_) => ShownField::IsoCentury,
+        Component::CalendarYearLastTwo(_) => ShownField::YearLastTwo,
+        Component::IsoYearLastTwo(_) => ShownField::IsoYearLastTwo,
+        Component::Hour12(_) => ShownField::Hour12,
+        Component::Hour24(_) => ShownField::Hour24,
+        Component::Minute(_) => ShownField::Minute,
+        Component::Period(_) => ShownField::Period,
+        Component::Second(_) => ShownField::Second,
+        Component::Subsecond(_) => ShownField::Subsecond,
+        Component::OffsetHour(_) => ShownField::OffsetHour,
+        Component::OffsetMinute(_) => ShownField::OffsetMinute,
+        Component::OffsetSecond(_) => ShownField::OffsetSecond,
+        Component::UnixTimestampSecond(_) => ShownField::Timestamp,
+        Component::UnixTimestampMillisecond(_) => ShownField::Timestamp,
+        Component::UnixTimestampMicrosecond(_) => ShownField::Timestamp,
+        Component::UnixTimestampNanosecond(_) => ShownField::Timestamp,
+        Component::Ignore(_) | Component::End(_) => ShownField::Nothing,
         Component::Month(_)
         | Component::Weekday(_)
         | Component::WeekNumber(_)
         | Component::Hour(_)
         | Component::UnixTimestamp(_)
-        | Component::Year(_) => Field::Nothing,
+        | Component::Year(_) => ShownField::Nothing,
     }
 }

@@ -4,8 +4,8 @@ ghost use Rattle.std.specs.Prelude.{◌≡◌};
 ghost use Rattle.timefd_lang_warnings.specs.Levels as spec;
 ghost use Rattle.timefd_lang_warnings.specs.Parts.{parts};
 
-use crate::parts::Description;
-use crate::warned::{Style, warns};
+use crate::parts::ReadDescription;
+use crate::warned::{LanguageStyle, warns};
 use crate::warning::Warning;
 
 /// How seriously a warning is taken.
@@ -109,7 +109,7 @@ impl Levels {
 
     /// The levels of the warnings that a description has; every other warning is allowed. The style
     /// is the one of the language that the description was read in.
-    pub fn found(self, style: Style, description: Description<'_, '_>) -> Levels
+    pub fn found(self, style: LanguageStyle, description: ReadDescription<'_, '_>) -> Levels
         ensures { result ≡ spec.found self style (parts description.entry) }
     {
         Levels {
@@ -139,7 +139,12 @@ impl Levels {
     }
 
     // The level of a warning, if the description has it.
-    fn found_at(self, style: Style, description: Description<'_, '_>, warning: Warning) -> Level
+    fn found_at(
+        self,
+        style: LanguageStyle,
+        description: ReadDescription<'_, '_>,
+        warning: Warning,
+    ) -> Level
         ensures { result ≡ spec.found_at self style (parts description.entry) warning }
     {
         if warns(style, description, warning) {

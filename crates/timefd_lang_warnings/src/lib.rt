@@ -22,6 +22,6 @@ pub mod settled;
 
 pub use elsewhere::{Elsewhere, read_elsewhere};
 pub use levels::{Level, Levels};
-pub use parts::Description;
-pub use warned::{Style, warns};
+pub use parts::ReadDescription;
+pub use warned::{LanguageStyle, warns};
 pub use warning::Warning;

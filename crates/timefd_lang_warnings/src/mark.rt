@@ -5,7 +5,7 @@ ghost use Rattle.timefd_lang_warnings.specs.Marks as spec;
 
 /// What begins a component in some language.
 #[derive(Clone, Copy)]
-pub enum Mark {
+pub enum ComponentMark {
     /// A percent sign and a letter, as in `%Y`: strftime.
     Percent,
     /// A bracket and a small letter, as in `[year]`: versions 1, 2 and 3.
@@ -17,7 +17,7 @@ pub enum Mark {
 }
 
 /// Whether the mark is somewhere in a text.
-pub(crate) fn is_somewhere(mark: Mark, text: &[u8]) -> bool
+pub(crate) fn is_somewhere(mark: ComponentMark, text: &[u8]) -> bool
     ensures { result ≡ spec.is_somewhere mark text.now }
 {
     let mut left = text;
@@ -31,7 +31,7 @@ pub(crate) fn is_somewhere(mark: Mark, text: &[u8]) -> bool
 }
 
 // Whether the mark is this byte and the one after it.
-fn is_at(mark: Mark, first: u8, after: &[u8]) -> bool
+fn is_at(mark: ComponentMark, first: u8, after: &[u8]) -> bool
     ensures { result ≡ spec.is_at mark first after.now }
 {
     match after {
@@ -40,14 +40,14 @@ fn is_at(mark: Mark, first: u8, after: &[u8]) -> bool
     }
 }
 
-fn is_mark(mark: Mark, first: u8, second: u8) -> bool
+fn is_mark(mark: ComponentMark, first: u8, second: u8) -> bool
     ensures { result ≡ spec.is_mark mark first second }
 {
     match mark {
-        Mark::Percent => first == b'%' && (is_small(second) || is_capital(second)),
-        Mark::Bracket => first == b'[' && is_small(second),
-        Mark::Brace => first == b'{' && is_small(second),
-        Mark::Twice => first == second && is_pattern(first),
+        ComponentMark::Percent => first == b'%' && (is_small(second) || is_capital(second)),
+        ComponentMark::Bracket => first == b'[' && is_small(second),
+        ComponentMark::Brace => first == b'{' && is_small(second),
+        ComponentMark::Twice => first == second && is_pattern(first),
     }
 }
 

@@ -9,14 +9,14 @@ ghost use Rattle.timefd_lang_node_list.specs.Views.{view_tree};
 ghost use Rattle.timefd_lang_warnings.specs.Parts.{parts};
 ghost use Rattle.timefd_lang_warnings.specs.Sought as spec;
 
-use crate::field::Field;
-use crate::sought::{Amount, Scan, Sought};
+use crate::field::ShownField;
+use crate::sought::{HowMany, Scan, Sought};
 use timefd_lang_node_list::item::BorrowedFormatItem;
 use timefd_lang_node_list::{Leaf, View};
 
 /// A description that was read, borrowed.
 #[derive(Clone, Copy)]
-pub enum Description<'v, 'a> {
+pub enum ReadDescription<'v, 'a> {
     /// A description of version 3.
     Version3(View<'v, 'a>),
     /// Items of version 1 or 2, or of strftime.
@@ -24,36 +24,36 @@ pub enum Description<'v, 'a> {
 }
 
 /// Whether a part of the description is what is sought.
-pub(crate) fn has(description: Description<'_, '_>, sought: Sought) -> bool
+pub(crate) fn has(description: ReadDescription<'_, '_>, sought: Sought) -> bool
     ensures { result ≡ spec.has sought (parts description.entry) }
 {
     match amount(description, sought) {
-        Amount::Absent => false,
-        Amount::Once | Amount::Several => true,
+        HowMany::Absent => false,
+        HowMany::Once | HowMany::Several => true,
     }
 }
 
 /// Whether a part of the description shows this.
-pub(crate) fn shows(description: Description<'_, '_>, field: Field) -> bool
+pub(crate) fn shows(description: ReadDescription<'_, '_>, field: ShownField) -> bool
     ensures { result ≡ spec.shows field (parts description.entry) }
 {
     has(description, Sought::Shows(field))
 }
 
 /// How many parts of the description are what is sought.
-pub(crate) fn amount(description: Description<'_, '_>, sought: Sought) -> Amount
+pub(crate) fn amount(description: ReadDescription<'_, '_>, sought: Sought) -> HowMany
     ensures { result ≡ spec.amount_of sought (parts description.entry) }
 {
     scan(description, sought).amount
 }
 
 #[tactic(auto, using(crate::proofs::ScanLemmas::scanned))]
-fn scan(description: Description<'_, '_>, sought: Sought) -> Scan
+fn scan(description: ReadDescription<'_, '_>, sought: Sought) -> Scan
     ensures { result ≡ spec.scan_of sought (parts description.entry) }
 {
     match description {
-        Description::Version3(view) => scan_view(sought, view),
-        Description::Items(items) => scan_items(sought, items, Scan::start()),
+        ReadDescription::Version3(view) => scan_view(sought, view),
+        ReadDescription::Items(items) => scan_items(sought, items, Scan::start()),
     }
 }
 

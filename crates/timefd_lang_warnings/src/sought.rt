@@ -4,8 +4,8 @@ ghost use Rattle.std.specs.Prelude.{◌≡◌};
 ghost use Rattle.timefd_lang_component.specs.Tree.{component, literal};
 ghost use Rattle.timefd_lang_warnings.specs.Sought as spec;
 
-use crate::field::{Field, field_of};
-use crate::mark::{Mark, is_somewhere};
+use crate::field::{ShownField, field_of};
+use crate::mark::{ComponentMark, is_somewhere};
 use crate::width::{Width, outline_of};
 use timefd_lang_component::Component;
 
@@ -13,22 +13,22 @@ use timefd_lang_component::Component;
 #[derive(Clone, Copy)]
 pub enum Sought {
     /// A component that shows this.
-    Shows(Field),
+    Shows(ShownField),
     /// Any component.
     Component,
     /// A component that stands for another, more modern one.
     Deprecated,
     /// A component that shows the first, and the next one the second.
-    Before(Field, Field),
+    Before(ShownField, ShownField),
     /// A component of this width, with a digit that may come next.
     Touches(Width),
     /// A text that has this mark.
-    Text(Mark),
+    Text(ComponentMark),
 }
 
 /// How many of the parts match.
 #[derive(Clone, Copy)]
-pub enum Amount {
+pub enum HowMany {
     Absent,
     Once,
     Several,
@@ -38,7 +38,7 @@ pub enum Amount {
 #[derive(Clone, Copy)]
 pub struct Following {
     /// What the next component shows.
-    pub field: Option<Field>,
+    pub field: Option<ShownField>,
     /// Whether a digit may come next.
     pub has_digit: bool,
 }
@@ -46,7 +46,7 @@ pub struct Following {
 /// What was found among some parts, and what a part before them is followed by.
 #[derive(Clone, Copy)]
 pub struct Scan {
-    pub amount: Amount,
+    pub amount: HowMany,
     pub after: Following,
 }
 
@@ -56,7 +56,7 @@ impl Scan {
         ensures { result ≡ spec.start }
     {
         Scan {
-            amount: Amount::Absent,
+            amount: HowMany::Absent,
             after: Following {
                 field: None,
                 has_digit: false,
@@ -91,15 +91,15 @@ impl Scan {
     }
 }
 
-fn counted(amount: Amount, is_one: bool) -> Amount
+fn counted(amount: HowMany, is_one: bool) -> HowMany
     ensures { result ≡ spec.counted amount is_one }
 {
     if !is_one {
         return amount;
     }
     match amount {
-        Amount::Absent => Amount::Once,
-        Amount::Once | Amount::Several => Amount::Several,
+        HowMany::Absent => HowMany::Once,
+        HowMany::Once | HowMany::Several => HowMany::Several,
     }
 }
 
@@ -116,7 +116,7 @@ fn is_component(sought: Sought, part: Component, after: Following) -> bool
     }
 }
 
-fn is_next(next: Option<Field>, field: Field) -> bool
+fn is_next(next: Option<ShownField>, field: ShownField) -> bool
     ensures { result ≡ spec.is_next next field }
 {
     match next {

@@ -4,50 +4,50 @@ ghost use Rattle.std.specs.Prelude.{◌≡◌};
 ghost use Rattle.timefd_lang_warnings.specs.Parts.{parts};
 ghost use Rattle.timefd_lang_warnings.specs.Twice as spec;
 
-use crate::field::Field;
-use crate::parts::{Description, amount};
-use crate::sought::{Amount, Sought};
+use crate::field::ShownField;
+use crate::parts::{ReadDescription, amount};
+use crate::sought::{HowMany, Sought};
 
-fn fields() -> &'static [Field]
+fn fields() -> &'static [ShownField]
     ensures { result.now ≡ spec.fields }
 {
     &[
-        Field::Year,
-        Field::Century,
-        Field::YearLastTwo,
-        Field::IsoYear,
-        Field::IsoCentury,
-        Field::IsoYearLastTwo,
-        Field::MonthName,
-        Field::MonthNumber,
-        Field::Day,
-        Field::Ordinal,
-        Field::WeekdayName,
-        Field::WeekdayNumber,
-        Field::IsoWeek,
-        Field::SundayWeek,
-        Field::MondayWeek,
-        Field::Hour24,
-        Field::Hour12,
-        Field::Period,
-        Field::Minute,
-        Field::Second,
-        Field::Subsecond,
-        Field::OffsetHour,
-        Field::OffsetMinute,
-        Field::OffsetSecond,
-        Field::Timestamp,
+        ShownField::Year,
+        ShownField::Century,
+        ShownField::YearLastTwo,
+        ShownField::IsoYear,
+        ShownField::IsoCentury,
+        ShownField::IsoYearLastTwo,
+        ShownField::MonthName,
+        ShownField::MonthNumber,
+        ShownField::Day,
+        ShownField::Ordinal,
+        ShownField::WeekdayName,
+        ShownField::WeekdayNumber,
+        ShownField::IsoWeek,
+        ShownField::SundayWeek,
+        ShownField::MondayWeek,
+        ShownField::Hour24,
+        ShownField::Hour12,
+        ShownField::Period,
+        ShownField::Minute,
+        ShownField::Second,
+        ShownField::Subsecond,
+        ShownField::OffsetHour,
+        ShownField::OffsetMinute,
+        ShownField::OffsetSecond,
+        ShownField::Timestamp,
     ]
 }
 
-pub(crate) fn shows_twice(description: Description<'_, '_>) -> bool
+pub(crate) fn shows_twice(description: ReadDescription<'_, '_>) -> bool
     ensures { result ≡ spec.shown_twice (parts description.entry) }
 {
     shows_one_twice(description, fields())
 }
 
 // Whether one of the fields is shown twice.
-fn shows_one_twice(description: Description<'_, '_>, fields: &[Field]) -> bool
+fn shows_one_twice(description: ReadDescription<'_, '_>, fields: &[ShownField]) -> bool
     ensures { result ≡ spec.one_twice fields.now (parts description.entry) }
 {
     let mut left = fields;
@@ -60,11 +60,11 @@ fn shows_one_twice(description: Description<'_, '_>, fields: &[Field]) -> bool
     false
 }
 
-fn is_several(amount: Amount) -> bool
+fn is_several(amount: HowMany) -> bool
     ensures { result ≡ spec.is_several amount }
 {
     match amount {
-        Amount::Absent | Amount::Once => false,
-        Amount::Several => true,
+        HowMany::Absent | HowMany::Once => false,
+        HowMany::Several => true,
     }
 }

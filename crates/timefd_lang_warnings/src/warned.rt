@@ -9,8 +9,8 @@ use crate::clock::{
     has_subsecond_without_second,
 };
 use crate::dates::{has_date_with_iso_year, has_undetermined_date, has_week_with_calendar_year};
-use crate::mark::Mark;
-use crate::parts::{Description, has};
+use crate::mark::ComponentMark;
+use crate::parts::{ReadDescription, has};
 use crate::sought::Sought;
 use crate::twice::shows_twice;
 use crate::warning::Warning;
@@ -18,7 +18,7 @@ use crate::width::Width;
 
 /// How the components of a language are written.
 #[derive(Debug, Clone, Copy, PartialEq, Eq)]
-pub enum Style {
+pub enum LanguageStyle {
     /// In brackets: versions 1, 2 and 3.
     Brackets,
     /// After percent signs: strftime.
@@ -28,7 +28,7 @@ pub enum Style {
 /// Whether a description has a warning. The style is the one of the language that the description
 /// was read in. No memory is allocated, and the stack is only as deep as items are nested. The time
 /// is at most about fifty walks over the parts.
-pub fn warns(style: Style, description: Description<'_, '_>, warning: Warning) -> bool
+pub fn warns(style: LanguageStyle, description: ReadDescription<'_, '_>, warning: Warning) -> bool
     ensures { result ≡ spec.warns style warning (parts description.entry) }
 {
     match warning {
@@ -50,11 +50,11 @@ pub fn warns(style: Style, description: Description<'_, '_>, warning: Warning) -
 }
 
 // What begins a component of the other style.
-fn other_mark(style: Style) -> Mark
+fn other_mark(style: LanguageStyle) -> ComponentMark
     ensures { result ≡ spec.other_mark style }
 {
     match style {
-        Style::Brackets => Mark::Percent,
-        Style::Percents => Mark::Bracket,
+        LanguageStyle::Brackets => ComponentMark::Percent,
+        LanguageStyle::Percents => ComponentMark::Bracket,
     }
 }

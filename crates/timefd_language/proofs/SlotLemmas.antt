@@ -22,7 +22,7 @@ use Rattle.timefd_language.specs.Bytes.{left, colon, is_version_three, is_white,
 use Rattle.timefd_language.specs.Head.{Modifier, IsModifier, AreModifiers, Head, IsHead, modifier_text, modifiers_text, head_text}
 use Rattle.timefd_language.specs.Lookup.{IsNameOf, key_for, keys_for, keys_of}
 use Rattle.timefd_language.specs.Names.{row_for}
-use Rattle.timefd_language.specs.Slots.{EndsInHead, EndsAfterHead, IsSlotAt, IsSlotIn, IsSlotAfter, IsWanted, IsWantedOf, WantsKey, WantsValue, WantsIn, colon_before}
+use Rattle.timefd_language.specs.Slots.{EndsInHead, EndsAfterHead, IsSlotAt, IsSlotIn, IsSlotAfter, IsWanted, IsWantedOf, WantsKey, WantsValue, WantsWord, WantsIn, colon_before}
 use Rattle.timefd_language.specs.Values.{key_in}
 use Rattle.timefd_language.proofs.Reader.{span}
 use Rattle.timefd_language.proofs.Spans.{all-append, all-implied, zero_from_one, stops_one, stops_zero, white-not_word, word-not_white, key-word, span-exact}
@@ -343,19 +343,25 @@ wanted_value strict front word wanted w =
 
 -- the slot of such a word
 pub wanted_slot : (strict : Bool) (front word : Text) (wanted : Option Slot)
-    → WantsKey strict front word wanted ⊎ WantsValue strict front word wanted → (slot : Slot)
+    → WantsWord strict front word wanted → (slot : Slot)
     → wanted ≡ Some slot → (s : Slot) × IsSlotIn strict front word s
 wanted_slot strict front word wanted (inl k) slot e =
     (slot, subst (IsSlotAfter strict front word) e (wanted_key strict front word wanted k))
 wanted_slot strict front word wanted (inr v) slot e =
     (slot, subst (IsSlotAfter strict front word) e (wanted_value strict front word wanted v))
 
+wanted_word : (strict : Bool) (front word : Text) (wanted : Option Slot)
+    → WantsWord strict front word wanted → IsSlotAfter strict front word wanted
+wanted_word strict front word wanted (inl k) = wanted_key strict front word wanted k
+wanted_word strict front word wanted (inr v) = wanted_value strict front word wanted v
+
 wanted_in : (strict : Bool) (front : Text) (r : Rule) → WantsIn strict front r
     → IsWantedOf strict front (rule_kind r) (wanted_by r)
-wanted_in strict front (rules.InvalidModifier word wanted) (inl k) =
-    wanted_key strict front word.now wanted k
-wanted_in strict front (rules.InvalidModifier word wanted) (inr v) =
-    wanted_value strict front word.now wanted v
+wanted_in strict front (rules.InvalidModifier word) w = wanted_word strict front word.now None w
+wanted_in strict front (rules.UnknownKey word name) w =
+    wanted_word strict front word.now (Some (slots.Key name)) w
+wanted_in strict front (rules.UnknownValue word key) w =
+    wanted_word strict front word.now (Some (slots.Value key)) w
 wanted_in strict front (rules.UnknownLetter letter) h = absurd h
 wanted_in strict front _ h = refl
 
@@ -388,24 +394,33 @@ head_after strict before front name a = record {
   named = a.named;
 }
 
-pub wants_after : (strict : Bool) (before front : Text) (r : Rule) → WantsIn strict front r
-    → WantsIn strict (before ++ front) r
-wants_after strict before front (rules.InvalidModifier word wanted) (inl k) = inl (record {
+word_after : (strict : Bool) (before front word : Text) (wanted : Option Slot)
+    → WantsWord strict front word wanted → WantsWord strict (before ++ front) word wanted
+word_after strict before front word wanted (inl k) = inl (record {
   name = k.name;
   after = head_after strict before front k.name k.after;
   some = k.some;
   slot = k.slot;
 })
-wants_after strict before front (rules.InvalidModifier word wanted) (inr v) = inr (record {
+word_after strict before front word wanted (inr v) = inr (record {
   name = v.name;
   at = before ++ v.at;
   after = head_after strict before v.at v.name v.after;
   key_word = v.key_word;
   key_bytes = v.key_bytes;
   whole = ap (λ t. before ++ t) v.whole
-      ∙ sym (append_assoc before v.at (v.key_word ++ colon_before word.now));
+      ∙ sym (append_assoc before v.at (v.key_word ++ colon_before word));
   key = v.key;
   known = v.known;
   slot = v.slot;
 })
+
+pub wants_after : (strict : Bool) (before front : Text) (r : Rule) → WantsIn strict front r
+    → WantsIn strict (before ++ front) r
+wants_after strict before front (rules.InvalidModifier word) w =
+    word_after strict before front word.now None w
+wants_after strict before front (rules.UnknownKey word name) w =
+    word_after strict before front word.now (Some (slots.Key name)) w
+wants_after strict before front (rules.UnknownValue word key) w =
+    word_after strict before front word.now (Some (slots.Value key)) w
 wants_after strict before front _ h = h

@@ -123,9 +123,17 @@ pub record WantsValue (strict : Bool) (front word : Text) (wanted : Option Slot)
   pub known : option_map key_for key ≡ key_in strict key_word (keys_of name)
   pub slot : wanted ≡ option_map slots.Value key
 
+-- A word of a modifier follows such a text, or such a text and a key.
+abbrev pub WantsWord : Bool → Text → Text → Option Slot → Type 0
+WantsWord strict front word wanted =
+    WantsKey strict front word wanted ⊎ WantsValue strict front word wanted
+
 -- A rule of versions is broken after this text.
 abbrev pub WantsIn : Bool → Text → Rule → Type 0
-WantsIn strict front (rules.InvalidModifier word wanted) =
-    WantsKey strict front word.now wanted ⊎ WantsValue strict front word.now wanted
+WantsIn strict front (rules.InvalidModifier word) = WantsWord strict front word.now None
+WantsIn strict front (rules.UnknownKey word name) =
+    WantsWord strict front word.now (Some (slots.Key name))
+WantsIn strict front (rules.UnknownValue word key) =
+    WantsWord strict front word.now (Some (slots.Value key))
 WantsIn strict front (rules.UnknownLetter letter) = ⊥
 WantsIn strict front rule = ⊤

@@ -3,6 +3,8 @@
 ghost use Rattle.std.specs.Prelude.{◌≡◌, ◌≤◌, ◌*◌, [], length, IfOk, IsOk, MatchResult, string_bytes};
 ghost use Rattle.std.specs.Result.{IfErr};
 ghost use Rattle.std.specs.String.{string_capacity};
+ghost use Rattle.timefd_language.specs.declared.language.Language as spec_language;
+ghost use Rattle.timefd_language.specs.Spans.{HasSpan, HasSpanWithin};
 ghost use Rattle.timefd_lang_fault.specs.Faults as spec;
 ghost use Rattle.timefd_language.specs.declared.description_version.DescriptionVersion.TheVariants.{One};
 ghost use Rattle.timefd_language.specs.Grammar.{Pieces, nesting_limit};
@@ -44,6 +46,9 @@ pub fn v1_to_v2(alloc: Global, s: &str) -> Result<String, ParseError>
     // The fault's index is in the text or at its end, on a character boundary.
     ensures position { IfErr result (HasPlacedFault s.now) }
 
+    // The bytes at fault, from that index on, lie in the text.
+    ensures span { IfErr result (HasSpanWithin (spec_language.Language.Version One) s.now) }
+
     // The answer is at most twice as long.
     ensures within { IfOk result (λ answer. length (string_bytes answer) ≤ 2 * length s.now) }
 
@@ -79,6 +84,9 @@ pub fn v1_to_v2_borrowed(alloc: Global, s: &str) -> Result<String, BorrowedParse
     // so that its sentence can be written.
     ensures position { IfErr result (IsBorrowedOf (IsPlaced s.now)) }
     ensures words { IfErr result HasShortFault }
+
+    // The fault ends after the name, the key, the value or the character at fault.
+    ensures span { IfErr result (HasSpan (spec_language.Language.Version One) s.now) }
 
     // The answer is at most twice as long.
     ensures within { IfOk result (λ answer. length (string_bytes answer) ≤ 2 * length s.now) }

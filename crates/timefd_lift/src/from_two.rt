@@ -2,6 +2,8 @@
 
 ghost use Rattle.std.specs.Prelude.{◌≡◌, [], List, IfOk, IsOk, MatchResult, string_bytes};
 ghost use Rattle.std.specs.Result.{IfErr};
+ghost use Rattle.timefd_language.specs.declared.language.Language as spec_language;
+ghost use Rattle.timefd_language.specs.Spans.{HasSpan};
 ghost use Rattle.timefd_lang_fault.specs.Faults as spec;
 ghost use Rattle.timefd_lang_node_list.specs.Item.Meaning.{item_trees};
 ghost use Rattle.timefd_lang_component.specs.Tree.{Tree};
@@ -9,10 +11,7 @@ ghost use Rattle.timefd_language.specs.declared.description_version.DescriptionV
 ghost use Rattle.timefd_language.specs.Grammar.{Spells, nesting_limit};
 ghost use Rattle.timefd_language.specs.Broken.{FaultOf};
 ghost use Rattle.timefd_lang_fault.specs.BorrowedFaults.{HasShortFault, IsBorrowed, IsBorrowedOf, IsMemory};
-ghost use Rattle.timefd_lang_fault.specs.Placed.{HasPlacedFault, IsPlaced};
-ghost use Rattle.timefd_parse.specs.Answers.{IsAssigned};
-ghost use Rattle.timefd_lang_fault.specs.Reported.{IsFaultOrMemory};
-ghost use Rattle.timefd_lift.specs.Answers.{IsTextOrMemory};
+ghost use Rattle.timefd_lang_fault.specs.Placed.{IsPlaced};
 ghost use Rattle.timefd_lift.specs.Modernized.{IsReadAlike, IsWrittenOf, KeepsItemsOf};
 ghost use Rattle.timefd_lift.specs.Plain.{ArePlainItems};
 ghost use Rattle.timefd_lift.specs.Written as text;
@@ -22,8 +21,7 @@ use crate::laws::{read_alike, writing};
 use std::alloc::{AllocError, Global};
 use timefd_items::BorrowedFormatItem;
 use timefd_parse::{
-    BorrowedOutput, BorrowedParseError, DescriptionVersion, NESTING_LIMIT, ParseError,
-    parse_all_borrowed,
+    BorrowedOutput, BorrowedParseError, DescriptionVersion, NESTING_LIMIT, parse_all_borrowed,
 };
 
 /// The text of version 3 that means what a text of version 2 means, written from its items. Each
@@ -31,44 +29,9 @@ use timefd_parse::{
 /// 3's default, and the range of each year that has one. In literals, `[`, `]` and `\` get a `\` before
 /// them. Versions 2 and 3 read the answer the same, and converting the answer again gives the answer.
 ///
-/// The error is the fault that version 2 finds in the text, or `Memory` if memory ran out. A fault that
-/// quotes nothing of the text is returned even then. This call is this port's own.
-pub fn v2_to_v3(alloc: Global, s: &str) -> Result<String, ParseError>
-    // The answer is the text rewritten, and has the same items. A text is refused for the fault that the
-    // rules of version 2 assign.
-    ensures rewritten { IfOk result (λ answer. IsWrittenOf s.now (string_bytes answer)) }
-    ensures same_items { IfOk result (λ answer. KeepsItemsOf s.now (string_bytes answer)) }
-    // Version 2 reads the answer the same, and the answer is rewritten to itself.
-    ensures alike { IfOk result (λ answer. IsReadAlike s.now (string_bytes answer)) }
-    ensures again { IfOk result (λ answer.
-        IsWrittenOf (string_bytes answer) (string_bytes answer)) }
-    ensures fault { IfErr result (IsAssigned Two nesting_limit s.now) }
-
-    // A text that version 2 spells is rewritten, unless memory runs out. A text with a fault is refused
-    // for it, unless the fault quotes the text and memory runs out for that.
-    ensures spelled { (list : List Tree) → Spells Two nesting_limit 0 s.now list
-        → IsTextOrMemory (text.written list) result }
-    ensures refused { (f : spec.Fault) → FaultOf Two nesting_limit s.now f
-        → MatchResult result (λ _. ⊥) (IsFaultOrMemory f) }
-
-    // The fault's index is in the text or at its end, on a character boundary.
-    ensures position { IfErr result (HasPlacedFault s.now) }
-
-    // The empty text allocates no memory.
-    ensures empty { s.now ≡ [] → IsOk result }
-{
-    match v2_to_v3_borrowed(alloc, s) {
-        Ok(answer) => Ok(answer),
-        Err(error) => Err(error.into_owned(alloc)),
-    }
-}
-
-/// Rewrites a text of version 2 as `v2_to_v3` does, with a fault that borrows what it quotes. This call
-/// is this port's own.
-///
 /// The error is `Invalid` with the fault of the text, or `Memory` if memory ran out. A text that has a
-/// fault is refused for it even then.
-pub fn v2_to_v3_borrowed(alloc: Global, s: &str) -> Result<String, BorrowedParseError<'_>>
+/// fault is refused for it even then. This call is this port's own.
+pub fn v2_to_v3(alloc: Global, s: &str) -> Result<String, BorrowedParseError<'_>>
     // The answer is the text rewritten, and has the same items. A text is refused for the fault that the
     // rules of version 2 assign.
     ensures rewritten { IfOk result (λ answer. IsWrittenOf s.now (string_bytes answer)) }
@@ -90,6 +53,9 @@ pub fn v2_to_v3_borrowed(alloc: Global, s: &str) -> Result<String, BorrowedParse
     // that its sentence can be written.
     ensures position { IfErr result (IsBorrowedOf (IsPlaced s.now)) }
     ensures words { IfErr result HasShortFault }
+
+    // The fault ends after the name, the key, the value or the character at fault.
+    ensures span { IfErr result (HasSpan (spec_language.Language.Version Two) s.now) }
 
     // The empty text allocates no memory.
     ensures empty { s.now ≡ [] → IsOk result }

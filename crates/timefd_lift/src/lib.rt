@@ -10,4 +10,4 @@ pub mod laws;
 
 pub use component::push_component;
 pub use from_one::{v1_to_v2, v1_to_v2_borrowed};
-pub use from_two::{v2_to_v3, v2_to_v3_borrowed};
+pub use from_two::v2_to_v3;

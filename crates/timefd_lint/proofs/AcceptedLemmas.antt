@@ -9,7 +9,7 @@ use Rattle.timefd_lint_explain.specs.Lines.{IsExplained, IsExplainedIf}
 use Rattle.timefd_language.specs.Grammar.{nesting_limit}
 use Rattle.timefd_language.specs.declared.language.Language.{Language}
 use Rattle.timefd_parse.specs.Language.{SpellsIn}
-use Rattle.timefd_lint_options.specs.declared.wording.Wording.TheVariants.{Own}
+use Rattle.timefd_lint_options.specs.declared.wording.LineLanguage.TheVariants.{Own}
 use Rattle.timefd_lang_warnings.specs.declared.levels.Level.TheVariants.{Allowed}
 use Rattle.timefd_lang_warnings.specs.declared.levels.Levels.{Levels}
 use Rattle.timefd_lang_warnings.specs.Levels.{all_at}

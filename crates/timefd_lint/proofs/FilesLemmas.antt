@@ -8,12 +8,12 @@ use Rattle.timefd_lint_options.specs.Words.{is_input}
 use mathlib.Core.Logic.{inl, inr}
 use denote.Ref.{Bor}
 use Rattle.timefd_lang_component.specs.Tree.{Text}
-use Rattle.timefd_lint_options.specs.declared.wording.Wording.{Wording}
+use Rattle.timefd_lint_options.specs.declared.wording.LineLanguage.{LineLanguage}
 use Rattle.timefd_lint_sources.specs.declared.reported.Finder.{Finder}
 use Rattle.timefd_lint_sources.specs.declared.reported.Reporting.{Reporting}
 use Rattle.timefd_lint.specs.declared.failure.OpenError.{OpenError}
-use Rattle.timefd_lint.specs.declared.options.Options.{Options}
-use Rattle.timefd_lint.specs.declared.tally.Tally.{Tally}
+use Rattle.timefd_lint.specs.declared.options.RunOptions.{RunOptions}
+use Rattle.timefd_lint.specs.declared.tally.LintTally.{LintTally}
 use Rattle.timefd_lint.specs.Files.{IsRunAs, IsRunIn, IsNoted, IsRunOfFile, IsRunOfInputOr, IsRunOfName, IsRunOfNames, input_name}
 use Rattle.timefd_lint.specs.Sources.{IsRunOfSource, IsRunWith, any_source, finder_of, is_source}
 use Rattle.timefd_lint.specs.Reported.{AreCountedOut, IsRunOfAll, IsRunOn, IsRunOver, Reported, tally_of, both}
@@ -21,14 +21,14 @@ use Rattle.timefd_lint.proofs.SourcesLemmas.{with_after, with_more}
 use Rattle.timefd_lint.proofs.ReportedLemmas.{lines_on, no_text, whole_on}
 
 -- What is reported about a reader, by its name and as the options ask.
-pub in_source : (options : Options) (file : Text) (bytes rest : Option Text) (has_failed : Bool) (before after : Option Text) (tally : Tally)
+pub in_source : (options : RunOptions) (file : Text) (bytes rest : Option Text) (has_failed : Bool) (before after : Option Text) (tally : LintTally)
     → is_source options file ≡ true
     → IsRunOfSource (finder_of options file) options.reporting file bytes rest has_failed before after tally
     → IsRunIn options file bytes rest has_failed before after tally
 in_source options file bytes rest has_failed before after tally is run =
     subst (λ s. IsRunAs s options file bytes rest has_failed before after tally) (sym is) run
 
-pub in_whole : (options : Options) (file : Text) (bytes rest : Option Text) (has_failed : Bool) (before after : Option Text) (tally : Tally)
+pub in_whole : (options : RunOptions) (file : Text) (bytes rest : Option Text) (has_failed : Bool) (before after : Option Text) (tally : LintTally)
     → is_source options file ≡ false → options.is_whole ≡ true
     → IsRunOfAll options.language options.comment options.reporting file bytes rest has_failed before after tally
     → IsRunIn options file bytes rest has_failed before after tally
@@ -37,7 +37,7 @@ in_whole options file bytes rest has_failed before after tally none is run =
     (whole_on options.is_whole options.language options.comment options.reporting file bytes rest before
     after has_failed tally is run)
 
-pub in_lines : (options : Options) (file : Text) (bytes rest : Option Text) (has_failed : Bool) (before after : Option Text) (tally : Tally)
+pub in_lines : (options : RunOptions) (file : Text) (bytes rest : Option Text) (has_failed : Bool) (before after : Option Text) (tally : LintTally)
     → is_source options file ≡ false → options.is_whole ≡ false
     → IsRunOver options.language options.comment options.reporting file bytes rest has_failed before after tally
     → IsRunIn options file bytes rest has_failed before after tally
@@ -47,7 +47,7 @@ in_lines options file bytes rest has_failed before after tally none is over =
     after has_failed tally is over)
 
 -- The input's name isn't that of a source.
-pub input_alone : (options : Options) (before after : Option Text) (tally : Tally)
+pub input_alone : (options : RunOptions) (before after : Option Text) (tally : LintTally)
     → options.files.now ≡ []
     → IsRunWith (is_source options input_name) options.is_whole options.language options.comment
     options.reporting before after tally
@@ -58,7 +58,7 @@ input_alone options before after tally none run =
     after tally)
     (or-false (options.is_source || false) ∙ or-false options.is_source ∙ ap (λ names. any_source options names) (sym none)) run
 
-pub input_named : (options : Options) (name : Text) (before after : Option Text) (tally : Tally)
+pub input_named : (options : RunOptions) (name : Text) (before after : Option Text) (tally : LintTally)
     → is_input name ≡ true
     → IsRunWith (is_source options input_name) options.is_whole options.language options.comment
     options.reporting before after tally
@@ -69,16 +69,16 @@ input_named options name before after tally is run =
     subst (λ n. IsRunWith (is_source options n) options.is_whole options.language options.comment
     options.reporting before after tally) (sym same) run
 
-pub opened : (opens : Option Text → Bool → Type 0) (fails : OpenError → Type 0) (options : Options)
+pub opened : (opens : Option Text → Bool → Type 0) (fails : OpenError → Type 0) (options : RunOptions)
     (name : Bor Text) (bytes rest : Option Text) (has_failed : Bool) (before after : Option Text)
-    (tally : Tally)
+    (tally : LintTally)
     → opens bytes has_failed → IsRunIn options name.now bytes rest has_failed before after tally
     → IsRunOfFile opens fails options name before after tally
 opened opens fails options name bytes rest has_failed before after tally may run =
     inl (bytes, rest, has_failed, may, run)
 
-pub unopened : (opens : Option Text → Bool → Type 0) (fails : OpenError → Type 0) (options : Options)
-    (name : Bor Text) (error : OpenError) (before after : Option Text) (tally : Tally)
+pub unopened : (opens : Option Text → Bool → Type 0) (fails : OpenError → Type 0) (options : RunOptions)
+    (name : Bor Text) (error : OpenError) (before after : Option Text) (tally : LintTally)
     → fails error → IsNoted options name error before after tally
     → IsRunOfFile opens fails options name before after tally
 unopened opens fails options name error before after tally may noted = inr (error, may, noted)
@@ -89,8 +89,8 @@ later_cause : (earlier later : Bool) (reported : List Reported) → (IsTrue earl
 later_cause earlier later reported stays (inl broken) = inl (stays broken)
 later_cause earlier later reported stays (inr many) = inr many
 
-later_lines : (language : Wording) (comment : Option (Bor Text)) (reporting : Reporting) (file : Text)
-    (bytes rest : Option Text) (earlier later : Bool) (before after : Option Text) (tally : Tally)
+later_lines : (language : LineLanguage) (comment : Option (Bor Text)) (reporting : Reporting) (file : Text)
+    (bytes rest : Option Text) (earlier later : Bool) (before after : Option Text) (tally : LintTally)
     → (IsTrue earlier → IsTrue later)
     → IsRunOver language comment reporting file bytes rest earlier before after tally
     → IsRunOver language comment reporting file bytes rest later before after tally
@@ -104,8 +104,8 @@ later_lines language comment reporting file bytes rest earlier later before afte
   cause = λ failed. later_cause earlier later over.run.reported stays (over.cause failed);
 }
 
-later_whole : (language : Wording) (comment : Option (Bor Text)) (reporting : Reporting) (file : Text)
-    (bytes rest : Option Text) (earlier later : Bool) (before after : Option Text) (tally : Tally)
+later_whole : (language : LineLanguage) (comment : Option (Bor Text)) (reporting : Reporting) (file : Text)
+    (bytes rest : Option Text) (earlier later : Bool) (before after : Option Text) (tally : LintTally)
     → (IsTrue earlier → IsTrue later)
     → IsRunOfAll language comment reporting file bytes rest earlier before after tally
     → IsRunOfAll language comment reporting file bytes rest later before after tally
@@ -123,7 +123,7 @@ later_whole language comment reporting file bytes rest earlier later before afte
 }
 
 later_source : (finder : Finder) (reporting : Reporting) (file : Text)
-    (bytes rest : Option Text) (earlier later : Bool) (before after : Option Text) (tally : Tally)
+    (bytes rest : Option Text) (earlier later : Bool) (before after : Option Text) (tally : LintTally)
     → (IsTrue earlier → IsTrue later)
     → IsRunOfSource finder reporting file bytes rest earlier before after tally
     → IsRunOfSource finder reporting file bytes rest later before after tally
@@ -131,8 +131,8 @@ later_source finder reporting file bytes rest earlier later before after tally s
 later_source finder reporting file bytes rest earlier later before after tally stays
     (inr (name, same, broken, said, found)) = inr (name, same, stays broken, said, found)
 
-later_on : (is_whole : Bool) (language : Wording) (comment : Option (Bor Text)) (reporting : Reporting)
-    (file : Text) (bytes rest : Option Text) (earlier later : Bool) (before after : Option Text) (tally : Tally)
+later_on : (is_whole : Bool) (language : LineLanguage) (comment : Option (Bor Text)) (reporting : Reporting)
+    (file : Text) (bytes rest : Option Text) (earlier later : Bool) (before after : Option Text) (tally : LintTally)
     → (IsTrue earlier → IsTrue later)
     → IsRunOn is_whole language comment reporting file bytes rest earlier before after tally
     → IsRunOn is_whole language comment reporting file bytes rest later before after tally
@@ -141,8 +141,8 @@ later_on true language comment reporting file bytes rest earlier later before af
 later_on false language comment reporting file bytes rest earlier later before after tally stays run =
     later_lines language comment reporting file bytes rest earlier later before after tally stays run
 
-later_as : (reads : Bool) (options : Options) (file : Text) (bytes rest : Option Text) (earlier later : Bool)
-    (before after : Option Text) (tally : Tally) → (IsTrue earlier → IsTrue later)
+later_as : (reads : Bool) (options : RunOptions) (file : Text) (bytes rest : Option Text) (earlier later : Bool)
+    (before after : Option Text) (tally : LintTally) → (IsTrue earlier → IsTrue later)
     → IsRunAs reads options file bytes rest earlier before after tally
     → IsRunAs reads options file bytes rest later before after tally
 later_as true options file bytes rest earlier later before after tally stays run =
@@ -153,8 +153,8 @@ later_as false options file bytes rest earlier later before after tally stays ru
     before after tally stays run
 
 later_input : (is_input : Bool) (opens : Option Text → Bool → Type 0) (fails : OpenError → Type 0)
-    (options : Options) (name : Bor Text) (input left : Option Text) (earlier later : Bool)
-    (before after : Option Text) (tally : Tally) → (IsTrue earlier → IsTrue later)
+    (options : RunOptions) (name : Bor Text) (input left : Option Text) (earlier later : Bool)
+    (before after : Option Text) (tally : LintTally) → (IsTrue earlier → IsTrue later)
     → IsRunOfInputOr is_input opens fails options name input left earlier before after tally
     → IsRunOfInputOr is_input opens fails options name input left later before after tally
 later_input true opens fails options name input left earlier later before after tally stays run =
@@ -164,18 +164,18 @@ later_input false opens fails options name input left earlier later before after
 
 -- the result for the names so far: together with the result for the others it is the result for all
 pub record IsRunTo (opens : Text → Option Text → Bool → Type 0) (fails : Text → OpenError → Type 0)
-    (options : Options) (all names : List (Bor Text))
-    (input left : Option Text) (has_failed : Bool) (before after : Option Text) (tally : Tally) : Type 0 where
+    (options : RunOptions) (all names : List (Bor Text))
+    (input left : Option Text) (has_failed : Bool) (before after : Option Text) (tally : LintTally) : Type 0 where
   pub reads : Bool
   pub run : IsRunWith reads options.is_whole options.language options.comment options.reporting before
       after tally
   pub more : (reads || any_source options names) ≡ any_source options all
-  pub others : (last end : Option Text) (later : Bool) (sum : Tally) → (IsTrue has_failed → IsTrue later)
+  pub others : (last end : Option Text) (later : Bool) (sum : LintTally) → (IsTrue has_failed → IsTrue later)
       → IsRunOfNames opens fails options names tally left last later after end sum
       → IsRunOfNames opens fails options all (tally_of []) input last later before end sum
 
 pub no_name : (opens : Text → Option Text → Bool → Type 0) (fails : Text → OpenError → Type 0)
-    (options : Options) (all : List (Bor Text)) (input before : Option Text) (has_failed : Bool)
+    (options : RunOptions) (all : List (Bor Text)) (input before : Option Text) (has_failed : Bool)
     → IsRunTo opens fails options all all input input has_failed before before (tally_of [])
 no_name opens fails options all input before has_failed = record {
   reads = false;
@@ -185,9 +185,9 @@ no_name opens fails options all input before has_failed = record {
 }
 
 pub one_name : (opens : Text → Option Text → Bool → Type 0) (fails : Text → OpenError → Type 0)
-    (options : Options) (all rest names : List (Bor Text)) (name : Bor Text)
+    (options : RunOptions) (all rest names : List (Bor Text)) (name : Bor Text)
     (input left next : Option Text) (earlier has_failed : Bool) (before between after : Option Text)
-    (tally one sum : Tally)
+    (tally one sum : LintTally)
     → rest ≡ name ∷ names → sum ≡ both tally one → (IsTrue earlier → IsTrue has_failed)
     → IsRunTo opens fails options all rest input left earlier before between tally
     → IsRunWith (is_source options name.now) options.is_whole options.language options.comment
@@ -217,8 +217,8 @@ one_name opens fails options all rest names name input left next earlier has_fai
     })
 
 pub all_names : (opens : Text → Option Text → Bool → Type 0) (fails : Text → OpenError → Type 0)
-    (options : Options) (all names : List (Bor Text)) (input left : Option Text) (has_failed : Bool)
-    (before after : Option Text) (tally : Tally) → names ≡ []
+    (options : RunOptions) (all names : List (Bor Text)) (input left : Option Text) (has_failed : Bool)
+    (before after : Option Text) (tally : LintTally) → names ≡ []
     → IsRunTo opens fails options all names input left has_failed before after tally
     → IsRunOfNames opens fails options all (tally_of []) input left has_failed before after tally
 all_names opens fails options all names input left has_failed before after tally none so_far =
@@ -226,8 +226,8 @@ all_names opens fails options all names input left has_failed before after tally
     left after has_failed tally (λ broken. broken) (refl, refl, refl)
 
 pub run_of_all : (opens : Text → Option Text → Bool → Type 0) (fails : Text → OpenError → Type 0)
-    (options : Options) (all names : List (Bor Text)) (input left : Option Text) (has_failed : Bool)
-    (before after : Option Text) (tally : Tally) → names ≡ []
+    (options : RunOptions) (all names : List (Bor Text)) (input left : Option Text) (has_failed : Bool)
+    (before after : Option Text) (tally : LintTally) → names ≡ []
     → IsRunTo opens fails options all names input left has_failed before after tally
     → IsRunWith (any_source options all) options.is_whole options.language options.comment
     options.reporting before after tally

@@ -13,8 +13,13 @@ pub mod ArgumentLemmas
 mod LimitedLemmas
 mod ValueNoteLemmas
 pub mod FateLemmas
+pub mod InMemoryLemmas
 pub mod LiteralLemmas
-pub mod HandLemmas
+pub mod ManualLemmas
 pub mod StoreLemmas
+pub mod SplitLemmas
+pub mod UnusableLemmas
+pub mod StatusLemmas
+pub mod SessionLemmas
 pub mod ProjectLemmas
 pub mod PartLemmas

@@ -5,7 +5,7 @@ use Rattle.std.specs.Io.BufRead.{take_through, DropsThrough}
 use denote.Ref.{Bor}
 use Rattle.timefd_lang_component.specs.Tree.{Text}
 use Rattle.timefd_lang_dialect.specs.declared.dialect.Dialect.{Dialect}
-use Rattle.timefd_lang_dialect.specs.declared.error.Refusal.{Refusal}
+use Rattle.timefd_lang_dialect.specs.declared.error.RefusedPart.{RefusedPart}
 use Rattle.timefd_lang_dialect.specs.declared.reading.Converted.{Converted}
 use Rattle.timefd_lang_dialect.specs.Answers.{IsConverted}
 use Rattle.timefd_lang_dialect.specs.Reading.{RefusedAt}
@@ -41,7 +41,7 @@ pub of_pieces : (dialect : Dialect) (file : Text) (number : ℕ) (text before af
 of_pieces dialect file number text before after answer converted is =
     inl (converted.0, converted.1, is ∙ ap (λ l. before ++ note file number l) converted.3)
 
-pub of_refusal : (dialect : Dialect) (file : Text) (number : ℕ) (text before : Text) (refusal : Refusal)
+pub of_refusal : (dialect : Dialect) (file : Text) (number : ℕ) (text before : Text) (refusal : RefusedPart)
     → RefusedAt dialect text refusal.reason refusal.index → AddsTextNote dialect file number text before before
 of_refusal dialect file number text before refusal is =
     inr ((refusal.reason, refusal.index, is), refl)

@@ -4,12 +4,12 @@ use Rattle.std.specs.Prelude.{IfSome}
 use Rattle.std.specs.declared.alloc.Global.{Global}
 use Rattle.std.specs.declared.vec.Vec.{Vec}
 use Rattle.timefd_lang_component.specs.Tree.{Text}
-use Rattle.timefd_lint_scan.specs.declared.description.Description.{Description}
+use Rattle.timefd_lint_scan.specs.declared.description.SourceDescription.{SourceDescription}
 use Rattle.timefd_lint_scan.specs.Literals.{body_end}
 use Rattle.timefd_lint_scan.specs.Written.{IsBodyFor}
-use Rattle.timefd_lint.specs.ByHand.Literals.{IsLiteralOf, IsPart, IsQuoted, IsTextOf, old_length}
+use Rattle.timefd_lint.specs.Manual.Literals.{IsLiteralOf, IsPart, IsQuoted, IsTextOf, old_length}
 
-pub quoted_of : (source : Text) (d : Description) (body opening text closing : Text) (end from : ℕ)
+pub quoted_of : (source : Text) (d : SourceDescription) (body opening text closing : Text) (end from : ℕ)
     → end ≡ body_end d.piece d.kind → from ≡ end - old_length source d → IsPart source d.piece.start from opening
     → IsTextOf body text → IsPart source end d.piece.end closing
     → (literal : Text) → literal ≡ opening ++ (text ++ closing) → IsQuoted source d body literal
@@ -23,7 +23,7 @@ quoted_of source d body opening text closing end from ends starts first middle l
   is,
 )
 
-pub in_its_quotes : (source : Text) (d : Description) (text bytes slice : Text) (found : Option (Vec ℕ Global))
+pub in_its_quotes : (source : Text) (d : SourceDescription) (text bytes slice : Text) (found : Option (Vec ℕ Global))
     (body : Vec ℕ Global) → bytes ≡ text → found ≡ Some body → IfSome found (λ b. IsBodyFor d.kind bytes b.items)
     → slice ≡ body.items → (literal : Text) → IsQuoted source d slice literal → IsLiteralOf source d text literal
 in_its_quotes source d text bytes slice found body same is for_it sliced literal quoted =

@@ -8,10 +8,10 @@ use Rattle.timefd_lint_drawing.specs.declared.position.Origin.{Origin}
 use Rattle.timefd_lint_warnings.specs.declared.dialects.judging.Judgement.{Judgement}
 use Rattle.timefd_lint_warnings.specs.declared.dialects.judging.Judgement.TheVariants.{Converted, Refused}
 use Rattle.timefd_lint_warnings.specs.Dialects.Judging.{IsJudged}
-use Rattle.timefd_lint_options.specs.declared.wording.Wording.{Wording}
-use Rattle.timefd_lint_options.specs.declared.wording.Wording.TheVariants.{Other}
+use Rattle.timefd_lint_options.specs.declared.wording.LineLanguage.{LineLanguage}
+use Rattle.timefd_lint_options.specs.declared.wording.LineLanguage.TheVariants.{Other}
 use Rattle.timefd_lint_sources.specs.declared.reported.Reporting.{Reporting}
-use Rattle.timefd_lint.specs.declared.line.RunError.{RunError}
+use Rattle.timefd_lint.specs.declared.line.LintError.{LintError}
 use Rattle.timefd_lint.specs.declared.line.TextEnd.{TextEnd}
 use Rattle.timefd_lint.specs.Lines.{IsEndOf, end_by}
 use Rattle.timefd_lint.specs.Reported.{Says}
@@ -56,13 +56,13 @@ other_said dialect reporting origin text reports judgement message bytes end bef
 
 -- The wording decides.
 
-pub end_as : (wording given : Wording) (reporting : Reporting) (text : Text) (end : Result TextEnd RunError)
+pub end_as : (wording given : LineLanguage) (reporting : Reporting) (text : Text) (end : Result TextEnd LintError)
     → wording ≡ given → IfOk end (IsEndOf given reporting text) → IfOk end (IsEndOf wording reporting text)
 end_as wording given reporting text end is ended =
     subst (λ w. IfOk end (IsEndOf w reporting text)) (sym is) ended
 
-pub said_as : (wording given : Wording) (reporting : Reporting) (origin : Origin) (text : Text)
-    (before after : Option Text) (end : Result TextEnd RunError) → wording ≡ given
+pub said_as : (wording given : LineLanguage) (reporting : Reporting) (origin : Origin) (text : Text)
+    (before after : Option Text) (end : Result TextEnd LintError) → wording ≡ given
     → IfOk end (λ e. Says given reporting origin text e before after)
     → IfOk end (λ e. Says wording reporting origin text e before after)
 said_as wording given reporting origin text before after end is said =

@@ -5,6 +5,7 @@ use Rattle.std.specs.declared.io.ErrorKind.{ErrorKind}
 use Rattle.std.specs.Io.KnownBytes.{Appends, Keeps, IsAtEnd}
 use Rattle.std.specs.Io.BufRead.{take_through, drop_through, DropsThrough}
 use Rattle.std.specs.Io.Iter.{u64_saturate}
+use Rattle.std.specs.List.{list_any}
 use Rattle.std.proofs.KnownBytes.{Appends-nil, Appends-trans}
 use Rattle.std.proofs.lemmas.List.Elements.{All-append, All-cons, All-nil}
 use Rattle.std.proofs.lemmas.List.Folds.{list_any-append}
@@ -15,11 +16,11 @@ use denote.Ref.{Bor}
 use Rattle.timefd_lang_component.specs.Tree.{Text}
 use Rattle.timefd_lint_drawing.specs.declared.draw.Style.{Style}
 use Rattle.timefd_lint_drawing.specs.declared.position.Origin.{Origin}
-use Rattle.timefd_lint_options.specs.declared.wording.Wording.{Wording}
+use Rattle.timefd_lint_options.specs.declared.wording.LineLanguage.{LineLanguage}
 use Rattle.timefd_lint.specs.declared.line.TextEnd.{TextEnd}
 use Rattle.timefd_lint.specs.declared.line.TextEnd.TheVariants.{PassedOver, Accepted, Converted, Refused, NotText, Allowed, Failed, UnreadCall, UnreadValue, WrongComment}
 use Rattle.timefd_lint_sources.specs.declared.reported.Reporting.{Reporting}
-use Rattle.timefd_lint.specs.declared.tally.Tally.{Tally}
+use Rattle.timefd_lint.specs.declared.tally.LintTally.{LintTally}
 use Rattle.timefd_lang_warnings.specs.declared.levels.Level.TheVariants.{Warned}
 use Rattle.timefd_lang_warnings.specs.Codes.{all as all_warnings}
 use Rattle.timefd_lang_warnings.specs.Levels.{count as warning_count}
@@ -33,7 +34,7 @@ use Rattle.timefd_lint.specs.Marks.{Notes, has_mark}
 use Rattle.timefd_lint.specs.Reported.{Says, SaysUnread, SaysOf, IsUnreadIfFailed, AreMarked, Reported, is_description, is_refused, is_not_text, is_failed, is_unread_call, is_unread_value, is_wrong_comment, warnings_in, warnings_of, allowed_in, allowed_of, IsEndIn, IsReportOn, IsPosition, ArePlaced, position, one_if, count, tally_of_one, tally_of, text_in, both, messages, lines_in, lines_of, IsReadUp, AreCountedOut, IsRun, IsRunOver, IsRunOfAll, IsRunOn, IsNext}
 
 -- A note, and the message after it.
-pub notes_and_says : (is_marked : Bool) (language : Wording) (reporting : Reporting) (origin : Origin)
+pub notes_and_says : (is_marked : Bool) (language : LineLanguage) (reporting : Reporting) (origin : Origin)
     (text : Text) (end : TextEnd) (before between after : Option Text)
     → Notes is_marked reporting.style origin before between
     → Says language reporting origin text end between after
@@ -50,7 +51,7 @@ says_unread style file kind before after written =
     (note_of style file (unread kind), (kind, refl), written)
 
 -- The message on a file that fails depends on no text and no line.
-fails_at : (language : Wording) (reporting : Reporting) (origin : Origin) (text : Text)
+fails_at : (language : LineLanguage) (reporting : Reporting) (origin : Origin) (text : Text)
     (before after : Option Text) (failure : Failure)
     → Appends before after (note_of reporting.style origin.file failure)
     → SaysOf false language reporting origin text Failed before after
@@ -59,7 +60,7 @@ fails_at language reporting origin text before after failure written =
     (message, ([], message, refl, refl, (failure, refl)), written)
 
 -- The message is the note on why the file can't be read.
-unread_at : (language : Wording) (reporting : Reporting) (origin : Origin) (text : Text)
+unread_at : (language : LineLanguage) (reporting : Reporting) (origin : Origin) (text : Text)
     (before after : Option Text) → SaysUnread reporting.style origin.file before after
     → SaysOf false language reporting origin text Failed before after
 unread_at language reporting origin text before after said = (
@@ -77,7 +78,7 @@ and_right true b both = both
 and_right false true both = refl
 and_right false false both = both
 
-pub read_fails : (is_first : Bool) (language : Wording) (comment : Option (Bor Text))
+pub read_fails : (is_first : Bool) (language : LineLanguage) (comment : Option (Bor Text))
     (reporting : Reporting) (origin : Origin) (bytes rest before after : Option Text) (has_failed : Bool)
     (end : TextEnd) → end ≡ Failed → IsTrue has_failed
     → SaysUnread reporting.style origin.file before after
@@ -93,7 +94,7 @@ read_fails is_first language comment reporting origin bytes rest before after ha
 )
 
 -- The check of a text never ends with a failed file.
-never_failed : (language : Wording) (reporting : Reporting) (text : Text) (end : TextEnd)
+never_failed : (language : LineLanguage) (reporting : Reporting) (text : Text) (end : TextEnd)
     → IsEndOf language reporting text end → IsTrue (is_failed end) → ⊥
 never_failed language reporting text PassedOver ended fails = ended
 never_failed language reporting text (Accepted found) ended fails = false≢true fails
@@ -106,7 +107,7 @@ never_failed language reporting text UnreadCall ended fails = ended
 never_failed language reporting text UnreadValue ended fails = ended
 never_failed language reporting text WrongComment ended fails = ended
 
-line_never_failed : (language : Wording) (comment : Option (Bor Text)) (reporting : Reporting) (line : Text) (end : TextEnd)
+line_never_failed : (language : LineLanguage) (comment : Option (Bor Text)) (reporting : Reporting) (line : Text) (end : TextEnd)
     → IsLineEnd language comment reporting line end → IsTrue (is_failed end) → ⊥
 line_never_failed language comment reporting line PassedOver ended fails = false≢true fails
 line_never_failed language comment reporting line (Accepted found) ended fails = false≢true fails
@@ -171,7 +172,7 @@ tally_one t =
 pub only : (t : Reported) (P : Reported → Type 0) → P t → All P (t ∷ [])
 only t P is = All-cons P t [] is (λ k d below. absurd (omega (arith, below)))
 
-pub one_text : (is_whole : Bool) (language : Wording) (comment : Option (Bor Text))
+pub one_text : (is_whole : Bool) (language : LineLanguage) (comment : Option (Bor Text))
     (reporting : Reporting) (origin : Origin) (line : Text) (is_marked : Bool) (end : TextEnd)
     (before after : Option Text)
     → (IsFalse (is_failed end) → IsEndIn is_whole language comment reporting line end)
@@ -237,8 +238,8 @@ tally_both xs ys =
       list_any-append (λ (t : Reported). is_failed t.end) xs ys,
     ) refl
 
-pub run_after : (is_whole : Bool) (language : Wording) (comment : Option (Bor Text))
-    (reporting : Reporting) (before between after : Option Text) (a b : Tally)
+pub run_after : (is_whole : Bool) (language : LineLanguage) (comment : Option (Bor Text))
+    (reporting : Reporting) (before between after : Option Text) (a b : LintTally)
     → IsRun is_whole language comment reporting before between a
     → IsRun is_whole language comment reporting between after b
     → IsRun is_whole language comment reporting before after (both a b)
@@ -253,7 +254,7 @@ run_after is_whole language comment reporting before between after a b first sec
       (Appends-trans before between after _ _ first.written second.written);
 }
 
-pub no_text : (is_whole : Bool) (language : Wording) (comment : Option (Bor Text))
+pub no_text : (is_whole : Bool) (language : LineLanguage) (comment : Option (Bor Text))
     (reporting : Reporting) (known : Option Text)
     → IsRun is_whole language comment reporting known known (tally_of [])
 no_text is_whole language comment reporting known = record {
@@ -301,8 +302,8 @@ one_longer : (line : ℕ) (reported : List Reported) (t : Reported) → line ≡
 one_longer line reported t is = omega (arith, is, length-append reported (t ∷ []))
 
 -- a run over the lines up to a rest, which begins in this line, the first one or a later one
-pub record IsRunUpTo (is_first : Bool) (language : Wording) (comment : Option (Bor Text)) (reporting : Reporting)
-    (file : Text) (line : ℕ) (bytes rest before after : Option Text) (tally : Tally) : Type 0 where
+pub record IsRunUpTo (is_first : Bool) (language : LineLanguage) (comment : Option (Bor Text)) (reporting : Reporting)
+    (file : Text) (line : ℕ) (bytes rest before after : Option Text) (tally : LintTally) : Type 0 where
   pub run : IsRun false language comment reporting before after tally
   pub lines : AreLinesUpTo bytes (lines_of run.reported) rest
   pub open_end : IsFalse tally.failed
@@ -321,7 +322,7 @@ lines_more reported t open_end =
     sym (flat_map-append lines_in reported (t ∷ [])
     ∙ ap (λ ls. lines_of reported ++ ls) (one_line t open_end))
 
-pub next_reported : (is_first : Bool) (language : Wording) (comment : Option (Bor Text)) (reporting : Reporting)
+pub next_reported : (is_first : Bool) (language : LineLanguage) (comment : Option (Bor Text)) (reporting : Reporting)
     (origin : Origin) (bytes rest before between after : Option Text) (has_failed : Bool)
     (old line text : Text) (end : TextEnd) → IsLineEnd language comment reporting text end → text
     ≡ without_newline line
@@ -343,7 +344,7 @@ next_reported is_first language comment reporting origin bytes rest before betwe
     )
 
 -- Nothing is reported yet.
-pub no_lines : (language : Wording) (comment : Option (Bor Text)) (reporting : Reporting) (file : Text)
+pub no_lines : (language : LineLanguage) (comment : Option (Bor Text)) (reporting : Reporting) (file : Text)
     (bytes known : Option Text)
     → IsRunUpTo true language comment reporting file 1 bytes bytes known known (tally_of [])
 unfolding no_text
@@ -367,9 +368,9 @@ or_right false b none = none
 or_right true true none = none
 or_right true false none = refl
 
-pub line_after : (is_first : Bool) (language : Wording) (comment : Option (Bor Text)) (reporting : Reporting)
+pub line_after : (is_first : Bool) (language : LineLanguage) (comment : Option (Bor Text)) (reporting : Reporting)
     (origin : Origin) (file : Text) (line : ℕ)
-    (bytes rest next before between after : Option Text) (has_failed : Bool) (tally : Tally) (end : TextEnd)
+    (bytes rest next before between after : Option Text) (has_failed : Bool) (tally : LintTally) (end : TextEnd)
     → IsPosition file line origin
     → IsRunUpTo is_first language comment reporting file line bytes rest before between tally
     → IsNext is_first language comment reporting origin rest next has_failed between after (Some end)
@@ -411,8 +412,8 @@ appends_kept (Some x) None c bs p q = absurd p
 appends_kept (Some x) (Some y) None bs p q = absurd q
 appends_kept (Some x) (Some y) (Some z) bs p q = q ∙ p
 
-kept_after : (language : Wording) (comment : Option (Bor Text)) (reporting : Reporting)
-    (before between after : Option Text) (tally : Tally)
+kept_after : (language : LineLanguage) (comment : Option (Bor Text)) (reporting : Reporting)
+    (before between after : Option Text) (tally : LintTally)
     → IsRun false language comment reporting before between tally → Keeps between after
     → IsRun false language comment reporting before after tally
 kept_after language comment reporting before between after tally run kept = record {
@@ -435,9 +436,9 @@ read_none None rest end left = tt
 read_none (Some bytes) rest end left =
     subst IsAtEnd (sym (left ∙ ap (λ b. Some (drop_through 10 b)) end)) refl
 
-pub at_end : (is_first : Bool) (language : Wording) (comment : Option (Bor Text)) (reporting : Reporting)
+pub at_end : (is_first : Bool) (language : LineLanguage) (comment : Option (Bor Text)) (reporting : Reporting)
     (origin : Origin) (file : Text) (line : ℕ)
-    (bytes rest before between after next : Option Text) (has_failed : Bool) (tally : Tally)
+    (bytes rest before between after next : Option Text) (has_failed : Bool) (tally : LintTally)
     → IsRunUpTo is_first language comment reporting file line bytes rest before between tally
     → IsNext is_first language comment reporting origin rest next has_failed between after None
     → IsRunOver language comment reporting file bytes next has_failed before after tally
@@ -472,19 +473,37 @@ failed_one reported t failed =
     sym (flat_map-append lines_in reported (t ∷ [])
     ∙ ap (λ ls. lines_of reported ++ ls) (no_line_of t failed) ∙ append-nil (lines_of reported))
 
-counted_out : (number : ℕ) (reported : List Reported) (t : Reported) → number ≡ 1 + length reported
-    → 2 ^ 64 - 1 ≤ number → AreCountedOut (reported ++ t ∷ [])
-counted_out number reported t is many = omega (arith, is, many, length-append reported (t ∷ []))
+one_in : (t : Reported) → IsFalse (is_failed t.end) → length (lines_in t) ≡ 1
+one_in t works = rw works refl
 
-cause_of : (has_failed : Bool) (number : ℕ) (reported : List Reported) (t : Reported)
-    → number ≡ 1 + length reported → IsTrue has_failed ⊎ (2 ^ 64 - 1 ≤ number)
-    → IsTrue has_failed ⊎ AreCountedOut (reported ++ t ∷ [])
-cause_of has_failed number reported t is (inl broken) = inl broken
-cause_of has_failed number reported t is (inr many) = inr (counted_out number reported t is many)
+-- Each report is on a line, where no read has failed.
+each_line : (reported : List Reported) → list_any (λ t. is_failed t.end) reported ≡ false
+    → length (lines_of reported) ≡ length reported
+each_line [] works = refl
+each_line (t ∷ reported) works = omega (
+  arith,
+  length-append (lines_in t) (lines_of reported),
+  one_in t (or_left (is_failed t.end) (list_any (λ u. is_failed u.end) reported) works),
+  each_line reported (or_right (is_failed t.end) (list_any (λ u. is_failed u.end) reported) works),
+)
 
-pub run_fails : (is_first : Bool) (language : Wording) (comment : Option (Bor Text)) (reporting : Reporting)
+counted_out : (number : ℕ) (reported : List Reported) (t : Reported) → is_failed t.end ≡ true
+    → list_any (λ u. is_failed u.end) reported ≡ false → number ≡ 1 + length reported → 2 ^ 64 - 1 ≤ number
+    → AreCountedOut (reported ++ t ∷ [])
+counted_out number reported t failed works is many =
+    subst (λ lines. 2 ^ 64 - 2 ≤ length lines) (failed_one reported t failed)
+    (omega (arith, is, many, each_line reported works))
+
+cause_of : (has_failed : Bool) (number : ℕ) (reported : List Reported) (t : Reported) → is_failed t.end ≡ true
+    → list_any (λ u. is_failed u.end) reported ≡ false → number ≡ 1 + length reported
+    → IsTrue has_failed ⊎ (2 ^ 64 - 1 ≤ number) → IsTrue has_failed ⊎ AreCountedOut (reported ++ t ∷ [])
+cause_of has_failed number reported t failed works is (inl broken) = inl broken
+cause_of has_failed number reported t failed works is (inr many) =
+    inr (counted_out number reported t failed works is many)
+
+pub run_fails : (is_first : Bool) (language : LineLanguage) (comment : Option (Bor Text)) (reporting : Reporting)
     (origin : Origin) (file : Text) (number : ℕ)
-    (bytes rest left before between after : Option Text) (has_failed : Bool) (tally : Tally)
+    (bytes rest left before between after : Option Text) (has_failed : Bool) (tally : LintTally)
     → IsPosition file number origin
     → IsRunUpTo is_first language comment reporting file number bytes rest before between tally
     → IsTrue has_failed ⊎ (2 ^ 64 - 1 ≤ number)
@@ -517,7 +536,8 @@ run_fails is_first language comment reporting origin file number bytes rest left
       positions = placed_after file 1 number so_far.run.reported t so_far.number at so_far.positions;
       reasons = All-append (IsUnreadIfFailed reporting) so_far.run.reported (t ∷ []) so_far.reasons
           (only t (IsUnreadIfFailed reporting) (λ _. said.1));
-      cause = λ _. cause_of has_failed number so_far.run.reported t so_far.number why;
+      cause = λ _. cause_of has_failed number so_far.run.reported t refl
+          (sym (ap (λ found. found.failed) so_far.run.found) ∙ so_far.open_end) so_far.number why;
     }
 
 is_failed_alone : (end : TextEnd) → is_failed end ≡ true → end ≡ Failed
@@ -532,9 +552,9 @@ is_failed_alone UnreadValue e = absurd (false≢true e)
 is_failed_alone WrongComment e = absurd (false≢true e)
 is_failed_alone Failed e = refl
 
-pub line_fails : (is_first : Bool) (language : Wording) (comment : Option (Bor Text)) (reporting : Reporting)
+pub line_fails : (is_first : Bool) (language : LineLanguage) (comment : Option (Bor Text)) (reporting : Reporting)
     (origin : Origin) (file : Text) (line : ℕ)
-    (bytes rest next before between after : Option Text) (has_failed : Bool) (tally : Tally) (end : TextEnd)
+    (bytes rest next before between after : Option Text) (has_failed : Bool) (tally : LintTally) (end : TextEnd)
     → IsPosition file line origin
     → IsRunUpTo is_first language comment reporting file line bytes rest before between tally
     → IsNext is_first language comment reporting origin rest next has_failed between after (Some end)
@@ -562,9 +582,9 @@ read_to_end None rest end = tt
 read_to_end (Some xs) rest end = end
 
 -- all bytes of a reader, read into an empty buffer
-pub text_of_all : (language : Wording) (comment : Option (Bor Text)) (reporting : Reporting)
+pub text_of_all : (language : LineLanguage) (comment : Option (Bor Text)) (reporting : Reporting)
     (origin : Origin) (file : Text) (bytes rest : Option Text) (old read text : Text) (before after : Option Text) (has_failed : Bool) (end : TextEnd)
-    (tally : Tally)
+    (tally : LintTally)
     → IfSome bytes (λ all. read ≡ old ++ all) → IsAtEnd rest → old ≡ [] → text ≡ read
     → IsEndOf language reporting text end
     → SaysOf (has_mark text) language reporting origin text end before after
@@ -591,8 +611,8 @@ text_of_all language comment reporting origin file bytes rest old read text befo
           (sym (ap (λ t. t.failed) is) ∙ fails));
     }
 
-pub none_of_all : (language : Wording) (comment : Option (Bor Text)) (reporting : Reporting)
-    (name : Bor Text) (bytes rest before after : Option Text) (has_failed : Bool) (end : TextEnd) (tally : Tally)
+pub none_of_all : (language : LineLanguage) (comment : Option (Bor Text)) (reporting : Reporting)
+    (name : Bor Text) (bytes rest before after : Option Text) (has_failed : Bool) (end : TextEnd) (tally : LintTally)
     → end ≡ Failed → IsTrue has_failed → SaysUnread reporting.style name before after
     → tally ≡ tally_of_one end → IsRunOfAll language comment reporting name.now bytes rest has_failed before after tally
 unfolding unread_at
@@ -623,9 +643,9 @@ none_of_all language comment reporting name bytes rest before after has_failed e
       cause = λ _. broken;
     }
 
-pub failed_run : (is_whole : Bool) (language : Wording) (comment : Option (Bor Text))
+pub failed_run : (is_whole : Bool) (language : LineLanguage) (comment : Option (Bor Text))
     (reporting : Reporting) (name : Bor Text) (before after : Option Text) (end : TextEnd)
-    (tally : Tally) (failure : Failure) → end ≡ Failed
+    (tally : LintTally) (failure : Failure) → end ≡ Failed
     → Appends before after (note_of reporting.style name failure)
     → tally ≡ tally_of_one end → IsRun is_whole language comment reporting before after tally
 failed_run is_whole language comment reporting name before after end tally failure failed written is =
@@ -635,16 +655,16 @@ failed_run is_whole language comment reporting name before after end tally failu
     (λ e. absurd (true≢false e)) (λ e. absurd (false≢true e))
     (fails_at language reporting (position name 1) (text_in is_whole []) before after failure written))
 
-pub unread_run : (is_whole : Bool) (language : Wording) (comment : Option (Bor Text))
+pub unread_run : (is_whole : Bool) (language : LineLanguage) (comment : Option (Bor Text))
     (reporting : Reporting) (name : Bor Text) (before after : Option Text)
-    (tally : Tally) → SaysUnread reporting.style name before after
+    (tally : LintTally) → SaysUnread reporting.style name before after
     → tally ≡ tally_of_one Failed → IsRun is_whole language comment reporting before after tally
 unread_run is_whole language comment reporting name before after tally said is =
     failed_run is_whole language comment reporting name before after Failed tally (unread said.1.0) refl
     (subst (λ m. Appends before after m) said.1.1 said.2) is
 
-pub whole_run : (is_whole : Bool) (language : Wording) (comment : Option (Bor Text))
-    (reporting : Reporting) (file : Text) (bytes rest before after : Option Text) (has_failed : Bool) (tally : Tally)
+pub whole_run : (is_whole : Bool) (language : LineLanguage) (comment : Option (Bor Text))
+    (reporting : Reporting) (file : Text) (bytes rest before after : Option Text) (has_failed : Bool) (tally : LintTally)
     → is_whole ≡ true → IsRunOfAll language comment reporting file bytes rest has_failed before after tally
     → IsRun is_whole language comment reporting before after tally
 whole_run is_whole language comment reporting file bytes rest before after has_failed tally is run =
@@ -655,17 +675,17 @@ whole_run is_whole language comment reporting file bytes rest before after has_f
       written = subst (λ m. Appends before after m) (sym (append-nil run.reported.message)) run.written;
     })
 
-pub lines_run : (is_whole : Bool) (language : Wording) (comment : Option (Bor Text))
-    (reporting : Reporting) (file : Text) (bytes rest before after : Option Text) (has_failed : Bool) (tally : Tally)
+pub lines_run : (is_whole : Bool) (language : LineLanguage) (comment : Option (Bor Text))
+    (reporting : Reporting) (file : Text) (bytes rest before after : Option Text) (has_failed : Bool) (tally : LintTally)
     → is_whole ≡ false → IsRunOver language comment reporting file bytes rest has_failed before after tally
     → IsRun is_whole language comment reporting before after tally
 lines_run is_whole language comment reporting file bytes rest before after has_failed tally is over =
     subst (λ w. IsRun w language comment reporting before after tally) (sym is) over.run
 
 -- The end of the run, in the terms of the code.
-pub ends_here : (is_first : Bool) (language : Wording) (comment : Option (Bor Text)) (reporting : Reporting)
+pub ends_here : (is_first : Bool) (language : LineLanguage) (comment : Option (Bor Text)) (reporting : Reporting)
     (name : Bor Text) (line : ℕ)
-    (bytes rest next before between after : Option Text) (has_failed : Bool) (tally : Tally) (o : Option TextEnd)
+    (bytes rest next before between after : Option Text) (has_failed : Bool) (tally : LintTally) (o : Option TextEnd)
     → o ≡ None
     → IsRunUpTo is_first language comment reporting name.now line bytes rest before between tally
     → IsNext is_first language comment reporting (position name line) rest next has_failed between after o
@@ -677,13 +697,13 @@ ends_here is_first language comment reporting name line bytes rest next before b
     (subst (λ x. IsNext is_first language comment reporting (position name line) rest next has_failed between after x)
     is last)
 
-tally_is : (tally one all : Tally) (end : TextEnd) → one ≡ tally_of_one end → all ≡ both tally one
+tally_is : (tally one all : LintTally) (end : TextEnd) → one ≡ tally_of_one end → all ≡ both tally one
     → all ≡ both tally (tally_of_one end)
 tally_is tally one all end is sum = sum ∙ ap (λ t. both tally t) is
 
-pub goes_on : (is_first : Bool) (language : Wording) (comment : Option (Bor Text)) (reporting : Reporting)
+pub goes_on : (is_first : Bool) (language : LineLanguage) (comment : Option (Bor Text)) (reporting : Reporting)
     (name : Bor Text) (line : ℕ)
-    (bytes rest next before between after : Option Text) (has_failed : Bool) (tally one all : Tally)
+    (bytes rest next before between after : Option Text) (has_failed : Bool) (tally one all : LintTally)
     (o : Option TextEnd) (end : TextEnd) → o ≡ Some end
     → IsRunUpTo is_first language comment reporting name.now line bytes rest before between tally
     → IsNext is_first language comment reporting (position name line) rest next has_failed between after o
@@ -700,9 +720,9 @@ goes_on is_first language comment reporting name line bytes rest next before bet
     is more)
     (sym (ap (λ t. t.failed) same) ∙ works))
 
-pub fails_here : (is_first : Bool) (language : Wording) (comment : Option (Bor Text)) (reporting : Reporting)
+pub fails_here : (is_first : Bool) (language : LineLanguage) (comment : Option (Bor Text)) (reporting : Reporting)
     (name : Bor Text) (line : ℕ)
-    (bytes rest next before between after : Option Text) (has_failed : Bool) (tally one all : Tally)
+    (bytes rest next before between after : Option Text) (has_failed : Bool) (tally one all : LintTally)
     (o : Option TextEnd) (end : TextEnd) → o ≡ Some end
     → IsRunUpTo is_first language comment reporting name.now line bytes rest before between tally
     → IsNext is_first language comment reporting (position name line) rest next has_failed between after o
@@ -718,9 +738,9 @@ fails_here is_first language comment reporting name line bytes rest next before 
     is more)
     (sym (ap (λ t. t.failed) same) ∙ fails))
 
-pub fails_last : (is_first : Bool) (language : Wording) (comment : Option (Bor Text)) (reporting : Reporting)
+pub fails_last : (is_first : Bool) (language : LineLanguage) (comment : Option (Bor Text)) (reporting : Reporting)
     (name : Bor Text) (line : ℕ)
-    (bytes rest left before between after : Option Text) (has_failed : Bool) (tally one all : Tally) (end : TextEnd)
+    (bytes rest left before between after : Option Text) (has_failed : Bool) (tally one all : LintTally) (end : TextEnd)
     → end ≡ Failed
     → IsRunUpTo is_first language comment reporting name.now line bytes rest before between tally
     → 2 ^ 64 - 1 ≤ line → SaysUnread reporting.style name between after
@@ -733,22 +753,22 @@ fails_last is_first language comment reporting name line bytes rest left before 
     (run_fails is_first language comment reporting (position name line) name.now line bytes rest left before
     between after has_failed tally (refl, refl) so_far (inr many) said)
 
-pub whole_on : (is_whole : Bool) (language : Wording) (comment : Option (Bor Text))
-    (reporting : Reporting) (file : Text) (bytes rest before after : Option Text) (has_failed : Bool) (tally : Tally)
+pub whole_on : (is_whole : Bool) (language : LineLanguage) (comment : Option (Bor Text))
+    (reporting : Reporting) (file : Text) (bytes rest before after : Option Text) (has_failed : Bool) (tally : LintTally)
     → is_whole ≡ true → IsRunOfAll language comment reporting file bytes rest has_failed before after tally
     → IsRunOn is_whole language comment reporting file bytes rest has_failed before after tally
 whole_on is_whole language comment reporting file bytes rest before after has_failed tally is run =
     subst (λ w. IsRunOn w language comment reporting file bytes rest has_failed before after tally) (sym is) run
 
-pub lines_on : (is_whole : Bool) (language : Wording) (comment : Option (Bor Text))
-    (reporting : Reporting) (file : Text) (bytes rest before after : Option Text) (has_failed : Bool) (tally : Tally)
+pub lines_on : (is_whole : Bool) (language : LineLanguage) (comment : Option (Bor Text))
+    (reporting : Reporting) (file : Text) (bytes rest before after : Option Text) (has_failed : Bool) (tally : LintTally)
     → is_whole ≡ false → IsRunOver language comment reporting file bytes rest has_failed before after tally
     → IsRunOn is_whole language comment reporting file bytes rest has_failed before after tally
 lines_on is_whole language comment reporting file bytes rest before after has_failed tally is over =
     subst (λ w. IsRunOn w language comment reporting file bytes rest has_failed before after tally) (sym is) over
 
-pub run_on : (is_whole : Bool) (language : Wording) (comment : Option (Bor Text))
-    (reporting : Reporting) (file : Text) (bytes rest before after : Option Text) (has_failed : Bool) (tally : Tally)
+pub run_on : (is_whole : Bool) (language : LineLanguage) (comment : Option (Bor Text))
+    (reporting : Reporting) (file : Text) (bytes rest before after : Option Text) (has_failed : Bool) (tally : LintTally)
     → IsRunOn is_whole language comment reporting file bytes rest has_failed before after tally
     → IsRun is_whole language comment reporting before after tally
 run_on true language comment reporting file bytes rest before after has_failed tally run =

@@ -9,34 +9,34 @@ use Rattle.std.proofs.lemmas.Grind.{flat_map-append}
 use mathlib.Core.Logic.{inl, inr}
 use denote.Ref.{Bor}
 use Rattle.timefd_lang_component.specs.Tree.{Text}
-use Rattle.timefd_lint_options.specs.declared.wording.Wording.{Wording}
-use Rattle.timefd_lint_scan.specs.declared.description.Description.{Description}
+use Rattle.timefd_lint_options.specs.declared.wording.LineLanguage.{LineLanguage}
+use Rattle.timefd_lint_scan.specs.declared.description.SourceDescription.{SourceDescription}
 use Rattle.timefd_lint_sources.specs.declared.remark.Remark.{Remark}
 use Rattle.timefd_lint_sources.specs.declared.source.Report.{Report}
 use Rattle.timefd_lint_sources.specs.Remarks.{end_of, ends_of, message_of, messages_of}
-use Rattle.timefd_lint_sources.specs.declared.reported.End.{End}
+use Rattle.timefd_lint_sources.specs.declared.reported.ItemEnd.{ItemEnd}
 use Rattle.timefd_lint_sources.specs.declared.reported.Finder.{Finder}
-use Rattle.timefd_lint_sources.specs.declared.reported.Source.{Source}
+use Rattle.timefd_lint_sources.specs.declared.reported.SourceText.{SourceText}
 use Rattle.timefd_lint_sources.specs.declared.reported.Reporting.{Reporting}
 use Rattle.timefd_lint_sources.specs.Allowances.Found.{AreAllowances}
 use Rattle.timefd_lint_sources.specs.Judged.{text_of}
 use Rattle.timefd_lint_sources.specs.Items.{AreJudgedAs}
 use Rattle.timefd_lint_sources.specs.Reported.{AllFound, AreSeen, AreReported, IsFound, IsJudgedFound, IsSourceReported}
 use Rattle.timefd_lint_sources.specs.Whole.{no_text_note, origin_of}
-use Rattle.timefd_lint.specs.declared.line.RunError.{RunError}
+use Rattle.timefd_lint.specs.declared.line.LintError.{LintError}
 use Rattle.timefd_lint.specs.declared.line.TextEnd.{TextEnd}
 use Rattle.timefd_lint.specs.declared.line.TextEnd.TheVariants.{NotText, Failed}
-use Rattle.timefd_lint.specs.declared.tally.Tally.{Tally}
+use Rattle.timefd_lint.specs.declared.tally.LintTally.{LintTally}
 use Rattle.timefd_lint.specs.Sources.{IsNotText, IsOfLiteral, IsOfRemark, IsReported, IsRunOfAny, IsRunOfSource, IsRunWith, IsSaid, IsReportedOfAny, tally_from, tally_of_ends, text_end}
 use Rattle.timefd_lint.specs.Reported.{IsRun, IsRunOfAll, IsRunOver, SaysUnread, Reported, both, messages, position, tally_of, tally_of_one}
 use Rattle.timefd_lint.proofs.ReportedLemmas.{lines_run, only, read_to_end, run_after, tally_both, tally_one, unread_run, whole_run, whole_text}
 
 -- What is found in the descriptions of a source, one after another.
-pub none_found : (ends : List End) (tally : Tally) → tally ≡ tally_of []
+pub none_found : (ends : List ItemEnd) (tally : LintTally) → tally ≡ tally_of []
     → tally_from tally ends ≡ tally_of_ends ends
 none_found ends tally is = ap (λ t. tally_from t ends) is
 
-pub one_found : (all : List End) (i : ℕ) (e other : End) (came : TextEnd) (tally one sum : Tally)
+pub one_found : (all : List ItemEnd) (i : ℕ) (e other : ItemEnd) (came : TextEnd) (tally one sum : LintTally)
     → i < length all → e ≡ get_or all i other → came ≡ text_end e → one ≡ tally_of_one came
     → sum ≡ both tally one → tally_from tally (drop i all) ≡ tally_of_ends all
     → tally_from sum (drop (i + 1) all) ≡ tally_of_ends all
@@ -47,13 +47,13 @@ one_found all i e other came tally one sum below is ended found total so_far =
     (total ∙ ap (λ t. both tally t) (found ∙ ap tally_of_one ended))
     ∙ sym (ap (λ l. tally_from tally l) left) ∙ so_far
 
-pub all_found : (all : List End) (i : ℕ) (tally : Tally) → length all ≤ i
+pub all_found : (all : List ItemEnd) (i : ℕ) (tally : LintTally) → length all ≤ i
     → tally_from tally (drop i all) ≡ tally_of_ends all → tally ≡ tally_of_ends all
 all_found all i tally none so_far = sym (ap (λ l. tally_from tally l) (drop_all i all none)) ∙ so_far
 
 -- What is written about a source.
-pub reported_source : (reporting : Reporting) (s : Source) (r : Report) (before after : Option Text)
-    (message : Text) (ends : List End) (tally : Tally)
+pub reported_source : (reporting : Reporting) (s : SourceText) (r : Report) (before after : Option Text)
+    (message : Text) (ends : List ItemEnd) (tally : LintTally)
     → AreAllowances s.finder s.text.now s.allowances.now → IsSourceReported reporting s r
     → message ≡ r.message.items → Appends before after message → ends ≡ r.ends.items
     → tally ≡ tally_of_ends ends
@@ -73,14 +73,14 @@ reported_source reporting s r before after message ends tally allowed reported s
 )
 
 pub noted_no_text : (reporting : Reporting) (name : Bor Text) (before after : Option Text)
-    (message text : Text) (tally : Tally) → text ≡ message
+    (message text : Text) (tally : LintTally) → text ≡ message
     → message ≡ no_text_note reporting.style (position name 1) → Appends before after text
     → tally ≡ tally_of_one NotText → IsNotText reporting name.now before after tally
 noted_no_text reporting name before after message text tally same is written found =
     (name, refl, subst (λ m. Appends before after m) (same ∙ is) written, found)
 
 pub said_of_text : (finder own : Finder) (reporting : Reporting) (name bytes text : Text)
-    (before after : Option Text) (tally : Tally) → own ≡ finder → text ≡ bytes → IsUtf8 text
+    (before after : Option Text) (tally : LintTally) → own ≡ finder → text ≡ bytes → IsUtf8 text
     → IsReported own reporting name text before after tally
     → IsSaid finder reporting name bytes before after tally
 said_of_text finder own reporting name bytes text before after tally by same utf8 reported_source =
@@ -91,14 +91,14 @@ said_of_text finder own reporting name bytes text before after tally by same utf
     )
 
 pub said_of_no_text : (finder : Finder) (reporting : Reporting) (name bytes : Text)
-    (before after : Option Text) (tally : Tally) → ¬ IsUtf8 bytes
+    (before after : Option Text) (tally : LintTally) → ¬ IsUtf8 bytes
     → IsNotText reporting name before after tally
     → IsSaid finder reporting name bytes before after tally
 said_of_no_text finder reporting name bytes before after tally none noted = inr (none, noted)
 
 -- All bytes of a reader are read into an empty buffer.
 pub source_read : (finder : Finder) (reporting : Reporting) (name : Text) (bytes rest : Option Text)
-    (old read text : Text) (before after : Option Text) (has_failed : Bool) (tally : Tally)
+    (old read text : Text) (before after : Option Text) (has_failed : Bool) (tally : LintTally)
     → IfSome bytes (λ all. read ≡ old ++ all)
     → IsAtEnd rest → old ≡ [] → text ≡ read → IsSaid finder reporting name text before after tally
     → IsRunOfSource finder reporting name bytes rest has_failed before after tally
@@ -106,7 +106,7 @@ source_read finder reporting name bytes rest old read text before after has_fail
     inl (text, whole_text bytes old read text all none same, read_to_end bytes rest left, said)
 
 pub source_unread : (finder : Finder) (reporting : Reporting) (name : Bor Text)
-    (bytes rest before after : Option Text) (has_failed : Bool) (end : TextEnd) (tally : Tally)
+    (bytes rest before after : Option Text) (has_failed : Bool) (end : TextEnd) (tally : LintTally)
     → end ≡ Failed → IsTrue has_failed → SaysUnread reporting.style name before after
     → tally ≡ tally_of_one end → IsRunOfSource finder reporting name.now bytes rest has_failed before after tally
 source_unread finder reporting name bytes rest before after has_failed end tally failed broken said is =
@@ -119,15 +119,15 @@ source_unread finder reporting name bytes rest before after has_failed end tally
     )
 
 -- the report on each literal, as a report on a text
-record AreLiterals (is_whole : Bool) (language : Wording) (comment : Option (Bor Text))
-    (reporting : Reporting) (ends : List End) (message : Text) : Type 0 where
+record AreLiterals (is_whole : Bool) (language : LineLanguage) (comment : Option (Bor Text))
+    (reporting : Reporting) (ends : List ItemEnd) (message : Text) : Type 0 where
   reported : List Reported
   each : All (IsReportedOfAny is_whole language comment reporting) reported
   said : message ≡ messages reported
   found : (others : List Reported) → tally_from (tally_of others) ends ≡ tally_of (others ++ reported)
 
 -- Each description that is judged was found.
-judged_found : (s : Source) (found judged : List Description) → AllFound s found → AreJudgedAs found judged
+judged_found : (s : SourceText) (found judged : List SourceDescription) → AllFound s found → AreJudgedAs found judged
     → All (IsJudgedFound s) judged
 judged_found s [] judged stand are = subst (All (IsJudgedFound s)) (sym are) (All-nil (IsJudgedFound s))
 judged_found s (d ∷ ds) judged stand (one, others, is, are, whole) =
@@ -136,8 +136,8 @@ judged_found s (d ∷ ds) judged stand (one, others, is, are, whole) =
     (judged_found s ds others (All-tail (IsFound s) d ds stand) are))
 
 -- Each remark is reported.
-remarked : (is_whole : Bool) (language : Wording) (comment : Option (Bor Text)) (reporting : Reporting)
-    (s : Source) (ds : List Description) (all front left : List Remark) → AreSeen s ds all
+remarked : (is_whole : Bool) (language : LineLanguage) (comment : Option (Bor Text)) (reporting : Reporting)
+    (s : SourceText) (ds : List SourceDescription) (all front left : List Remark) → AreSeen s ds all
     → AreAllowances s.finder s.text.now s.allowances.now → all ≡ front ++ left
     → AreLiterals is_whole language comment reporting (ends_of left) (messages_of reporting.style s left)
 remarked is_whole language comment reporting s ds all front [] seen allowed is = record {
@@ -183,8 +183,8 @@ remarked is_whole language comment reporting s ds all front (r ∷ left) seen al
     }
 
 -- Adds the reports on literals before these.
-literals : (is_whole : Bool) (language : Wording) (comment : Option (Bor Text)) (reporting : Reporting)
-    (s : Source) (ds : List Description) (ends more_ends : List End) (message more_message : Text)
+literals : (is_whole : Bool) (language : LineLanguage) (comment : Option (Bor Text)) (reporting : Reporting)
+    (s : SourceText) (ds : List SourceDescription) (ends more_ends : List ItemEnd) (message more_message : Text)
     → AreAllowances s.finder s.text.now s.allowances.now
     → All (IsJudgedFound s) ds → AreReported reporting s ds ends message
     → AreLiterals is_whole language comment reporting more_ends more_message
@@ -233,8 +233,8 @@ literals is_whole language comment reporting s (d ∷ ds) (e ∷ ends) more_ends
     }
 
 -- Runs over texts, and over sources too.
-pub of_texts : (is_whole : Bool) (language : Wording) (comment : Option (Bor Text)) (reporting : Reporting)
-    (before after : Option Text) (tally : Tally)
+pub of_texts : (is_whole : Bool) (language : LineLanguage) (comment : Option (Bor Text)) (reporting : Reporting)
+    (before after : Option Text) (tally : LintTally)
     → IsRun is_whole language comment reporting before after tally
     → IsRunOfAny is_whole language comment reporting before after tally
 of_texts is_whole language comment reporting before after tally run = record {
@@ -244,8 +244,8 @@ of_texts is_whole language comment reporting before after tally run = record {
   written = run.written;
 }
 
-pub of_source : (is_whole : Bool) (language : Wording) (comment : Option (Bor Text)) (reporting : Reporting)
-    (finder : Finder) (name : Text) (bytes rest before after : Option Text) (has_failed : Bool) (tally : Tally)
+pub of_source : (is_whole : Bool) (language : LineLanguage) (comment : Option (Bor Text)) (reporting : Reporting)
+    (finder : Finder) (name : Text) (bytes rest before after : Option Text) (has_failed : Bool) (tally : LintTally)
     → IsRunOfSource finder reporting name bytes rest has_failed before after tally
     → IsRunOfAny is_whole language comment reporting before after tally
 of_source is_whole language comment reporting finder name bytes rest before after has_failed tally
@@ -285,8 +285,8 @@ of_source is_whole language comment reporting finder name bytes rest before afte
     of_texts is_whole language comment reporting before after tally
     (unread_run is_whole language comment reporting file before after tally said found)
 
-any_after : (is_whole : Bool) (language : Wording) (comment : Option (Bor Text)) (reporting : Reporting)
-    (before between after : Option Text) (a b : Tally)
+any_after : (is_whole : Bool) (language : LineLanguage) (comment : Option (Bor Text)) (reporting : Reporting)
+    (before between after : Option Text) (a b : LintTally)
     → IsRunOfAny is_whole language comment reporting before between a
     → IsRunOfAny is_whole language comment reporting between after b
     → IsRunOfAny is_whole language comment reporting before after (both a b)
@@ -301,8 +301,8 @@ any_after is_whole language comment reporting before between after a b first sec
       (Appends-trans before between after _ _ first.written second.written);
 }
 
-to_any : (reads is_whole : Bool) (language : Wording) (comment : Option (Bor Text))
-    (reporting : Reporting) (before after : Option Text) (tally : Tally)
+to_any : (reads is_whole : Bool) (language : LineLanguage) (comment : Option (Bor Text))
+    (reporting : Reporting) (before after : Option Text) (tally : LintTally)
     → IsRunWith reads is_whole language comment reporting before after tally
     → IsRunOfAny is_whole language comment reporting before after tally
 to_any true is_whole language comment reporting before after tally run = run
@@ -310,8 +310,8 @@ to_any false is_whole language comment reporting before after tally run =
     of_texts is_whole language comment reporting before after tally run
 
 -- Two runs in a row read sources if one of them does.
-pub with_after : (one other is_whole : Bool) (language : Wording) (comment : Option (Bor Text))
-    (reporting : Reporting) (before between after : Option Text) (a b : Tally)
+pub with_after : (one other is_whole : Bool) (language : LineLanguage) (comment : Option (Bor Text))
+    (reporting : Reporting) (before between after : Option Text) (a b : LintTally)
     → IsRunWith one is_whole language comment reporting before between a
     → IsRunWith other is_whole language comment reporting between after b
     → IsRunWith (one || other) is_whole language comment reporting before after (both a b)
@@ -325,8 +325,8 @@ with_after false false is_whole language comment reporting before between after 
     run_after is_whole language comment reporting before between after a b first second
 
 -- A run that reads no source is also one that reads sources or none.
-pub with_more : (one other is_whole : Bool) (language : Wording) (comment : Option (Bor Text))
-    (reporting : Reporting) (before after : Option Text) (tally : Tally)
+pub with_more : (one other is_whole : Bool) (language : LineLanguage) (comment : Option (Bor Text))
+    (reporting : Reporting) (before after : Option Text) (tally : LintTally)
     → IsRunWith one is_whole language comment reporting before after tally
     → IsRunWith (one || other) is_whole language comment reporting before after tally
 with_more true other is_whole language comment reporting before after tally run = run
@@ -334,26 +334,26 @@ with_more false true is_whole language comment reporting before after tally run 
     of_texts is_whole language comment reporting before after tally run
 with_more false false is_whole language comment reporting before after tally run = run
 
-pub with_texts : (reads is_whole : Bool) (language : Wording) (comment : Option (Bor Text))
-    (reporting : Reporting) (before after : Option Text) (tally : Tally)
+pub with_texts : (reads is_whole : Bool) (language : LineLanguage) (comment : Option (Bor Text))
+    (reporting : Reporting) (before after : Option Text) (tally : LintTally)
     → IsRun is_whole language comment reporting before after tally
     → IsRunWith reads is_whole language comment reporting before after tally
 with_texts true is_whole language comment reporting before after tally run =
     of_texts is_whole language comment reporting before after tally run
 with_texts false is_whole language comment reporting before after tally run = run
 
-pub with_source : (reads is_whole : Bool) (language : Wording) (comment : Option (Bor Text))
+pub with_source : (reads is_whole : Bool) (language : LineLanguage) (comment : Option (Bor Text))
     (reporting : Reporting) (finder : Finder) (name : Text) (bytes rest before after : Option Text) (has_failed : Bool)
-    (tally : Tally) → reads ≡ true → IsRunOfSource finder reporting name bytes rest has_failed before after tally
+    (tally : LintTally) → reads ≡ true → IsRunOfSource finder reporting name bytes rest has_failed before after tally
     → IsRunWith reads is_whole language comment reporting before after tally
 with_source reads is_whole language comment reporting finder name bytes rest before after has_failed tally is run =
     subst (λ r. IsRunWith r is_whole language comment reporting before after tally) (sym is)
     (of_source is_whole language comment reporting finder name bytes rest before after has_failed tally run)
 
 -- The report on a source, in a run that may have ended early.
-pub source_reported : (reads is_whole : Bool) (language : Wording) (comment : Option (Bor Text))
+pub source_reported : (reads is_whole : Bool) (language : LineLanguage) (comment : Option (Bor Text))
     (reporting : Reporting) (finder : Finder) (name : Text) (bytes rest before after : Option Text) (has_failed : Bool)
-    (r : Result Tally RunError) → reads ≡ true
+    (r : Result LintTally LintError) → reads ≡ true
     → IfOk r (IsRunOfSource finder reporting name bytes rest has_failed before after)
     → IfOk r (IsRunWith reads is_whole language comment reporting before after)
 source_reported reads is_whole language comment reporting finder name bytes rest before after has_failed (Ok tally) is run =
@@ -361,8 +361,8 @@ source_reported reads is_whole language comment reporting finder name bytes rest
     run
 source_reported reads is_whole language comment reporting finder name bytes rest before after has_failed (Err e) is run = tt
 
-pub with_whole : (reads is_whole : Bool) (language : Wording) (comment : Option (Bor Text))
-    (reporting : Reporting) (file : Text) (bytes rest before after : Option Text) (has_failed : Bool) (tally : Tally)
+pub with_whole : (reads is_whole : Bool) (language : LineLanguage) (comment : Option (Bor Text))
+    (reporting : Reporting) (file : Text) (bytes rest before after : Option Text) (has_failed : Bool) (tally : LintTally)
     → reads ≡ false → is_whole ≡ true
     → IsRunOfAll language comment reporting file bytes rest has_failed before after tally
     → IsRunWith reads is_whole language comment reporting before after tally
@@ -370,8 +370,8 @@ with_whole reads is_whole language comment reporting file bytes rest before afte
     subst (λ r. IsRunWith r is_whole language comment reporting before after tally) (sym none)
     (whole_run is_whole language comment reporting file bytes rest before after has_failed tally is run)
 
-pub with_lines : (reads is_whole : Bool) (language : Wording) (comment : Option (Bor Text))
-    (reporting : Reporting) (file : Text) (bytes rest before after : Option Text) (has_failed : Bool) (tally : Tally)
+pub with_lines : (reads is_whole : Bool) (language : LineLanguage) (comment : Option (Bor Text))
+    (reporting : Reporting) (file : Text) (bytes rest before after : Option Text) (has_failed : Bool) (tally : LintTally)
     → reads ≡ false → is_whole ≡ false
     → IsRunOver language comment reporting file bytes rest has_failed before after tally
     → IsRunWith reads is_whole language comment reporting before after tally

@@ -35,7 +35,7 @@ summary Unreadable = codes "a file that can't be read"
 summary Unwritable = codes "a file that can't be replaced"
 summary ByteOrderMark = codes "a byte-order mark before the first line"
 summary UnknownLanguage = codes "a comment that names no language"
-summary UnknownCode = codes "a comment that allows what is no error or warning"
+summary UnknownCode = codes "a comment that allows what isn't an error or a warning"
 
 abbrev pub fault_explanation : Code → Text
 fault_explanation faults.UnclosedBracket =

@@ -18,7 +18,7 @@ pub mod Fates
 pub mod Counted
 pub mod Folders
 pub mod Identities
-pub mod ByHand
+pub mod Manual
 pub mod Arguments
 pub mod NoneOf
 pub mod NoCodes
@@ -27,4 +27,6 @@ pub mod Stores
 pub mod ValueNotes
 pub mod Projects
 pub mod Parts
+pub mod Unusable
+pub mod Statuses
 pub mod Roots

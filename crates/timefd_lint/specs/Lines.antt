@@ -6,8 +6,8 @@ use Rattle.timefd_lang_fault.specs.Faults.{Fault}
 use Rattle.timefd_language.specs.Grammar.{nesting_limit}
 use Rattle.timefd_lang_dialect.specs.declared.reason.Reason.{Reason}
 use Rattle.timefd_lang_dialect.specs.Reading.{Piece, Means, RefusedAt}
-use Rattle.timefd_lint_options.specs.declared.wording.Wording.{Wording}
-use Rattle.timefd_lint_options.specs.declared.wording.Wording.TheVariants.{Own, Other}
+use Rattle.timefd_lint_options.specs.declared.wording.LineLanguage.{LineLanguage}
+use Rattle.timefd_lint_options.specs.declared.wording.LineLanguage.TheVariants.{Own, Other}
 use Rattle.timefd_parse.specs.Language.{SpellsIn, FaultIn}
 use Rattle.timefd_lint_rewrite.specs.Lines.{is_passed_over}
 use Rattle.timefd_lint_warnings.specs.declared.dialects.judging.Judgement.{Judgement}
@@ -19,23 +19,23 @@ use Rattle.timefd_lint.specs.declared.line.TextEnd.{TextEnd}
 use Rattle.timefd_lint.specs.declared.line.TextEnd.TheVariants.{PassedOver, Accepted, Converted, Refused, NotText, Allowed, Failed, UnreadCall, UnreadValue, WrongComment}
 
 -- a text of a language of `time` spells a list, with the list's warnings
-abbrev pub IsAcceptedBy : Wording → Reporting → Text → Levels → Type 0
+abbrev pub IsAcceptedBy : LineLanguage → Reporting → Text → Levels → Type 0
 IsAcceptedBy (Own language) reporting text found = (list : List Tree) × SpellsIn language nesting_limit text list
     × (found ≡ found_by reporting.levels language list)
 IsAcceptedBy (Other dialect) reporting text found = ⊥
 
 -- a format of another language means something that version 3 writes too
-abbrev pub IsConvertedBy : Wording → Text → Type 0
+abbrev pub IsConvertedBy : LineLanguage → Text → Type 0
 IsConvertedBy (Own language) text = ⊥
 IsConvertedBy (Other dialect) text = (ps : List Piece) × Means dialect text ps
 
 -- a text of a language of `time` has a fault, and a format of another has a part that version 3 can't write
-abbrev pub IsRefusedBy : Wording → Text → Type 0
+abbrev pub IsRefusedBy : LineLanguage → Text → Type 0
 IsRefusedBy (Own language) text = (f : Fault) × FaultIn language nesting_limit text f
 IsRefusedBy (Other dialect) text = (reason : Reason) × (index : ℕ) × RefusedAt dialect text reason index
 
 -- A text is accepted, converted or refused by its language. Otherwise it isn't UTF-8.
-abbrev pub IsEndOf : Wording → Reporting → Text → TextEnd → Type 0
+abbrev pub IsEndOf : LineLanguage → Reporting → Text → TextEnd → Type 0
 IsEndOf language reporting text PassedOver = ⊥
 IsEndOf language reporting text (Accepted found) = IsUtf8 text × IsAcceptedBy language reporting text found
 IsEndOf language reporting text (Converted traps) = IsUtf8 text × IsConvertedBy language text
@@ -48,7 +48,7 @@ IsEndOf language reporting text UnreadValue = ⊥
 IsEndOf language reporting text WrongComment = ⊥
 
 -- The end of a line's check: the line is passed over, or the end is that of a text.
-abbrev pub IsLineEnd : Wording → Option (Bor Text) → Reporting → Text → TextEnd → Type 0
+abbrev pub IsLineEnd : LineLanguage → Option (Bor Text) → Reporting → Text → TextEnd → Type 0
 IsLineEnd language comment reporting line PassedOver = IsTrue (is_passed_over comment line)
 IsLineEnd language comment reporting line (Accepted found) = IsFalse (is_passed_over comment line)
     × IsEndOf language reporting line (Accepted found)

@@ -1,6 +1,9 @@
 -- What reaches who reads a stream.
-use Rattle.std.specs.Prelude.{◌≡◌, Bool, true, false, Option, None, chars, ⊤}
+use Rattle.std.specs.Prelude.{◌≡◌, Bool, true, false, Option, None, Result, String, chars, ⊤}
 use Rattle.std.specs.Io.KnownBytes.{Appends}
+use Rattle.std.specs.declared.alloc.Global.{Global}
+use Rattle.std.specs.declared.env.VarError.{VarError}
+use Rattle.timefd_bin_streams.specs.Colors.{AreShown}
 use Rattle.timefd_lang_component.specs.Tree.{Text}
 use Rattle.timefd_lint_drawing.specs.People.{AllSeen, for_people}
 use Rattle.timefd_lint_options.specs.declared.settings.Color.{Color}
@@ -41,8 +44,13 @@ IsShown InColor before after text = IsShownInColor true before after text
 IsShown WithoutColor before after text = IsShownInColor false before after text
 IsShown Program before after text = ⊤
 
--- Whether drawings are coloured. What `auto` means depends on the system.
-abbrev pub IsColored : Color → Bool → Type 0
-IsColored Always is_colored = is_colored ≡ true
-IsColored Never is_colored = is_colored ≡ false
-IsColored Auto is_colored = ⊤
+-- By `auto`, drawings are coloured at a terminal, if the environment lets it show colours.
+abbrev pub IsColoredAt : (Text → Result (String Global) VarError → Type 0) → Bool → Bool → Type 0
+IsColoredAt have false is_colored = is_colored ≡ false
+IsColoredAt have true is_colored = AreShown have is_colored
+
+-- Whether drawings are coloured.
+abbrev pub IsColored : (Text → Result (String Global) VarError → Type 0) → Bool → Color → Bool → Type 0
+IsColored have is_terminal Always is_colored = is_colored ≡ true
+IsColored have is_terminal Never is_colored = is_colored ≡ false
+IsColored have is_terminal Auto is_colored = IsColoredAt have is_terminal is_colored

@@ -6,15 +6,15 @@ use Rattle.std.specs.Io.Iter.{u64_saturate}
 use denote.Ref.{Bor}
 use Rattle.timefd_lang_component.specs.Tree.{Text}
 use Rattle.timefd_language.specs.declared.language.Language.{Language}
-use Rattle.timefd_lint_options.specs.declared.wording.Wording.{Wording}
-use Rattle.timefd_lint_options.specs.declared.wording.Wording.TheVariants.{Own, Other}
+use Rattle.timefd_lint_options.specs.declared.wording.LineLanguage.{LineLanguage}
+use Rattle.timefd_lint_options.specs.declared.wording.LineLanguage.TheVariants.{Own, Other}
 use Rattle.timefd_lint_warnings.specs.Dialects.Judging.{AreTrapsDrawn, IsRefusalDrawn}
 use Rattle.timefd_lint_diagnosis.specs.declared.diagnostic.Diagnostic.{Diagnostic}
 use Rattle.timefd_lint_diagnosis.specs.Further.{AreDiagnosed}
 use Rattle.timefd_lint.specs.declared.failure.Failure.{Failure}
 use Rattle.timefd_lint.specs.declared.line.TextEnd.{TextEnd}
 use Rattle.timefd_lint.specs.declared.line.TextEnd.TheVariants.{PassedOver, Accepted, Converted, Refused, NotText, Allowed, Failed, UnreadCall, UnreadValue, WrongComment}
-use Rattle.timefd_lint.specs.declared.tally.Tally.{Tally}
+use Rattle.timefd_lint.specs.declared.tally.LintTally.{LintTally}
 use Rattle.timefd_lint_drawing.specs.declared.draw.Style.{Style}
 use Rattle.timefd_lint_drawing.specs.declared.position.Origin.{Origin}
 use Rattle.timefd_lint_drawing.specs.Drawing.{drawn_all}
@@ -56,25 +56,25 @@ IsDrawing language style origin text message = (g : Diagnostic) × (further : Li
 abbrev pub IsFailureNote : Style → Bor Text → Text → Type 0
 IsFailureNote style file message = (failure : Failure) × (message ≡ note_of style file failure)
 
-abbrev pub IsMessageOnAccepted : Wording → Reporting → Origin → Levels → Text → Text → Type 0
+abbrev pub IsMessageOnAccepted : LineLanguage → Reporting → Origin → Levels → Text → Text → Type 0
 IsMessageOnAccepted (Own language) reporting origin found text message =
     IsTreeAndWarnings language reporting origin found text message
 IsMessageOnAccepted (Other dialect) reporting origin found text message = ⊥
 
 -- The message on a format of another language: a warning on each trap, in order, if warnings are reported.
-abbrev pub IsMessageOnConverted : Wording → Reporting → Origin → ℕ → Text → Text → Type 0
+abbrev pub IsMessageOnConverted : LineLanguage → Reporting → Origin → ℕ → Text → Text → Type 0
 IsMessageOnConverted (Own language) reporting origin traps text message = ⊥
 IsMessageOnConverted (Other dialect) reporting origin traps text message =
     AreTrapsDrawn (is_some reporting.levels) reporting.style origin dialect text traps message
 
 -- What is wrong with a text: its faults, or the part of a format of another language that is refused.
-abbrev pub IsMessageOnRefused : Wording → Style → Origin → Text → Text → Type 0
+abbrev pub IsMessageOnRefused : LineLanguage → Style → Origin → Text → Text → Type 0
 IsMessageOnRefused (Own language) style origin text message = IsDrawing language style origin text message
 IsMessageOnRefused (Other dialect) style origin text message =
     IsRefusalDrawn style origin dialect text message
 
 -- The message on a text. A text that is passed over has none.
-abbrev pub IsMessageOn : Wording → Reporting → Origin → Text → TextEnd → Text → Type 0
+abbrev pub IsMessageOn : LineLanguage → Reporting → Origin → Text → TextEnd → Text → Type 0
 IsMessageOn language reporting origin text PassedOver message = message ≡ []
 IsMessageOn language reporting origin text (Accepted found) message =
     IsMessageOnAccepted language reporting origin found text message
@@ -92,7 +92,7 @@ IsMessageOn language reporting origin text UnreadValue message = ⊥
 IsMessageOn language reporting origin text WrongComment message = ⊥
 
 -- The message on a text is written after what was there before, and no other bytes are.
-abbrev pub Says : Wording → Reporting → Origin → Text → TextEnd → Option Text → Option Text → Type 0
+abbrev pub Says : LineLanguage → Reporting → Origin → Text → TextEnd → Option Text → Option Text → Type 0
 Says language reporting origin text end before after = (message : Text)
     × IsMessageOn language reporting origin text end message × Appends before after message
 
@@ -102,13 +102,13 @@ SaysUnread style file before after = (message : Text)
     × IsUnreadNote style file message × Appends before after message
 
 -- The note on a byte-order mark, if there is one, comes before the message.
-abbrev pub IsMessageOf : Bool → Wording → Reporting → Origin → Text → TextEnd → Text → Type 0
+abbrev pub IsMessageOf : Bool → LineLanguage → Reporting → Origin → Text → TextEnd → Text → Type 0
 IsMessageOf is_marked language reporting origin text end message =
     (note : Text) × (rest : Text) × (message ≡ note ++ rest)
     × IsNote is_marked reporting.style origin note
     × IsMessageOn language reporting origin text end rest
 
-abbrev pub SaysOf : Bool → Wording → Reporting → Origin → Text → TextEnd → Option Text → Option Text
+abbrev pub SaysOf : Bool → LineLanguage → Reporting → Origin → Text → TextEnd → Option Text → Option Text
     → Type 0
 SaysOf is_marked language reporting origin text end before after = (message : Text)
     × IsMessageOf is_marked language reporting origin text end message × Appends before after message
@@ -251,7 +251,7 @@ text_in true bytes = bytes
 text_in false bytes = without_newline bytes
 
 -- How the check ends, for a whole file or for a line.
-abbrev pub IsEndIn : Bool → Wording → Option (Bor Text) → Reporting → Text → TextEnd → Type 0
+abbrev pub IsEndIn : Bool → LineLanguage → Option (Bor Text) → Reporting → Text → TextEnd → Type 0
 IsEndIn true language comment reporting line end = IsEndOf language reporting line end
 IsEndIn false language comment reporting line end = IsLineEnd language comment reporting (without_newline line) end
 
@@ -261,7 +261,7 @@ IsUnreadIfFailed reporting t =
     IsTrue (is_failed t.end) → IsUnreadNote reporting.style t.origin.file t.message
 
 -- A file that can't be read has no line.
-pub record IsReportOn (is_whole : Bool) (language : Wording) (comment : Option (Bor Text))
+pub record IsReportOn (is_whole : Bool) (language : LineLanguage) (comment : Option (Bor Text))
     (reporting : Reporting) (t : Reported) : Type 0 where
   pub end : IsFalse (is_failed t.end) → IsEndIn is_whole language comment reporting t.line t.end
   pub marked : IsTrue t.is_marked → IsTrue (has_mark t.line)
@@ -286,7 +286,7 @@ allowed_of [] = 0
 allowed_of (t ∷ reported) = allowed_in t.end + allowed_of reported
 
 -- the tally of one text
-abbrev pub tally_of_one : TextEnd → Tally
+abbrev pub tally_of_one : TextEnd → LintTally
 tally_of_one end = record {
   descriptions = one_if (is_description end);
   refused = one_if (is_refused end);
@@ -301,7 +301,7 @@ tally_of_one end = record {
 }
 
 -- the tally of all reports
-abbrev pub tally_of : List Reported → Tally
+abbrev pub tally_of : List Reported → LintTally
 tally_of reported = record {
   descriptions = u64_saturate (count (λ t. is_description t.end) reported);
   refused = u64_saturate (count (λ t. is_refused t.end) reported);
@@ -316,7 +316,7 @@ tally_of reported = record {
 }
 
 -- the tally of these texts and those
-abbrev pub both : Tally → Tally → Tally
+abbrev pub both : LintTally → LintTally → LintTally
 both a b =
     record {
       descriptions = u64_saturate (a.descriptions + b.descriptions);
@@ -363,22 +363,22 @@ IsReadUp bytes rest = IfSome bytes (λ _. IsAtEnd rest)
 
 -- The result of a run: its tally counts all reports, and their messages are written in order, and nothing
 -- else.
-pub record IsRun (is_whole : Bool) (language : Wording) (comment : Option (Bor Text))
-    (reporting : Reporting) (before after : Option Text) (tally : Tally) : Type 0 where
+pub record IsRun (is_whole : Bool) (language : LineLanguage) (comment : Option (Bor Text))
+    (reporting : Reporting) (before after : Option Text) (tally : LintTally) : Type 0 where
   pub reported : List Reported
   pub each : All (IsReportOn is_whole language comment reporting) reported
   pub found : tally ≡ tally_of reported
   pub written : Appends before after (messages reported)
 
--- There are as many reports as there are numbers of lines.
+-- There are as many lines as there are numbers for them in front of the last number.
 abbrev pub AreCountedOut : List Reported → Type 0
-AreCountedOut reported = 2 ^ 64 - 1 ≤ length reported
+AreCountedOut reported = 2 ^ 64 - 2 ≤ length (lines_of reported)
 
 -- The result of a run over the lines of a reader, which are the lines of a file. It goes to the end unless the
--- reader has failed by then, or has more lines than are counted.
-pub record IsRunOver (language : Wording) (comment : Option (Bor Text)) (reporting : Reporting)
+-- reader has failed by then, or has more lines than are counted: no bytes in memory are so many.
+pub record IsRunOver (language : LineLanguage) (comment : Option (Bor Text)) (reporting : Reporting)
     (file : Text) (bytes rest : Option Text) (has_failed : Bool) (before after : Option Text)
-    (tally : Tally) : Type 0 where
+    (tally : LintTally) : Type 0 where
   pub run : IsRun false language comment reporting before after tally
   pub lines : AreLinesOf bytes (lines_of run.reported) tally.failed
   pub read : IsFalse tally.failed → IsReadUp bytes rest
@@ -389,9 +389,9 @@ pub record IsRunOver (language : Wording) (comment : Option (Bor Text)) (reporti
 
 -- The result of a run over all bytes of a reader as one text. If the bytes are known, the report is about
 -- that text, unless it can't be read since the reader has failed.
-pub record IsRunOfAll (language : Wording) (comment : Option (Bor Text)) (reporting : Reporting)
+pub record IsRunOfAll (language : LineLanguage) (comment : Option (Bor Text)) (reporting : Reporting)
     (file : Text) (bytes rest : Option Text) (has_failed : Bool) (before after : Option Text)
-    (tally : Tally) : Type 0 where
+    (tally : LintTally) : Type 0 where
   pub reported : Reported
   pub is_reported : IsReportOn true language comment reporting reported
   pub marked : reported.is_marked ≡ has_mark reported.line
@@ -404,8 +404,8 @@ pub record IsRunOfAll (language : Wording) (comment : Option (Bor Text)) (report
   pub cause : IsTrue tally.failed → IsTrue has_failed
 
 -- The result of a run over all that a reader has: as one text, or line by line.
-abbrev pub IsRunOn : Bool → Wording → Option (Bor Text) → Reporting → Text → Option Text → Option Text
-    → Bool → Option Text → Option Text → Tally → Type 0
+abbrev pub IsRunOn : Bool → LineLanguage → Option (Bor Text) → Reporting → Text → Option Text → Option Text
+    → Bool → Option Text → Option Text → LintTally → Type 0
 IsRunOn true language comment reporting file bytes rest has_failed before after tally =
     IsRunOfAll language comment reporting file bytes rest has_failed before after tally
 IsRunOn false language comment reporting file bytes rest has_failed before after tally =
@@ -413,7 +413,7 @@ IsRunOn false language comment reporting file bytes rest has_failed before after
 
 -- The result for the next line, the first or a later one, at its position. At the end of the bytes nothing is
 -- written. If the line can't be read, the reader has failed, and the note says why.
-abbrev pub IsNext : Bool → Wording → Option (Bor Text) → Reporting → Origin → Option Text → Option Text
+abbrev pub IsNext : Bool → LineLanguage → Option (Bor Text) → Reporting → Origin → Option Text → Option Text
     → Bool → Option Text → Option Text → Option TextEnd → Type 0
 IsNext is_first language comment reporting origin bytes rest has_failed before after None =
     IsAtEnd bytes × IsReadUp bytes rest × Keeps before after

@@ -17,19 +17,19 @@ use Rattle.timefd_lint_rewrite.specs.declared.fixes.Fixes.{Fixes}
 use Rattle.timefd_lint_rewrite.specs.declared.fixes.Fixes.TheVariants.{All, Sure}
 use Rattle.timefd_lint_sources.specs.declared.rewriting.change.Change.{Change}
 use Rattle.timefd_lint_sources.specs.declared.rewriting.change.Change.TheVariants as changes
-use Rattle.timefd_lint_options.specs.declared.settings.Settings.{Settings}
+use Rattle.timefd_lint_options.specs.declared.settings.RunSettings.{RunSettings}
 use Rattle.timefd_lint_options.specs.Settings.{target}
-use Rattle.timefd_lint_options.specs.declared.wording.Wording.{Wording}
-use Rattle.timefd_lint_options.specs.declared.wording.Wording.TheVariants.{Own, Other}
+use Rattle.timefd_lint_options.specs.declared.wording.LineLanguage.{LineLanguage}
+use Rattle.timefd_lint_options.specs.declared.wording.LineLanguage.TheVariants.{Own, Other}
 use Rattle.timefd_lint_options.specs.Values.{language_of}
-use Rattle.timefd_lint.specs.declared.found.Unit.{Unit}
-use Rattle.timefd_lint.specs.declared.found.Unit.TheVariants.{Line, Description}
+use Rattle.timefd_lint.specs.declared.found.CountedUnit.{CountedUnit}
+use Rattle.timefd_lint.specs.declared.found.CountedUnit.TheVariants.{Line, Description}
 use Rattle.timefd_lint.specs.declared.rewriting.Rewriting.{Rewriting}
 use Rattle.timefd_lint.specs.Summaries.{descriptions}
 use Rattle.timefd_lint.specs.Summaries as summaries
 
 -- Which fixes may be made.
-abbrev pub fixes_of : Settings → Fixes
+abbrev pub fixes_of : RunSettings → Fixes
 fixes_of s = if s.is_unsafe then All else Sure
 
 abbrev pub change_by : Bool → Option Conversion → Option LineChange
@@ -47,12 +47,12 @@ other_change dialect One = None
 other_change dialect Two = None
 other_change dialect Three = Some (line_changes.Other dialect)
 
-abbrev pub change_from : Bool → Wording → DescriptionVersion → Option LineChange
+abbrev pub change_from : Bool → LineLanguage → DescriptionVersion → Option LineChange
 change_from is_normal (Own language) version = own_change is_normal language version
 change_from is_normal (Other dialect) version = other_change dialect version
 
 -- How lines are changed to a version; not at all if no conversion leads there.
-abbrev pub lines_to : Settings → DescriptionVersion → Option LineChange
+abbrev pub lines_to : RunSettings → DescriptionVersion → Option LineChange
 lines_to s version = change_from s.is_normal s.language version
 
 -- How lines are mended; not at all if their language isn't one of `time`.
@@ -60,10 +60,10 @@ abbrev pub mended : Option Language → Fixes → Option LineChange
 mended (Some language) fixes = Some (line_changes.Own (layouts.Fixed language fixes))
 mended None fixes = None
 
-abbrev pub change_to : Settings → DescriptionVersion → Change
+abbrev pub change_to : RunSettings → DescriptionVersion → Change
 change_to s version = if s.is_normal then changes.Normal else changes.Least version
 
-abbrev pub mending : Settings → Rewriting
+abbrev pub mending : RunSettings → Rewriting
 mending s = record {
   lines = mended (language_of s.language) (fixes_of s);
   sources = changes.Mended (fixes_of s);
@@ -71,7 +71,7 @@ mending s = record {
   is_partial = s.is_partial;
 }
 
-abbrev pub converting : Settings → DescriptionVersion → Rewriting
+abbrev pub converting : RunSettings → DescriptionVersion → Rewriting
 converting s version = record {
   lines = lines_to s version;
   sources = change_to s version;
@@ -79,15 +79,15 @@ converting s version = record {
   is_partial = s.is_partial;
 }
 
-abbrev pub converting_to : Settings → Option DescriptionVersion → Option Rewriting
+abbrev pub converting_to : RunSettings → Option DescriptionVersion → Option Rewriting
 converting_to s None = None
 converting_to s (Some version) = Some (converting s version)
 
 -- How files are rewritten, if they are.
-abbrev pub rewriting_of : Settings → Option Rewriting
+abbrev pub rewriting_of : RunSettings → Option Rewriting
 rewriting_of s = if s.fixes then Some (mending s) else converting_to s (target s)
 
-abbrev pub noun : Unit → ℕ → Text
+abbrev pub noun : CountedUnit → ℕ → Text
 noun Line n = summaries.noun n (codes "line") (codes "lines")
 noun Description n = descriptions n
 
@@ -95,11 +95,11 @@ abbrev pub be : ℕ → Text
 be n = summaries.noun n (codes "is") (codes "are")
 
 -- as `2 of 3 lines`
-abbrev pub part : ℕ → Unit → ℕ → Text
+abbrev pub part : ℕ → CountedUnit → ℕ → Text
 part n unit lines = decimal n ++ (codes " of " ++ (decimal lines ++ (codes " " ++ noun unit lines)))
 
 -- a file that is left out, as some of it is refused
-abbrev pub left_out : Bool → Text → Unit → Counts → Text
+abbrev pub left_out : Bool → Text → CountedUnit → Counts → Text
 left_out true file unit counts =
     codes "not rewritten " ++ (file ++ (codes ": " ++ (part counts.refused unit counts.lines
     ++ (codes " " ++ (be counts.refused ++ codes " refused; --partial rewrites the others\n")))))
@@ -108,6 +108,6 @@ left_out false file unit counts =
     ++ (codes " " ++ (be counts.refused ++ codes " refused; --write --partial rewrites the others\n")))))
 
 -- a file that was written back
-abbrev pub rewrote : Text → Unit → Counts → Text
+abbrev pub rewrote : Text → CountedUnit → Counts → Text
 rewrote file unit counts =
     codes "rewrote " ++ (file ++ (codes ": " ++ (part counts.rewritten unit counts.lines ++ codes "\n")))

@@ -2,7 +2,7 @@
 use Rattle.std.specs.Prelude.{ℕ, Bool, true, false, ◌++◌, codes, nat_eq, if◌then◌else◌}
 use Rattle.std.specs.Fmt.{decimal}
 use Rattle.timefd_lang_component.specs.Tree.{Text}
-use Rattle.timefd_lint.specs.declared.tally.Tally.{Tally}
+use Rattle.timefd_lint.specs.declared.tally.LintTally.{LintTally}
 
 -- the word for one, or for any other number
 abbrev pub noun : ℕ → Text → Text → Text
@@ -27,20 +27,20 @@ abbrev pub errors : ℕ → Text
 errors n = noun n (codes "error in a comment") (codes "errors in comments")
 
 -- as `8 descriptions, 6 refused`
-abbrev pub refusals : Tally → Text
+abbrev pub refusals : LintTally → Text
 refusals tally =
     decimal tally.descriptions
     ++ (codes " " ++ (descriptions tally.descriptions
     ++ (codes ", " ++ (decimal tally.refused ++ codes " refused"))))
 
 -- as `8 descriptions, 6 refused, 2 files`
-abbrev pub without_warnings : Tally → ℕ → Text
+abbrev pub without_warnings : LintTally → ℕ → Text
 without_warnings tally file_count =
     refusals tally
     ++ (codes ", " ++ (decimal file_count ++ (codes " " ++ files file_count)))
 
 -- as `8 descriptions, 6 refused, 1 warning, 2 files`
-abbrev pub with_warnings : Tally → ℕ → Text
+abbrev pub with_warnings : LintTally → ℕ → Text
 with_warnings tally file_count =
     refusals tally
     ++ (codes ", " ++ (decimal tally.warnings
@@ -48,7 +48,7 @@ with_warnings tally file_count =
     ++ (codes ", " ++ (decimal file_count ++ (codes " " ++ files file_count)))))))
 
 -- with the warnings, if they are reported
-abbrev pub counted : Bool → Tally → ℕ → Text
+abbrev pub counted : Bool → LintTally → ℕ → Text
 counted true tally file_count = with_warnings tally file_count
 counted false tally file_count = without_warnings tally file_count
 
@@ -87,7 +87,7 @@ with_allowed line allowed = line ++ (codes "; " ++ (decimal allowed ++ codes " a
 abbrev pub with_any_allowed : Text → ℕ → Text
 with_any_allowed line allowed = if nat_eq allowed 0 then line else with_allowed line allowed
 
-abbrev pub summary : Bool → Tally → ℕ → Text
+abbrev pub summary : Bool → LintTally → ℕ → Text
 summary warns tally file_count =
     with_any_allowed
     (with_any_wrong

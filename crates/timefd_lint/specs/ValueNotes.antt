@@ -6,7 +6,7 @@ use Rattle.timefd_lint_drawing.specs.Positions.{column, line_number}
 use Rattle.timefd_lint_drawing.specs.Shown.{safe}
 use Rattle.timefd_lint_rewrite.specs.declared.line_change.LineChange.{LineChange}
 use Rattle.timefd_lint_rewrite.specs.declared.line_change.LineChange.TheVariants.{Own, Other}
-use Rattle.timefd_lint_scan.specs.declared.description.Description.{Description}
+use Rattle.timefd_lint_scan.specs.declared.description.SourceDescription.{SourceDescription}
 use Rattle.timefd_lint_sources.specs.Judged.{text_of}
 use Rattle.timefd_lint_sources.specs.Rewriting.Values.{value_change}
 use Rattle.timefd_lint_sources.specs.declared.rewriting.change.Change.{Change}
@@ -33,18 +33,18 @@ note file source start =
 abbrev pub note_if : Outcome → Text → Text → ℕ → Text
 note_if outcome file source start = if is_unwritable outcome then note file source start else []
 
-abbrev pub unwritable_in : Text → Text → List Description → List Outcome → Text
+abbrev pub unwritable_in : Text → Text → List SourceDescription → List Outcome → Text
 unwritable_in file source [] outcomes = []
 unwritable_in file source (d ∷ ds) [] = []
 unwritable_in file source (d ∷ ds) (o ∷ os) =
     note_if o file source d.piece.start ++ unwritable_in file source ds os
 
 -- the notes on the values of a file whose new texts no string can hold, in order
-abbrev pub unwritable : Text → Text → List Description → List Outcome → Text
+abbrev pub unwritable : Text → Text → List SourceDescription → List Outcome → Text
 unwritable file source ds os = unwritable_in (safe file) source ds os
 
 -- The note is on a format of another language, if the value is one; with the line in which the value begins.
-abbrev pub AddsLimitsBy : Option LineChange → Text → Text → Description → Text → Text → Type 0
+abbrev pub AddsLimitsBy : Option LineChange → Text → Text → SourceDescription → Text → Text → Type 0
 AddsLimitsBy None file source d before after = after ≡ before
 AddsLimitsBy (Some (Own layout)) file source d before after = after ≡ before
 AddsLimitsBy (Some (Other dialect)) file source d before after =
@@ -52,16 +52,16 @@ AddsLimitsBy (Some (Other dialect)) file source d before after =
     × AddsTextNote dialect file (line_number 1 source d.piece.start) (text_of d) before after)
     ⊎ ((¬ IsUtf8 (text_of d)) × (after ≡ before))
 
-abbrev pub AddsLimits : Change → Text → Text → Description → Text → Text → Type 0
+abbrev pub AddsLimits : Change → Text → Text → SourceDescription → Text → Text → Type 0
 AddsLimits change file source d before after =
     AddsLimitsBy (value_change change d.dialect) file source d before after
 
 -- the notes on values, one after another
-abbrev pub AreLimitsIn : Change → Text → Text → List Description → Text → Text → Type 0
+abbrev pub AreLimitsIn : Change → Text → Text → List SourceDescription → Text → Text → Type 0
 AreLimitsIn change file source [] before after = after ≡ before
 AreLimitsIn change file source (d ∷ ds) before after =
     (middle : Text) × AddsLimits change file source d before middle × AreLimitsIn change file source ds middle after
 
 -- the notes on the values of a file
-abbrev pub AreLimits : Change → Text → Text → List Description → Text → Text → Type 0
+abbrev pub AreLimits : Change → Text → Text → List SourceDescription → Text → Text → Type 0
 AreLimits change file source ds before after = AreLimitsIn change (safe file) source ds before after

@@ -17,7 +17,7 @@ pub fn summary(code: ErrorCode) -> &'static str
         ErrorCode::Unwritable => "a file that can't be replaced",
         ErrorCode::ByteOrderMark => "a byte-order mark before the first line",
         ErrorCode::UnknownLanguage => "a comment that names no language",
-        ErrorCode::UnknownCode => "a comment that allows what is no error or warning",
+        ErrorCode::UnknownCode => "a comment that allows what isn't an error or a warning",
     }
 }
 

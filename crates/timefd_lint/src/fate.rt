@@ -5,18 +5,18 @@ ghost use Rattle.timefd_lint_rewrite.specs.Diffs.{WritesDiff};
 ghost use Rattle.timefd_lint.specs.Causes.{IsCausedBy};
 ghost use Rattle.timefd_lint.specs.Fates as fates;
 ghost use Rattle.timefd_lint.specs.Stores as stores;
-ghost use Rattle.timefd_lint.specs.declared.line.RunError.TheVariants as errors;
+ghost use Rattle.timefd_lint.specs.declared.line.LintError.TheVariants as errors;
 
 use crate::fix::{FixError, Original};
-use crate::found::Found;
-use crate::line::{RunError, write};
+use crate::found::FoundInFile;
+use crate::line::{LintError, write};
 use crate::lines::failed;
-use crate::options::Options;
+use crate::options::RunOptions;
 use crate::output::{Audience, without_colors};
 use crate::rewrite_report::{left_out, rewrote};
 use crate::rewriting::Rewriting;
 use crate::store::Store;
-use crate::tally::Tally;
+use crate::tally::LintTally;
 use std::alloc::Global;
 use timefd_bin_streams::Sink;
 use timefd_lint_drawing::shown::safe;
@@ -54,15 +54,15 @@ fn fate_of(rewriting: Rewriting, counts: Counts) -> Fate
 pub fn settle<S: Store, E: Sink, W: Sink>(
     store: &mut S,
     alloc: Global,
-    options: Options<'_>,
+    options: RunOptions<'_>,
     rewriting: Rewriting,
     audience: Audience,
     name: &str,
     old: &Original<S::File>,
-    found: &Found,
+    found: &FoundInFile,
     errors: &mut E,
     output: &mut W,
-) -> Result<Tally, RunError>
+) -> Result<LintTally, LintError>
     ensures settled { IfOk result (stores.IsSettled S.replaces S.refuses options.entry rewriting audience
         name.entry old.now.bytes.items found.now (fates.fate_of rewriting found.now.counts)
         (stores.stage store.old (E.contents errors.old) (E.has_failed errors.old) (W.contents output.old))
@@ -91,14 +91,14 @@ pub fn settle<S: Store, E: Sink, W: Sink>(
 fn replace<S: Store, E: Sink, W: Sink>(
     store: &mut S,
     alloc: Global,
-    options: Options<'_>,
+    options: RunOptions<'_>,
     name: &str,
     file: &str,
     old: &Original<S::File>,
-    found: &Found,
+    found: &FoundInFile,
     errors: &mut E,
     output: &mut W,
-) -> Result<Tally, RunError>
+) -> Result<LintTally, LintError>
     ensures replaced { IfOk result (stores.IsReplaced S.replaces S.refuses options.entry name.entry file.now
         found.now
         (stores.stage store.old (E.contents errors.old) (E.has_failed errors.old) (W.contents output.old))
@@ -120,19 +120,19 @@ fn replace<S: Store, E: Sink, W: Sink>(
 
 /// Reports to people. A report that can't be written is left out.
 pub fn report<E: Sink>(errors: &mut E, message: &str)
-    ensures { fates.Tells (E.contents errors.old) (E.contents errors.new) (E.has_failed errors.new)
+    ensures { fates.Reports (E.contents errors.old) (E.contents errors.new) (E.has_failed errors.new)
         message.now }
 {
     let _ = errors.put_all(message.as_bytes());
 }
 
 // What is found in a file, and whether descriptions are left that have to be changed manually.
-fn tally_of(found: &Found) -> Tally
+fn tally_of(found: &FoundInFile) -> LintTally
     ensures { result ≡ fates.tally_in found.now }
 {
-    let left = Tally {
-        is_left: !found.by_hand.is_empty(),
-        ..Tally::new()
+    let left = LintTally {
+        is_left: !found.manual.is_empty(),
+        ..LintTally::new()
     };
     found.tally.and(left)
 }
@@ -140,20 +140,20 @@ fn tally_of(found: &Found) -> Tally
 /// Notes why a file is left as it was.
 pub fn noted<W: Sink>(
     alloc: Global,
-    options: Options<'_>,
+    options: RunOptions<'_>,
     name: &str,
     error: FixError,
     output: &mut W,
-) -> Result<Tally, RunError>
+) -> Result<LintTally, LintError>
     ensures noted { IfOk result (fates.IsNoted options.entry name.entry error (W.contents output.old)
         (W.contents output.new)) }
     ensures unwritten { IfErr result (IsCausedBy (W.has_failed output.new)) }
 {
     match error {
-        FixError::Memory => Err(RunError::Memory),
+        FixError::Memory => Err(LintError::Memory),
         FixError::Failed(failure) => {
             let end = failed(alloc, options, name, failure, output)?;
-            Ok(Tally::of(end))
+            Ok(LintTally::of(end))
         }
     }
 }
@@ -167,7 +167,7 @@ fn show_diff<W: Sink>(
     old: &[u8],
     new: &[u8],
     output: &mut W,
-) -> Result<(), RunError>
+) -> Result<(), LintError>
     ensures shown { OnOk result (fates.ShowsDiff audience file.now old.now new.now
         (W.contents output.old) (W.contents output.new)) }
     ensures unwritten { IfErr result (IsCausedBy (W.has_failed output.new)) }
@@ -178,7 +178,7 @@ fn show_diff<W: Sink>(
 }
 
 // What changes in a file, as a diff.
-fn diff_of(alloc: Global, file: &str, old: &[u8], new: &[u8]) -> Result<Vec<u8>, RunError>
+fn diff_of(alloc: Global, file: &str, old: &[u8], new: &[u8]) -> Result<Vec<u8>, LintError>
     ensures diff { IfOk result (λ diff. WritesDiff file.now old.now new.now (Some []) (Some diff.items)) }
     ensures memory { IfErr result (λ e. e ≡ errors.Memory) }
 {
@@ -186,6 +186,6 @@ fn diff_of(alloc: Global, file: &str, old: &[u8], new: &[u8]) -> Result<Vec<u8>,
     match write_diff(alloc, file, old, new, &mut diff) {
         Ok(()) => Ok(diff),
         // The writer is in memory, so only memory can run out.
-        Err(_) => Err(RunError::Memory),
+        Err(_) => Err(LintError::Memory),
     }
 }

@@ -6,20 +6,20 @@ ghost use Rattle.timefd_lint.specs.Folders as spec;
 use std::alloc::{AllocError, Global};
 use std::io::ErrorKind;
 use timefd_lint_drawing::shown::safe;
-use timefd_lint_files::Reason;
+use timefd_lint_files::WalkReason;
 
 /// Why the sources below a folder aren't known, in a sentence that names this folder, or this file in it. An
 /// `Err` says that memory ran out.
-pub fn sentence(alloc: Global, path: &str, reason: Reason) -> Result<String, AllocError>
+pub fn sentence(alloc: Global, path: &str, reason: WalkReason) -> Result<String, AllocError>
     ensures { IfOk result (λ text. string_bytes text ≡ spec.sentence path.now reason) }
 {
     let path = safe(alloc, path)?;
     match reason {
-        Reason::Unread(kind) => {
+        WalkReason::Unread(kind) => {
             let cause = cause(kind);
             format!(in alloc; "`{path}` can't be read{cause}")
         }
-        Reason::TooDeep => format!(in alloc; "`{path}` is more than 255 folders deep"),
+        WalkReason::TooDeep => format!(in alloc; "`{path}` is more than 255 folders deep"),
     }
 }
 

@@ -4,18 +4,15 @@ ghost use Rattle.std.specs.Prelude.{◌≡◌, ◌∷◌, ◌++◌, [], IfErr, O
 ghost use Rattle.std.specs.List.{list_any};
 ghost use Rattle.std.specs.Option.{option_to_list};
 ghost use Rattle.timefd_lint.specs.Identities as spec;
-ghost use Rattle.timefd_lint.specs.declared.line.RunError.TheVariants as errors;
+ghost use Rattle.timefd_lint.specs.declared.line.LintError.TheVariants as errors;
 
-use crate::line::RunError;
-use std::fs;
-use std::os::unix::fs::MetadataExt;
-use std::rt::Files;
+use crate::line::LintError;
 
 /// A file of the system, whatever its names are.
 #[derive(Clone, Copy)]
 pub struct Identity {
-    device: u64,
-    inode: u64,
+    pub device: u64,
+    pub inode: u64,
 }
 
 impl Identity {
@@ -25,20 +22,6 @@ impl Identity {
     {
         self.device == other.device && self.inode == other.inode
     }
-}
-
-/// The file that a name leads to. `None` if there is none.
-pub fn identity_of<R: Files>(rt: &R, name: &str) -> Option<Identity> {
-    let metadata = fs::metadata(rt, name).ok()?;
-    Some(Identity {
-        device: metadata.dev(),
-        inode: metadata.ino(),
-    })
-}
-
-/// Whether there is a file or a folder of this name.
-pub fn is_there<R: Files>(rt: &R, name: &str) -> bool {
-    fs::symlink_metadata(rt, name).is_ok()
 }
 
 /// Whether the file that a name leads to was met already.
@@ -59,7 +42,7 @@ fn is_among(met: &[Identity], identity: Identity) -> bool
 }
 
 /// Adds the file that a name leads to, if there is one, to those that were met.
-pub fn meet_any(met: &mut Vec<Identity>, identity: Option<Identity>) -> Result<(), RunError>
+pub fn meet_any(met: &mut Vec<Identity>, identity: Option<Identity>) -> Result<(), LintError>
     ensures added { OnOk result (met.new.items ≡ met.old.items ++ option_to_list identity) }
     ensures memory { IfErr result (λ e. e ≡ errors.Memory) }
 {
@@ -70,12 +53,12 @@ pub fn meet_any(met: &mut Vec<Identity>, identity: Option<Identity>) -> Result<(
 }
 
 // Adds a file to those that were met.
-fn meet(met: &mut Vec<Identity>, identity: Identity) -> Result<(), RunError>
+fn meet(met: &mut Vec<Identity>, identity: Identity) -> Result<(), LintError>
     ensures added { OnOk result (met.new.items ≡ met.old.items ++ identity ∷ []) }
     ensures memory { IfErr result (λ e. e ≡ errors.Memory) }
 {
     match met.push(identity) {
         Ok(()) => Ok(()),
-        Err(_) => Err(RunError::Memory),
+        Err(_) => Err(LintError::Memory),
     }
 }

@@ -10,10 +10,10 @@ ghost use Rattle.timefd_lint_sources.specs.Whole.{no_text_note};
 ghost use Rattle.timefd_lint.specs.declared.line.TextEnd.TheVariants as ends;
 ghost use Rattle.timefd_lint.specs.Causes.{IsCausedBy};
 ghost use Rattle.timefd_lint.specs.Lines.{IsEndOf, IsLineEnd, end_by};
-ghost use Rattle.timefd_lint_options.specs.declared.wording.Wording.TheVariants.{Own, Other};
+ghost use Rattle.timefd_lint_options.specs.declared.wording.LineLanguage.TheVariants.{Own, Other};
 ghost use Rattle.timefd_lint.specs.Reported.{Says, WritesTree};
 
-use crate::options::Options;
+use crate::options::RunOptions;
 use std::alloc::{AllocError, Global};
 use std::str;
 use timefd_bin_streams::{Failed, Sink};
@@ -22,30 +22,30 @@ use timefd_lang_warnings::{Level, Levels};
 use timefd_lint_diagnosis::{Diagnostic, MOST_FURTHER, diagnose, further_faults};
 use timefd_lint_drawing::{Origin, Style, drawn_all, note};
 use timefd_lint_explain::explained;
-use timefd_lint_options::Wording;
+use timefd_lint_options::LineLanguage;
 use timefd_lint_rewrite::is_passed_over;
 use timefd_lint_sources::{Left, Reporting};
-use timefd_lint_warnings::dialects::{Judged, Judgement, judge};
+use timefd_lint_warnings::dialects::{JudgedFormat, Judgement, judge};
 use timefd_lint_warnings::{found_in, messages};
 use timefd_parse::Language;
 
 /// Why a run ends before its last text.
 #[derive(Clone, Copy)]
-pub enum RunError {
+pub enum LintError {
     /// Memory ran out.
     Memory,
     /// A write failed.
     Write,
 }
 
-impl From<AllocError> for RunError {
+impl From<AllocError> for LintError {
     ghost use Rattle.std.specs.Prelude.{◌≡◌};
-    ghost use Rattle.timefd_lint.specs.declared.line.RunError.{RunError};
+    ghost use Rattle.timefd_lint.specs.declared.line.LintError.{LintError};
 
-    ghost from_gives = { λ _ e. e ≡ RunError.Memory };
+    ghost from_gives = { λ _ e. e ≡ LintError.Memory };
 
-    fn from(_: AllocError) -> RunError {
-        RunError::Memory
+    fn from(_: AllocError) -> LintError {
+        LintError::Memory
     }
 }
 
@@ -77,11 +77,11 @@ pub enum TextEnd {
 /// Checks a line, without its newline, and writes what is wrong with it. An `Err` says why the run ends here.
 pub fn lint_line<W: Sink>(
     alloc: Global,
-    options: Options<'_>,
+    options: RunOptions<'_>,
     origin: Origin<'_>,
     line: &[u8],
     writer: &mut W,
-) -> Result<TextEnd, RunError>
+) -> Result<TextEnd, LintError>
     ensures end { IfOk result (IsLineEnd options.entry.language options.entry.comment
         options.entry.reporting line.now) }
     ensures said { IfOk result (λ end. Says options.entry.language options.entry.reporting origin.entry
@@ -98,11 +98,11 @@ pub fn lint_line<W: Sink>(
 #[tactic(auto, using(crate::proofs::TextLemmas::end_of_bytes, crate::proofs::TextLemmas::said_of_bytes, crate::proofs::TextLemmas::no_text_is, crate::proofs::TextLemmas::no_text_said))]
 pub fn lint_text<W: Sink>(
     alloc: Global,
-    options: Options<'_>,
+    options: RunOptions<'_>,
     origin: Origin<'_>,
     bytes: &[u8],
     writer: &mut W,
-) -> Result<TextEnd, RunError>
+) -> Result<TextEnd, LintError>
     ensures end { IfOk result (IsEndOf options.entry.language options.entry.reporting bytes.now) }
     ensures said { IfOk result (λ end. Says options.entry.language options.entry.reporting origin.entry
         bytes.now end (W.contents writer.old) (W.contents writer.new)) }
@@ -118,21 +118,21 @@ pub fn lint_text<W: Sink>(
 #[tactic(auto, using(crate::proofs::OtherLemmas::end_as, crate::proofs::OtherLemmas::said_as))]
 fn judged<W: Sink>(
     alloc: Global,
-    options: Options<'_>,
+    options: RunOptions<'_>,
     origin: Origin<'_>,
     text: &str,
     writer: &mut W,
-) -> Result<TextEnd, RunError>
+) -> Result<TextEnd, LintError>
     ensures end { IfOk result (IsEndOf options.entry.language options.entry.reporting text.now) }
     ensures said { IfOk result (λ end. Says options.entry.language options.entry.reporting origin.entry
         text.now end (W.contents writer.old) (W.contents writer.new)) }
     ensures unwritten { IfErr result (IsCausedBy (W.has_failed writer.new)) }
 {
     match options.language {
-        Wording::Own(language) => {
+        LineLanguage::Own(language) => {
             own_judged(alloc, language, options.reporting, origin, text, writer)
         }
-        Wording::Other(dialect) => {
+        LineLanguage::Other(dialect) => {
             other_judged(alloc, dialect, options.reporting, origin, text, writer)
         }
     }
@@ -147,7 +147,7 @@ fn own_judged<W: Sink>(
     origin: Origin<'_>,
     text: &str,
     writer: &mut W,
-) -> Result<TextEnd, RunError>
+) -> Result<TextEnd, LintError>
     ensures end { IfOk result (IsEndOf (Own language) reporting text.now) }
     ensures said { IfOk result (λ end. Says (Own language) reporting origin.entry
         text.now end (W.contents writer.old) (W.contents writer.new)) }
@@ -179,14 +179,14 @@ fn other_judged<W: Sink>(
     origin: Origin<'_>,
     text: &str,
     writer: &mut W,
-) -> Result<TextEnd, RunError>
+) -> Result<TextEnd, LintError>
     ensures end { IfOk result (IsEndOf (Other dialect) reporting text.now) }
     ensures said { IfOk result (λ end. Says (Other dialect) reporting origin.entry
         text.now end (W.contents writer.old) (W.contents writer.new)) }
     ensures unwritten { IfErr result (IsCausedBy (W.has_failed writer.new)) }
 {
     let reports_traps = reporting.levels.is_some();
-    let Judged { judgement, message } = judge(
+    let JudgedFormat { judgement, message } = judge(
         alloc,
         reporting.style,
         origin,
@@ -217,7 +217,7 @@ fn refused<W: Sink>(
     diagnostic: &Diagnostic,
     further: &[Diagnostic],
     writer: &mut W,
-) -> Result<TextEnd, RunError>
+) -> Result<TextEnd, LintError>
     ensures end { IfOk result (λ end. end ≡ ends.Refused) }
     ensures written { OnOk result (Appends (W.contents writer.old) (W.contents writer.new)
         (drawing.drawn_all style origin.entry text.now diagnostic.now further.now)) }
@@ -231,10 +231,10 @@ fn refused<W: Sink>(
 // Notes that a text isn't UTF-8.
 fn not_text<W: Sink>(
     alloc: Global,
-    options: Options<'_>,
+    options: RunOptions<'_>,
     origin: Origin<'_>,
     writer: &mut W,
-) -> Result<TextEnd, RunError>
+) -> Result<TextEnd, LintError>
     ensures end { IfOk result (λ end. end ≡ ends.NotText) }
     ensures written { OnOk result (Appends (W.contents writer.old) (W.contents writer.new)
         (no_text_note options.entry.reporting.style origin.entry)) }
@@ -259,7 +259,7 @@ fn accepted<W: Sink>(
     origin: Origin<'_>,
     text: &str,
     writer: &mut W,
-) -> Result<TextEnd, RunError>
+) -> Result<TextEnd, LintError>
     ensures end { (list : List Tree) → SpellsIn language nesting_limit text.now list
         → IfOk result (IsEndOf (Own language) reporting text.now) }
     ensures said { IfOk result (λ end. Says (Own language) reporting origin.entry
@@ -285,7 +285,7 @@ fn write_tree<W: Sink>(
     origin: Origin<'_>,
     text: &str,
     writer: &mut W,
-) -> Result<(), RunError>
+) -> Result<(), LintError>
     ensures written { OnOk result (WritesTree language explains origin.entry text.now
         (W.contents writer.old) (W.contents writer.new)) }
     ensures unwritten { IfErr result (IsCausedBy (W.has_failed writer.new)) }
@@ -298,12 +298,12 @@ fn write_tree<W: Sink>(
 }
 
 /// Writes all of the bytes.
-pub fn write<W: Sink>(writer: &mut W, bytes: &[u8]) -> Result<(), RunError>
+pub fn write<W: Sink>(writer: &mut W, bytes: &[u8]) -> Result<(), LintError>
     ensures written { OnOk result (Appends (W.contents writer.old) (W.contents writer.new) bytes.now) }
     ensures unwritten { IfErr result (IsCausedBy (W.has_failed writer.new)) }
 {
     match writer.put_all(bytes) {
         Ok(()) => Ok(()),
-        Err(Failed) => Err(RunError::Write),
+        Err(Failed) => Err(LintError::Write),
     }
 }

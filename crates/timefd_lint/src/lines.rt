@@ -9,10 +9,10 @@ ghost use Rattle.timefd_lint.specs.Reported.{IsNext, IsRunOfAll, IsRunOver, Says
 ghost use Rattle.timefd_lint.specs.declared.line.TextEnd.TheVariants as ends;
 
 use crate::failure::{Failure, unread};
-use crate::line::{RunError, TextEnd, lint_line, lint_text, write};
+use crate::line::{LintError, TextEnd, lint_line, lint_text, write};
 use crate::mark::note_mark;
-use crate::options::Options;
-use crate::tally::Tally;
+use crate::options::RunOptions;
+use crate::tally::LintTally;
 use std::alloc::Global;
 use std::io::ErrorKind;
 use timefd_bin_streams::{BufferedError, BufferedSource, Sink};
@@ -23,11 +23,11 @@ use timefd_lint_rewrite::without_newline;
 #[tactic(auto, using(crate::proofs::ReportedLemmas::no_lines))]
 pub fn lint_lines<R: BufferedSource, W: Sink>(
     alloc: Global,
-    options: Options<'_>,
+    options: RunOptions<'_>,
     name: &str,
     reader: &mut R,
     writer: &mut W,
-) -> Result<Tally, RunError>
+) -> Result<LintTally, LintError>
     ensures reported { IfOk result (IsRunOver options.entry.language options.entry.comment
         options.entry.reporting name.now (R.remaining reader.old)
         (R.remaining reader.new) (R.has_failed reader.new)
@@ -35,14 +35,14 @@ pub fn lint_lines<R: BufferedSource, W: Sink>(
     ensures stays { OnOk result (IsTrue (R.has_failed reader.old) → IsTrue (R.has_failed reader.new)) }
     ensures unwritten { IfErr result (IsCausedBy (W.has_failed writer.new)) }
 {
-    let mut tally = Tally::new();
+    let mut tally = LintTally::new();
     let mut bytes = Vec::new(alloc);
     let mut is_first = true;
     'lines: for line in 1..u64::MAX {
         let origin = Origin { file: name, line };
         match lint_next(alloc, options, origin, is_first, &mut bytes, reader, writer)? {
             None => return Ok(tally),
-            Some(end) => tally = tally.and(Tally::of(end)),
+            Some(end) => tally = tally.and(LintTally::of(end)),
         }
         is_first = false;
         if tally.failed {
@@ -50,20 +50,20 @@ pub fn lint_lines<R: BufferedSource, W: Sink>(
         }
     }
     let end = failed(alloc, options, name, Failure::Unread, writer)?;
-    Ok(tally.and(Tally::of(end)))
+    Ok(tally.and(LintTally::of(end)))
 }
 
 // Checks the next line, with this buffer for it. `None` at the end of the input.
 #[tactic(auto, using(crate::proofs::ReportedLemmas::read_none))]
 fn lint_next<R: BufferedSource, W: Sink>(
     alloc: Global,
-    options: Options<'_>,
+    options: RunOptions<'_>,
     origin: Origin<'_>,
     is_first: bool,
     bytes: &mut Vec<u8>,
     reader: &mut R,
     writer: &mut W,
-) -> Result<Option<TextEnd>, RunError>
+) -> Result<Option<TextEnd>, LintError>
     ensures next { IfOk result (IsNext is_first options.entry.language options.entry.comment
         options.entry.reporting origin.entry (R.remaining reader.old) (R.remaining reader.new)
         (R.has_failed reader.new) (W.contents writer.old) (W.contents writer.new)) }
@@ -80,7 +80,7 @@ fn lint_next<R: BufferedSource, W: Sink>(
             let line = without_newline(bytes);
             Ok(Some(lint_line(alloc, options, origin, line, writer)?))
         }
-        Err(BufferedError::Memory) => Err(RunError::Memory),
+        Err(BufferedError::Memory) => Err(LintError::Memory),
         Err(BufferedError::Failed(kind)) => {
             Ok(Some(read_error(alloc, options, origin.file, kind, writer)?))
         }
@@ -90,11 +90,11 @@ fn lint_next<R: BufferedSource, W: Sink>(
 /// Checks all bytes of a reader as one text, and writes what is wrong.
 pub fn lint_whole<R: BufferedSource, W: Sink>(
     alloc: Global,
-    options: Options<'_>,
+    options: RunOptions<'_>,
     name: &str,
     reader: &mut R,
     writer: &mut W,
-) -> Result<Tally, RunError>
+) -> Result<LintTally, LintError>
     ensures reported { IfOk result (IsRunOfAll options.entry.language options.entry.comment
         options.entry.reporting name.now (R.remaining reader.old)
         (R.remaining reader.new) (R.has_failed reader.new)
@@ -111,12 +111,12 @@ pub fn lint_whole<R: BufferedSource, W: Sink>(
         Ok(_) => {
             note_mark(alloc, options, origin, true, &bytes, writer)?;
             let end = lint_text(alloc, options, origin, &bytes, writer)?;
-            Ok(Tally::of(end))
+            Ok(LintTally::of(end))
         }
-        Err(BufferedError::Memory) => Err(RunError::Memory),
+        Err(BufferedError::Memory) => Err(LintError::Memory),
         Err(BufferedError::Failed(kind)) => {
             let end = read_error(alloc, options, name, kind, writer)?;
-            Ok(Tally::of(end))
+            Ok(LintTally::of(end))
         }
     }
 }
@@ -125,11 +125,11 @@ pub fn lint_whole<R: BufferedSource, W: Sink>(
 #[tactic(auto, using(crate::proofs::ReportedLemmas::says_unread))]
 pub fn read_error<W: Sink>(
     alloc: Global,
-    options: Options<'_>,
+    options: RunOptions<'_>,
     name: &str,
     kind: ErrorKind,
     writer: &mut W,
-) -> Result<TextEnd, RunError>
+) -> Result<TextEnd, LintError>
     ensures end { IfOk result (λ end. end ≡ ends.Failed) }
     ensures said { OnOk result (SaysUnread options.entry.reporting.style name.entry
         (W.contents writer.old) (W.contents writer.new)) }
@@ -143,11 +143,11 @@ pub fn read_error<W: Sink>(
 /// Notes why a file fails.
 pub fn failed<W: Sink>(
     alloc: Global,
-    options: Options<'_>,
+    options: RunOptions<'_>,
     name: &str,
     failure: Failure,
     writer: &mut W,
-) -> Result<TextEnd, RunError>
+) -> Result<TextEnd, LintError>
     ensures end { IfOk result (λ end. end ≡ ends.Failed) }
     ensures noted { OnOk result (Appends (W.contents writer.old) (W.contents writer.new)
         (note_of options.entry.reporting.style name.entry failure)) }

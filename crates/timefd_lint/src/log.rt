@@ -4,7 +4,7 @@ ghost use Rattle.std.specs.Prelude.{◌≡◌, IfErr, IfOk, OnOk, drop};
 ghost use Rattle.timefd_lint.specs.Causes.{IsCausedBy};
 ghost use Rattle.timefd_lint.specs.Logs as spec;
 
-use crate::line::{RunError, write};
+use crate::line::{LintError, write};
 use crate::rules::push_rules;
 use std::alloc::{AllocError, Global};
 use timefd_bin_streams::Sink;
@@ -55,7 +55,7 @@ fn head(alloc: Global) -> Result<Vec<u8>, AllocError>
 }
 
 /// Writes the log with these results, each of which begins with a comma. An `Err` says why the run ends here.
-pub fn write_log<W: Sink>(alloc: Global, results: &[u8], writer: &mut W) -> Result<(), RunError>
+pub fn write_log<W: Sink>(alloc: Global, results: &[u8], writer: &mut W) -> Result<(), LintError>
     ensures written { OnOk result (spec.WritesLog results.now (W.contents writer.old) (W.contents writer.new)) }
     ensures unwritten { IfErr result (IsCausedBy (W.has_failed writer.new)) }
 {

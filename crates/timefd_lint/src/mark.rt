@@ -5,8 +5,8 @@ ghost use Rattle.timefd_lint.specs.Causes.{IsCausedBy};
 ghost use Rattle.timefd_lint.specs.Marks.{Notes, has_mark};
 ghost use Rattle.timefd_lint.specs.Marks as spec;
 
-use crate::line::{RunError, write};
-use crate::options::Options;
+use crate::line::{LintError, write};
+use crate::options::RunOptions;
 use std::alloc::{AllocError, Global};
 use timefd_bin_streams::Sink;
 use timefd_lang_warnings::Level;
@@ -32,12 +32,12 @@ fn begins_with_mark(text: &[u8]) -> bool
 #[tactic(auto, using(crate::proofs::MarkLemmas::noted, crate::proofs::MarkLemmas::not_noted))]
 pub fn note_mark<W: Sink>(
     alloc: Global,
-    options: Options<'_>,
+    options: RunOptions<'_>,
     origin: Origin<'_>,
     is_first: bool,
     text: &[u8],
     writer: &mut W,
-) -> Result<(), RunError>
+) -> Result<(), LintError>
     ensures noted { OnOk result (Notes (is_first && has_mark text.now) options.entry.reporting.style
         origin.entry (W.contents writer.old) (W.contents writer.new)) }
     ensures unwritten { IfErr result (IsCausedBy (W.has_failed writer.new)) }

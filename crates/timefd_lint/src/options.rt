@@ -6,15 +6,15 @@ ghost use Rattle.timefd_lint.specs.Rewriting.{rewriting_of};
 use crate::rewriting::rewriting_of;
 use timefd_lang_warnings::Levels;
 use timefd_lint_drawing::Style;
-use timefd_lint_options::{Settings, Wording};
-use timefd_lint_scan::keys::Key;
+use timefd_lint_options::{LineLanguage, RunSettings};
+use timefd_lint_scan::keys::DescriptionKey;
 use timefd_lint_sources::Reporting;
 
 /// What a run does.
 #[derive(Clone, Copy)]
-pub struct Options<'a> {
+pub struct RunOptions<'a> {
     /// What the texts are written in.
-    pub language: Wording,
+    pub language: LineLanguage,
     /// What is reported about each text, and how.
     pub reporting: Reporting,
     /// Lines that begin with this are passed over.
@@ -24,12 +24,12 @@ pub struct Options<'a> {
     /// Whether files are read as sources of Rust, whatever their names.
     pub is_source: bool,
     /// The keys whose strings are checked in TOML, JSON and YAML.
-    pub keys: &'a [Key<'a>],
+    pub keys: &'a [DescriptionKey<'a>],
     /// The names of the files. If there are none, the standard input is read.
     pub files: &'a [&'a str],
 }
 
-impl Options<'_> {
+impl RunOptions<'_> {
     /// How many files are checked. Without names it is one: the standard input.
     pub fn file_count(self) -> usize
         ensures { result ≡ max (length self.entry.files.now) 1 }
@@ -40,11 +40,11 @@ impl Options<'_> {
 
 /// The options of a run, by its settings, its keys and its files.
 pub fn run_options<'a>(
-    settings: Settings<'a>,
+    settings: RunSettings<'a>,
     is_colored: bool,
-    keys: &'a [Key<'a>],
+    keys: &'a [DescriptionKey<'a>],
     files: &'a [&'a str],
-) -> Options<'a>
+) -> RunOptions<'a>
     ensures language { result.language ≡ settings.entry.language }
     ensures format { result.reporting.style.format ≡ settings.entry.format }
     ensures color { result.reporting.style.is_colored ≡ is_colored }
@@ -58,7 +58,7 @@ pub fn run_options<'a>(
     ensures keys { result.keys.now ≡ keys.now }
     ensures files { result.files.now ≡ files.now }
 {
-    Options {
+    RunOptions {
         language: settings.language,
         reporting: Reporting {
             style: Style {
@@ -78,7 +78,7 @@ pub fn run_options<'a>(
 }
 
 /// The level of each warning, if warnings are reported.
-pub fn reported_levels(settings: Settings<'_>) -> Option<Levels>
+pub fn reported_levels(settings: RunSettings<'_>) -> Option<Levels>
     ensures { result ≡ (if settings.entry.warns then Some settings.entry.levels else None) }
 {
     if settings.warns {

@@ -5,7 +5,7 @@ ghost use Rattle.timefd_lint_lsp.specs.Editor.Each.{Adds, AreOf};
 ghost use Rattle.timefd_lint.specs.Rules as spec;
 ghost use Rattle.timefd_lint.specs.Rules.{AreOtherRules, IsReasonRule, IsTrapRule};
 
-use crate::rule::{Rule, push_rule};
+use crate::rule::{LogRule, push_rule};
 use std::alloc::AllocError;
 use timefd_lang_dialect::{Reason, Trap};
 use timefd_lint_warnings::dialects::all_reasons;
@@ -58,7 +58,7 @@ fn push_traps(out: &mut Vec<u8>, traps: &[Trap]) -> Result<(), AllocError>
 fn push_reason(out: &mut Vec<u8>, reason: Reason) -> Result<(), AllocError>
     ensures { OnOk result (Adds (IsReasonRule reason) out.old.items out.new.items) }
 {
-    let rule = Rule {
+    let rule = LogRule {
         name: reason.name(),
         level: "error",
         summary: reason.sentence(),
@@ -71,7 +71,7 @@ fn push_reason(out: &mut Vec<u8>, reason: Reason) -> Result<(), AllocError>
 fn push_trap(out: &mut Vec<u8>, trap: Trap) -> Result<(), AllocError>
     ensures { OnOk result (Adds (IsTrapRule trap) out.old.items out.new.items) }
 {
-    let rule = Rule {
+    let rule = LogRule {
         name: trap.name(),
         level: "warning",
         summary: trap.sentence(),

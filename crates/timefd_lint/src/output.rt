@@ -1,6 +1,6 @@
 //! The standard streams, and who reads them: the only way of the program's texts to people.
 
-ghost use Rattle.std.specs.Prelude.{◌≡◌, IfOk, None, OnOk, false};
+ghost use Rattle.std.specs.Prelude.{◌≡◌, IfOk, IsFalse, None, OnOk, false};
 ghost use Rattle.std.specs.Io.{WritesAtMost};
 ghost use Rattle.std.specs.Io.KnownBytes.{WriteAppends};
 ghost use Rattle.timefd_lint_drawing.specs.People.{for_people};
@@ -9,6 +9,7 @@ ghost use Rattle.timefd_lint.specs.Outputs as spec;
 
 use std::alloc::{AllocError, Global};
 use std::io::{IsTerminal, Result, Stderr, Write};
+use timefd_bin_streams::{Sink, ToWriter};
 use timefd_lint_drawing::people::show;
 
 /// Who reads a stream.
@@ -127,4 +128,11 @@ pub fn standard_error(rt: &HostRuntime) -> Output<Stderr>
         audience: Audience::of(rt.stderr().is_terminal(), false),
         writer: rt.stderr(),
     }
+}
+
+/// The standard error, for messages.
+pub fn errors(rt: &HostRuntime) -> ToWriter<Output<Stderr>>
+    ensures { IsFalse (⟦<ToWriter<Output<Stderr>> as Sink>⟧.has_failed result) }
+{
+    ToWriter::new(standard_error(rt))
 }

@@ -1,37 +1,38 @@
 //! The parts of a run: files that have the settings of one file.
 
-ghost use Rattle.std.specs.Prelude.{◌≡◌, ◌++◌, IfOk, OnOk, map, string_bytes};
+ghost use Rattle.std.specs.Prelude.{◌≡◌, ◌++◌, ◌∷◌, [], IfErr, IfOk, OnOk, map, string_bytes};
 ghost use Rattle.std.specs.List.{list_any};
 ghost use Rattle.timefd_lint_diagnosis.specs.Words.{texts};
+ghost use Rattle.timefd_lint_files.specs.declared.walk_error.WalkError.TheVariants as walks;
 ghost use Rattle.timefd_lint_options.specs.Config.Config as config;
 ghost use Rattle.timefd_lint_scan.specs.Keys.Keys.{named_all};
 ghost use Rattle.timefd_lint.specs.Parts as spec;
 
 use crate::config::{counted_keys, counted_levels};
-use crate::options::{Options, run_options};
+use crate::options::{RunOptions, run_options};
 use crate::projects::Named;
-use crate::rust::are_sources;
 use crate::sought::sought;
+use crate::source_file::are_sources;
 use std::alloc::{AllocError, Global};
 use timefd_lint_files::{FileSystem, WalkError, expanded};
-use timefd_lint_options::Settings;
+use timefd_lint_options::RunSettings;
 use timefd_lint_options::config::{OwnedKey, same_keys, with_keys, with_levels};
-use timefd_lint_scan::keys::Key;
+use timefd_lint_scan::keys::DescriptionKey;
 
 /// Files, and the settings and keys that they are checked by.
 #[derive(Drop)]
-pub struct Part<'a> {
-    pub settings: Settings<'a>,
-    pub keys: Vec<Key<'a>>,
+pub struct RunPart<'a> {
+    pub settings: RunSettings<'a>,
+    pub keys: Vec<DescriptionKey<'a>>,
     /// Whether no file is named, so that the standard input is read.
     pub reads_input: bool,
     /// The names of the files.
     pub files: Vec<String>,
 }
 
-impl Part<'_> {
+impl RunPart<'_> {
     /// The options of a run over these files.
-    pub fn options<'a>(&'a self, is_colored: bool, files: &'a [&'a str]) -> Options<'a>
+    pub fn options<'a>(&'a self, is_colored: bool, files: &'a [&'a str]) -> RunOptions<'a>
         ensures { spec.AreOptions is_colored self.now files.now result }
     {
         run_options(self.settings, is_colored, &self.keys, files)
@@ -70,9 +71,9 @@ impl Part<'_> {
 /// The keys of a command line, then those of a file of settings.
 pub fn all_keys<'a>(
     alloc: Global,
-    keys: &'a [Key<'_>],
+    keys: &'a [DescriptionKey<'_>],
     more: &'a [OwnedKey],
-) -> Result<Vec<Key<'a>>, AllocError>
+) -> Result<Vec<DescriptionKey<'a>>, AllocError>
     ensures { IfOk result (λ all. named_all all.items ≡ named_all keys.now ++ config.named_all more.now) }
 {
     with_keys(same_keys(alloc, keys)?, more)
@@ -83,18 +84,19 @@ pub fn all_keys<'a>(
 fn part_of<'a, S: FileSystem>(
     system: &S,
     alloc: Global,
-    settings: Settings<'a>,
-    keys: &'a [Key<'_>],
+    settings: RunSettings<'a>,
+    keys: &'a [DescriptionKey<'_>],
     named: &'a Named<'_>,
-) -> Result<Part<'a>, WalkError>
-    ensures { IfOk result (spec.IsPartOf (S.lists system.now) (S.holds system.now) (S.tells system.now) settings.entry
-        keys.now named.now) }
+) -> Result<RunPart<'a>, WalkError>
+    ensures part { IfOk result (spec.IsPartOf (S.lists system.now) (S.holds system.now) (S.folders system.now)
+        settings.entry keys.now named.now) }
+    ensures error { IfErr result (spec.IsUnwalked (S.fails system.now) named.now) }
 {
     let config = &named.project.config;
     let keys = all_keys(alloc, keys, counted_keys(settings, config))?;
     let sought = sought(settings, &keys, named.project.excluded());
     let files = expanded(system, alloc, sought, named.names)?;
-    Ok(Part {
+    Ok(RunPart {
         settings: with_levels(settings, counted_levels(settings, config)),
         keys,
         reads_input: named.names.is_empty(),
@@ -102,37 +104,48 @@ fn part_of<'a, S: FileSystem>(
     })
 }
 
+fn push_part<'a>(parts: &mut Vec<RunPart<'a>>, part: RunPart<'a>) -> Result<(), WalkError>
+    ensures added { OnOk result (parts.new.items ≡ parts.old.items ++ part.entry ∷ []) }
+    ensures memory { IfErr result (λ e. e ≡ walks.Memory) }
+{
+    match parts.push(part) {
+        Ok(()) => Ok(()),
+        Err(_) => Err(WalkError::Memory),
+    }
+}
+
 /// The parts of a run, in the order of its names.
 #[tactic(auto, using(crate::proofs::PartLemmas::none_made, crate::proofs::PartLemmas::one_made, crate::proofs::PartLemmas::all_made))]
 pub fn parts_of<'a, S: FileSystem>(
     system: &S,
     alloc: Global,
-    settings: Settings<'a>,
-    keys: &'a [Key<'_>],
+    settings: RunSettings<'a>,
+    keys: &'a [DescriptionKey<'_>],
     projects: &'a [Named<'_>],
-) -> Result<Vec<Part<'a>>, WalkError>
-    ensures { IfOk result (λ parts. spec.ArePartsOf (S.lists system.now) (S.holds system.now) (S.tells system.now)
+) -> Result<Vec<RunPart<'a>>, WalkError>
+    ensures all { IfOk result (λ parts. spec.ArePartsOf (S.lists system.now) (S.holds system.now) (S.folders system.now)
         settings.entry keys.now projects.now parts.items) }
+    ensures error { IfErr result (spec.IsOneUnwalked (S.fails system.now) projects.now) }
 {
     let mut parts = Vec::new(alloc);
     let mut rest = projects;
     'projects: while let [named, after @ ..] = rest {
         let part = part_of(system, alloc, settings, keys, named)?;
-        parts.push(part).map_err(AllocError::from)?;
+        push_part(&mut parts, part)?;
         rest = after;
     }
     Ok(parts)
 }
 
 /// Whether something is read line by line, or as a whole text.
-pub fn have_lines(parts: &[Part<'_>]) -> bool
+pub fn have_lines(parts: &[RunPart<'_>]) -> bool
     ensures { result ≡ list_any spec.has_lines parts.now }
 {
     parts.iter().any(|part| part.has_lines())
 }
 
 /// Whether warnings are reported for one of the parts.
-pub fn warn(parts: &[Part<'_>]) -> bool
+pub fn warn(parts: &[RunPart<'_>]) -> bool
     ensures { result ≡ list_any (λ part. part.settings.warns) parts.now }
 {
     parts.iter().any(|part| part.settings.warns)
@@ -140,7 +153,7 @@ pub fn warn(parts: &[Part<'_>]) -> bool
 
 /// How many files are checked.
 #[tactic(auto, using(crate::proofs::PartLemmas::one_counted, crate::proofs::PartLemmas::all_counted))]
-pub fn file_count(parts: &[Part<'_>]) -> usize
+pub fn file_count(parts: &[RunPart<'_>]) -> usize
     ensures { result ≡ spec.file_count parts.now }
 {
     let mut count: usize = 0;
@@ -154,7 +167,7 @@ pub fn file_count(parts: &[Part<'_>]) -> usize
 
 /// The names of the files of all parts, in their order. An `Err` says that memory ran out.
 #[tactic(auto, using(crate::proofs::PartLemmas::files_of_one, crate::proofs::PartLemmas::files_of_all))]
-pub fn all_files<'a>(alloc: Global, parts: &'a [Part<'_>]) -> Result<Vec<&'a str>, AllocError>
+pub fn all_files<'a>(alloc: Global, parts: &'a [RunPart<'_>]) -> Result<Vec<&'a str>, AllocError>
     ensures { IfOk result (λ all. texts all.items ≡ spec.all_files parts.now) }
 {
     let mut all = Vec::new(alloc);

@@ -1,10 +1,10 @@
 //! The progress of a run over many files, shown at a terminal.
 
-ghost use Rattle.std.specs.Prelude.{⊤};
+ghost use Rattle.std.specs.Prelude.{◌≡◌, ⊤};
 
 use crate::failure::OpenError;
 use crate::output::standard_error;
-use crate::source::Source;
+use crate::source::FileOpener;
 use std::alloc::Global;
 use std::cell::Cell;
 use std::io::{IsTerminal, Write};
@@ -25,7 +25,7 @@ const CLEAR: &str = "\r\x1b[K";
 /// it has opened. The line is shown only if the standard error is a terminal and the standard output, which
 /// has lines of its own, isn't one.
 #[derive(Drop)]
-pub struct Watched<'a> {
+pub struct WatchedFiles<'a> {
     rt: &'a HostRuntime,
     shows: bool,
     file_count: usize,
@@ -34,10 +34,12 @@ pub struct Watched<'a> {
     has_reported: Cell<bool>,
 }
 
-impl<'a> Watched<'a> {
+impl<'a> WatchedFiles<'a> {
     /// A run over `file_count` files that begins at this call.
-    pub fn new(rt: &'a HostRuntime, file_count: usize) -> Watched<'a> {
-        Watched {
+    pub fn new(rt: &'a HostRuntime, file_count: usize) -> WatchedFiles<'a>
+        ensures { result.file_count ≡ file_count }
+    {
+        WatchedFiles {
             rt,
             shows: rt.stderr().is_terminal() && !rt.stdout().is_terminal(),
             file_count,
@@ -48,7 +50,7 @@ impl<'a> Watched<'a> {
     }
 
     /// Removes the line of progress, if one is shown.
-    pub fn end(&self) {
+    pub(crate) fn end(&self) {
         if self.has_reported.get() {
             clear(self.rt);
         }
@@ -89,7 +91,7 @@ fn after_now(rt: &HostRuntime, milliseconds: u64) -> Option<Instant> {
     now.checked_add(Duration::from_millis(milliseconds))
 }
 
-impl Source for Watched<'_> {
+impl FileOpener for WatchedFiles<'_> {
     type Opened = FromBufReader<<HostRuntime as Files>::File>;
 
     ghost opens = { λ _ _ _. ⊤ };

@@ -1,12 +1,14 @@
 //! The files of settings of a run, and which names have which.
 
-ghost use Rattle.std.specs.Prelude.{IfOk};
+ghost use Rattle.std.specs.Prelude.{◌≡◌, ◌++◌, ◌∷◌, [], IfErr, IfOk, OnOk, option_map};
+ghost use Rattle.timefd_lint.specs.declared.config.ConfigFailure.TheVariants as failures;
 ghost use Rattle.timefd_lint.specs.Projects as spec;
+ghost use Rattle.timefd_lint.specs.Unusable as words;
 
-use crate::config::{ConfigFailure, NAME, Project, project_of, unfound};
-use std::alloc::{AllocError, Global};
-use std::env;
-use timefd_lint_files::{FileSystem, Group, found_for, front_below, grouped};
+use crate::config::{ConfigFailure, NAME, Project, project_of};
+use crate::unusable::unfound;
+use std::alloc::Global;
+use timefd_lint_files::{FileSystem, NameGroup, found_for, front_below, grouped};
 
 /// Names one after another, and what the file of settings says that is theirs.
 #[derive(Drop)]
@@ -15,11 +17,12 @@ pub struct Named<'a> {
     pub project: Project,
 }
 
-/// The path of the working directory from the root of the system, without a `/` at either end: empty if it isn't known.
-pub fn working_directory(rt: &HostRuntime, alloc: Global) -> Result<String, AllocError> {
-    let path = env::current_dir(rt).ok();
-    let path = path.as_ref().map_or("", |path| path.as_str());
-    String::from_str(alloc, path.strip_prefix('/').unwrap_or(""))
+/// What follows the `/` at the start of a path from the root of the system. `None` if the path doesn't begin there.
+#[tactic(auto, using(crate::proofs::ProjectLemmas::after_root))]
+pub fn below_root(path: &str) -> Option<&str>
+    ensures { option_map (λ below. below.now) result ≡ spec.below_root path.now }
+{
+    path.strip_prefix('/')
 }
 
 /// What the files of settings say that are found for names, each from its folder upwards. Neighbours with the same file are
@@ -31,8 +34,10 @@ pub fn projects_of<'a, S: FileSystem>(
     here: &str,
     names: &'a [&'a str],
 ) -> Result<Vec<Named<'a>>, ConfigFailure>
-    ensures { IfOk result (λ all. spec.AreProjects (S.holds system.now) (S.fails system.now) (S.tells system.now)
+    ensures all { IfOk result (λ all. spec.AreProjects (S.holds system.now) (S.fails system.now) (S.folders system.now)
         here.now names.now all.items) }
+    ensures error { IfErr result (words.AreUnset (S.holds system.now) (S.fails system.now) (S.folders system.now)
+        here.now names.now) }
 {
     let front = front_below(alloc, here, 0)?;
     match grouped(system, alloc, NAME, &front, names) {
@@ -41,22 +46,32 @@ pub fn projects_of<'a, S: FileSystem>(
     }
 }
 
+fn push_named<'a>(all: &mut Vec<Named<'a>>, named: Named<'a>) -> Result<(), ConfigFailure>
+    ensures added { OnOk result (all.new.items ≡ all.old.items ++ named.entry ∷ []) }
+    ensures memory { IfErr result (λ e. e ≡ failures.Memory) }
+{
+    match all.push(named) {
+        Ok(()) => Ok(()),
+        Err(_) => Err(ConfigFailure::Memory),
+    }
+}
+
 // What the files say that were found for groups of names.
 #[tactic(auto, using(crate::proofs::ProjectLemmas::none_named, crate::proofs::ProjectLemmas::one_named, crate::proofs::ProjectLemmas::all_named))]
 fn named_by<'a>(
     alloc: Global,
     here: &str,
-    groups: &[Group<'a>],
+    groups: &[NameGroup<'a>],
 ) -> Result<Vec<Named<'a>>, ConfigFailure>
-    ensures { IfOk result (λ all. spec.AreNamedBy here.now groups.now all.items) }
+    ensures all { IfOk result (λ all. spec.AreNamedBy here.now groups.now all.items) }
+    ensures error { IfErr result (words.IsOneWrong groups.now) }
 {
     let mut all = Vec::new(alloc);
     let mut rest = groups;
     'groups: while let [group, after @ ..] = rest {
         let names = group.names;
         let project = project_of(alloc, here, &group.found)?;
-        all.push(Named { names, project })
-            .map_err(AllocError::from)?;
+        push_named(&mut all, Named { names, project })?;
         rest = after;
     }
     Ok(all)
@@ -69,7 +84,9 @@ pub fn project_for<S: FileSystem>(
     here: &str,
     name: &str,
 ) -> Result<Project, ConfigFailure>
-    ensures { IfOk result (spec.IsProjectFor (S.holds system.now) (S.fails system.now) (S.tells system.now)
+    ensures project { IfOk result (spec.IsProjectFor (S.holds system.now) (S.fails system.now) (S.folders system.now)
+        here.now name.now) }
+    ensures error { IfErr result (words.IsUnset (S.holds system.now) (S.fails system.now) (S.folders system.now)
         here.now name.now) }
 {
     let front = front_below(alloc, here, 0)?;

@@ -3,23 +3,23 @@
 ghost use Rattle.std.specs.Prelude.{◌≡◌, IfOk, string_bytes};
 ghost use Rattle.timefd_lint.specs.Rewriting as spec;
 
-use crate::found::Unit;
+use crate::found::CountedUnit;
 use std::alloc::{AllocError, Global};
 use timefd_lint_rewrite::Counts;
 
-fn noun(unit: Unit, count: u64) -> &'static str
+fn noun(unit: CountedUnit, count: u64) -> &'static str
     ensures { result.now ≡ spec.noun unit count }
 {
     match (unit, count) {
-        (Unit::Line, 1) => "line",
-        (Unit::Line, _) => "lines",
-        (Unit::Description, 1) => "description",
-        (Unit::Description, _) => "descriptions",
+        (CountedUnit::Line, 1) => "line",
+        (CountedUnit::Line, _) => "lines",
+        (CountedUnit::Description, 1) => "description",
+        (CountedUnit::Description, _) => "descriptions",
     }
 }
 
 // How many of the lines or descriptions of a file, as `2 of 3 lines`.
-fn part(alloc: Global, count: u64, unit: Unit, lines: u64) -> Result<String, AllocError>
+fn part(alloc: Global, count: u64, unit: CountedUnit, lines: u64) -> Result<String, AllocError>
     ensures { IfOk result (λ text. string_bytes text ≡ spec.part count unit lines) }
 {
     let noun = noun(unit, lines);
@@ -41,7 +41,7 @@ pub fn left_out(
     alloc: Global,
     writes: bool,
     file: &str,
-    unit: Unit,
+    unit: CountedUnit,
     counts: Counts,
 ) -> Result<String, AllocError>
     ensures { IfOk result (λ text. string_bytes text ≡ spec.left_out writes file.now unit counts) }
@@ -60,7 +60,12 @@ pub fn left_out(
 }
 
 /// What is reported about a file that was written back. An `Err` says that memory ran out.
-pub fn rewrote(alloc: Global, file: &str, unit: Unit, counts: Counts) -> Result<String, AllocError>
+pub fn rewrote(
+    alloc: Global,
+    file: &str,
+    unit: CountedUnit,
+    counts: Counts,
+) -> Result<String, AllocError>
     ensures { IfOk result (λ text. string_bytes text ≡ spec.rewrote file.now unit counts) }
 {
     let part = part(alloc, counts.rewritten, unit, counts.lines)?;

@@ -6,7 +6,7 @@ ghost use Rattle.timefd_lint.specs.Rewriting as spec;
 
 use timefd_lang_convert::conversion_between;
 use timefd_lang_dialect::Dialect;
-use timefd_lint_options::{Settings, Wording, target};
+use timefd_lint_options::{LineLanguage, RunSettings, target};
 use timefd_lint_rewrite::{Fixes, Layout, LineChange};
 use timefd_lint_sources::rewriting::Change;
 use timefd_parse::{DescriptionVersion, Language};
@@ -25,7 +25,7 @@ pub struct Rewriting {
 }
 
 // Which fixes may be made.
-fn fixes_of(settings: Settings<'_>) -> Fixes
+fn fixes_of(settings: RunSettings<'_>) -> Fixes
     ensures { result ≡ spec.fixes_of settings.entry }
 {
     if settings.is_unsafe {
@@ -36,12 +36,12 @@ fn fixes_of(settings: Settings<'_>) -> Fixes
 }
 
 // How lines are changed to a version. `None` if no conversion leads to it.
-fn lines_to(settings: Settings<'_>, version: DescriptionVersion) -> Option<LineChange>
+fn lines_to(settings: RunSettings<'_>, version: DescriptionVersion) -> Option<LineChange>
     ensures { result ≡ spec.lines_to settings.entry version }
 {
     match settings.language {
-        Wording::Own(language) => own_change(settings.is_normal, language, version),
-        Wording::Other(dialect) => other_change(dialect, version),
+        LineLanguage::Own(language) => own_change(settings.is_normal, language, version),
+        LineLanguage::Other(dialect) => other_change(dialect, version),
     }
 }
 
@@ -70,7 +70,7 @@ fn other_change(dialect: Dialect, version: DescriptionVersion) -> Option<LineCha
 }
 
 // What happens to the descriptions of sources that are converted.
-fn change_to(settings: Settings<'_>, version: DescriptionVersion) -> Change
+fn change_to(settings: RunSettings<'_>, version: DescriptionVersion) -> Change
     ensures { result ≡ spec.change_to settings.entry version }
 {
     if settings.is_normal {
@@ -91,7 +91,7 @@ fn mended(language: Option<Language>, fixes: Fixes) -> Option<LineChange>
 }
 
 // How files are mended.
-fn mending(settings: Settings<'_>) -> Rewriting
+fn mending(settings: RunSettings<'_>) -> Rewriting
     ensures { result ≡ spec.mending settings.entry }
 {
     let fixes = fixes_of(settings);
@@ -104,7 +104,7 @@ fn mending(settings: Settings<'_>) -> Rewriting
 }
 
 // How files are converted.
-fn converting(settings: Settings<'_>, version: DescriptionVersion) -> Rewriting
+fn converting(settings: RunSettings<'_>, version: DescriptionVersion) -> Rewriting
     ensures { result ≡ spec.converting settings.entry version }
 {
     Rewriting {
@@ -116,7 +116,7 @@ fn converting(settings: Settings<'_>, version: DescriptionVersion) -> Rewriting
 }
 
 /// How files are rewritten. `None` if they aren't.
-pub fn rewriting_of(settings: Settings<'_>) -> Option<Rewriting>
+pub fn rewriting_of(settings: RunSettings<'_>) -> Option<Rewriting>
     ensures { result ≡ spec.rewriting_of settings.entry }
 {
     if settings.fixes {

@@ -8,15 +8,15 @@ ghost use Rattle.timefd_lint.specs.Stores as stores;
 
 use crate::fate::{noted, report, settle};
 use crate::fix::Original;
-use crate::found::{Found, looked_at, source_looked_at};
+use crate::found::{FoundInFile, looked_at, source_looked_at};
 use crate::identity::{Identity, is_met, meet_any};
-use crate::line::RunError;
-use crate::options::Options;
+use crate::line::LintError;
+use crate::options::RunOptions;
 use crate::output::Audience;
 use crate::rewriting::Rewriting;
-use crate::rust::is_source;
+use crate::source_file::is_source;
 use crate::store::Store;
-use crate::tally::Tally;
+use crate::tally::LintTally;
 use std::alloc::Global;
 use timefd_bin_streams::Sink;
 
@@ -28,12 +28,12 @@ use timefd_bin_streams::Sink;
 pub fn rewrite_files<S: Store, E: Sink, W: Sink>(
     store: &mut S,
     alloc: Global,
-    options: Options<'_>,
+    options: RunOptions<'_>,
     rewriting: Rewriting,
     audience: Audience,
     errors: &mut E,
     output: &mut W,
-) -> Result<Tally, RunError>
+) -> Result<LintTally, LintError>
     ensures files { IfOk result (stores.AreRewritten S.leads
         (stores.IsFileDone S.holds S.fails S.replaces S.refuses options.entry rewriting audience)
         options.entry.files.now [] (tally_of [])
@@ -42,7 +42,7 @@ pub fn rewrite_files<S: Store, E: Sink, W: Sink>(
     ensures unwritten { IfErr result (IsCausedBy (W.has_failed output.new)) }
 {
     let mut met = Vec::new(alloc);
-    let mut tally = Tally::new();
+    let mut tally = LintTally::new();
     let mut rest = options.files;
     'names: while let [name, after @ ..] = rest {
         let one = rewrite_named(
@@ -58,14 +58,14 @@ pub fn rewrite_files<S: Store, E: Sink, W: Sink>(
 fn rewrite_named<S: Store, E: Sink, W: Sink>(
     store: &mut S,
     alloc: Global,
-    options: Options<'_>,
+    options: RunOptions<'_>,
     rewriting: Rewriting,
     audience: Audience,
     name: &str,
     met: &mut Vec<Identity>,
     errors: &mut E,
     output: &mut W,
-) -> Result<Tally, RunError>
+) -> Result<LintTally, LintError>
     ensures named { IfOk result (stores.IsNameDone S.leads
         (stores.IsFileDone S.holds S.fails S.replaces S.refuses options.entry rewriting audience)
         name.entry met.old.items met.new.items
@@ -75,7 +75,7 @@ fn rewrite_named<S: Store, E: Sink, W: Sink>(
 {
     let identity = store.identity(name);
     if is_met(met, identity) {
-        return Ok(Tally::new());
+        return Ok(LintTally::new());
     }
     meet_any(met, identity)?;
     let tally = rewrite_file(
@@ -91,13 +91,13 @@ fn rewrite_named<S: Store, E: Sink, W: Sink>(
 fn rewrite_file<S: Store, E: Sink, W: Sink>(
     store: &mut S,
     alloc: Global,
-    options: Options<'_>,
+    options: RunOptions<'_>,
     rewriting: Rewriting,
     audience: Audience,
     name: &str,
     errors: &mut E,
     output: &mut W,
-) -> Result<Tally, RunError>
+) -> Result<LintTally, LintError>
     ensures done { IfOk result (stores.IsFileDone S.holds S.fails S.replaces S.refuses
         options.entry rewriting audience name.entry
         (stores.stage store.old (E.contents errors.old) (E.has_failed errors.old) (W.contents output.old))
@@ -116,14 +116,14 @@ fn rewrite_file<S: Store, E: Sink, W: Sink>(
 fn rewrite_read<S: Store, E: Sink, W: Sink>(
     store: &mut S,
     alloc: Global,
-    options: Options<'_>,
+    options: RunOptions<'_>,
     rewriting: Rewriting,
     audience: Audience,
     name: &str,
     old: &Original<S::File>,
     errors: &mut E,
     output: &mut W,
-) -> Result<Tally, RunError>
+) -> Result<LintTally, LintError>
     ensures done { IfOk result (stores.IsReadDone S.replaces S.refuses options.entry rewriting audience
         name.entry old.now.bytes.items
         (stores.stage store.old (E.contents errors.old) (E.has_failed errors.old) (W.contents output.old))
@@ -131,9 +131,9 @@ fn rewrite_read<S: Store, E: Sink, W: Sink>(
     ensures unwritten { IfErr result (IsCausedBy (W.has_failed output.new)) }
 {
     let Some(found) = found_of(alloc, options, rewriting, name, &old.bytes, output)? else {
-        return Ok(Tally::new());
+        return Ok(LintTally::new());
     };
-    report(errors, &found.by_hand);
+    report(errors, &found.manual);
     report(errors, &found.limits);
     settle(
         store, alloc, options, rewriting, audience, name, old, &found, errors, output,
@@ -145,12 +145,12 @@ fn rewrite_read<S: Store, E: Sink, W: Sink>(
 #[tactic(auto, using(crate::proofs::FateLemmas::in_source, crate::proofs::FateLemmas::in_lines, crate::proofs::FateLemmas::in_nothing))]
 fn found_of<W: Sink>(
     alloc: Global,
-    options: Options<'_>,
+    options: RunOptions<'_>,
     rewriting: Rewriting,
     name: &str,
     old: &[u8],
     output: &mut W,
-) -> Result<Option<Found>, RunError>
+) -> Result<Option<FoundInFile>, LintError>
     ensures found { IfOk result (fates.IsFoundIn options.entry rewriting name.now old.now
         (W.contents output.old) (W.contents output.new)) }
     ensures unwritten { IfErr result (IsCausedBy (W.has_failed output.new)) }

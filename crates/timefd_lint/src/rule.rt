@@ -9,7 +9,7 @@ use timefd_lint_drawing::json::push_quoted;
 
 /// What a log says of a code.
 #[derive(Clone, Copy)]
-pub struct Rule<'a> {
+pub struct LogRule<'a> {
     pub name: &'a str,
     /// How bad a result with this code is: `error` or `warning`.
     pub level: &'a str,
@@ -20,7 +20,7 @@ pub struct Rule<'a> {
 }
 
 /// Appends a comma and a rule. An `Err` says that memory ran out.
-pub fn push_rule(out: &mut Vec<u8>, rule: Rule<'_>) -> Result<(), AllocError>
+pub fn push_rule(out: &mut Vec<u8>, rule: LogRule<'_>) -> Result<(), AllocError>
     ensures { OnOk result (out.new.items ≡ out.old.items ++ spec.rule rule.entry.name.now
         rule.entry.level.now rule.entry.summary.now rule.entry.explanation.now) }
 {

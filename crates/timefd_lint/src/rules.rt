@@ -7,7 +7,7 @@ ghost use Rattle.timefd_lint.specs.Rules.{AreRules, IsErrorRule, IsFaultRule, Is
 use crate::error_code::ErrorCode;
 use crate::error_page::{explanation, summary};
 use crate::other_rules::push_other_rules;
-use crate::rule::{Rule, push_rule};
+use crate::rule::{LogRule, push_rule};
 use std::alloc::AllocError;
 use timefd_lang_warnings::Warning;
 use timefd_lint_diagnosis::Code;
@@ -62,7 +62,7 @@ fn push_fault(out: &mut Vec<u8>, code: Code) -> Result<(), AllocError>
 fn push_error(out: &mut Vec<u8>, code: ErrorCode) -> Result<(), AllocError>
     ensures { OnOk result (Adds (IsErrorRule code) out.old.items out.new.items) }
 {
-    let rule = Rule {
+    let rule = LogRule {
         name: code.name(),
         level: "error",
         summary: summary(code),
@@ -75,7 +75,7 @@ fn push_error(out: &mut Vec<u8>, code: ErrorCode) -> Result<(), AllocError>
 fn push_warning(out: &mut Vec<u8>, warning: Warning) -> Result<(), AllocError>
     ensures { OnOk result (Adds (IsWarningRule warning) out.old.items out.new.items) }
 {
-    let rule = Rule {
+    let rule = LogRule {
         name: warning.name(),
         level: "warning",
         summary: warning.sentence(),

@@ -8,12 +8,12 @@ ghost use Rattle.timefd_lint.specs.Sources as sources;
 ghost use Rattle.timefd_lint.specs.Reported.{IsRun, tally_of};
 
 use crate::failure::OpenError;
-use crate::line::RunError;
+use crate::line::LintError;
 use crate::lines::{failed, lint_lines, lint_whole};
-use crate::options::Options;
-use crate::rust::{is_source, lint_source};
-use crate::source::Source;
-use crate::tally::Tally;
+use crate::options::RunOptions;
+use crate::source::FileOpener;
+use crate::source_file::{is_source, lint_source};
+use crate::tally::LintTally;
 use std::alloc::Global;
 use timefd_bin_streams::{BufferedSource, Sink};
 use timefd_lint_options::is_input;
@@ -25,13 +25,13 @@ const INPUT: &str = "<stdin>";
 /// that can't be read is noted, and the others are still checked. The name `-` means the standard input. A
 /// second `-` finds it already read to its end.
 #[tactic(auto, using(crate::proofs::FilesLemmas::input_alone))]
-pub fn run<S: Source, I: BufferedSource, W: Sink>(
+pub fn run<S: FileOpener, I: BufferedSource, W: Sink>(
     source: &S,
     alloc: Global,
-    options: Options<'_>,
+    options: RunOptions<'_>,
     input: &mut I,
     writer: &mut W,
-) -> Result<Tally, RunError>
+) -> Result<LintTally, LintError>
     ensures reported { IfOk result (IsRunWith (any_source options.entry options.entry.files.now)
         options.entry.is_whole options.entry.language options.entry.comment
         options.entry.reporting (W.contents writer.old) (W.contents writer.new)) }
@@ -59,13 +59,13 @@ pub fn run<S: Source, I: BufferedSource, W: Sink>(
 
 // Checks each named file, in order.
 #[tactic(auto, using(crate::proofs::FilesLemmas::no_name, crate::proofs::FilesLemmas::one_name, crate::proofs::FilesLemmas::all_names, crate::proofs::FilesLemmas::run_of_all))]
-fn lint_files<S: Source, I: BufferedSource, W: Sink>(
+fn lint_files<S: FileOpener, I: BufferedSource, W: Sink>(
     source: &S,
     alloc: Global,
-    options: Options<'_>,
+    options: RunOptions<'_>,
     input: &mut I,
     writer: &mut W,
-) -> Result<Tally, RunError>
+) -> Result<LintTally, LintError>
     ensures reported { IfOk result (IsRunWith (any_source options.entry options.entry.files.now)
         options.entry.is_whole options.entry.language options.entry.comment
         options.entry.reporting (W.contents writer.old) (W.contents writer.new)) }
@@ -76,7 +76,7 @@ fn lint_files<S: Source, I: BufferedSource, W: Sink>(
         (W.contents writer.old) (W.contents writer.new)) }
     ensures unwritten { IfErr result (IsCausedBy (W.has_failed writer.new)) }
 {
-    let mut tally = Tally::new();
+    let mut tally = LintTally::new();
     let mut rest = options.files;
     'names: while let [name, after @ ..] = rest {
         tally = tally.and(lint_named(source, alloc, options, name, input, writer)?);
@@ -87,14 +87,14 @@ fn lint_files<S: Source, I: BufferedSource, W: Sink>(
 
 /// Checks all texts of a file, or all that is left of the input.
 #[tactic(auto, using(crate::proofs::FilesLemmas::input_named))]
-pub fn lint_named<S: Source, I: BufferedSource, W: Sink>(
+pub fn lint_named<S: FileOpener, I: BufferedSource, W: Sink>(
     source: &S,
     alloc: Global,
-    options: Options<'_>,
+    options: RunOptions<'_>,
     name: &str,
     input: &mut I,
     writer: &mut W,
-) -> Result<Tally, RunError>
+) -> Result<LintTally, LintError>
     ensures reported { IfOk result (IsRunWith (sources.is_source options.entry name.now)
         options.entry.is_whole options.entry.language options.entry.comment
         options.entry.reporting (W.contents writer.old) (W.contents writer.new)) }
@@ -114,13 +114,13 @@ pub fn lint_named<S: Source, I: BufferedSource, W: Sink>(
 
 // Checks all texts of a file.
 #[tactic(auto, using(crate::proofs::FilesLemmas::opened, crate::proofs::FilesLemmas::unopened, crate::proofs::SourcesLemmas::with_texts))]
-fn lint_file<S: Source, W: Sink>(
+fn lint_file<S: FileOpener, W: Sink>(
     source: &S,
     alloc: Global,
-    options: Options<'_>,
+    options: RunOptions<'_>,
     name: &str,
     writer: &mut W,
-) -> Result<Tally, RunError>
+) -> Result<LintTally, LintError>
     ensures reported { IfOk result (IsRunWith (sources.is_source options.entry name.now)
         options.entry.is_whole options.entry.language options.entry.comment
         options.entry.reporting (W.contents writer.old) (W.contents writer.new)) }
@@ -138,11 +138,11 @@ fn lint_file<S: Source, W: Sink>(
 // Notes why a file isn't opened.
 fn note_unopened<W: Sink>(
     alloc: Global,
-    options: Options<'_>,
+    options: RunOptions<'_>,
     name: &str,
     error: OpenError,
     writer: &mut W,
-) -> Result<Tally, RunError>
+) -> Result<LintTally, LintError>
     ensures reported { IfOk result (IsRun options.entry.is_whole options.entry.language
         options.entry.comment options.entry.reporting (W.contents writer.old)
         (W.contents writer.new)) }
@@ -151,10 +151,10 @@ fn note_unopened<W: Sink>(
     ensures unwritten { IfErr result (IsCausedBy (W.has_failed writer.new)) }
 {
     match error {
-        OpenError::Memory => Err(RunError::Memory),
+        OpenError::Memory => Err(LintError::Memory),
         OpenError::Failed(failure) => {
             let end = failed(alloc, options, name, failure, writer)?;
-            Ok(Tally::of(end))
+            Ok(LintTally::of(end))
         }
     }
 }
@@ -163,11 +163,11 @@ fn note_unopened<W: Sink>(
 #[tactic(auto, using(crate::proofs::FilesLemmas::in_source, crate::proofs::FilesLemmas::in_whole, crate::proofs::FilesLemmas::in_lines, crate::proofs::SourcesLemmas::with_source, crate::proofs::SourcesLemmas::with_whole, crate::proofs::SourcesLemmas::with_lines))]
 fn lint_reader<R: BufferedSource, W: Sink>(
     alloc: Global,
-    options: Options<'_>,
+    options: RunOptions<'_>,
     name: &str,
     reader: &mut R,
     writer: &mut W,
-) -> Result<Tally, RunError>
+) -> Result<LintTally, LintError>
     ensures reported { IfOk result (IsRunWith (sources.is_source options.entry name.now)
         options.entry.is_whole options.entry.language options.entry.comment
         options.entry.reporting (W.contents writer.old) (W.contents writer.new)) }

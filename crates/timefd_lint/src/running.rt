@@ -6,30 +6,30 @@ ghost use Rattle.timefd_lint.specs.Causes.{IsCausedBy};
 ghost use Rattle.timefd_lint.specs.Rewriting.{rewriting_of};
 ghost use Rattle.timefd_lint.specs.Parts.{AreRun, IsRunOfPart};
 
-use crate::line::RunError;
+use crate::line::LintError;
 use crate::log::write_log;
-use crate::output::{Audience, standard_error};
-use crate::parts::{Part, all_files, file_count};
-use crate::progress::Watched;
+use crate::output::{Audience, errors};
+use crate::parts::{RunPart, all_files, file_count};
+use crate::progress::WatchedFiles;
 use crate::rewriting::{Rewriting, rewriting_of};
 use crate::rewritten::rewrite_files;
 use crate::run::run;
-use crate::source::{BUFFER, Source};
-use crate::tally::Tally;
+use crate::source::{BUFFER, FileOpener};
+use crate::tally::LintTally;
 use std::alloc::Global;
 use std::io::BufReader;
 use timefd_bin_streams::{BufferedSource, FromBufReader, Sink, ToWriter, borrowed};
-use timefd_lint_options::{Settings, is_log};
+use timefd_lint_options::{RunSettings, is_log};
 
 /// Checks the files or rewrites them, and writes the report in the chosen format.
 pub fn run_in_form<W: Sink>(
     rt: &HostRuntime,
-    settings: Settings<'_>,
+    settings: RunSettings<'_>,
     is_colored: bool,
-    parts: &[Part<'_>],
+    parts: &[RunPart<'_>],
     audience: Audience,
     output: &mut W,
-) -> Result<Tally, RunError>
+) -> Result<LintTally, LintError>
     // What is only checked, and not reported in a log, is reported text by text.
     ensures reported { is_log settings.entry.format ≡ false → rewriting_of settings.entry ≡ None
         → IfOk result (AreRun is_colored parts.now (W.contents output.old) (W.contents output.new)) }
@@ -45,11 +45,11 @@ pub fn run_in_form<W: Sink>(
 // A run whose results are collected in a log.
 fn run_logged<W: Sink>(
     rt: &HostRuntime,
-    settings: Settings<'_>,
+    settings: RunSettings<'_>,
     is_colored: bool,
-    parts: &[Part<'_>],
+    parts: &[RunPart<'_>],
     output: &mut W,
-) -> Result<Tally, RunError>
+) -> Result<LintTally, LintError>
     ensures unwritten { IfErr result (IsCausedBy (W.has_failed output.new)) }
 {
     let mut results = ToWriter::new(Vec::new(rt.alloc()));
@@ -66,18 +66,18 @@ fn run_logged<W: Sink>(
             Ok(tally)
         }
         // The writer is in memory, so only memory can run out.
-        Err(_) => Err(RunError::Memory),
+        Err(_) => Err(LintError::Memory),
     }
 }
 
 fn run_and_rewrite<W: Sink>(
     rt: &HostRuntime,
-    settings: Settings<'_>,
+    settings: RunSettings<'_>,
     is_colored: bool,
-    parts: &[Part<'_>],
+    parts: &[RunPart<'_>],
     audience: Audience,
     output: &mut W,
-) -> Result<Tally, RunError>
+) -> Result<LintTally, LintError>
     ensures reported { rewriting_of settings.entry ≡ None
         → IfOk result (AreRun is_colored parts.now (W.contents output.old) (W.contents output.new)) }
     ensures unwritten { IfErr result (IsCausedBy (W.has_failed output.new)) }
@@ -94,18 +94,18 @@ fn rewrite_parts<W: Sink>(
     rt: &HostRuntime,
     rewriting: Rewriting,
     is_colored: bool,
-    parts: &[Part<'_>],
+    parts: &[RunPart<'_>],
     audience: Audience,
     output: &mut W,
-) -> Result<Tally, RunError>
+) -> Result<LintTally, LintError>
     ensures unwritten { IfErr result (IsCausedBy (W.has_failed output.new)) }
 {
     let [first, ..] = parts else {
-        return Ok(Tally::new());
+        return Ok(LintTally::new());
     };
     let files = all_files(rt.alloc(), parts)?;
     let mut store = rt;
-    let mut errors = ToWriter::new(standard_error(rt));
+    let mut errors = errors(rt);
     rewrite_files(
         &mut store,
         rt.alloc(),
@@ -120,17 +120,17 @@ fn rewrite_parts<W: Sink>(
 fn check_parts<W: Sink>(
     rt: &HostRuntime,
     is_colored: bool,
-    parts: &[Part<'_>],
+    parts: &[RunPart<'_>],
     output: &mut W,
-) -> Result<Tally, RunError>
+) -> Result<LintTally, LintError>
     ensures reported { IfOk result (AreRun is_colored parts.now (W.contents output.old) (W.contents output.new)) }
     ensures unwritten { IfErr result (IsCausedBy (W.has_failed output.new)) }
 {
     let Ok(reader) = BufReader::with_capacity(rt.alloc(), BUFFER, rt.stdin()) else {
-        return Err(RunError::Memory);
+        return Err(LintError::Memory);
     };
     let mut input = FromBufReader::new(reader);
-    let watched = Watched::new(rt, file_count(parts));
+    let watched = WatchedFiles::new(rt, file_count(parts));
     let end = run_parts(&watched, rt.alloc(), is_colored, parts, &mut input, output);
     watched.end();
     end
@@ -138,18 +138,18 @@ fn check_parts<W: Sink>(
 
 // Checks the files of each part by its settings, one part after another.
 #[tactic(auto, using(crate::proofs::PartLemmas::no_part, crate::proofs::PartLemmas::one_part, crate::proofs::PartLemmas::all_parts))]
-fn run_parts<S: Source, I: BufferedSource, W: Sink>(
+fn run_parts<S: FileOpener, I: BufferedSource, W: Sink>(
     source: &S,
     alloc: Global,
     is_colored: bool,
-    parts: &[Part<'_>],
+    parts: &[RunPart<'_>],
     input: &mut I,
     output: &mut W,
-) -> Result<Tally, RunError>
+) -> Result<LintTally, LintError>
     ensures reported { IfOk result (AreRun is_colored parts.now (W.contents output.old) (W.contents output.new)) }
     ensures unwritten { IfErr result (IsCausedBy (W.has_failed output.new)) }
 {
-    let mut tally = Tally::new();
+    let mut tally = LintTally::new();
     let mut rest = parts;
     'parts: while let [part, after @ ..] = rest {
         tally = tally.and(run_part(source, alloc, is_colored, part, input, output)?);
@@ -160,19 +160,19 @@ fn run_parts<S: Source, I: BufferedSource, W: Sink>(
 
 // Checks the files of a part. Without any nothing is read.
 #[tactic(auto, using(crate::proofs::PartLemmas::no_file, crate::proofs::PartLemmas::some_files))]
-fn run_part<S: Source, I: BufferedSource, W: Sink>(
+fn run_part<S: FileOpener, I: BufferedSource, W: Sink>(
     source: &S,
     alloc: Global,
     is_colored: bool,
-    part: &Part<'_>,
+    part: &RunPart<'_>,
     input: &mut I,
     output: &mut W,
-) -> Result<Tally, RunError>
+) -> Result<LintTally, LintError>
     ensures reported { IfOk result (IsRunOfPart is_colored part.now (W.contents output.old) (W.contents output.new)) }
     ensures unwritten { IfErr result (IsCausedBy (W.has_failed output.new)) }
 {
     if part.is_empty() {
-        return Ok(Tally::new());
+        return Ok(LintTally::new());
     }
     let files = borrowed(alloc, &part.files)?;
     run(

@@ -4,9 +4,9 @@ ghost use Rattle.std.specs.Prelude.{◌≡◌};
 ghost use Rattle.timefd_lint_diagnosis.specs.Words.{texts};
 ghost use Rattle.timefd_lint.specs.Counted as spec;
 
-use timefd_lint_files::{Excluded, Sought};
-use timefd_lint_options::{Settings, reads_lines};
-use timefd_lint_scan::keys::Key;
+use timefd_lint_files::{Excluded, SoughtFiles};
+use timefd_lint_options::{RunSettings, reads_lines};
+use timefd_lint_scan::keys::DescriptionKey;
 
 /// The working directory.
 const HERE: &[&str] = &["."];
@@ -20,7 +20,7 @@ const RUST_AND_KEYS: &[&str] = &[".rs", ".toml", ".json", ".yaml", ".yml"];
 /// The named files and folders. Without any it is the working directory, if lines would be read from a terminal and
 /// no option is about these.
 pub fn named_or_here<'a>(
-    settings: Settings<'_>,
+    settings: RunSettings<'_>,
     is_terminal: bool,
     names: &'a [&'a str],
 ) -> &'a [&'a str]
@@ -34,17 +34,21 @@ pub fn named_or_here<'a>(
 
 /// Which files below folders are checked: sources of Rust and, if there are keys, files with keys. Excluded
 /// files are not.
-pub fn sought<'a>(settings: Settings<'_>, keys: &[Key<'_>], excluded: Excluded<'a>) -> Sought<'a>
+pub fn sought<'a>(
+    settings: RunSettings<'_>,
+    keys: &[DescriptionKey<'_>],
+    excluded: Excluded<'a>,
+) -> SoughtFiles<'a>
     ensures endings { texts result.endings.now ≡ spec.endings settings.entry keys.now }
     ensures excluded { result.excluded ≡ excluded.entry }
 {
-    Sought {
+    SoughtFiles {
         endings: endings(settings, keys),
         excluded,
     }
 }
 
-fn endings(settings: Settings<'_>, keys: &[Key<'_>]) -> &'static [&'static str]
+fn endings(settings: RunSettings<'_>, keys: &[DescriptionKey<'_>]) -> &'static [&'static str]
     ensures { texts result.now ≡ spec.endings settings.entry keys.now }
 {
     if keys.is_empty() || settings.is_source {

@@ -15,7 +15,7 @@ use timefd_bin_streams::{BufferedSource, FromBufReader};
 pub const BUFFER: usize = 65_536;
 
 /// Opens files by their names.
-pub trait Source {
+pub trait FileOpener {
     /// An opened file.
     type Opened: BufferedSource + Drop;
 
@@ -33,7 +33,7 @@ pub trait Source {
 }
 
 // The files of the system. Nothing is known about what they hold.
-impl<R: Files> Source for R {
+impl<R: Files> FileOpener for R {
     type Opened = FromBufReader<R::File>;
 
     ghost opens = { λ _ _ _. ⊤ };

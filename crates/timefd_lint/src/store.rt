@@ -6,8 +6,10 @@ ghost use Rattle.timefd_lint.specs.declared.fix.FixError.{FixError};
 ghost use Rattle.timefd_lint.specs.declared.identity.Identity.{Identity};
 
 use crate::fix::{FixError, Original};
-use crate::identity::{Identity, identity_of};
+use crate::identity::Identity;
 use std::alloc::Global;
+use std::fs;
+use std::os::unix::fs::MetadataExt;
 use std::rt::Files;
 
 /// Reads files by their names, and replaces them.
@@ -49,6 +51,15 @@ pub trait Store {
     ) -> Result<(), FixError>
         ensures replaced { OnOk result (replaces self.old name.now bytes.now self.new) }
         ensures refused { IfErr result (λ error. refuses self.old name.now bytes.now error self.new) };
+}
+
+// The file of the system that a name leads to.
+fn identity_of<R: Files>(rt: &R, name: &str) -> Option<Identity> {
+    let metadata = fs::metadata(rt, name).ok()?;
+    Some(Identity {
+        device: metadata.dev(),
+        inode: metadata.ino(),
+    })
 }
 
 // The files of the system. Nothing is known about what they hold.

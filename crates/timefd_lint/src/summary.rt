@@ -3,7 +3,7 @@
 ghost use Rattle.std.specs.Prelude.{◌≡◌, IfOk, string_bytes};
 ghost use Rattle.timefd_lint.specs.Summaries as spec;
 
-use crate::tally::Tally;
+use crate::tally::LintTally;
 use std::alloc::{AllocError, Global};
 
 /// The summary, as `8 descriptions, 6 refused, 1 warning, 2 files; 3 calls with a name in place of a text; 2
@@ -13,7 +13,7 @@ use std::alloc::{AllocError, Global};
 pub fn summary(
     alloc: Global,
     warns: bool,
-    tally: Tally,
+    tally: LintTally,
     file_count: usize,
 ) -> Result<String, AllocError>
     ensures { IfOk result (λ line. string_bytes line ≡ spec.summary warns tally file_count) }
@@ -119,7 +119,7 @@ fn call_noun(count: u64) -> &'static str
     }
 }
 
-fn with_warnings(alloc: Global, tally: Tally, file_count: usize) -> Result<String, AllocError>
+fn with_warnings(alloc: Global, tally: LintTally, file_count: usize) -> Result<String, AllocError>
     ensures { IfOk result (λ line. string_bytes line ≡ spec.with_warnings tally file_count) }
 {
     let refusals = refusals(alloc, tally)?;
@@ -129,7 +129,11 @@ fn with_warnings(alloc: Global, tally: Tally, file_count: usize) -> Result<Strin
     format!(in alloc; "{refusals}, {warnings} {warning_noun}, {file_count} {file_noun}")
 }
 
-fn without_warnings(alloc: Global, tally: Tally, file_count: usize) -> Result<String, AllocError>
+fn without_warnings(
+    alloc: Global,
+    tally: LintTally,
+    file_count: usize,
+) -> Result<String, AllocError>
     ensures { IfOk result (λ line. string_bytes line ≡ spec.without_warnings tally file_count) }
 {
     let refusals = refusals(alloc, tally)?;
@@ -138,10 +142,10 @@ fn without_warnings(alloc: Global, tally: Tally, file_count: usize) -> Result<St
 }
 
 // How many descriptions were refused, as `8 descriptions, 6 refused`.
-fn refusals(alloc: Global, tally: Tally) -> Result<String, AllocError>
+fn refusals(alloc: Global, tally: LintTally) -> Result<String, AllocError>
     ensures { IfOk result (λ front. string_bytes front ≡ spec.refusals tally) }
 {
-    let Tally {
+    let LintTally {
         descriptions,
         refused,
         ..

@@ -8,7 +8,7 @@ use timefd_lang_warnings::Level;
 
 /// What was found in the texts so far.
 #[derive(Clone, Copy)]
-pub struct Tally {
+pub struct LintTally {
     /// How many texts were checked. Texts that are passed over don't count.
     pub descriptions: u64,
     /// How many of them were refused or have a denied warning.
@@ -31,12 +31,12 @@ pub struct Tally {
     pub is_left: bool,
 }
 
-impl Tally {
+impl LintTally {
     /// The tally without any text.
-    pub fn new() -> Tally
+    pub fn new() -> LintTally
         ensures { result ≡ spec.tally_of [] }
     {
-        Tally {
+        LintTally {
             descriptions: 0,
             refused: 0,
             warnings: 0,
@@ -51,10 +51,10 @@ impl Tally {
     }
 
     /// The tally of one text.
-    pub fn of(end: TextEnd) -> Tally
+    pub fn of(end: TextEnd) -> LintTally
         ensures { result ≡ spec.tally_of_one end }
     {
-        Tally {
+        LintTally {
             descriptions: u64::from(is_description(end)),
             refused: u64::from(is_refused(end)),
             warnings: warnings_in(end),
@@ -69,10 +69,10 @@ impl Tally {
     }
 
     /// The tally of these texts and others.
-    pub fn and(self, other: Tally) -> Tally
+    pub fn and(self, other: LintTally) -> LintTally
         ensures { result ≡ spec.both self other }
     {
-        Tally {
+        LintTally {
             descriptions: self.descriptions.saturating_add(other.descriptions),
             refused: self.refused.saturating_add(other.refused),
             warnings: self.warnings.saturating_add(other.warnings),

@@ -9,7 +9,7 @@ use std::str;
 use timefd_lint_drawing::shown::safe;
 use timefd_lint_drawing::{Position, position_of};
 use timefd_lint_rewrite::LineChange;
-use timefd_lint_scan::Description;
+use timefd_lint_scan::SourceDescription;
 use timefd_lint_sources::FIRST_LINE;
 use timefd_lint_sources::rewriting::{Change, Outcome, value_change};
 
@@ -20,7 +20,7 @@ pub fn unwritable(
     alloc: Global,
     file: &str,
     source: &str,
-    values: &[Description],
+    values: &[SourceDescription],
     outcomes: &[Outcome],
 ) -> Result<String, AllocError>
     ensures { IfOk result (λ notes. string_bytes notes
@@ -39,7 +39,7 @@ fn push_unwritable(
     alloc: Global,
     file: &str,
     source: &str,
-    value: &Description,
+    value: &SourceDescription,
     outcome: Outcome,
     notes: &mut String,
 ) -> Result<(), AllocError>
@@ -82,7 +82,7 @@ pub fn limits_of_values(
     change: Change,
     file: &str,
     source: &str,
-    values: &[Description],
+    values: &[SourceDescription],
 ) -> Result<String, AllocError>
     ensures { IfOk result (λ notes. spec.AreLimits change file.now source.now values.now [] (string_bytes notes)) }
 {
@@ -101,7 +101,7 @@ fn push_limits_of(
     change: Change,
     file: &str,
     source: &str,
-    value: &Description,
+    value: &SourceDescription,
     notes: &mut String,
 ) -> Result<(), AllocError>
     ensures { OnOk result (spec.AddsLimits change file.now source.now value.now (string_bytes notes.old)

@@ -1,6 +1,6 @@
 -- What helps against a word of a modifier, by the slot of the fault's rule.
-use Rattle.std.proofs.Common.{ℕ, ◌≡◌, List, Option, Some, None, subst, sym}
-use Rattle.std.specs.Prelude.{IfOk, Result, Ok, Err, take}
+use Rattle.std.proofs.Common.{ℕ, ◌≡◌, List, subst, sym}
+use Rattle.std.specs.Prelude.{IfOk, Result, Ok, Err}
 use Rattle.std.specs.Borrow.{Bor}
 use Rattle.std.specs.declared.alloc.AllocError.{AllocError}
 use Rattle.timefd_lang_component.specs.Tree.{Text}
@@ -9,29 +9,25 @@ use Rattle.timefd_lang_fault.specs.RuleKinds.{rule_kind}
 use Rattle.timefd_lang_fault.specs.Slots.{wanted_by}
 use Rattle.timefd_lang_fault.specs.declared.rule.Rule.{Rule}
 use Rattle.timefd_lang_fault.specs.declared.rule.Rule.TheVariants as rules
+use Rattle.timefd_lang_fault.specs.declared.key.Key.{Key}
+use Rattle.timefd_lang_fault.specs.declared.name.Name.{Name}
 use Rattle.timefd_lang_fault.specs.declared.slot.Slot.{Slot}
+use Rattle.timefd_lang_fault.specs.declared.slot.Slot.TheVariants as slots
 use Rattle.timefd_language.specs.Bytes.{is_version_three}
-use Rattle.timefd_language.specs.Slots.{IsSlotAfter, IsWanted}
+use Rattle.timefd_language.specs.Slots.{IsWanted}
 use Rattle.timefd_language.specs.declared.description_version.DescriptionVersion.{DescriptionVersion}
 use Rattle.timefd_language.specs.declared.language.Language.TheVariants.{Version}
 use Rattle.timefd_lint_diagnosis.specs.declared.help.Help.{Help}
 use Rattle.timefd_lint_diagnosis.specs.declared.help.Help.TheVariants.{Words, LeaveOut, Advice}
 use Rattle.timefd_lint_diagnosis.specs.Helps.{HasNoModifierSlot, IsModifierSlot, IsVersionHelp, IsWordsHelp}
 
-slot_after : (v : DescriptionVersion) (text : Text) (index : ℕ) (r : Rule) (word : Bor (List ℕ))
-    (wanted : Option Slot) → r ≡ rules.InvalidModifier word wanted
-    → IsWanted (Version v) text (fault (rule_kind r) index) (wanted_by r)
-    → IsSlotAfter (is_version_three v) (take index text) word.now wanted
-slot_after v text index r word wanted e is =
-    subst (λ r. IsWanted (Version v) text (fault (rule_kind r) index) (wanted_by r)) e is
+abbrev WantedAt : DescriptionVersion → Text → ℕ → Rule → Type 0
+WantedAt v text index r = IsWanted (Version v) text (fault (rule_kind r) index) (wanted_by r)
 
 pub no_slot : (v : DescriptionVersion) (text : Text) (index : ℕ) (r : Rule) (word : Bor (List ℕ))
-    (wanted : Option Slot) → r ≡ rules.InvalidModifier word wanted → wanted ≡ None
-    → IsWanted (Version v) text (fault (rule_kind r) index) (wanted_by r)
+    → r ≡ rules.InvalidModifier word → WantedAt v text index r
     → HasNoModifierSlot (is_version_three v) text index word.now
-no_slot v text index r word wanted e none is =
-    subst (IsSlotAfter (is_version_three v) (take index text) word.now) none
-    (slot_after v text index r word wanted e is)
+no_slot v text index r word is wanted = subst (WantedAt v text index) is wanted
 
 named : (v : DescriptionVersion) (text : Text) (index : ℕ) (word : Text) (slot : Slot)
     → IsModifierSlot (is_version_three v) text index word slot → (help : Help)
@@ -44,14 +40,25 @@ named v text index word slot at (Words a allowed nearest) is = (
 named v text index word slot at (LeaveOut key) is = absurd is
 named v text index word slot at (Advice words) is = absurd is
 
-pub some_slot : (v : DescriptionVersion) (text : Text) (index : ℕ) (r : Rule) (word : Bor (List ℕ))
-    (wanted : Option Slot) (slot : Slot) (help : Result Help AllocError)
-    → r ≡ rules.InvalidModifier word wanted → wanted ≡ Some slot
-    → IsWanted (Version v) text (fault (rule_kind r) index) (wanted_by r)
-    → IfOk help (IsWordsHelp (is_version_three v) slot word.now)
+some_slot : (v : DescriptionVersion) (text : Text) (index : ℕ) (word : Text) (slot : Slot)
+    (help : Result Help AllocError) → IsModifierSlot (is_version_three v) text index word slot
+    → IfOk help (IsWordsHelp (is_version_three v) slot word)
+    → IfOk help (IsVersionHelp v text index (invalid_modifier word))
+some_slot v text index word slot (Err e) at helps = tt
+some_slot v text index word slot (Ok help) at helps = named v text index word slot at help helps
+
+pub for_key : (v : DescriptionVersion) (text : Text) (index : ℕ) (r : Rule) (word : Bor (List ℕ))
+    (name : Name) (help : Result Help AllocError) → r ≡ rules.UnknownKey word name → WantedAt v text index r
+    → IfOk help (IsWordsHelp (is_version_three v) (slots.Key name) word.now)
     → IfOk help (IsVersionHelp v text index (rule_kind r))
-some_slot v text index r word wanted slot (Err e) is of at helps = tt
-some_slot v text index r word wanted slot (Ok help) is of at helps =
-    subst (λ r. IsVersionHelp v text index (rule_kind r) help) (sym is)
-    (named v text index word.now slot (subst (IsSlotAfter (is_version_three v) (take index text) word.now) of
-    (slot_after v text index r word wanted is at)) help helps)
+for_key v text index r word name help is wanted helps =
+    subst (λ r. IfOk help (IsVersionHelp v text index (rule_kind r))) (sym is)
+    (some_slot v text index word.now (slots.Key name) help (subst (WantedAt v text index) is wanted) helps)
+
+pub for_value : (v : DescriptionVersion) (text : Text) (index : ℕ) (r : Rule) (word : Bor (List ℕ))
+    (key : Key) (help : Result Help AllocError) → r ≡ rules.UnknownValue word key → WantedAt v text index r
+    → IfOk help (IsWordsHelp (is_version_three v) (slots.Value key) word.now)
+    → IfOk help (IsVersionHelp v text index (rule_kind r))
+for_value v text index r word key help is wanted helps =
+    subst (λ r. IfOk help (IsVersionHelp v text index (rule_kind r))) (sym is)
+    (some_slot v text index word.now (slots.Value key) help (subst (WantedAt v text index) is wanted) helps)

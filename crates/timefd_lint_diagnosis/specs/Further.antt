@@ -16,13 +16,13 @@ use Rattle.timefd_lang_fault.specs.declared.code.Code.{Code}
 use Rattle.timefd_lang_fault.specs.declared.code.Code.TheVariants.{UnclosedBracket, UnknownName, InvalidModifier, MissingName, MissingModifier, InvalidEscape, UnescapedBracket, MissingSpace, MissingDescription, MissingAlternative, NestedTooDeep, SeveralDescriptions, OptionalItem, FirstItem, UnsupportedFlag, UnsupportedLetter, NestedInComponent, DuplicateModifier, RefusedModifier}
 use Rattle.timefd_lint_diagnosis.specs.declared.diagnostic.Diagnostic.{Diagnostic}
 use Rattle.timefd_lint_diagnosis.specs.declared.further.Sides.{Sides}
-use Rattle.timefd_lint_diagnosis.specs.declared.further.Mark.{Mark}
-use Rattle.timefd_lint_diagnosis.specs.declared.further.Mark.TheVariants.{Bracket, Backslash, Closing, Percent}
+use Rattle.timefd_lint_diagnosis.specs.declared.further.LeftOutMark.{LeftOutMark}
+use Rattle.timefd_lint_diagnosis.specs.declared.further.LeftOutMark.TheVariants.{Bracket, Backslash, Closing, Percent}
 use Rattle.timefd_lang_fault.specs.Codes.{code_of}
 use Rattle.timefd_lint_diagnosis.specs.Diagnoses.{IsDiagnosed}
 
 -- What is left out begins with this.
-abbrev pub byte_of : Mark → ℕ
+abbrev pub byte_of : LeftOutMark → ℕ
 byte_of Bracket = left
 byte_of Backslash = backslash
 byte_of Closing = right
@@ -30,7 +30,7 @@ byte_of Percent = percent
 
 -- What is left out: a bracket that is at fault by itself, an escape by its backslash, and a bracket that
 -- needed an escape. After any other fault of a version, what follows would be guesswork.
-abbrev pub version_mark : Code → Option Mark
+abbrev pub version_mark : Code → Option LeftOutMark
 version_mark UnclosedBracket = None
 version_mark UnknownName = Some Bracket
 version_mark InvalidModifier = Some Bracket
@@ -52,7 +52,7 @@ version_mark DuplicateModifier = Some Bracket
 version_mark RefusedModifier = Some Bracket
 
 -- In strftime it is the `%` with its flag: a letter alone is a literal.
-abbrev pub mark_of : Language → Code → Option Mark
+abbrev pub mark_of : Language → Code → Option LeftOutMark
 mark_of (Version v) code = version_mark code
 mark_of Strftime code = Some Percent
 
@@ -80,14 +80,14 @@ abbrev pub closed : Text × Text → Option (Text × Text)
 closed sides = option_map (λ rest. (sides.0, rest)) (after_closing sides.1)
 
 -- A bracket is left out up to its end.
-abbrev pub finished : Mark → Option (Text × Text) → Option (Text × Text)
+abbrev pub finished : LeftOutMark → Option (Text × Text) → Option (Text × Text)
 finished Bracket sides = option_and_then closed sides
 finished Backslash sides = sides
 finished Closing sides = sides
 finished Percent sides = sides
 
 -- the text on both sides of what is left out for a fault at an index
-abbrev pub sides_at : Mark → Text → ℕ → Option (Text × Text)
+abbrev pub sides_at : LeftOutMark → Text → ℕ → Option (Text × Text)
 sides_at mark text index =
     finished mark (opened (byte_of mark) (take index text) (drop index text))
 

@@ -27,8 +27,10 @@ pub fn advice(version: DescriptionVersion, code: Code) -> &'static str
             "put each alternative into brackets, as in `[first [[day]] [[ordinal]]]`",
         Code::NestedTooDeep => "descriptions nest at most 127 deep",
         Code::SeveralDescriptions => "put all that is optional into one description",
-        Code::OptionalItem => "only version 3 takes optional items: see `--language 3`",
-        Code::FirstItem => "only version 3 takes alternatives: see `--language 3`",
+        Code::OptionalItem =>
+            "`parse` and `parse_borrowed` take optional items only in version 3; `format_description!` and `parse_owned` always do",
+        Code::FirstItem =>
+            "`parse` and `parse_borrowed` take alternatives only in version 3; `format_description!` and `parse_owned` always do",
         Code::UnsupportedFlag => "only `optional` and `first` take nested descriptions",
         Code::UnsupportedLetter => "only `optional` and `first` take nested descriptions",
         Code::NestedInComponent => "only `optional` and `first` take nested descriptions",

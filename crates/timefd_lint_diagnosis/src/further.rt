@@ -19,7 +19,7 @@ pub const MOST_FURTHER: usize = 19;
 
 /// What the stretch begins with that is left out for a fault.
 #[derive(Clone, Copy)]
-pub enum Mark {
+pub enum LeftOutMark {
     /// A bracket, which is left out up to its end.
     Bracket,
     /// The backslash of an escape.
@@ -105,16 +105,16 @@ fn with_spaces(alloc: Global, text: &str, sides: Sides<'_>) -> Result<String, Al
 }
 
 // What begins the stretch that is left out for a fault, if one is.
-fn mark_of(language: Language, code: Code) -> Option<Mark>
+fn mark_of(language: Language, code: Code) -> Option<LeftOutMark>
     ensures { result ≡ spec.mark_of language code }
 {
     match language {
         Language::Version(_) => version_mark(code),
-        Language::Strftime => Some(Mark::Percent),
+        Language::Strftime => Some(LeftOutMark::Percent),
     }
 }
 
-fn version_mark(code: Code) -> Option<Mark>
+fn version_mark(code: Code) -> Option<LeftOutMark>
     ensures { result ≡ spec.version_mark code }
 {
     match code {
@@ -123,9 +123,9 @@ fn version_mark(code: Code) -> Option<Mark>
         | Code::MissingName
         | Code::MissingModifier
         | Code::DuplicateModifier
-        | Code::RefusedModifier => Some(Mark::Bracket),
-        Code::InvalidEscape => Some(Mark::Backslash),
-        Code::UnescapedBracket => Some(Mark::Closing),
+        | Code::RefusedModifier => Some(LeftOutMark::Bracket),
+        Code::InvalidEscape => Some(LeftOutMark::Backslash),
+        Code::UnescapedBracket => Some(LeftOutMark::Closing),
         Code::UnclosedBracket
         | Code::MissingSpace
         | Code::MissingDescription
@@ -140,28 +140,28 @@ fn version_mark(code: Code) -> Option<Mark>
     }
 }
 
-fn char_of(mark: Mark) -> char
+fn char_of(mark: LeftOutMark) -> char
     ensures byte { result ≡ spec.byte_of mark }
     ensures ascii { result < 128 }
 {
     match mark {
-        Mark::Bracket => '[',
-        Mark::Backslash => '\\',
-        Mark::Closing => ']',
-        Mark::Percent => '%',
+        LeftOutMark::Bracket => '[',
+        LeftOutMark::Backslash => '\\',
+        LeftOutMark::Closing => ']',
+        LeftOutMark::Percent => '%',
     }
 }
 
 // The text on both sides of what is left out for a fault at an index.
-fn sides_at(mark: Mark, text: &str, index: usize) -> Option<Sides<'_>>
+fn sides_at(mark: LeftOutMark, text: &str, index: usize) -> Option<Sides<'_>>
     requires { IsCharBoundary text.now index }
     ensures { sides_of result ≡ spec.sides_at mark text.now index }
 {
     let (front, rest) = text.split_at(index);
     let opened = opened(char_of(mark), front, rest)?;
     match mark {
-        Mark::Bracket => closed(opened),
-        Mark::Backslash | Mark::Closing | Mark::Percent => Some(opened),
+        LeftOutMark::Bracket => closed(opened),
+        LeftOutMark::Backslash | LeftOutMark::Closing | LeftOutMark::Percent => Some(opened),
     }
 }
 

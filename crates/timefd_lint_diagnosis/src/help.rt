@@ -71,10 +71,9 @@ fn version_help(
     match fault.rule {
         Rule::UnknownName(name) => words_help(alloc, version, Slot::Name, name),
         Rule::UnknownLetter(letter) => words_help(alloc, version, Slot::Name, letter),
-        Rule::InvalidModifier(word, wanted) => match wanted {
-            Some(slot) => words_help(alloc, version, slot, word),
-            None => Ok(Help::Advice(advice(version, Code::InvalidModifier))),
-        },
+        Rule::UnknownKey(word, name) => words_help(alloc, version, Slot::Key(name), word),
+        Rule::UnknownValue(word, key) => words_help(alloc, version, Slot::Value(key), word),
+        Rule::InvalidModifier(_) => Ok(Help::Advice(advice(version, Code::InvalidModifier))),
         Rule::RefusedModifier(key, _) => Ok(Help::LeaveOut(key)),
         Rule::UnclosedBracket
         | Rule::MissingName

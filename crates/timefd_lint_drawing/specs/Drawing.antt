@@ -14,7 +14,7 @@ use Rattle.timefd_lint_drawing.specs.declared.draw.Style.{Style}
 use Rattle.timefd_lint_drawing.specs.declared.github.Command.TheVariants.{Error}
 use Rattle.timefd_lint_drawing.specs.declared.lines.Paint.{Paint}
 use Rattle.timefd_lint_drawing.specs.declared.position.Origin.{Origin}
-use Rattle.timefd_lint_drawing.specs.Github.{annotation, fault_annotation}
+use Rattle.timefd_lint_drawing.specs.Github.{annotation, span_annotation}
 use Rattle.timefd_lint_drawing.specs.HelpText.{help_text}
 use Rattle.timefd_lint_drawing.specs.Json.{object, note_object}
 use Rattle.timefd_lint_drawing.specs.Lines.{error_line, position_line, bar_line, text_line, caret_line, help_lines, short_line}
@@ -74,7 +74,7 @@ json further origin text d =
 -- with the help.
 abbrev pub github : Bool → Origin → Text → Diagnostic → Text
 github further origin text d =
-    fault_annotation (code d) origin.file.now (line_number origin.line text d.span.start)
+    span_annotation Error (code d) origin.file.now (line_number origin.line text d.span.start)
     (column text d.span.start) (line_number origin.line text d.span.end) (column text d.span.end)
     (sarifs.with_help (reported_sentence further (fault_of d.fault)) (help_text d.help))
 

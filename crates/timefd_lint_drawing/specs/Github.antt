@@ -53,15 +53,15 @@ abbrev pub column_fields : ℕ → ℕ → Text
 column_fields column end =
     number_field (codes ",col=") column ++ number_field (codes ",endColumn=") end
 
--- The annotation for a fault, with the position of what follows it.
-abbrev pub fault_annotation : Text → Text → ℕ → ℕ → ℕ → ℕ → Text → Text
-fault_annotation code file line column end_line end_column message =
-    [] ++ opening Error ++ property (codes " file=") (safe file)
+-- An annotation on a part of a text, with the position of what follows it.
+abbrev pub span_annotation : Command → Text → Text → ℕ → ℕ → ℕ → ℕ → Text → Text
+span_annotation command code file line column end_line end_column message =
+    [] ++ opening command ++ property (codes " file=") (safe file)
     ++ line_fields line end_line ++ column_fields column end_column ++ property (codes ",title=") code ++ codes "::" ++ escaped_message message ++ codes "\n"
 
-abbrev pub fault_annotation_of : Entry → ℕ → ℕ → Text
-fault_annotation_of e end_line end_column =
-    fault_annotation e.code.now e.file.now e.line e.column end_line end_column e.message.now
+abbrev pub span_annotation_of : Command → Entry → ℕ → ℕ → Text
+span_annotation_of command e end_line end_column =
+    span_annotation command e.code.now e.file.now e.line e.column end_line end_column e.message.now
 
 abbrev pub annotation_of : Command → Entry → Text
 annotation_of command e = annotation command e.code.now e.file.now e.line e.column e.message.now

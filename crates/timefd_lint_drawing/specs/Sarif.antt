@@ -3,7 +3,7 @@ use Rattle.std.specs.Prelude.{ℕ, ◌+◌, ◌-◌, ◌/◌, ◌%◌, Bool, tru
 use Rattle.std.specs.List.{starts_with}
 use Rattle.timefd_lang_component.specs.Tree.{Text}
 use Rattle.timefd_lint_drawing.specs.declared.json.Entry.{Entry}
-use Rattle.timefd_lint_drawing.specs.declared.sarif.Fault.{Fault}
+use Rattle.timefd_lint_drawing.specs.declared.sarif.FaultResult.{FaultResult}
 use Rattle.timefd_lint_drawing.specs.Json.{text_field, number_field}
 use Rattle.timefd_lint_drawing.specs.Shown.{is_between}
 
@@ -80,14 +80,14 @@ note_result code file line column message level =
 abbrev pub begun_of : Entry → Text → Text
 begun_of e level = begun e.code.now e.file.now e.line e.column e.message.now level
 
-abbrev pub fixes_of : Entry → Fault → Text
+abbrev pub fixes_of : Entry → FaultResult → Text
 fixes_of e f = fixes e.file.now e.line e.column f.end_line f.end_column f.help.now
     (option_map (λ word. word.now) f.replacement)
 
-abbrev pub fix_of : Entry → Fault → Text → Text
+abbrev pub fix_of : Entry → FaultResult → Text → Text
 fix_of e f word = fix e.file.now e.line e.column f.end_line f.end_column f.help.now word
 
-abbrev pub result_of : Entry → Fault → Text
+abbrev pub result_of : Entry → FaultResult → Text
 result_of e f = result f.is_further e.code.now e.file.now e.line e.column f.end_line f.end_column e.message.now
     f.help.now (option_map (λ word. word.now) f.replacement)
 

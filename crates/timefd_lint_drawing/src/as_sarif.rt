@@ -8,7 +8,7 @@ use crate::counter::Counter;
 use crate::help_text::help_text;
 use crate::json::Entry;
 use crate::position::{Origin, char_position_from};
-use crate::sarif::{Fault, result, with_help};
+use crate::sarif::{FaultResult, result, with_help};
 use std::alloc::{AllocError, Global};
 use timefd_lint_diagnosis::{Diagnostic, code_of};
 
@@ -38,7 +38,7 @@ pub fn sarif(
         column: start.column as u64,
         message: &message,
     };
-    let fault = Fault {
+    let fault = FaultResult {
         end_line: end.line,
         end_column: end.column as u64,
         help: &help,

@@ -6,7 +6,7 @@ ghost use Rattle.timefd_lint_drawing.specs.Drawing as spec;
 
 use crate::as_sarif::sarif;
 use crate::counter::{Counter, none_counted};
-use crate::github::{Command, annotation, fault_annotation};
+use crate::github::{Command, annotation, span_annotation};
 use crate::help_text::help_text;
 use crate::human::human;
 use crate::json::{Detail, Entry, note_object, object};
@@ -206,7 +206,7 @@ fn github(
         column: start.column as u64,
         message: &message,
     };
-    fault_annotation(alloc, entry, end)
+    span_annotation(alloc, Command::Error, entry, end)
 }
 
 fn json(

@@ -35,21 +35,22 @@ pub fn annotation(alloc: Global, command: Command, entry: Entry<'_>) -> Result<V
     Ok(out)
 }
 
-/// The annotation for a fault, where `end` is the position of what follows the fault:
-/// `::error file=FILE,line=LINE,endLine=LINE,col=COLUMN,endColumn=COLUMN,title=CODE::MESSAGE`. An `Err` says
+/// An annotation on a part of a text, where `end` is the position of what follows the part:
+/// `::COMMAND file=FILE,line=LINE,endLine=LINE,col=COLUMN,endColumn=COLUMN,title=CODE::MESSAGE`. An `Err` says
 /// that memory ran out.
-pub fn fault_annotation(
+pub fn span_annotation(
     alloc: Global,
+    command: Command,
     entry: Entry<'_>,
     end: Position,
 ) -> Result<Vec<u8>, AllocError>
     ensures exact { IfOk result (λ line. line.items
-        ≡ spec.fault_annotation_of entry.entry end.line end.column) }
+        ≡ spec.span_annotation_of command entry.entry end.line end.column) }
     ensures some { IfOk result (λ line. line.items ≢ []) }
 {
     let file = safe(alloc, entry.file)?;
     let mut out = Vec::new(alloc);
-    out.extend_from_slice(opening(Command::Error).as_bytes())?;
+    out.extend_from_slice(opening(command).as_bytes())?;
     push_property(&mut out, " file=", &file)?;
     push_lines(alloc, &mut out, entry.line, end.line)?;
     push_columns(alloc, &mut out, entry.column, end.column as u64)?;

@@ -8,7 +8,7 @@ use std::alloc::{AllocError, Global};
 
 /// What a result also holds if a text is at fault.
 #[derive(Clone, Copy)]
-pub struct Fault<'a> {
+pub struct FaultResult<'a> {
     /// The line and the column of what follows the part at fault.
     pub end_line: u64,
     pub end_column: u64,
@@ -49,7 +49,11 @@ fn begun(alloc: Global, entry: Entry<'_>, level: &str) -> Result<Vec<u8>, AllocE
 
 /// A result after a comma, for a fault of a text. Columns count characters. An `Err` says that memory ran
 /// out.
-pub fn result(alloc: Global, entry: Entry<'_>, fault: Fault<'_>) -> Result<Vec<u8>, AllocError>
+pub fn result(
+    alloc: Global,
+    entry: Entry<'_>,
+    fault: FaultResult<'_>,
+) -> Result<Vec<u8>, AllocError>
     ensures exact { IfOk result (λ reported. reported.items ≡ spec.result_of entry.entry fault.entry) }
     ensures some { IfOk result (λ reported. reported.items ≢ []) }
 {
@@ -76,7 +80,7 @@ pub fn note_result(alloc: Global, entry: Entry<'_>, level: &str) -> Result<Vec<u
 }
 
 // The field with the fix, if a word is near.
-fn fixes(alloc: Global, entry: Entry<'_>, fault: Fault<'_>) -> Result<Vec<u8>, AllocError>
+fn fixes(alloc: Global, entry: Entry<'_>, fault: FaultResult<'_>) -> Result<Vec<u8>, AllocError>
     ensures { IfOk result (λ field. field.items ≡ spec.fixes_of entry.entry fault.entry) }
 {
     match fault.replacement {
@@ -85,7 +89,12 @@ fn fixes(alloc: Global, entry: Entry<'_>, fault: Fault<'_>) -> Result<Vec<u8>, A
     }
 }
 
-fn fix(alloc: Global, entry: Entry<'_>, fault: Fault<'_>, word: &str) -> Result<Vec<u8>, AllocError>
+fn fix(
+    alloc: Global,
+    entry: Entry<'_>,
+    fault: FaultResult<'_>,
+    word: &str,
+) -> Result<Vec<u8>, AllocError>
     ensures { IfOk result (λ field. field.items ≡ spec.fix_of entry.entry fault.entry word.now) }
 {
     let mut out = Vec::new(alloc);

@@ -5,18 +5,18 @@ use Rattle.timefd_lang_component.specs.Tree.{Text}
 use Rattle.timefd_lang_component.specs.declared.component.Component.{Component}
 use Rattle.timefd_lang_component.specs.Bracket.Words as names
 use Rattle.timefd_lang_component.specs.declared.bracket.defaults.Defaults.{Defaults}
-use Rattle.timefd_lint_explain.specs.declared.node.Node.{Node}
+use Rattle.timefd_lint_explain.specs.declared.node.ShownNode.{ShownNode}
 use Rattle.timefd_lint_explain.specs.declared.node.NodeKind.{NodeKind}
 use Rattle.timefd_lint_explain.specs.declared.piece.What.{What}
 use Rattle.timefd_lint_explain.specs.declared.piece.What.TheVariants as what
 use Rattle.timefd_lint_explain.specs.Examples.{AreWordsOf, Examples, HasExample, IsExampleFor, Names, kind_in}
 use Rattle.timefd_lint_explain.specs.Shown.{IsExampleOf}
 
-one_more : (ns : List Node) (n : Node) → HasExample n → Examples ns → Examples (ns ++ n ∷ [])
+one_more : (ns : List ShownNode) (n : ShownNode) → HasExample n → Examples ns → Examples (ns ++ n ∷ [])
 one_more [] n has all = (has, tt)
 one_more (m ∷ ns) n has all = (all.0, one_more ns n has all.1)
 
-pub examples_more : (before after : List Node) (n : Node) → after ≡ before ++ n ∷ [] → HasExample n
+pub examples_more : (before after : List ShownNode) (n : ShownNode) → after ≡ before ++ n ∷ [] → HasExample n
     → Examples before → Examples after
 examples_more before after n e has all = subst Examples (sym e) (one_more before n has all)
 

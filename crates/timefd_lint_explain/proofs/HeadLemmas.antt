@@ -9,7 +9,7 @@ use Rattle.timefd_language.specs.Grammar.{Nested, no_nested, nested, AreNested, 
 use Rattle.timefd_language.specs.Head.{Head, IsHead, Modifier, IsModifier, AreModifiers, modifiers_text, modifier_text}
 use Rattle.timefd_language.proofs.Spans.{stops_one, key-word, white-not_word}
 use Rattle.timefd_parse.proofs.BracketLemmas.{cut_word}
-use Rattle.timefd_parse.specs.declared.modifier.Modifier as code
+use Rattle.timefd_parse.specs.declared.head.modifier.Modifier as code
 use Rattle.timefd_parse.specs.BracketParts.{BeginsModified}
 use Rattle.timefd_lint_explain.specs.Inside.{EndsHead}
 

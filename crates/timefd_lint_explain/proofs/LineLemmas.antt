@@ -2,28 +2,28 @@
 use Rattle.std.proofs.Common.{◌≡◌, ◌∙◌, List, [], ◌∷◌, ◌++◌, append_assoc, append-nil, refl, sym, ap, subst}
 use Rattle.timefd_lang_component.specs.Tree.{Text}
 use Rattle.timefd_lint_explain.specs.Lines.{AreLines, IsLine}
-use Rattle.timefd_lint_explain.specs.declared.node.Node.{Node}
+use Rattle.timefd_lint_explain.specs.declared.node.ShownNode.{ShownNode}
 
 -- What is appended, followed by the lines of the nodes that are left, makes the lines of all nodes.
-pub record LeavesLines (text : Text) (nodes : List Node) (was : Text) (rest : List Node) (now : Text) : Type 0 where
+pub record LeavesLines (text : Text) (nodes : List ShownNode) (was : Text) (rest : List ShownNode) (now : Text) : Type 0 where
   pub whole : (left : Text) → AreLines text rest left
       → (all : Text) × AreLines text nodes all × (was ++ all ≡ now ++ left)
 
-pub none_yet : (text : Text) (nodes : List Node) (was : Text) → LeavesLines text nodes was nodes was
+pub none_yet : (text : Text) (nodes : List ShownNode) (was : Text) → LeavesLines text nodes was nodes was
 none_yet text nodes was = record { whole = λ left h. (left, h, refl) }
 
-pub one_more : (text : Text) (nodes rest more : List Node) (n : Node) (was now new shown : Text)
+pub one_more : (text : Text) (nodes rest more : List ShownNode) (n : ShownNode) (was now new shown : Text)
     → LeavesLines text nodes was rest now → rest ≡ n ∷ more → IsLine text n shown → new ≡ now ++ shown
     → LeavesLines text nodes was more new
 one_more text nodes rest more n was now new shown keep split is e = record {
   whole = λ left h.
       let k = keep.whole (shown ++ left)
-      (subst (λ (it : List Node). AreLines text it (shown ++ left)) (sym split) (shown, left, is, h, refl)) in
+      (subst (λ (it : List ShownNode). AreLines text it (shown ++ left)) (sym split) (shown, left, is, h, refl)) in
       (k.0, k.1, k.2 ∙ sym (append_assoc now shown left) ∙ ap (λ (x : Text). x ++ left) (sym e));
 }
 
-pub all_shown : (text : Text) (nodes rest : List Node) (was now : Text) → LeavesLines text nodes was rest now
+pub all_shown : (text : Text) (nodes rest : List ShownNode) (was now : Text) → LeavesLines text nodes was rest now
     → rest ≡ [] → (all : Text) × AreLines text nodes all × (now ≡ was ++ all)
 all_shown text nodes rest was now keep none =
-    let k = keep.whole [] (subst (λ (it : List Node). AreLines text it []) (sym none) refl) in
+    let k = keep.whole [] (subst (λ (it : List ShownNode). AreLines text it []) (sym none) refl) in
     (k.0, k.1, sym (append-nil now) ∙ sym k.2)

@@ -7,7 +7,7 @@ use Rattle.timefd_language.specs.Grammar.{Nested, no_nested, nested, AreNested, 
 use Rattle.timefd_language.specs.Head.{Head, IsHead, head_text}
 use Rattle.timefd_parse.proofs.BracketLemmas.{outer_pieces, same_cut}
 use Rattle.timefd_parse.specs.BracketParts.{BeginsNested}
-use Rattle.timefd_lint_explain.specs.declared.node.Node.{Node}
+use Rattle.timefd_lint_explain.specs.declared.node.ShownNode.{ShownNode}
 use Rattle.timefd_lint_explain.specs.Inside.{EndsHead, Nests, held_parts}
 use Rattle.timefd_lint_explain.specs.Parts.{Part, description, described, all_parts, alternatives, Adds, capped}
 use Rattle.timefd_lint_explain.proofs.HeadLemmas.{ends_head, regrouped}
@@ -15,7 +15,7 @@ use Rattle.timefd_lint_explain.proofs.InsideLemmas.{Holds, held_trees, nesting_b
 use Rattle.timefd_lint_explain.proofs.PartLemmas.{adds_none, adds_both, described_list}
 
 -- The descriptions that are left, and the nodes of those before them.
-pub record Nesting (d : ℕ) (t : Tree) (rest : Text) (old new : List Node) : Type 0 where
+pub record Nesting (d : ℕ) (t : Tree) (rest : Text) (old new : List ShownNode) : Type 0 where
   pub others : Nested
   pub white : Text
   pub are : AreNested Three nesting_limit 0 others
@@ -34,7 +34,7 @@ held_are d (optional f t) ns n h =
     sym (append-nil (described d t)) ∙ sym (ap (λ ts. alternatives d (trees ts)) h.1)
 held_are d (first ts) ns n h = sym (ap (alternatives d) h.1)
 
-pub nesting_first : (d : ℕ) (text : Text) (t : Tree) (rest : Text) (ns : List Node)
+pub nesting_first : (d : ℕ) (text : Text) (t : Tree) (rest : Text) (ns : List ShownNode)
     → ((h : Head) (after : Text) → IsHead h → EndsHead after → text ≡ head_text h ++ after
     → rest ≡ after)
     → Spells Three nesting_limit 0 text (t ∷ []) → Nests t → Nesting d t rest ns ns
@@ -63,7 +63,7 @@ no_description rest white inner after all e begins =
     begins.whole begins.all_white refl in
     omega (arith, first_byte right left [] (inner ++ right ∷ after) same.rest)
 
-pub nesting_more : (d : ℕ) (t : Tree) (rest inner after : Text) (old a b : List Node)
+pub nesting_more : (d : ℕ) (t : Tree) (rest inner after : Text) (old a b : List ShownNode)
     → BeginsNested Three rest inner after
     → ((white w x : Text) (list : List Tree) → ZeroOrMore is_white white
     → Spells Three nesting_limit 1 w list → rest ≡ white ++ left ∷ (w ++ right ∷ x)
@@ -98,7 +98,7 @@ nesting_more d t rest inner after old a b begins finds adds before =
               (ps, outer_pieces ps Three nesting_limit 0 are.2, same.0, refl));
         }
 
-pub nesting_end : (d : ℕ) (t : Tree) (rest : Text) (old new : List Node)
+pub nesting_end : (d : ℕ) (t : Tree) (rest : Text) (old new : List ShownNode)
     → ((white w x : Text) (list : List Tree) → ZeroOrMore is_white white
     → Spells Three nesting_limit 1 w list → rest ≡ white ++ left ∷ (w ++ right ∷ x) → ⊥)
     → Nesting d t rest old new → Adds (held_parts d t) old new
@@ -117,7 +117,7 @@ nesting_end d t rest old new none before =
         (e ∙ regrouped w (spelling ps) (nested_text ns) (before.white ++ right ∷ [])))
 
 -- The nodes of a description are its own node and those of its pieces.
-pub described_adds : (d depth inside : ℕ) (text : Text) (list : List Tree) (a b c : List Node)
+pub described_adds : (d depth inside : ℕ) (text : Text) (list : List Tree) (a b c : List ShownNode)
     → depth ≡ capped d → inside ≡ capped (depth + 1) → Spells Three nesting_limit 0 text list
     → Adds (description d (pack list) ∷ []) a b
     → ((k : ℕ) → inside ≡ capped k → Adds (all_parts k (trees list)) b c)

@@ -8,7 +8,7 @@ use Rattle.timefd_language.specs.Grammar.{Nested, no_nested, nested, AreNested, 
 use Rattle.timefd_language.specs.Head.{Head, IsHead, head_text}
 use Rattle.timefd_parse.proofs.BracketLemmas.{outer_pieces}
 use Rattle.timefd_parse.specs.BracketParts.{BeginsNested}
-use Rattle.timefd_lint_explain.specs.declared.node.Node.{Node}
+use Rattle.timefd_lint_explain.specs.declared.node.ShownNode.{ShownNode}
 use Rattle.timefd_lint_explain.specs.Inside.{EndsHead, Nests}
 use Rattle.timefd_lint_explain.specs.Stands.{AddsAt, AlternativesStand, DescriptionStands, HeldStand, Span, span_of}
 use Rattle.timefd_lint_explain.proofs.HeadLemmas.{ends_head, regrouped}
@@ -17,7 +17,7 @@ use Rattle.timefd_lint_explain.proofs.NestedLemmas.{no_description}
 use Rattle.timefd_lint_explain.proofs.StandLemmas.{joined}
 
 -- The descriptions that are left, where they are, and the nodes of those before them.
-pub record NestingAt (start : ℕ) (t : Tree) (text rest : Text) (old new : List Node) : Type 0 where
+pub record NestingAt (start : ℕ) (t : Tree) (text rest : Text) (old new : List ShownNode) : Type 0 where
   pub others : Nested
   pub white : Text
   pub are : AreNested Three nesting_limit 0 others
@@ -25,7 +25,7 @@ pub record NestingAt (start : ℕ) (t : Tree) (text rest : Text) (old new : List
   pub rest_is : rest ≡ nested_text others ++ (white ++ right ∷ [])
   pub front : Text
   pub cut : text ≡ front ++ rest
-  pub more : List Node
+  pub more : List ShownNode
   pub whole : new ≡ old ++ more
   pub goes_on : (spans : List Span)
       → AlternativesStand (trees (held_trees others)) (start + length front) rest spans
@@ -53,7 +53,7 @@ held_stand start (first ts) text ns h rest spans n holds is cut stand = record {
   stand = subst (λ ts. AlternativesStand ts (start + length (head_text h)) rest spans) holds.1 stand;
 }
 
-pub nesting_at_first : (start : ℕ) (text : Text) (t : Tree) (rest : Text) (ns : List Node)
+pub nesting_at_first : (start : ℕ) (text : Text) (t : Tree) (rest : Text) (ns : List ShownNode)
     → ((h : Head) (after : Text) → IsHead h → EndsHead after → text ≡ head_text h ++ after
     → rest ≡ after)
     → Spells Three nesting_limit 0 text (t ∷ []) → Nests t → NestingAt start t text rest ns ns
@@ -77,7 +77,7 @@ nesting_at_first start text t rest ns finds s n =
     }
 
 -- A nested description and its brackets end within the text.
-pub nested_ends : (start : ℕ) (t : Tree) (text rest inner after : Text) (old a : List Node)
+pub nested_ends : (start : ℕ) (t : Tree) (text rest inner after : Text) (old a : List ShownNode)
     → BeginsNested Three rest inner after → NestingAt start t text rest old a
     → length after + length inner + 2 ≤ length text
 nested_ends start t text rest inner after old a begins before = omega (
@@ -89,7 +89,7 @@ nested_ends start t text rest inner after old a begins before = omega (
   length-append inner (right ∷ after),
 )
 
-pub nesting_at_more : (start : ℕ) (t : Tree) (text rest inner after : Text) (at : ℕ) (old a b : List Node)
+pub nesting_at_more : (start : ℕ) (t : Tree) (text rest inner after : Text) (at : ℕ) (old a b : List ShownNode)
     → BeginsNested Three rest inner after
     → ((white w x : Text) (list : List Tree) → ZeroOrMore is_white white
     → Spells Three nesting_limit 1 w list → rest ≡ white ++ left ∷ (w ++ right ∷ x)
@@ -163,7 +163,7 @@ nesting_at_more start t text rest inner after at old a b begins finds location a
         regrouped_end : (x y z : Text) → (x ++ left ∷ (y ++ right ∷ [])) ++ z ≡ x ++ left ∷ (y ++ right ∷ z)
         regrouped_end x y z = simp append_assoc
 
-pub nesting_at_end : (start : ℕ) (t : Tree) (text rest : Text) (old new : List Node)
+pub nesting_at_end : (start : ℕ) (t : Tree) (text rest : Text) (old new : List ShownNode)
     → ((white w x : Text) (list : List Tree) → ZeroOrMore is_white white
     → Spells Three nesting_limit 1 w list → rest ≡ white ++ left ∷ (w ++ right ∷ x) → ⊥)
     → NestingAt start t text rest old new → AddsAt (HeldStand t start text) old new

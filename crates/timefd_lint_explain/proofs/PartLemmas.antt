@@ -3,7 +3,7 @@ use Rattle.std.proofs.Common.{ℕ, ◌≡◌, ◌∙◌, ◌+◌, List, [], ◌�
 use Rattle.timefd_lang_component.specs.Reserved.{reserve}
 use Rattle.timefd_lang_component.specs.Tree.{Text, Tree, component, literal, compound, optional, first, trees, pack}
 use Rattle.timefd_lang_node_list.specs.Nodes.{kept_bytes}
-use Rattle.timefd_lint_explain.specs.declared.node.Node.{Node}
+use Rattle.timefd_lint_explain.specs.declared.node.ShownNode.{ShownNode}
 use Rattle.timefd_lint_explain.specs.declared.node.NodeKind.{NodeKind}
 use Rattle.timefd_lint_explain.specs.declared.piece.What.{What}
 use Rattle.timefd_lint_explain.specs.declared.piece.What.TheVariants as what
@@ -27,7 +27,7 @@ reported_so what.First tree kind words x k named is e =
 reported_so what.Several tree kind words x k named is e =
     subst (λ t. IsReported t kind words x) (sym e.1) (k, named, is)
 
-pub piece_for : (w : What) (d : ℕ) (tree : Tree) (n : Node) → n.depth ≡ capped d
+pub piece_for : (w : What) (d : ℕ) (tree : Tree) (n : ShownNode) → n.depth ≡ capped d
     → n.bytes ≡ kept_bytes (reserve tree) → n.kind ≡ kind_in w
     → AreWordsOf w (string_bytes n.words) → IsExampleOf w (string_bytes n.example)
     → IsWhat w tree → IsPiece d tree n
@@ -39,21 +39,21 @@ piece_for w d tree n depth bytes kind named is e = record {
 
 -- Nodes, one after another.
 
-parts_joined : (ps qs : List Part) (ns ms : List Node) → AreParts ps ns → AreParts qs ms
+parts_joined : (ps qs : List Part) (ns ms : List ShownNode) → AreParts ps ns → AreParts qs ms
     → AreParts (ps ++ qs) (ns ++ ms)
 parts_joined [] qs [] ms are more = more
 parts_joined [] qs (n ∷ ns) ms are more = absurd are
 parts_joined (p ∷ ps) qs [] ms are more = absurd are
 parts_joined (p ∷ ps) qs (n ∷ ns) ms are more = (are.0, parts_joined ps qs ns ms are.1 more)
 
-pub adds_none : (ns : List Node) → Adds [] ns ns
+pub adds_none : (ns : List ShownNode) → Adds [] ns ns
 adds_none ns = record { more = []; whole = sym (append-nil ns); each = tt }
 
-pub adds_one : (p : Part) (n : Node) (old new : List Node) → new ≡ old ++ n ∷ [] → IsPart p n
+pub adds_one : (p : Part) (n : ShownNode) (old new : List ShownNode) → new ≡ old ++ n ∷ [] → IsPart p n
     → Adds (p ∷ []) old new
 adds_one p n old new e is = record { more = n ∷ []; whole = e; each = (is, tt) }
 
-pub adds_both : (ps qs : List Part) (a b c : List Node) → Adds ps a b → Adds qs b c
+pub adds_both : (ps qs : List Part) (a b c : List ShownNode) → Adds ps a b → Adds qs b c
     → Adds (ps ++ qs) a c
 adds_both ps qs a b c one two = record {
   more = one.more ++ two.more;
@@ -62,7 +62,7 @@ adds_both ps qs a b c one two = record {
 }
 
 -- Nodes that are appended to an empty list are the whole list.
-pub adds_all : (ps : List Part) (old new : List Node) → Adds ps old new → old ≡ []
+pub adds_all : (ps : List Part) (old new : List ShownNode) → Adds ps old new → old ≡ []
     → AreParts ps new
 adds_all ps old new adds none =
     subst (AreParts ps) (sym (adds.whole ∙ ap (λ ns. ns ++ adds.more) none)) adds.each

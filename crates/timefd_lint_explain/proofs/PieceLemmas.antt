@@ -9,7 +9,7 @@ use Rattle.timefd_language.specs.Strftime.{SpellsStrftime}
 use Rattle.timefd_parse.specs.Language.{SpellsIn}
 use Rattle.timefd_language.specs.declared.language.Language.{Language}
 use Rattle.timefd_language.specs.declared.language.Language.TheVariants.{Version, Strftime}
-use Rattle.timefd_lint_explain.specs.declared.node.Node.{Node}
+use Rattle.timefd_lint_explain.specs.declared.node.ShownNode.{ShownNode}
 use Rattle.timefd_lint_explain.specs.declared.piece.What.TheVariants as what
 use Rattle.timefd_lint_explain.specs.Inside.{Nests, held_parts}
 use Rattle.timefd_lint_explain.specs.Parts.{Part, piece, parts, members, IsPiece, Adds, capped}
@@ -39,7 +39,7 @@ on_ok (Err e) P Q f p = tt
 
 -- The nodes of a piece of this text, after its own node, for each kind of tree.
 module _ {E : Type 0} (r : Result ⊤ E) (language : Language) (text : Text) (d depth inside : ℕ)
-    (tree : Tree) (n : Node) (old one new : List Node) (is : depth ≡ capped d)
+    (tree : Tree) (n : ShownNode) (old one new : List ShownNode) (is : depth ≡ capped d)
     (deeper : inside ≡ capped (depth + 1))
     (s : SpellsIn language nesting_limit text (tree ∷ [])) (pushed : one ≡ old ++ n ∷ [])
     (node_is : IsPiece d tree n) where
@@ -85,14 +85,14 @@ module _ {E : Type 0} (r : Result ⊤ E) (language : Language) (text : Text) (d 
       (subst (λ x. SpellsIn language nesting_limit text (x ∷ [])) w.1 s)))
 
 -- The node of a piece that holds nothing.
-pub component_adds : (d : ℕ) (c : Component) (tree : Tree) (n : Node) (old new : List Node)
+pub component_adds : (d : ℕ) (c : Component) (tree : Tree) (n : ShownNode) (old new : List ShownNode)
     → new ≡ old ++ n ∷ [] → IsPiece d tree n → IsWhat (what.Component c) tree
     → Adds (parts d tree) old new
 component_adds d c tree n old new pushed is w =
     subst (λ x. Adds (parts d x) old new) (sym w)
     (adds_one (piece d (component c)) n old new pushed (subst (λ x. IsPiece d x n) w is))
 
-pub literal_adds : (d : ℕ) (bytes : Text) (tree : Tree) (n : Node) (old new : List Node)
+pub literal_adds : (d : ℕ) (bytes : Text) (tree : Tree) (n : ShownNode) (old new : List ShownNode)
     → new ≡ old ++ n ∷ [] → IsPiece d tree n → tree ≡ literal bytes
     → Adds (parts d tree) old new
 literal_adds d bytes tree n old new pushed is w =

@@ -17,7 +17,7 @@ use Rattle.timefd_date_format.specs.Fields.{field, year, on_date, on_time, on_of
 use Rattle.timefd_date_format.specs.Laws.{HasHours, HasMilliseconds, HasNoMinusZero}
 use Rattle.timefd_date_format.specs.Literals.{HaveUtf8Literals}
 use Rattle.timefd_date_format.specs.Written.{shown, text_of, followed, written_all}
-use Rattle.timefd_date_format.specs.declared.field.Field.{Field}
+use Rattle.timefd_date_format.specs.declared.field.WrittenField.{WrittenField}
 use Rattle.timefd_date_format.specs.declared.field.Lack.{Lack}
 use Rattle.timefd_date_format.specs.declared.text.TextError.{TextError}
 use Rattle.timefd_date_format.specs.declared.text.TextError.TheVariants as reported
@@ -37,20 +37,20 @@ use Rattle.timefd_date_moment.proofs.CalendarLemmas.{days_before, months_next, m
 use Rattle.timefd_lint_explain.specs.Samples.{IsDate, IsExample, IsMemory, IsOffset, IsSample, IsTime}
 
 -- Something is shown.
-abbrev Shown : Result Field Lack → Type 0
+abbrev Shown : Result WrittenField Lack → Type 0
 Shown r = IfErr r (λ lack. ⊥)
 
-of_date : (o : Option Date) (g : Date → Result Field Lack) → MatchOption o ⊥ IsDate
+of_date : (o : Option Date) (g : Date → Result WrittenField Lack) → MatchOption o ⊥ IsDate
     → ((d : Date) → IsDate d → Shown (g d)) → Shown (on_date o g)
 of_date None g is h = absurd is
 of_date (Some d) g is h = h d is
 
-of_time : (o : Option Time) (g : Time → Result Field Lack) → MatchOption o ⊥ IsTime
+of_time : (o : Option Time) (g : Time → Result WrittenField Lack) → MatchOption o ⊥ IsTime
     → ((t : Time) → IsTime t → Shown (g t)) → Shown (on_time o g)
 of_time None g is h = absurd is
 of_time (Some t) g is h = h t is
 
-of_offset : (o : Option UtcOffset) (g : UtcOffset → Result Field Lack) → MatchOption o ⊥ IsOffset
+of_offset : (o : Option UtcOffset) (g : UtcOffset → Result WrittenField Lack) → MatchOption o ⊥ IsOffset
     → ((z : UtcOffset) → IsOffset z → Shown (g z)) → Shown (on_offset o g)
 of_offset None g is h = absurd is
 of_offset (Some z) g is h = h z is
@@ -191,7 +191,7 @@ field_shown m is (UnixTimestamp p) = tt
 field_shown m is (Year p) = tt
 
 -- No component shows nothing.
-never : (m : Moment) (c : Component) (r : Result Field Lack) (u : Unshown) → Shown r
+never : (m : Moment) (c : Component) (r : Result WrittenField Lack) (u : Unshown) → Shown r
     → text_of c r ≡ Err u → ⊥
 never m c (Ok f) u h e = absurd cc
 never m c (Err l) u h e = h

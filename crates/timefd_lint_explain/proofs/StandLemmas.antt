@@ -12,7 +12,7 @@ use Rattle.timefd_language.specs.Strftime.{SpellsStrftime}
 use Rattle.timefd_parse.specs.Language.{SpellsIn}
 use Rattle.timefd_language.specs.declared.language.Language.{Language}
 use Rattle.timefd_language.specs.declared.language.Language.TheVariants.{Version}
-use Rattle.timefd_lint_explain.specs.declared.node.Node.{Node}
+use Rattle.timefd_lint_explain.specs.declared.node.ShownNode.{ShownNode}
 use Rattle.timefd_lint_explain.specs.declared.piece.Shown.{Shown}
 use Rattle.timefd_lint_explain.specs.declared.piece.What.TheVariants as what
 use Rattle.timefd_lint_explain.specs.Inside.{Nests}
@@ -24,11 +24,11 @@ use Rattle.timefd_lint_explain.proofs.WalkLemmas.{from_location}
 
 -- Nodes with these spans.
 
-pub one_at : (n : Node) (s : Span) (old new : List Node) → new ≡ old ++ n ∷ [] → span_of n ≡ s
+pub one_at : (n : ShownNode) (s : Span) (old new : List ShownNode) → new ≡ old ++ n ∷ [] → span_of n ≡ s
     → AddsAt (λ spans. spans ≡ s ∷ []) old new
 one_at n s old new e is = record { more = n ∷ []; whole = e; stand = ap (λ x. x ∷ []) is }
 
-pub at_is : (P Q : List Span → Type 0) (old new : List Node) → ((spans : List Span) → P spans → Q spans)
+pub at_is : (P Q : List Span → Type 0) (old new : List ShownNode) → ((spans : List Span) → P spans → Q spans)
     → AddsAt P old new → AddsAt Q old new
 at_is P Q old new f adds = record {
   more = adds.more;
@@ -37,7 +37,7 @@ at_is P Q old new f adds = record {
 }
 
 -- The span of a node, and those of the nodes after it.
-pub leads_at : (n : Node) (s : Span) (Others : List Span → Type 0) (old one new : List Node)
+pub leads_at : (n : ShownNode) (s : Span) (Others : List Span → Type 0) (old one new : List ShownNode)
     → one ≡ old ++ n ∷ [] → span_of n ≡ s → AddsAt Others one new → AddsAt (Leads s Others) old new
 leads_at n s Others old one new pushed is adds = record {
   more = n ∷ adds.more;
@@ -52,7 +52,7 @@ leads_at n s Others old one new pushed is adds = record {
 -- A piece, and what it holds, for each kind of piece.
 
 module _ {E : Type 0} (r : Result ⊤ E) (language : Language) (text : Text) (start : ℕ) (tree : Tree)
-    (n : Node) (old one new : List Node) (s : SpellsIn language nesting_limit text (tree ∷ []))
+    (n : ShownNode) (old one new : List ShownNode) (s : SpellsIn language nesting_limit text (tree ∷ []))
     (pushed : one ≡ old ++ n ∷ []) (is : span_of n ≡ whole start text) where
   nested_at : (t : Tree)
       → ((spans : List Span) → Leads (whole start text) (HeldStand t start text) spans → PieceStands t start text spans)
@@ -97,14 +97,14 @@ module _ {E : Type 0} (r : Result ⊤ E) (language : Language) (text : Text) (st
       (subst (λ x. SpellsIn language nesting_limit text (x ∷ [])) w.1 s)))
 
 -- The node of a piece that holds nothing.
-pub component_at : (start : ℕ) (text : Text) (c : Component) (tree : Tree) (n : Node) (old new : List Node)
+pub component_at : (start : ℕ) (text : Text) (c : Component) (tree : Tree) (n : ShownNode) (old new : List ShownNode)
     → new ≡ old ++ n ∷ [] → span_of n ≡ whole start text → IsWhat (what.Component c) tree
     → AddsAt (PieceStands tree start text) old new
 component_at start text c tree n old new pushed is w =
     subst (λ x. AddsAt (PieceStands x start text) old new) (sym w)
     (one_at n (whole start text) old new pushed is)
 
-pub literal_at : (start : ℕ) (text bytes : Text) (tree : Tree) (n : Node) (old new : List Node)
+pub literal_at : (start : ℕ) (text bytes : Text) (tree : Tree) (n : ShownNode) (old new : List ShownNode)
     → new ≡ old ++ n ∷ [] → span_of n ≡ whole start text → tree ≡ literal bytes
     → AddsAt (PieceStands tree start text) old new
 literal_at start text bytes tree n old new pushed is w =
@@ -115,18 +115,18 @@ literal_at start text bytes tree n old new pushed is w =
 
 -- The nodes of the pieces so far, and where the pieces begin that are left.
 pub record WalkedAt (language : Language) (list : List Tree) (begins : ℕ) (text : Text) (ss : List Shown)
-    (start : ℕ) (old new : List Node) : Type 0 where
+    (start : ℕ) (old new : List ShownNode) : Type 0 where
   pub others : List Tree
   pub shown : AreShown ss others
   pub spelled : AreSpelled language ss others
   pub reached : start + length (texts ss) ≡ begins + length text
-  pub more : List Node
+  pub more : List ShownNode
   pub whole : new ≡ old ++ more
   pub goes_on : (spans : List Span) → PiecesStand language (trees others) start (texts ss) spans
       → PiecesStand language (trees list) begins text (map span_of more ++ spans)
 
 pub walked_at_first : (language : Language) (list : List Tree) (begins : ℕ) (text : Text) (ss : List Shown)
-    (ns : List Node) → Shows language text list ss → WalkedAt language list begins text ss begins ns ns
+    (ns : List ShownNode) → Shows language text list ss → WalkedAt language list begins text ss begins ns ns
 walked_at_first language list begins text ss ns shows = record {
   others = list;
   shown = shows.each;
@@ -138,14 +138,14 @@ walked_at_first language list begins text ss ns shows = record {
 }
 
 -- More nodes, joined to those before.
-pub joined : (a b : List Node) (spans : List Span)
+pub joined : (a b : List ShownNode) (spans : List Span)
     → map span_of a ++ (map span_of b ++ spans) ≡ map span_of (a ++ b) ++ spans
 joined a b spans =
     sym (append_assoc (map span_of a) (map span_of b) spans)
     ∙ ap (λ x. x ++ spans) (sym (map-append span_of a b))
 
 one_walked_at : (language : Language) (list : List Tree) (begins : ℕ) (text : Text) (s : Shown)
-    (ss : List Shown) (start next : ℕ) (old a b : List Node) → next ≡ start + length s.text.now
+    (ss : List Shown) (start next : ℕ) (old a b : List ShownNode) → next ≡ start + length s.text.now
     → ((tree : Tree) → SpellsIn language nesting_limit s.text.now (tree ∷ []) → IsShown s tree
     → AddsAt (PieceStands tree start s.text.now) a b)
     → WalkedAt language list begins text (s ∷ ss) start old a
@@ -183,7 +183,7 @@ one_walked_at language list begins text s ss start next old a b is adds before =
         }
 
 pub walked_at_more : (language : Language) (list : List Tree) (begins : ℕ) (text : Text) (ss : List Shown)
-    (at : ℕ) (s : Shown) (start next : ℕ) (old a b : List Node) → at < length ss → s ≡ get_or ss at s
+    (at : ℕ) (s : Shown) (start next : ℕ) (old a b : List ShownNode) → at < length ss → s ≡ get_or ss at s
     → next ≡ start + length s.text.now
     → ((tree : Tree) → SpellsIn language nesting_limit s.text.now (tree ∷ []) → IsShown s tree
     → AddsAt (PieceStands tree start s.text.now) a b)
@@ -195,7 +195,7 @@ walked_at_more language list begins text ss at s start next old a b below is e a
 
 -- A piece ends within the text.
 pub walked_at_within : (language : Language) (list : List Tree) (begins : ℕ) (text : Text) (ss : List Shown)
-    (at : ℕ) (s : Shown) (start : ℕ) (old a : List Node) → at < length ss → s ≡ get_or ss at s
+    (at : ℕ) (s : Shown) (start : ℕ) (old a : List ShownNode) → at < length ss → s ≡ get_or ss at s
     → WalkedAt language list begins text (drop at ss) start old a
     → start + length s.text.now ≤ begins + length text
 walked_at_within language list begins text ss at s start old a below is before =
@@ -204,7 +204,7 @@ walked_at_within language list begins text ss at s start old a below is before =
     omega (arith, here.reached, length-append s.text.now (texts (drop (at + 1) ss)))
 
 pub walked_at_end : (language : Language) (list : List Tree) (begins : ℕ) (text : Text) (ss : List Shown)
-    (at start : ℕ) (old new : List Node) → length ss ≤ at
+    (at start : ℕ) (old new : List ShownNode) → length ss ≤ at
     → WalkedAt language list begins text (drop at ss) start old new
     → AddsAt (PiecesStand language (trees list) begins text) old new
 walked_at_end language list begins text ss at start old new past before =
@@ -224,7 +224,7 @@ walked_at_end language list begins text ss at start old new past before =
         by (t ∷ ts) shown goes_on = absurd shown
 
 -- Nodes that are appended to an empty list are the whole list.
-pub all_stand : (P : List Span → Type 0) (old new : List Node) → AddsAt P old new → old ≡ []
+pub all_stand : (P : List Span → Type 0) (old new : List ShownNode) → AddsAt P old new → old ≡ []
     → P (map span_of new)
 all_stand P old new adds none =
     subst (λ ns. P (map span_of ns)) (sym (adds.whole ∙ ap (λ ns. ns ++ adds.more) none)) adds.stand
@@ -232,11 +232,11 @@ all_stand P old new adds none =
 -- Members.
 
 -- The members so far, and those that are left.
-pub record ListedAt (start : ℕ) (all : List Tree) (xs : List BorrowedFormatItem) (old new : List Node)
+pub record ListedAt (start : ℕ) (all : List Tree) (xs : List BorrowedFormatItem) (old new : List ShownNode)
     : Type 0 where
   pub done : List Tree
   pub all_are : all ≡ done ++ item_trees xs
-  pub more : List Node
+  pub more : List ShownNode
   pub whole : new ≡ old ++ more
   pub stand : map span_of more ≡ members_at start (trees done)
 
@@ -245,13 +245,13 @@ members_at_more : (start : ℕ) (ts : List Tree) (t : Tree)
 members_at_more start [] t = refl
 members_at_more start (u ∷ ts) t = ap (λ s. span start start ∷ s) (members_at_more start ts t)
 
-pub listed_at_first : (start : ℕ) (xs : List BorrowedFormatItem) (ns : List Node)
+pub listed_at_first : (start : ℕ) (xs : List BorrowedFormatItem) (ns : List ShownNode)
     → ListedAt start (item_trees xs) xs ns ns
 listed_at_first start xs ns =
     record { done = []; all_are = refl; more = []; whole = sym (append-nil ns); stand = refl }
 
 pub listed_at_more : (start : ℕ) (all : List Tree) (xs : List BorrowedFormatItem) (at : ℕ)
-    (x : BorrowedFormatItem) (n : Node) (old a b : List Node) → at < length xs → x ≡ get_or xs at x
+    (x : BorrowedFormatItem) (n : ShownNode) (old a b : List ShownNode) → at < length xs → x ≡ get_or xs at x
     → b ≡ a ++ n ∷ [] → span_of n ≡ span start start → ListedAt start all (drop at xs) old a
     → ListedAt start all (drop (at + 1) xs) old b
 listed_at_more start all xs at x n old a b below is e stands before = record {
@@ -266,7 +266,7 @@ listed_at_more start all xs at x n old a b below is e stands before = record {
 }
 
 pub listed_at_end : (start : ℕ) (all : List Tree) (xs : List BorrowedFormatItem) (at : ℕ)
-    (old new : List Node) → length xs ≤ at → ListedAt start all (drop at xs) old new
+    (old new : List ShownNode) → length xs ≤ at → ListedAt start all (drop at xs) old new
     → AddsAt (λ spans. spans ≡ members_at start (trees all)) old new
 listed_at_end start all xs at old new past before = record {
   more = before.more;
@@ -309,7 +309,7 @@ described_stands (first ts ∷ []) flat at inner spans h = record {
 described_stands (t ∷ u ∷ ts) flat at inner spans h = h
 
 -- After the node of a description come those of its pieces.
-pub described_at : (list : List Tree) (begins at : ℕ) (inner : Text) (a b c : List Node) → begins ≡ at + 1
+pub described_at : (list : List Tree) (begins at : ℕ) (inner : Text) (a b c : List ShownNode) → begins ≡ at + 1
     → Spells Three nesting_limit 0 inner list → AddsAt (λ spans. spans ≡ around at inner ∷ []) a b
     → AddsAt (PiecesStand (Version Three) (trees list) begins inner) b c
     → AddsAt (DescriptionStands (pack list) at inner) a c

@@ -7,7 +7,7 @@ use Rattle.timefd_lang_node_list.specs.Item.Meaning.{item_tree, item_trees}
 use Rattle.timefd_language.specs.Grammar.{nesting_limit}
 use Rattle.timefd_parse.specs.Language.{SpellsIn}
 use Rattle.timefd_language.specs.declared.language.Language.{Language}
-use Rattle.timefd_lint_explain.specs.declared.node.Node.{Node}
+use Rattle.timefd_lint_explain.specs.declared.node.ShownNode.{ShownNode}
 use Rattle.timefd_lint_explain.specs.declared.piece.Shown.{Shown}
 use Rattle.timefd_lint_explain.specs.Parts.{all_parts, members, parts, piece, IsPiece, Adds}
 use Rattle.timefd_lint_explain.specs.Shown.{AreShown, AreSpelled, IsShown, Shows}
@@ -15,7 +15,7 @@ use Rattle.timefd_lint_explain.proofs.PartLemmas.{adds_none, adds_one, adds_both
 
 -- The nodes of the pieces so far, and the pieces that are left.
 pub record Walked (language : Language) (d : ℕ) (list : List Tree) (ss : List Shown)
-    (old new : List Node) : Type 0 where
+    (old new : List ShownNode) : Type 0 where
   pub done : List Tree
   pub others : List Tree
   pub list_is : list ≡ done ++ others
@@ -24,7 +24,7 @@ pub record Walked (language : Language) (d : ℕ) (list : List Tree) (ss : List 
   pub adds : Adds (all_parts d (trees done)) old new
 
 pub walked_first : (language : Language) (d : ℕ) (text : Text) (list : List Tree)
-    (ss : List Shown) (ns : List Node) → Shows language text list ss
+    (ss : List Shown) (ns : List ShownNode) → Shows language text list ss
     → Walked language d list ss ns ns
 walked_first language d text list ss ns shows = record {
   done = [];
@@ -43,7 +43,7 @@ from_location xs at x below is =
     head ∙ ap (λ y. y ∷ drop (at + 1) xs) (sym is)
 
 one_walked : (language : Language) (d : ℕ) (list : List Tree) (s : Shown) (ss : List Shown)
-    (old a b : List Node)
+    (old a b : List ShownNode)
     → ((tree : Tree) → SpellsIn language nesting_limit s.text.now (tree ∷ []) → IsShown s tree
     → Adds (parts d tree) a b)
     → Walked language d list (s ∷ ss) old a → Walked language d list ss old b
@@ -65,7 +65,7 @@ one_walked language d list s ss old a b adds before =
     }
 
 pub walked_more : (language : Language) (d : ℕ) (list : List Tree) (ss : List Shown) (at : ℕ)
-    (s : Shown) (old a b : List Node) → at < length ss → s ≡ get_or ss at s
+    (s : Shown) (old a b : List ShownNode) → at < length ss → s ≡ get_or ss at s
     → ((tree : Tree) → SpellsIn language nesting_limit s.text.now (tree ∷ []) → IsShown s tree
     → Adds (parts d tree) a b)
     → Walked language d list (drop at ss) old a → Walked language d list (drop (at + 1) ss) old b
@@ -74,7 +74,7 @@ walked_more language d list ss at s old a b below is adds before =
     (subst (λ xs. Walked language d list xs old a) (from_location ss at s below is) before)
 
 pub walked_end : (language : Language) (d : ℕ) (list : List Tree) (ss : List Shown) (at : ℕ)
-    (old new : List Node) → length ss ≤ at → Walked language d list (drop at ss) old new
+    (old new : List ShownNode) → length ss ≤ at → Walked language d list (drop at ss) old new
     → Adds (all_parts d (trees list)) old new
 walked_end language d list ss at old new past before =
     by before.others before.list_is
@@ -88,18 +88,18 @@ walked_end language d list ss at old new past before =
     by (t ∷ ts) e shown = absurd shown
 
 -- The nodes of the members so far, and the members that are left.
-pub record Listed (d : ℕ) (all : List Tree) (xs : List BorrowedFormatItem) (old new : List Node)
+pub record Listed (d : ℕ) (all : List Tree) (xs : List BorrowedFormatItem) (old new : List ShownNode)
     : Type 0 where
   pub done : List Tree
   pub all_are : all ≡ done ++ item_trees xs
   pub adds : Adds (members d (trees done)) old new
 
-pub listed_first : (d : ℕ) (xs : List BorrowedFormatItem) (ns : List Node)
+pub listed_first : (d : ℕ) (xs : List BorrowedFormatItem) (ns : List ShownNode)
     → Listed d (item_trees xs) xs ns ns
 listed_first d xs ns = record { done = []; all_are = refl; adds = adds_none ns }
 
 pub listed_more : (d : ℕ) (all : List Tree) (xs : List BorrowedFormatItem) (at : ℕ)
-    (x : BorrowedFormatItem) (n : Node) (old a b : List Node) → at < length xs
+    (x : BorrowedFormatItem) (n : ShownNode) (old a b : List ShownNode) → at < length xs
     → x ≡ get_or xs at x → b ≡ a ++ n ∷ [] → IsPiece d (item_tree x) n
     → Listed d all (drop at xs) old a → Listed d all (drop (at + 1) xs) old b
 listed_more d all xs at x n old a b below is e piece_is before = record {
@@ -112,7 +112,7 @@ listed_more d all xs at x n old a b below is e piece_is before = record {
 }
 
 pub listed_end : (d : ℕ) (all : List Tree) (xs : List BorrowedFormatItem) (at : ℕ)
-    (old new : List Node) → length xs ≤ at → Listed d all (drop at xs) old new
+    (old new : List ShownNode) → length xs ≤ at → Listed d all (drop at xs) old new
     → Adds (members d (trees all)) old new
 listed_end d all xs at old new past before =
     subst (λ x. Adds (members d (trees x)) old new)

@@ -6,7 +6,7 @@ use Rattle.timefd_lang_component.specs.declared.component.Component.{Component}
 use Rattle.timefd_lint_explain.specs.Samples.{IsExample}
 use Rattle.timefd_lang_component.specs.Bracket.Words as names
 use Rattle.timefd_lang_component.specs.declared.bracket.defaults.Defaults.{Defaults}
-use Rattle.timefd_lint_explain.specs.declared.node.Node.{Node}
+use Rattle.timefd_lint_explain.specs.declared.node.ShownNode.{ShownNode}
 use Rattle.timefd_lint_explain.specs.declared.node.NodeKind.{NodeKind}
 use Rattle.timefd_lint_explain.specs.declared.node.NodeKind.TheVariants as kinds
 use Rattle.timefd_lint_explain.specs.declared.piece.What.{What}
@@ -44,10 +44,10 @@ IsExampleFor kinds.First words example = example ≡ []
 IsExampleFor kinds.Several words example = example ≡ []
 IsExampleFor kinds.Description words example = example ≡ []
 
-abbrev pub HasExample : Node → Type 0
+abbrev pub HasExample : ShownNode → Type 0
 HasExample n = IsExampleFor n.kind (string_bytes n.words) (string_bytes n.example)
 
 -- Each node has its example.
-abbrev pub Examples : List Node → Type 0
+abbrev pub Examples : List ShownNode → Type 0
 Examples [] = ⊤
 Examples (n ∷ ns) = HasExample n × Examples ns

@@ -13,7 +13,7 @@ use Rattle.timefd_language.specs.declared.language.Language.{Language}
 use Rattle.timefd_lint_explain.specs.Examples.{Examples}
 use Rattle.timefd_lint_explain.specs.Parts.{AreParts, all_parts}
 use Rattle.timefd_lint_explain.specs.Stands.{NodesStand}
-use Rattle.timefd_lint_explain.specs.declared.node.Node.{Node}
+use Rattle.timefd_lint_explain.specs.declared.node.ShownNode.{ShownNode}
 
 -- A number, padded with spaces to at least five columns.
 abbrev pub in_columns : ℕ → Text
@@ -41,29 +41,29 @@ cut_or_nothing (Some part) = part.now
 abbrev pub IsCut : Text → ℕ → ℕ → Text → Type 0
 IsCut text from to part = (found : Option (Bor Text)) × GetsRange text from to found × (part ≡ cut_or_nothing found)
 
-abbrev pub line : Node → Text → Text
+abbrev pub line : ShownNode → Text → Text
 line n source = in_columns n.bytes ++ (codes "  " ++ (indent n.depth ++ (quoted source
     ++ (string_bytes n.words ++ as_example (string_bytes n.example)))))
 
 -- The line of a node: the bytes that it reserves, its depth, what it came from, its words and its example.
-abbrev pub IsLine : Text → Node → Text → Type 0
+abbrev pub IsLine : Text → ShownNode → Text → Type 0
 IsLine text n shown = (source : Text) × IsCut text n.start n.end source × (shown ≡ line n source)
 
 -- One line for each node, in order.
-abbrev pub AreLines : Text → List Node → Text → Type 0
+abbrev pub AreLines : Text → List ShownNode → Text → Type 0
 AreLines text [] shown = shown ≡ []
 AreLines text (n ∷ ns) shown =
     (first : Text) × (rest : Text) × IsLine text n first × AreLines text ns rest × (shown ≡ first ++ rest)
 
 -- After the text and its position there is a line for each node, and a last one with the bytes that all of
 -- them reserve.
-abbrev pub IsTree : Text → ℕ → Text → List Node → ℕ → Text → Type 0
+abbrev pub IsTree : Text → ℕ → Text → List ShownNode → ℕ → Text → Type 0
 IsTree file number text nodes bytes tree = (lines : Text) × AreLines text nodes lines
     × (tree ≡ safe file ++ (codes ":" ++ (decimal number ++ (codes ": " ++ (safe text ++ (codes "\n"
     ++ (lines ++ (in_columns bytes ++ codes "  in all\n"))))))))
 
 -- These are the nodes of the text, with the ranges of its parts, and the bytes that it reserves.
-pub record IsExplanation (language : Language) (text : Text) (nodes : List Node) (bytes : ℕ) : Type 0 where
+pub record IsExplanation (language : Language) (text : Text) (nodes : List ShownNode) (bytes : ℕ) : Type 0 where
   pub sum : (list : List Tree) → SpellsIn language nesting_limit text list
       → bytes ≡ kept_bytes (reserve_all (trees list))
   pub parts : (list : List Tree) → SpellsIn language nesting_limit text list
@@ -74,7 +74,7 @@ pub record IsExplanation (language : Language) (text : Text) (nodes : List Node)
 
 -- The tree shows the text.
 pub record IsExplained (language : Language) (file : Text) (number : ℕ) (text tree : Text) : Type 0 where
-  pub nodes : List Node
+  pub nodes : List ShownNode
   pub bytes : ℕ
   pub explanation : IsExplanation language text nodes bytes
   pub drawn : IsTree file number text nodes bytes tree

@@ -4,7 +4,7 @@ use Rattle.timefd_lang_component.specs.Reserved.{reserve}
 use Rattle.timefd_lang_component.specs.Tree.{Text, Tree, component, literal, compound, optional, first, Trees, no_trees, more_trees}
 use Rattle.timefd_lang_node_list.specs.Nodes.{kept_bytes}
 use Rattle.timefd_lint_explain.specs.Samples.{IsExample}
-use Rattle.timefd_lint_explain.specs.declared.node.Node.{Node}
+use Rattle.timefd_lint_explain.specs.declared.node.ShownNode.{ShownNode}
 use Rattle.timefd_lint_explain.specs.declared.node.NodeKind.{NodeKind}
 use Rattle.timefd_lint_explain.specs.declared.node.NodeKind.TheVariants as kinds
 use Rattle.timefd_lint_explain.specs.Examples.{Names, optional_words}
@@ -67,30 +67,30 @@ IsReported (optional f t) kind words example =
 IsReported (first ts) kind words example =
     (kind ≡ kinds.First) × (words ≡ codes "first of these") × (example ≡ [])
 
-pub record IsPiece (d : ℕ) (tree : Tree) (n : Node) : Type 0 where
+pub record IsPiece (d : ℕ) (tree : Tree) (n : ShownNode) : Type 0 where
   pub depth : n.depth ≡ capped d
   pub bytes : n.bytes ≡ kept_bytes (reserve tree)
   pub reported : IsReported tree n.kind (string_bytes n.words) (string_bytes n.example)
 
-pub record IsDescription (d : ℕ) (tree : Tree) (n : Node) : Type 0 where
+pub record IsDescription (d : ℕ) (tree : Tree) (n : ShownNode) : Type 0 where
   pub depth : n.depth ≡ capped d
   pub bytes : n.bytes ≡ reserve tree
   pub kind : n.kind ≡ kinds.Description
   pub words : string_bytes n.words ≡ codes "description"
 
-abbrev pub IsPart : Part → Node → Type 0
+abbrev pub IsPart : Part → ShownNode → Type 0
 IsPart (piece d tree) n = IsPiece d tree n
 IsPart (description d tree) n = IsDescription d tree n
 
 -- One node for each part, in order.
-abbrev pub AreParts : List Part → List Node → Type 0
+abbrev pub AreParts : List Part → List ShownNode → Type 0
 AreParts [] [] = ⊤
 AreParts [] (n ∷ ns) = ⊥
 AreParts (p ∷ ps) [] = ⊥
 AreParts (p ∷ ps) (n ∷ ns) = IsPart p n × AreParts ps ns
 
 -- Nodes for these parts are appended.
-pub record Adds (ps : List Part) (old new : List Node) : Type 0 where
-  pub more : List Node
+pub record Adds (ps : List Part) (old new : List ShownNode) : Type 0 where
+  pub more : List ShownNode
   pub whole : new ≡ old ++ more
   pub each : AreParts ps more

@@ -8,7 +8,7 @@ use Rattle.timefd_language.specs.Head.{Head, IsHead, head_text}
 use Rattle.timefd_parse.specs.Language.{SpellsIn}
 use Rattle.timefd_language.specs.declared.language.Language.{Language}
 use Rattle.timefd_language.specs.declared.language.Language.TheVariants.{Version}
-use Rattle.timefd_lint_explain.specs.declared.node.Node.{Node}
+use Rattle.timefd_lint_explain.specs.declared.node.ShownNode.{ShownNode}
 
 -- A byte range of a text, from `start` to before `end`.
 pub record Span : Type 0 where
@@ -18,7 +18,7 @@ pub record Span : Type 0 where
 abbrev pub span : ℕ → ℕ → Span
 span start end = record { start = start; end = end }
 
-abbrev pub span_of : Node → Span
+abbrev pub span_of : ShownNode → Span
 span_of n = span n.start n.end
 
 -- A whole text that begins at this byte.
@@ -130,11 +130,11 @@ HeldStand (optional f t) at text spans = InBracket (OneNested (DescriptionStands
 HeldStand (first ts) at text spans = InBracket (AlternativesStand ts) at text spans
 
 -- The nodes that are appended have these spans.
-pub record AddsAt (Stand : List Span → Type 0) (old new : List Node) : Type 0 where
-  pub more : List Node
+pub record AddsAt (Stand : List Span → Type 0) (old new : List ShownNode) : Type 0 where
+  pub more : List ShownNode
   pub whole : new ≡ old ++ more
   pub stand : Stand (map span_of more)
 
 -- The nodes of a text have the spans of its parts.
-abbrev pub NodesStand : Language → Trees → Text → List Node → Type 0
+abbrev pub NodesStand : Language → Trees → Text → List ShownNode → Type 0
 NodesStand language ts text nodes = PiecesStand language ts 0 text (map span_of nodes)

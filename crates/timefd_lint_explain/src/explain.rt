@@ -12,7 +12,7 @@ ghost use Rattle.timefd_lint_explain.specs.Parts.{AreParts, all_parts};
 ghost use Rattle.timefd_lint_explain.specs.Stands.{NodesStand};
 
 use crate::line::push_lines;
-use crate::node::Node;
+use crate::node::ShownNode;
 use crate::tree::push_pieces;
 use std::alloc::{AllocError, Global};
 use timefd_lint_drawing::Origin;
@@ -29,7 +29,7 @@ const ROOM: usize = 512;
 #[derive(Drop)]
 pub struct Explanation {
     /// The nodes of the text, each before those that it holds.
-    pub nodes: Vec<Node>,
+    pub nodes: Vec<ShownNode>,
     /// How many bytes the text reserves.
     pub bytes: usize,
 }
@@ -80,7 +80,7 @@ fn tree_of(
     alloc: Global,
     origin: Origin<'_>,
     text: &str,
-    nodes: &[Node],
+    nodes: &[ShownNode],
     bytes: usize,
 ) -> Result<String, AllocError>
     ensures { IfOk result (λ tree. IsTree origin.entry.file.now origin.entry.line text.now nodes.now bytes

@@ -14,5 +14,5 @@ mod words;
 
 pub use example::sample;
 pub use explain::{Explanation, explained, explanation_of};
-pub use node::{Node, NodeKind};
+pub use node::{NodeKind, ShownNode};
 pub use words::words_of;

@@ -4,7 +4,7 @@ ghost use Rattle.std.specs.Prelude.{◌≡◌, ◌++◌, OnOk, string_bytes};
 ghost use Rattle.timefd_lint_explain.specs.Lines as spec;
 ghost use Rattle.timefd_lint_explain.specs.Lines.{AreLines, IsLine};
 
-use crate::node::Node;
+use crate::node::ShownNode;
 use std::alloc::{AllocError, Global};
 use timefd_lint_drawing::shown::push_safe;
 
@@ -13,7 +13,7 @@ pub fn push_lines(
     alloc: Global,
     out: &mut String,
     text: &str,
-    nodes: &[Node],
+    nodes: &[ShownNode],
 ) -> Result<(), AllocError>
     ensures { OnOk result ((lines : _) × AreLines text.now nodes.now lines
         × (string_bytes out.new ≡ string_bytes out.old ++ lines)) }
@@ -25,7 +25,12 @@ pub fn push_lines(
 }
 
 // Appends the line of a node.
-fn push_line(alloc: Global, out: &mut String, text: &str, node: &Node) -> Result<(), AllocError>
+fn push_line(
+    alloc: Global,
+    out: &mut String,
+    text: &str,
+    node: &ShownNode,
+) -> Result<(), AllocError>
     ensures { OnOk result ((line : _) × IsLine text.now node.now line
         × (string_bytes out.new ≡ string_bytes out.old ++ line)) }
 {

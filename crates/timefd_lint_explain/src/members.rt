@@ -10,7 +10,7 @@ ghost use Rattle.timefd_lint_explain.specs.Parts.{Adds, capped};
 ghost use Rattle.timefd_lint_explain.specs.Parts as spec;
 ghost use Rattle.timefd_lint_explain.specs.Stands.{AddsAt, members_at};
 
-use crate::node::{Location, Node, node_of};
+use crate::node::{Location, ShownNode, node_of};
 use crate::piece::item_what;
 use std::alloc::{AllocError, Global};
 use timefd_items::item_bytes;
@@ -22,7 +22,7 @@ use timefd_parse::{
 /// their own.
 pub fn push_members(
     alloc: Global,
-    nodes: &mut Vec<Node>,
+    nodes: &mut Vec<ShownNode>,
     depth: usize,
     start: usize,
     text: &str,
@@ -45,7 +45,7 @@ pub fn push_members(
 // Appends the nodes of what the first item means, if that is several items.
 fn push_composite(
     alloc: Global,
-    nodes: &mut Vec<Node>,
+    nodes: &mut Vec<ShownNode>,
     depth: usize,
     start: usize,
     items: &[BorrowedFormatItem<'_>],
@@ -71,7 +71,7 @@ fn push_composite(
 #[tactic(auto, using(crate::proofs::ExampleLemmas::examples_more))]
 fn push_items(
     alloc: Global,
-    nodes: &mut Vec<Node>,
+    nodes: &mut Vec<ShownNode>,
     depth: usize,
     start: usize,
     members: &[BorrowedFormatItem<'_>],

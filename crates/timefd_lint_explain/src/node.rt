@@ -36,7 +36,7 @@ pub enum NodeKind {
 
 /// What is shown for a node.
 #[derive(Drop)]
-pub struct Node {
+pub struct ShownNode {
     /// How many brackets are around it.
     pub depth: usize,
     /// The byte range of the text that it came from, from `start` to before `end`. Both are equal if it came
@@ -73,7 +73,7 @@ pub fn node_of(
     location: Location<'_>,
     bytes: usize,
     what: &What,
-) -> Result<Node, AllocError>
+) -> Result<ShownNode, AllocError>
     ensures kind { IfOk result (λ node. node.kind ≡ kind_in what.now) }
     ensures words { IfOk result (λ node. AreWordsOf what.now (string_bytes node.words)) }
     ensures example { IfOk result (λ node. IsExampleOf what.now (string_bytes node.example)) }
@@ -85,7 +85,7 @@ pub fn node_of(
 {
     let words = words_in(alloc, language, location.text, what)?;
     let example = example_of(alloc, what)?;
-    Ok(Node {
+    Ok(ShownNode {
         depth: location.depth,
         start: location.start,
         end: location.start.saturating_add(location.text.len()),

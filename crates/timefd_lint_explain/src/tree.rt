@@ -16,13 +16,13 @@ ghost use Rattle.timefd_lint_explain.specs.Shown.{IsShown};
 ghost use Rattle.timefd_lint_explain.specs.Stands.{AddsAt, DescriptionStands, HeldStand, PieceStands, PiecesStand, around};
 
 use crate::members::push_members;
-use crate::node::{Location, Node, NodeKind, node_of};
+use crate::node::{Location, NodeKind, ShownNode, node_of};
 use crate::piece::{Shown, What};
 use crate::pieces::{bytes_of, pieces_of};
 use std::alloc::{AllocError, Global};
 use timefd_parse::{
-    DescriptionVersion, Language, NESTING_LIMIT, ParseError, amount_within, bracket_name,
-    first_modifier, first_nested,
+    BorrowedParseError, DescriptionVersion, Language, NESTING_LIMIT, amount_all_borrowed,
+    bracket_name, first_modifier, first_nested,
 };
 
 /// Appends the nodes of a text that begins at byte index `begins`, in `depth` brackets, and returns how many
@@ -30,7 +30,7 @@ use timefd_parse::{
 #[cycle(tree)]
 pub fn push_pieces(
     alloc: Global,
-    nodes: &mut Vec<Node>,
+    nodes: &mut Vec<ShownNode>,
     language: Language,
     depth: usize,
     begins: usize,
@@ -69,7 +69,7 @@ pub fn push_pieces(
 #[tactic(auto, using(crate::proofs::ExampleLemmas::examples_more))]
 fn push_piece(
     alloc: Global,
-    nodes: &mut Vec<Node>,
+    nodes: &mut Vec<ShownNode>,
     language: Language,
     depth: usize,
     start: usize,
@@ -101,7 +101,7 @@ fn push_piece(
 #[cycle(tree)]
 fn push_nested(
     alloc: Global,
-    nodes: &mut Vec<Node>,
+    nodes: &mut Vec<ShownNode>,
     depth: usize,
     start: usize,
     text: &str,
@@ -144,7 +144,7 @@ fn after_head(text: &str) -> &str
 #[cycle(tree)]
 fn push_described(
     alloc: Global,
-    nodes: &mut Vec<Node>,
+    nodes: &mut Vec<ShownNode>,
     depth: usize,
     begins: usize,
     inner: &str,
@@ -169,7 +169,7 @@ fn push_described(
 #[tactic(auto, using(crate::proofs::ExampleLemmas::examples_more))]
 fn push_description(
     alloc: Global,
-    nodes: &mut Vec<Node>,
+    nodes: &mut Vec<ShownNode>,
     depth: usize,
     begins: usize,
     inner: &str,
@@ -182,7 +182,7 @@ fn push_description(
         → OnOk result (AddsAt (λ spans. spans ≡ around at inner.now ∷ [])
         nodes.old.items nodes.new.items) }
 {
-    let node = Node {
+    let node = ShownNode {
         depth,
         start: begins.saturating_sub(1),
         end: begins.saturating_add(inner.len()).saturating_add(1),
@@ -200,9 +200,9 @@ fn reserved(alloc: Global, text: &str) -> Result<usize, AllocError>
         → IfOk result (λ bytes. bytes ≡ reserve (pack list)) }
 {
     let language = Language::Version(DescriptionVersion::Three);
-    match amount_within(alloc, language, NESTING_LIMIT, text) {
+    match amount_all_borrowed(alloc, language, NESTING_LIMIT, text) {
         Ok(bytes) => Ok(bytes),
-        Err(ParseError::Invalid(_)) => Ok(0),
-        Err(ParseError::Memory(error)) => Err(error),
+        Err(BorrowedParseError::Invalid(_)) => Ok(0),
+        Err(BorrowedParseError::Memory(error)) => Err(error),
     }
 }

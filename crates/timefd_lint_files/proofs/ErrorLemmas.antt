@@ -6,14 +6,14 @@ use Rattle.std.proofs.lemmas.List.Sums.{sum_by-append}
 use Rattle.std.specs.Prelude.{Option, Some}
 use denote.Ref.{Bor}
 use Rattle.std.specs.declared.io.ErrorKind.{ErrorKind}
-use Rattle.timefd_lint_files.specs.declared.entry.Entry.{Entry}
-use Rattle.timefd_lint_files.specs.declared.entry.Role.{Role}
-use Rattle.timefd_lint_files.specs.declared.entry.Role.TheVariants as roles
+use Rattle.timefd_lint_files.specs.declared.entry.FolderEntry.{FolderEntry}
+use Rattle.timefd_lint_files.specs.declared.entry.EntryRole.{EntryRole}
+use Rattle.timefd_lint_files.specs.declared.entry.EntryRole.TheVariants as roles
 use Rattle.timefd_lint_files.specs.declared.ignore_file.IgnoreFile.{IgnoreFile}
-use Rattle.timefd_lint_files.specs.declared.system.ReadError.{ReadError}
-use Rattle.timefd_lint_files.specs.declared.system.ReadError.TheVariants as unread
-use Rattle.timefd_lint_files.specs.declared.walk_error.Reason.{Reason}
-use Rattle.timefd_lint_files.specs.declared.walk_error.Reason.TheVariants.{Unread, TooDeep}
+use Rattle.timefd_lint_files.specs.declared.system.FileError.{FileError}
+use Rattle.timefd_lint_files.specs.declared.system.FileError.TheVariants as unread
+use Rattle.timefd_lint_files.specs.declared.walk_error.WalkReason.{WalkReason}
+use Rattle.timefd_lint_files.specs.declared.walk_error.WalkReason.TheVariants.{Unread, TooDeep}
 use Rattle.timefd_lint_files.specs.declared.walk_error.WalkError.{WalkError}
 use Rattle.timefd_lint_files.specs.declared.walk_error.WalkError.TheVariants.{Memory, Failed}
 use Rattle.timefd_lint_files.specs.Entries.{role}
@@ -27,7 +27,7 @@ abbrev one_if_slash : ℕ → ℕ
 one_if_slash byte = cond (nat_eq slash byte) 1 0
 
 -- the folder that the walk goes into
-entered_as : (excluded ignores : List IgnoreFile) (folder name : Text) (r : Role) (before after : List Text) (path : Text)
+entered_as : (excluded ignores : List IgnoreFile) (folder name : Text) (r : EntryRole) (before after : List Text) (path : Text)
     → IsLeft (found_as excluded ignores (folder ++ name) r) before after (Some path) → path ≡ (folder ++ name) ++ slash ∷ []
 entered_as excluded ignores folder name roles.None before after path left = absurd cc
 entered_as excluded ignores folder name roles.Source before after path left =
@@ -73,7 +73,7 @@ as_deep fails Below Other depth more (Failed path (Unread kind)) each deep is = 
 as_deep fails Below Other depth more (Failed path TooDeep) each deep is = deep (string_bytes path) is
 
 -- What fails below an entered folder fails below the folder around it.
-pub deeper : (fails : Text → ErrorKind → Type 0) (endings : List (Bor Text)) (excluded ignores : List IgnoreFile) (folder : Text) (entry : Entry)
+pub deeper : (fails : Text → ErrorKind → Type 0) (endings : List (Bor Text)) (excluded ignores : List IgnoreFile) (folder : Text) (entry : FolderEntry)
     (before after : List Text) (path named : Text) (below : Option Text) (depth : ℕ) (e : WalkError) → 0 < depth
     → IsLookedAt endings excluded ignores folder entry before after below → below ≡ Some path → named ≡ path
     → IsWalkError fails (IsBelow named) (depth - 1) e → IsWalkError fails (IsBelow folder) depth e
@@ -112,11 +112,11 @@ unread_error fails folder depth Memory is = is
 unread_error fails folder depth (Failed path (Unread kind)) is = is
 unread_error fails folder depth (Failed path TooDeep) is = absurd is
 
-same_kind : {one other : ErrorKind} → ◌≡◌ {A = Reason} (Unread one) (Unread other) → one ≡ other
+same_kind : {one other : ErrorKind} → ◌≡◌ {A = WalkReason} (Unread one) (Unread other) → one ≡ other
 same_kind e = cc
 
 -- A folder or a file of this path can't be read.
-pub unread_at : (fails : Text → ErrorKind → Type 0) (path : Text) (error : ReadError) (e : WalkError)
+pub unread_at : (fails : Text → ErrorKind → Type 0) (path : Text) (error : FileError) (e : WalkError)
     → IsReadError (fails path) error → IsUnreadOf path error e → IsUnread fails path e
 unread_at fails path unread.Memory Memory why is = tt
 unread_at fails path unread.Memory (Failed named reason) why is = absurd cc
@@ -140,7 +140,7 @@ unread_below fails folder name path (Failed reported (Unread kind)) same is = (
 unread_below fails folder name path (Failed reported TooDeep) same is = absurd is
 
 -- A file of a folder can't be read.
-pub unread_in : (fails : Text → ErrorKind → Type 0) (folder name path : Text) (error : ReadError) (e : WalkError)
+pub unread_in : (fails : Text → ErrorKind → Type 0) (folder name path : Text) (error : FileError) (e : WalkError)
     → path ≡ folder ++ name → IsReadError (fails path) error → IsUnreadOf path error e → IsUnread fails folder e
 unread_in fails folder name path error e same why is =
     unread_below fails folder name path e same (unread_at fails path error e why is)

@@ -4,15 +4,15 @@ use Rattle.std.specs.Prelude.{◌&&◌, ◌||◌, ◌==◌}
 use Rattle.std.proofs.Math.Seq.{drop-cons, drop-length}
 use Rattle.std.proofs.lemmas.Bool.{and_parts, or_cases, not-true, eqb-true, eqb-false, eq-eqb, ne_eqb, cases_Bool, or_parts, or_left, or_right}
 use Rattle.std.proofs.lemmas.List.{length-drop}
-use Rattle.timefd_lint_files.specs.declared.token.Token.{Token}
-use Rattle.timefd_lint_files.specs.declared.token.Token.TheVariants.{Byte, Any, OneOf, Star, Folders, Rest, Nothing}
+use Rattle.timefd_lint_files.specs.declared.token.PatternToken.{PatternToken}
+use Rattle.timefd_lint_files.specs.declared.token.PatternToken.TheVariants.{Byte, Any, OneOf, Star, Folders, Rest, Nothing}
 use Rattle.timefd_lint_files.specs.FileNames.{are_of_name, are_within_name, file_name, is_within_name}
 use Rattle.timefd_lint_files.specs.Lines.{has_slash}
 use Rattle.timefd_lint_files.specs.Matching.{Text, slash, matches, takes, takes_none, takes_some}
 use Rattle.timefd_lint_files.proofs.EndLemmas.{and_false, nothing_on}
 
 -- A token that matches within a name matches no slash.
-on_slash : (token : Token) (byte : ℕ) (fits on : Bool) → is_within_name token ≡ true → (byte == slash) ≡ true
+on_slash : (token : PatternToken) (byte : ℕ) (fits on : Bool) → is_within_name token ≡ true → (byte == slash) ≡ true
     → takes token byte fits on ≡ false
 on_slash (Byte own) byte fits on within is =
     let other : byte ≢ own = λ e. eqb-false own slash (not-true (own == slash) within) (sym e ∙ eqb-true byte slash is) in
@@ -24,7 +24,7 @@ on_slash Folders byte fits on within is = absurd cc
 on_slash Rest byte fits on within is = absurd cc
 on_slash Nothing byte fits on within is = refl
 
-some_with_slash : (token : Token) (test : Text → Bool) (path : Text) → is_within_name token ≡ true
+some_with_slash : (token : PatternToken) (test : Text → Bool) (path : Text) → is_within_name token ≡ true
     → ((rest : Text) → has_slash rest ≡ true → test rest ≡ false) → has_slash path ≡ true
     → takes_some token test path ≡ false
 some_with_slash token test [] within none slashes = absurd cc
@@ -35,7 +35,7 @@ some_with_slash token test (byte ∷ bytes) within none slashes =
           rw (none bytes after, some_with_slash token test bytes within none after) (nothing_on token byte)
     ]
 
-none_with_slash : (tokens : List Token) (path : Text) → are_within_name tokens ≡ true → has_slash path ≡ true
+none_with_slash : (tokens : List PatternToken) (path : Text) → are_within_name tokens ≡ true → has_slash path ≡ true
     → matches tokens path ≡ false
 none_with_slash [] [] within slashes = absurd cc
 none_with_slash [] (byte ∷ bytes) within slashes = refl
@@ -61,7 +61,7 @@ twice_false a true = or_false (a || false)
 twice_false a false = or_false (a || false)
 
 -- Any folders, and then tokens that match within a name, match the last name.
-last_alone : (tokens : List Token) (path : Text) → are_within_name tokens ≡ true
+last_alone : (tokens : List PatternToken) (path : Text) → are_within_name tokens ≡ true
     → matches (Folders ∷ tokens) path ≡ matches tokens (file_name path)
 last_alone tokens [] within = refl
 last_alone tokens (byte ∷ bytes) within = elim (cases_Bool (has_slash bytes)) [
@@ -80,7 +80,7 @@ last_alone tokens (byte ∷ bytes) within = elim (cases_Bool (has_slash bytes)) 
   ]
 ]
 
-pub of_name : (tokens : List Token) (path : Text) → are_of_name tokens ≡ true
+pub of_name : (tokens : List PatternToken) (path : Text) → are_of_name tokens ≡ true
     → matches tokens path ≡ matches (drop 1 tokens) (file_name path)
 of_name [] path is = absurd cc
 of_name (Byte own ∷ tokens) path is = absurd cc
@@ -92,11 +92,11 @@ of_name (Rest ∷ tokens) path is = absurd cc
 of_name (Nothing ∷ tokens) path is = absurd cc
 
 -- that for tokens as a slice
-pub name_alone : (tokens : List Token) (path name : Text) → are_of_name tokens ≡ true → name ≡ file_name path
+pub name_alone : (tokens : List PatternToken) (path name : Text) → are_of_name tokens ≡ true → name ≡ file_name path
     → matches (take (length tokens - 1) (drop 1 tokens)) name ≡ matches tokens path
 name_alone tokens path name is name_is =
     let all : take (length tokens - 1) (drop 1 tokens) ≡ drop 1 tokens =
-    take_all (length tokens - 1) (drop 1 tokens) (omega (arith, length-drop {A = Token})) in
+    take_all (length tokens - 1) (drop 1 tokens) (omega (arith, length-drop {A = PatternToken})) in
     rw (all, name_is) (sym (of_name tokens path is))
 
 -- The last name, from the end of the path on.

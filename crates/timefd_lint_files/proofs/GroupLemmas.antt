@@ -1,72 +1,73 @@
 -- What is found upwards for names.
-use Rattle.std.proofs.Common.{◌≡◌, ◌≢◌, ◌≤◌, ◌<◌, ℕ, ◌-◌, get_or, Bool, true, false, List, [], ◌∷◌, ◌++◌, length, take, drop, refl, sym, ap, subst, ◌∙◌, append_assoc, append-nil, length-append, arith}
+use Rattle.std.proofs.Common.{◌≡◌, ◌≢◌, ◌≤◌, ◌<◌, ℕ, ◌-◌, get_or, Bool, true, false, List, [], ◌∷◌, ◌++◌, length, take, drop, refl, sym, ap, subst, ◌∙◌, append_assoc, append-nil, length-append, inl, arith}
 use Rattle.std.proofs.Math.Seq.{drop-append_seam, take-append_seam, take-length}
 use Rattle.std.specs.Prelude.{Option, Some, None, codes}
 use denote.Ref.{Bor}
 use Rattle.std.specs.declared.io.ErrorKind.{ErrorKind}
-use Rattle.timefd_lint_files.specs.declared.groups.Group.{Group}
+use Rattle.timefd_lint_files.specs.declared.groups.NameGroup.{NameGroup}
 use Rattle.timefd_lint_files.specs.declared.upwards.Nearest.{Nearest}
 use Rattle.timefd_lint_files.specs.declared.walk_error.WalkError.{WalkError}
 use Rattle.timefd_lint_files.specs.declared.walk_error.WalkError.TheVariants.{Memory, Failed}
 use Rattle.timefd_lint_files.specs.Around.{IsUnreadUpwards, folders_around}
-use Rattle.timefd_lint_files.specs.Groups.{AllHave, AreGroups, AreGroupsOf, HaveSame, IsFoundFor, IsStart, IsStartOr, IsUnreadFor, Site, folder_by, if_open, site_any, site_if}
+use Rattle.timefd_lint_files.specs.Groups.{AllHave, AreGroups, AreGroupsOf, HaveSame, IsFoundFor, IsStart, IsStartOr, IsUnreadFor, IsUnreadForAny, IsUnreadForOne, Site, folder_by, if_open, site_any, site_if}
 use Rattle.timefd_lint_files.specs.Matching.{Text}
 use Rattle.timefd_lint_files.specs.Upwards.{IsNearest, seen_any}
 use Rattle.timefd_lint_files.specs.Walks.{is_input}
+use Rattle.timefd_lint_files.proofs.OneOfLemmas.{IsOneTo, of_after}
 
-pub at_input : (tells : Text → Bool → Type 0) (name start : Text) → is_input name ≡ true → start ≡ []
-    → IsStart tells name start
-at_input tells name start is here = subst (IsStartOr tells name start) (sym is) here
+pub at_input : (folders : Text → Bool → Type 0) (name start : Text) → is_input name ≡ true → start ≡ []
+    → IsStart folders name start
+at_input folders name start is here = subst (IsStartOr folders name start) (sym is) here
 
-by_folder : (tells : Text → Bool → Type 0) (name start folder opened : Text) (is_folder is_open : Bool)
-    → is_input name ≡ false → tells name is_folder → folder ≡ folder_by is_folder name → opened ≡ folder
-    → tells (opened ++ codes ".") is_open → start ≡ if_open is_open folder → IsStart tells name start
-by_folder tells name start folder opened is_folder is_open is kind own same opens at =
-    subst (IsStartOr tells name start) (sym is) (
+by_folder : (folders : Text → Bool → Type 0) (name start folder opened : Text) (is_folder is_open : Bool)
+    → is_input name ≡ false → folders name is_folder → folder ≡ folder_by is_folder name → opened ≡ folder
+    → folders (opened ++ codes ".") is_open → start ≡ if_open is_open folder → IsStart folders name start
+by_folder folders name start folder opened is_folder is_open is kind own same opens at =
+    subst (IsStartOr folders name start) (sym is) (
       is_folder,
       kind,
       (
         is_open,
-        subst (λ (f : Text). tells (f ++ codes ".") is_open) (same ∙ own) opens,
+        subst (λ (f : Text). folders (f ++ codes ".") is_open) (same ∙ own) opens,
         at ∙ ap (if_open is_open) own,
       ),
     )
 
-pub at_open : (tells : Text → Bool → Type 0) (name start folder opened : Text) (is_folder is_open : Bool)
-    → is_input name ≡ false → tells name is_folder → folder ≡ folder_by is_folder name → opened ≡ folder
-    → tells (opened ++ codes ".") is_open → is_open ≡ true → start ≡ folder → IsStart tells name start
-at_open tells name start folder opened is_folder is_open is kind own same opens one at =
-    by_folder tells name start folder opened is_folder is_open is kind own same opens (at ∙ rw one refl)
+pub at_open : (folders : Text → Bool → Type 0) (name start folder opened : Text) (is_folder is_open : Bool)
+    → is_input name ≡ false → folders name is_folder → folder ≡ folder_by is_folder name → opened ≡ folder
+    → folders (opened ++ codes ".") is_open → is_open ≡ true → start ≡ folder → IsStart folders name start
+at_open folders name start folder opened is_folder is_open is kind own same opens one at =
+    by_folder folders name start folder opened is_folder is_open is kind own same opens (at ∙ rw one refl)
 
-pub at_closed : (tells : Text → Bool → Type 0) (name start folder opened : Text) (is_folder is_open : Bool)
-    → is_input name ≡ false → tells name is_folder → folder ≡ folder_by is_folder name → opened ≡ folder
-    → tells (opened ++ codes ".") is_open → is_open ≡ false → start ≡ [] → IsStart tells name start
-at_closed tells name start folder opened is_folder is_open is kind own same opens none at =
-    by_folder tells name start folder opened is_folder is_open is kind own same opens (at ∙ rw none refl)
+pub at_closed : (folders : Text → Bool → Type 0) (name start folder opened : Text) (is_folder is_open : Bool)
+    → is_input name ≡ false → folders name is_folder → folder ≡ folder_by is_folder name → opened ≡ folder
+    → folders (opened ++ codes ".") is_open → is_open ≡ false → start ≡ [] → IsStart folders name start
+at_closed folders name start folder opened is_folder is_open is kind own same opens none at =
+    by_folder folders name start folder opened is_folder is_open is kind own same opens (at ∙ rw none refl)
 
 same_site : (found : Option Nearest) → site_any found ≡ site_if (seen_any found)
 same_site None = refl
 same_site (Some found) = refl
 
-pub found_from : (holds : Text → Text → Type 0) (fails : Text → ErrorKind → Type 0) (tells : Text → Bool → Type 0)
-    (file here name start begun : Text) (above : ℕ) (found : Option Nearest) → IsStart tells name start
-    → begun ≡ start → above ≡ folders_around here begun → IsNearest holds fails tells file above begun (seen_any found)
-    → IsFoundFor holds fails tells file here name (site_any found)
-found_from holds fails tells file here name start begun above found at same around near = (
+pub found_from : (holds : Text → Text → Type 0) (fails : Text → ErrorKind → Type 0) (folders : Text → Bool → Type 0)
+    (file here name start begun : Text) (above : ℕ) (found : Option Nearest) → IsStart folders name start
+    → begun ≡ start → above ≡ folders_around here begun → IsNearest holds fails folders file above begun (seen_any found)
+    → IsFoundFor holds fails folders file here name (site_any found)
+found_from holds fails folders file here name start begun above found at same around near = (
   begun,
   seen_any found,
-  subst (IsStart tells name) (sym same) at,
-  subst (λ (k : ℕ). IsNearest holds fails tells file k begun (seen_any found)) around near,
+  subst (IsStart folders name) (sym same) at,
+  subst (λ (k : ℕ). IsNearest holds fails folders file k begun (seen_any found)) around near,
   same_site found,
 )
 
-pub unread_from : (fails : Text → ErrorKind → Type 0) (tells : Text → Bool → Type 0) (file here name start begun : Text)
-    (above : ℕ) (e : WalkError) → IsStart tells name start → begun ≡ start → above ≡ folders_around here begun
-    → IsUnreadUpwards fails file above begun e → IsUnreadFor fails tells file here name e
-unread_from fails tells file here name start begun above Memory at same around is = tt
-unread_from fails tells file here name start begun above (Failed path reason) at same around is = (
+pub unread_from : (fails : Text → ErrorKind → Type 0) (folders : Text → Bool → Type 0) (file here name start begun : Text)
+    (above : ℕ) (e : WalkError) → IsStart folders name start → begun ≡ start → above ≡ folders_around here begun
+    → IsUnreadUpwards fails file above begun e → IsUnreadFor fails folders file here name e
+unread_from fails folders file here name start begun above Memory at same around is = tt
+unread_from fails folders file here name start begun above (Failed path reason) at same around is = (
   begun,
-  subst (IsStart tells name) (sym same) at,
+  subst (IsStart folders name) (sym same) at,
   subst (λ (k : ℕ). IsUnreadUpwards fails file k begun (Failed path reason)) around is,
 )
 
@@ -107,22 +108,49 @@ pub few_left : (Found : Text → Option Site → Type 0) (answer : Option Site) 
 few_left Found answer names rest left is same =
     omega (arith, is, ap (λ (ns : List (Bor Text)). length ns) same.whole, length-append same.front rest)
 
--- the groups so far: with those of the rest they are all groups
-abbrev pub AreGroupsTo : (Text → Option Site → Type 0) → List (Bor Text) → List (Bor Text) → List Group → Type 0
-AreGroupsTo Found names rest groups =
-    (more : List Group) → AreGroupsOf Found rest more → AreGroupsOf Found names (groups ++ more)
+-- The file can't be read for the first of the remaining names.
+pub unread_first : (fails : Text → ErrorKind → Type 0) (folders : Text → Bool → Type 0) (file here : Text)
+    (names rest : List (Bor Text)) (d : Bor Text) (e : WalkError) → 1 ≤ length rest
+    → IsUnreadFor fails folders file here (get_or rest 0 d).now e
+    → IsOneTo (λ name. IsUnreadFor fails folders file here name.now e) names rest
+    → IsUnreadForOne fails folders file here names e
+unread_first fails folders file here names [] d e some is so_far = absurd (omega (arith, some))
+unread_first fails folders file here names (name ∷ after) d e some is so_far = so_far (inl is)
 
-pub no_group : (Found : Text → Option Site → Type 0) (names : List (Bor Text)) (groups : List Group) → groups ≡ []
+-- It can't be read for one of those after it.
+pub unread_later : (fails : Text → ErrorKind → Type 0) (folders : Text → Bool → Type 0) (file here : Text)
+    (names rest : List (Bor Text)) (count : ℕ) (e : WalkError)
+    → IsUnreadForOne fails folders file here (take count (drop 1 rest)) e
+    → IsOneTo (λ name. IsUnreadFor fails folders file here name.now e) names rest
+    → IsUnreadForOne fails folders file here names e
+unread_later fails folders file here names rest count e is so_far =
+    so_far (of_after (λ name. IsUnreadFor fails folders file here name.now e) rest count is)
+
+-- Memory runs out at the first of the remaining names.
+pub no_memory : (fails : Text → ErrorKind → Type 0) (folders : Text → Bool → Type 0) (file here : Text)
+    (names rest : List (Bor Text)) (e : WalkError) → 1 ≤ length rest → e ≡ Memory
+    → IsOneTo (λ name. IsUnreadFor fails folders file here name.now e) names rest
+    → IsUnreadForOne fails folders file here names e
+no_memory fails folders file here names [] e some is so_far = absurd (omega (arith, some))
+no_memory fails folders file here names (name ∷ after) e some is so_far =
+    so_far (inl (subst (IsUnreadFor fails folders file here name.now) (sym is) tt))
+
+-- the groups so far: with those of the rest they are all groups
+abbrev pub AreGroupsTo : (Text → Option Site → Type 0) → List (Bor Text) → List (Bor Text) → List NameGroup → Type 0
+AreGroupsTo Found names rest groups =
+    (more : List NameGroup) → AreGroupsOf Found rest more → AreGroupsOf Found names (groups ++ more)
+
+pub no_group : (Found : Text → Option Site → Type 0) (names : List (Bor Text)) (groups : List NameGroup) → groups ≡ []
     → AreGroupsTo Found names names groups
 no_group Found names groups none more are = subst (λ gs. AreGroupsOf Found names (gs ++ more)) (sym none) are
 
 -- one more group
 pub one_group : (Found : Text → Option Site → Type 0) (names rest after own others : List (Bor Text))
-    (name : Bor Text) (found : Option Nearest) (left : ℕ) (groups new : List Group)
+    (name : Bor Text) (found : Option Nearest) (left : ℕ) (groups new : List NameGroup)
     → rest ≡ name ∷ after → Found name.now (site_any found)
     → ((last : List (Bor Text)) × (left ≡ length last) × HaveSame Found (site_any found) after last)
     → own ≡ take (length rest - left) rest → others ≡ drop (length rest - left) rest
-    → ((group : Group) × (new ≡ groups ++ group ∷ []) × (group.names.now ≡ own) × (group.found ≡ found))
+    → ((group : NameGroup) × (new ≡ groups ++ group ∷ []) × (group.names.now ≡ own) × (group.found ≡ found))
     → AreGroupsTo Found names rest groups → AreGroupsTo Found names others new
 one_group Found names rest after own others name found left groups new split first run taken dropped added so_far
     more are =
@@ -154,21 +182,35 @@ one_group Found names rest after own others name found left groups new split fir
     not_none : (front : List (Bor Text)) → ◌≡◌ {A = List (Bor Text)} (name ∷ front) [] → ⊥
     not_none front none = absurd cc
 
-pub all_groups : (Found : Text → Option Site → Type 0) (names rest : List (Bor Text)) (groups : List Group) → rest ≡ []
+pub all_groups : (Found : Text → Option Site → Type 0) (names rest : List (Bor Text)) (groups : List NameGroup) → rest ≡ []
     → AreGroupsTo Found names rest groups → AreGroupsOf Found names groups
 all_groups Found names rest groups none so_far =
     subst (AreGroupsOf Found names) (append-nil groups) (so_far [] none)
 
 -- Some names are given.
-pub some_named : (Found : Text → Option Site → Type 0) (names : List (Bor Text)) (groups : List Group)
+pub some_named : (Found : Text → Option Site → Type 0) (names : List (Bor Text)) (groups : List NameGroup)
     → length names ≢ 0 → AreGroupsOf Found names groups → AreGroups Found names groups
 some_named Found [] groups some are = absurd (some refl)
 some_named Found (name ∷ names) groups some are = are
 
 -- No name is given.
-pub none_named : (Found : Text → Option Site → Type 0) (names : List (Bor Text)) (group : Group)
-    (before groups : List Group) → length names ≡ 0 → group.names.now ≡ names → Found (codes "-") (site_any group.found)
+pub none_named : (Found : Text → Option Site → Type 0) (names : List (Bor Text)) (group : NameGroup)
+    (before groups : List NameGroup) → length names ≡ 0 → group.names.now ≡ names → Found (codes "-") (site_any group.found)
     → before ≡ [] → groups ≡ before ++ group ∷ [] → AreGroups Found names groups
 none_named Found [] group before groups none named found empty pushed =
     (group, pushed ∙ ap (λ b. b ++ group ∷ []) empty, named, found)
 none_named Found (name ∷ names) group before groups none named found empty pushed = absurd (omega (arith, none))
+
+-- The file can't be read for one of the names that are given.
+pub unread_named : (fails : Text → ErrorKind → Type 0) (folders : Text → Bool → Type 0) (file here : Text)
+    (names : List (Bor Text)) (e : WalkError) → length names ≢ 0 → IsUnreadForOne fails folders file here names e
+    → IsUnreadForAny fails folders file here names e
+unread_named fails folders file here [] e some is = absurd (some refl)
+unread_named fails folders file here (name ∷ names) e some is = is
+
+-- It can't be read for the standard input, if no name is given.
+pub unread_input : (fails : Text → ErrorKind → Type 0) (folders : Text → Bool → Type 0) (file here : Text)
+    (names : List (Bor Text)) (e : WalkError) → length names ≡ 0 → IsUnreadFor fails folders file here (codes "-") e
+    → IsUnreadForAny fails folders file here names e
+unread_input fails folders file here [] e none is = is
+unread_input fails folders file here (name ∷ names) e none is = absurd (omega (arith, none))

@@ -17,3 +17,4 @@ pub mod HereLemmas
 pub mod AroundLemmas
 pub mod UpwardLemmas
 pub mod GroupLemmas
+pub mod OneOfLemmas

@@ -3,9 +3,9 @@ use Rattle.std.proofs.Common.{◌≡◌, ℕ, ◌≢◌, Bool, true, false, List
 use Rattle.std.specs.Prelude.{not, ◌&&◌, ◌||◌, ◌==◌, ◌↔◌, IsTrue}
 use Rattle.std.specs.List.{AllByRecursion}
 use Rattle.std.proofs.lemmas.Bool.{and_parts, and_from, or_cases, or_left, or_right, not-true, eqb-true, eqb-false, eq-eqb, ne_eqb}
-use Rattle.timefd_lint_files.specs.declared.class.Class.{Class}
-use Rattle.timefd_lint_files.specs.declared.token.Token.{Token}
-use Rattle.timefd_lint_files.specs.declared.token.Token.TheVariants.{Byte, Any, OneOf, Star, Folders, Rest, Nothing}
+use Rattle.timefd_lint_files.specs.declared.class.ByteClass.{ByteClass}
+use Rattle.timefd_lint_files.specs.declared.token.PatternToken.{PatternToken}
+use Rattle.timefd_lint_files.specs.declared.token.PatternToken.TheVariants.{Byte, Any, OneOf, Star, Folders, Rest, Nothing}
 use Rattle.timefd_lint_files.specs.Matching.{Text, slash, has, IsRow, Matches, MatchesFirst, matches, takes_none, takes_some}
 
 not_slash : (byte : ℕ) → not (byte == slash) ≡ true → byte ≢ slash
@@ -37,7 +37,7 @@ any_to test B is (b ∷ bytes) h = elim (or_cases (not (b == slash) && test byte
   | inr none ↦ absurd cc
 ]
 
-class_to : (class : Class) (test : Text → Bool) (B : Text → Type 0) → After test B → (path : Text)
+class_to : (class : ByteClass) (test : Text → Bool) (B : Text → Type 0) → After test B → (path : Text)
     → (takes_some (OneOf class) test path || false) ≡ true → MatchesFirst (OneOf class) B path
 class_to class test B is [] h = absurd cc
 class_to class test B is (b ∷ bytes) h =
@@ -114,7 +114,7 @@ folders_from test B is [] rest here =
     or_right (takes_some Folders test rest) (test rest) (is.from rest here)
 folders_from test B is (b ∷ front) rest here = or_left _ _ (folders_from test B is front rest here)
 
-first_to : (token : Token) (test : Text → Bool) (B : Text → Type 0) → After test B → (path : Text)
+first_to : (token : PatternToken) (test : Text → Bool) (B : Text → Type 0) → After test B → (path : Text)
     → (takes_some token test path || (takes_none token && test path)) ≡ true → MatchesFirst token B path
 first_to (Byte own) test B is path h = byte_to own test B is path h
 first_to Any test B is path h = any_to test B is path h
@@ -125,7 +125,7 @@ first_to Rest test B is path h = rest_to test B is path h
 first_to Nothing test B is [] h = absurd cc
 first_to Nothing test B is (b ∷ bytes) h = absurd cc
 
-first_from : (token : Token) (test : Text → Bool) (B : Text → Type 0) → After test B → (path : Text)
+first_from : (token : PatternToken) (test : Text → Bool) (B : Text → Type 0) → After test B → (path : Text)
     → MatchesFirst token B path → (takes_some token test path || (takes_none token && test path)) ≡ true
 first_from (Byte own) test B is path m =
     rw m.1 (or_left _ _ (and_from (own == own) (test m.0) (eq-eqb own own refl) (is.from m.0 m.2)))
@@ -147,22 +147,22 @@ empty_to : (path : Text) → matches [] path ≡ true → path ≡ []
 empty_to [] h = refl
 empty_to (b ∷ bytes) h = absurd cc
 
-all_after : (tokens : List Token) → After (matches tokens) (Matches tokens)
+all_after : (tokens : List PatternToken) → After (matches tokens) (Matches tokens)
 all_after [] = record { to = empty_to; from = λ path e. rw e refl }
 all_after (token ∷ tokens) = record {
   to = first_to token (matches tokens) (Matches tokens) (all_after tokens);
   from = first_from token (matches tokens) (Matches tokens) (all_after tokens);
 }
 
-pub decided : (tokens : List Token) (path : Text) → IsTrue (matches tokens path) ↔ Matches tokens path
+pub decided : (tokens : List PatternToken) (path : Text) → IsTrue (matches tokens path) ↔ Matches tokens path
 decided tokens path = let is = all_after tokens in (is.to path, is.from path)
 
 -- an answer that equals the test's
-pub as_decided : (answer : Bool) (tokens : List Token) (path : Text) → answer ≡ matches tokens path
+pub as_decided : (answer : Bool) (tokens : List PatternToken) (path : Text) → answer ≡ matches tokens path
     → IsTrue answer ↔ Matches tokens path
 as_decided answer tokens path is = rw is (decided tokens path)
 
 -- the first position of a row
-pub first_position : (tokens : List Token) (path : Text) (row : List Bool) → IsRow tokens path row
+pub first_position : (tokens : List PatternToken) (path : Text) (row : List Bool) → IsRow tokens path row
     → get_or row 0 false ≡ matches tokens path
 first_position tokens path row is = is.each 0 (omega arith)

@@ -5,12 +5,12 @@ use Rattle.std.proofs.Math.ListN.{set, length-set}
 use Rattle.std.proofs.Math.Seq.{drop-cons, drop-length}
 use Rattle.std.proofs.Math.Nat.{eq-or-lt_of_le}
 use Rattle.std.proofs.lemmas.List.{length-drop, length-replicate}
-use Rattle.timefd_lint_files.specs.declared.token.Token.{Token}
+use Rattle.timefd_lint_files.specs.declared.token.PatternToken.{PatternToken}
 use Rattle.timefd_lint_files.specs.Matching.{Text, IsRow, matches, takes, takes_none, takes_some}
 
 -- From this position on, the row is that of the token and those after it. Before it, the row is that of the
 -- later tokens alone.
-pub record IsTurned (token : Token) (after : List Token) (path : Text) (row : List Bool) (at : ℕ) (fit on : Bool) : Type 0 where
+pub record IsTurned (token : PatternToken) (after : List PatternToken) (path : Text) (row : List Bool) (at : ℕ) (fit on : Bool) : Type 0 where
   pub len : length row ≡ length path + 1
   pub within : at ≤ length path
   pub fits : fit ≡ matches after (drop at path)
@@ -20,7 +20,7 @@ pub record IsTurned (token : Token) (after : List Token) (path : Text) (row : Li
       → get_or row k false ≡ matches (token ∷ after) (drop k path)
 
 -- at the end of the path
-pub at_end : (token : Token) (after : List Token) (path : Text) (row : List Bool) → IsRow after path row
+pub at_end : (token : PatternToken) (after : List PatternToken) (path : Text) (row : List Bool) → IsRow after path row
     → IsTurned token after path (set row (length path) (takes_none token && get_or row (length path) false))
     (length path) (get_or row (length path) false) false
 at_end token after path row is =
@@ -41,7 +41,7 @@ at_end token after path row is =
     }
 
 -- one position earlier
-pub one_more : (token : Token) (after : List Token) (path : Text) (row : List Bool) (at to : ℕ)
+pub one_more : (token : PatternToken) (after : List PatternToken) (path : Text) (row : List Bool) (at to : ℕ)
     (fits goes_on : Bool) → to + 1 ≡ at → IsTurned token after path row at fits goes_on
     → IsTurned token after path
     (set row to (takes token (get_or path to 0) fits goes_on || (takes_none token && get_or row to false)))
@@ -69,7 +69,7 @@ one_more token after path row at to fits goes_on next is =
           ap (λ g. g || (takes_none token && matches after (drop to path))) gone) k ge le;
     }
   where
-    from_position : (token : Token) (after : List Token) (path : Text) (row : List Bool) (at to : ℕ) (value : Bool)
+    from_position : (token : PatternToken) (after : List PatternToken) (path : Text) (row : List Bool) (at to : ℕ) (value : Bool)
         {fits goes_on : Bool} → to + 1 ≡ at → IsTurned token after path row at fits goes_on
         → get_or (set row to value) to false ≡ matches (token ∷ after) (drop to path)
         → (k : ℕ) → to ≤ k → k ≤ length path
@@ -80,29 +80,29 @@ one_more token after path row at to fits goes_on next is =
           get_or-set_other row to k value false ne ∙ is.from k (omega arith) le
     ]
 
-pub whole : (tokens : List Token) (token : Token) (path : Text) (row : List Bool) (at : ℕ) (fits goes_on : Bool)
+pub whole : (tokens : List PatternToken) (token : PatternToken) (path : Text) (row : List Bool) (at : ℕ) (fits goes_on : Bool)
     → tokens ≡ token ∷ drop 1 tokens → at ≡ 0
     → IsTurned token (drop 1 tokens) path row at fits goes_on → IsRow tokens path row
 whole tokens token path row at fits goes_on cut e is =
     rw cut (record { len = is.len; each = λ k le. is.from k (omega arith) le })
 
 -- The tokens from an index on, as a slice.
-pub from_on : (tokens : List Token) (n : ℕ) → take (length tokens - n) (drop n tokens) ≡ drop n tokens
-from_on tokens n = take_all (length tokens - n) (drop n tokens) (omega (arith, length-drop {A = Token}))
+pub from_on : (tokens : List PatternToken) (n : ℕ) → take (length tokens - n) (drop n tokens) ≡ drop n tokens
+from_on tokens n = take_all (length tokens - n) (drop n tokens) (omega (arith, length-drop {A = PatternToken}))
 
-drop_next : (tokens : List Token) (to from : ℕ) → to + 1 ≡ from → from ≤ length tokens
+drop_next : (tokens : List PatternToken) (to from : ℕ) → to + 1 ≡ from → from ≤ length tokens
     → drop 1 (drop to tokens) ≡ drop from tokens
 drop_next [] to from e le = absurd (omega arith)
 drop_next (t ∷ tokens) to from e le =
     let lt : to < length (t ∷ tokens) = omega arith in
     rw (drop-cons (t ∷ tokens) to t lt, ← e, add-one) refl
 
-pub after_first : (tokens : List Token) (path : Text) (row : List Bool) (to from : ℕ) → to + 1 ≡ from
+pub after_first : (tokens : List PatternToken) (path : Text) (row : List Bool) (to from : ℕ) → to + 1 ≡ from
     → from ≤ length tokens → IsRow (drop from tokens) path row
     → IsRow (drop 1 (take (length tokens - to) (drop to tokens))) path row
 after_first tokens path row to from e le is = rw (from_on, drop_next tokens to from e le) is
 
-pub as_slice : (tokens : List Token) (path : Text) (row : List Bool) (n : ℕ)
+pub as_slice : (tokens : List PatternToken) (path : Text) (row : List Bool) (n : ℕ)
     → IsRow (take (length tokens - n) (drop n tokens)) path row → IsRow (drop n tokens) path row
 as_slice tokens path row n is = rw from_on at is
 

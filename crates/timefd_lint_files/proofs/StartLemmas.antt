@@ -1,9 +1,9 @@
 -- Names without the `./` and the `../` that they begin with.
-use Rattle.std.proofs.Common.{◌≡◌, ℕ, Bool, true, false, List, [], ◌∷◌, refl, sym, ap, ◌∙◌, if◌then◌else◌}
+use Rattle.std.proofs.Common.{◌≡◌, Bool, true, false, [], ◌∷◌, refl, sym, ap, ◌∙◌, if◌then◌else◌}
 use Rattle.std.specs.Prelude.{Option, Some, None}
-use Rattle.timefd_lint_files.specs.declared.start.Start.{Start}
+use Rattle.timefd_lint_files.specs.declared.start.NameParts.{NameParts}
 use Rattle.timefd_lint_files.specs.Matching.{Text}
-use Rattle.timefd_lint_files.specs.Starts.{Begun, begun, is_here, is_up, next, next_up, parent, seen, seen_any, start_in}
+use Rattle.timefd_lint_files.specs.Starts.{Begun, begun, is_here, is_up, next, parent, seen, seen_any, start_in}
 
 same : {one other : Begun} → ◌≡◌ {A = Option Begun} (Some one) (Some other) → one ≡ other
 same e = cc
@@ -56,12 +56,12 @@ last front (first ∷ (second ∷ (third ∷ rest))) e =
     here false true is = absurd cc
     here false false is = refl
 
-pub goes_on : (front rest : Text) (found : Option Start) (start : Start) (all : Begun)
+pub goes_on : (front rest : Text) (found : Option NameParts) (start : NameParts) (all : Begun)
     → seen_any found ≡ next front rest → found ≡ Some start → start_in front rest ≡ all
     → start_in start.front.now start.rest.now ≡ all
 goes_on front rest found start all is some so_far =
     sym (on front rest (seen start) (sym is ∙ ap seen_any some)) ∙ so_far
 
-pub stops : (front rest : Text) (found : Option Start) (all : Begun)
+pub stops : (front rest : Text) (found : Option NameParts) (all : Begun)
     → seen_any found ≡ next front rest → found ≡ None → start_in front rest ≡ all → begun front rest ≡ all
 stops front rest found all is none so_far = sym (last front rest (sym is ∙ ap seen_any none)) ∙ so_far

@@ -3,10 +3,10 @@ use Rattle.std.proofs.Common.{◌≡◌, ◌≢◌, ℕ, ◌-◌, zero, suc, Boo
 use Rattle.std.proofs.lemmas.Bool.{ne_eqb}
 use Rattle.std.specs.Prelude.{Option, Some, None}
 use Rattle.std.specs.declared.io.ErrorKind.{ErrorKind}
-use Rattle.timefd_lint_files.specs.declared.system.ReadError.{ReadError}
-use Rattle.timefd_lint_files.specs.declared.system.ReadError.TheVariants as unread
-use Rattle.timefd_lint_files.specs.declared.walk_error.Reason.{Reason}
-use Rattle.timefd_lint_files.specs.declared.walk_error.Reason.TheVariants.{Unread, TooDeep}
+use Rattle.timefd_lint_files.specs.declared.system.FileError.{FileError}
+use Rattle.timefd_lint_files.specs.declared.system.FileError.TheVariants as unread
+use Rattle.timefd_lint_files.specs.declared.walk_error.WalkReason.{WalkReason}
+use Rattle.timefd_lint_files.specs.declared.walk_error.WalkReason.TheVariants.{Unread, TooDeep}
 use Rattle.timefd_lint_files.specs.declared.walk_error.WalkError.{WalkError}
 use Rattle.timefd_lint_files.specs.declared.walk_error.WalkError.TheVariants.{Memory, Failed}
 use Rattle.timefd_lint_files.specs.Around.{IsUnreadUpwards, around, up}
@@ -18,89 +18,89 @@ abbrev pub near : Text → ℕ → Text → Option Near
 near folder above text = Some (record { folder = folder; above = above; text = text })
 
 -- The file is in the folder.
-pub found_here : (holds : Text → Text → Type 0) (fails : Text → ErrorKind → Type 0) (tells : Text → Bool → Type 0)
+pub found_here : (holds : Text → Text → Type 0) (fails : Text → ErrorKind → Type 0) (folders : Text → Bool → Type 0)
     (name : Text) (above : ℕ) (folder named text : Text) → holds (folder ++ name) text → named ≡ folder
-    → IsNearest holds fails tells name above folder (near named above text)
+    → IsNearest holds fails folders name above folder (near named above text)
 unfolding IsNearest
-found_here holds fails tells name zero folder named text has same =
+found_here holds fails folders name zero folder named text has same =
     (Some text, has, ap (λ (f : Text). near f zero text) same)
-found_here holds fails tells name (suc above) folder named text has same =
+found_here holds fails folders name (suc above) folder named text has same =
     (Some text, has, ap (λ (f : Text). near f (suc above) text) same)
 
 -- No folder is around.
-pub at_top : (holds : Text → Text → Type 0) (fails : Text → ErrorKind → Type 0) (tells : Text → Bool → Type 0)
+pub at_top : (holds : Text → Text → Type 0) (fails : Text → ErrorKind → Type 0) (folders : Text → Bool → Type 0)
     (name : Text) (above : ℕ) (folder : Text) (answer : Option Near) → IsAbsent fails (folder ++ name) → above ≡ 0
-    → answer ≡ None → IsNearest holds fails tells name above folder answer
+    → answer ≡ None → IsNearest holds fails folders name above folder answer
 unfolding IsNearest
-at_top holds fails tells name zero folder answer absent none is = (None, absent, is)
-at_top holds fails tells name (suc above) folder answer absent none is = absurd cc
+at_top holds fails folders name zero folder answer absent none is = (None, absent, is)
+at_top holds fails folders name (suc above) folder answer absent none is = absurd cc
 
-beyond : (holds : Text → Text → Type 0) (fails : Text → ErrorKind → Type 0) (tells : Text → Bool → Type 0)
+beyond : (holds : Text → Text → Type 0) (fails : Text → ErrorKind → Type 0) (folders : Text → Bool → Type 0)
     (name : Text) (above : ℕ) (folder : Text) (answer : Option Near) → IsAbsent fails (folder ++ name) → above ≢ 0
-    → IsBeyond holds fails tells (IsNearest holds fails tells name (above - 1)) folder answer
-    → IsNearest holds fails tells name above folder answer
+    → IsBeyond holds fails folders (IsNearest holds fails folders name (above - 1)) folder answer
+    → IsNearest holds fails folders name above folder answer
 unfolding IsNearest
-beyond holds fails tells name zero folder answer absent some is = absurd (some refl)
-beyond holds fails tells name (suc above) folder answer absent some is =
+beyond holds fails folders name zero folder answer absent some is = absurd (some refl)
+beyond holds fails folders name (suc above) folder answer absent some is =
     let less : suc above - 1 ≡ above = omega arith in (
       None,
       absent,
-      subst (λ (k : ℕ). IsBeyond holds fails tells (IsNearest holds fails tells name k) folder answer) less is,
+      subst (λ (k : ℕ). IsBeyond holds fails folders (IsNearest holds fails folders name k) folder answer) less is,
     )
 
 -- The folder has `.git`.
-pub in_repository : (holds : Text → Text → Type 0) (fails : Text → ErrorKind → Type 0) (tells : Text → Bool → Type 0)
+pub in_repository : (holds : Text → Text → Type 0) (fails : Text → ErrorKind → Type 0) (folders : Text → Bool → Type 0)
     (name : Text) (above : ℕ) (folder : Text) (has : Bool) (answer : Option Near) → IsAbsent fails (folder ++ name)
     → above ≢ 0 → IsThereOr holds fails (folder ++ codes ".git") has → has ≡ true → answer ≡ None
-    → IsNearest holds fails tells name above folder answer
-in_repository holds fails tells name above folder has answer absent some there is none =
-    beyond holds fails tells name above folder answer absent some
+    → IsNearest holds fails folders name above folder answer
+in_repository holds fails folders name above folder has answer absent some there is none =
+    beyond holds fails folders name above folder answer absent some
     (true, subst (λ (b : Bool). IsThereOr holds fails (folder ++ codes ".git") b) is there, none)
 
-around_it : (holds : Text → Text → Type 0) (fails : Text → ErrorKind → Type 0) (tells : Text → Bool → Type 0)
+around_it : (holds : Text → Text → Type 0) (fails : Text → ErrorKind → Type 0) (folders : Text → Bool → Type 0)
     (name : Text) (above : ℕ) (folder : Text) (has : Bool) (answer : Option Near) → IsAbsent fails (folder ++ name)
     → above ≢ 0 → IsThereOr holds fails (folder ++ codes ".git") has → has ≡ false
-    → IsAround tells (IsNearest holds fails tells name (above - 1)) (around folder) answer
-    → IsNearest holds fails tells name above folder answer
-around_it holds fails tells name above folder has answer absent some there is around =
-    beyond holds fails tells name above folder answer absent some
+    → IsAround folders (IsNearest holds fails folders name (above - 1)) (around folder) answer
+    → IsNearest holds fails folders name above folder answer
+around_it holds fails folders name above folder has answer absent some there is around =
+    beyond holds fails folders name above folder answer absent some
     (false, subst (λ (b : Bool). IsThereOr holds fails (folder ++ codes ".git") b) is there, around)
 
 -- No name in the folder around can be looked up.
-pub at_closed : (holds : Text → Text → Type 0) (fails : Text → ErrorKind → Type 0) (tells : Text → Bool → Type 0)
+pub at_closed : (holds : Text → Text → Type 0) (fails : Text → ErrorKind → Type 0) (folders : Text → Bool → Type 0)
     (name : Text) (above : ℕ) (folder outer : Text) (has answers : Bool) (answer : Option Near)
     → IsAbsent fails (folder ++ name) → above ≢ 0 → IsThereOr holds fails (folder ++ codes ".git") has → has ≡ false
-    → outer ≡ around folder → tells (outer ++ codes ".") answers → answers ≡ false → answer ≡ None
-    → IsNearest holds fails tells name above folder answer
-at_closed holds fails tells name above folder outer has answers answer absent some there is at reported closed none =
-    around_it holds fails tells name above folder has answer absent some there is (
+    → outer ≡ around folder → folders (outer ++ codes ".") answers → answers ≡ false → answer ≡ None
+    → IsNearest holds fails folders name above folder answer
+at_closed holds fails folders name above folder outer has answers answer absent some there is at reported closed none =
+    around_it holds fails folders name above folder has answer absent some there is (
       false,
-      subst (λ (f : Text). tells (f ++ codes ".") false) at
-          (subst (λ (b : Bool). tells (outer ++ codes ".") b) closed reported),
+      subst (λ (f : Text). folders (f ++ codes ".") false) at
+          (subst (λ (b : Bool). folders (outer ++ codes ".") b) closed reported),
       none,
     )
 
 -- The folder around has the answer.
-pub above_it : (holds : Text → Text → Type 0) (fails : Text → ErrorKind → Type 0) (tells : Text → Bool → Type 0)
+pub above_it : (holds : Text → Text → Type 0) (fails : Text → ErrorKind → Type 0) (folders : Text → Bool → Type 0)
     (name : Text) (above : ℕ) (folder outer named : Text) (has answers : Bool) (answer : Option Near)
     → IsAbsent fails (folder ++ name) → above ≢ 0 → IsThereOr holds fails (folder ++ codes ".git") has → has ≡ false
-    → outer ≡ around folder → named ≡ outer → tells (named ++ codes ".") answers → answers ≡ true
-    → IsNearest holds fails tells name (above - 1) named answer
-    → IsNearest holds fails tells name above folder answer
-above_it holds fails tells name above folder outer named has answers answer absent some there is at same reported open_ below =
+    → outer ≡ around folder → named ≡ outer → folders (named ++ codes ".") answers → answers ≡ true
+    → IsNearest holds fails folders name (above - 1) named answer
+    → IsNearest holds fails folders name above folder answer
+above_it holds fails folders name above folder outer named has answers answer absent some there is at same reported open_ below =
     let here : named ≡ around folder = same ∙ at in
-    around_it holds fails tells name above folder has answer absent some there is (
+    around_it holds fails folders name above folder has answer absent some there is (
       true,
-      subst (λ (f : Text). tells (f ++ codes ".") true) here
-          (subst (λ (b : Bool). tells (named ++ codes ".") b) open_ reported),
-      subst (λ (f : Text). IsNearest holds fails tells name (above - 1) f answer) here below,
+      subst (λ (f : Text). folders (f ++ codes ".") true) here
+          (subst (λ (b : Bool). folders (named ++ codes ".") b) open_ reported),
+      subst (λ (f : Text). IsNearest holds fails folders name (above - 1) f answer) here below,
     )
 
-same_kind : {one other : ErrorKind} → ◌≡◌ {A = Reason} (Unread one) (Unread other) → one ≡ other
+same_kind : {one other : ErrorKind} → ◌≡◌ {A = WalkReason} (Unread one) (Unread other) → one ≡ other
 same_kind e = cc
 
 -- The file of the folder can't be read.
-pub unread_here : (fails : Text → ErrorKind → Type 0) (folder name path : Text) (error : ReadError) (e : WalkError)
+pub unread_here : (fails : Text → ErrorKind → Type 0) (folder name path : Text) (error : FileError) (e : WalkError)
     → path ≡ folder ++ name → IsReadError (fails path) error → IsUnreadOf path error e
     → IsUnreadUpwards fails name 0 folder e
 unread_here fails folder name path unread.Memory Memory same why is = tt

@@ -3,8 +3,8 @@ use Rattle.std.proofs.Common.{◌≡◌, ℕ, ◌+◌, ◌<◌, suc, List, [], �
 use Rattle.std.specs.Prelude.{Option, Some, None, Bool, true, codes}
 use Rattle.std.proofs.Math.Seq.{drop-cons, drop-length}
 use denote.Ref.{Bor}
-use Rattle.timefd_lint_files.specs.declared.entry.Entry.{Entry}
-use Rattle.timefd_lint_files.specs.declared.entry.Kind.TheVariants as kinds
+use Rattle.timefd_lint_files.specs.declared.entry.FolderEntry.{FolderEntry}
+use Rattle.timefd_lint_files.specs.declared.entry.EntryKind.TheVariants as kinds
 use Rattle.timefd_lint_files.specs.declared.ignore_file.IgnoreFile.{IgnoreFile}
 use Rattle.timefd_lint_files.specs.Entries.{has_entry}
 use Rattle.timefd_lint_files.specs.Matching.{Text}
@@ -51,7 +51,7 @@ no_folder Below (entered path) before after left = absurd cc
 -- an entry that is passed over, or whose name is taken
 pub one_looked_at : (endings : List (Bor Text)) (excluded : List IgnoreFile)
     (Below : List IgnoreFile → Text → List Text → Type 0) (ignores held : List IgnoreFile) (folder : Text)
-    (entries : List Entry) (entry : Entry) (at : ℕ) (before now after : List Text) (below : Option Text)
+    (entries : List FolderEntry) (entry : FolderEntry) (at : ℕ) (before now after : List Text) (below : Option Text)
     → at < length entries → entry ≡ get_or entries at entry
     → GoesOn (Gives endings excluded Below ignores folder) entries at before now → held ≡ ignores
     → IsLookedAt endings excluded held folder entry now after below → below ≡ None
@@ -76,7 +76,7 @@ a_folder Below (entered own) path before after names left is =
 -- a folder that the walk goes into
 pub one_walked : (endings : List (Bor Text)) (excluded : List IgnoreFile)
     (Below : List IgnoreFile → Text → List Text → Type 0) (ignores held inside : List IgnoreFile) (folder : Text)
-    (entries : List Entry) (entry : Entry) (at : ℕ) (path name : Text) (before now between after names : List Text)
+    (entries : List FolderEntry) (entry : FolderEntry) (at : ℕ) (path name : Text) (before now between after names : List Text)
     (below : Option Text)
     → at < length entries → entry ≡ get_or entries at entry
     → GoesOn (Gives endings excluded Below ignores folder) entries at before now → held ≡ ignores → inside ≡ held
@@ -96,8 +96,8 @@ one_walked endings excluded Below ignores held inside folder entries entry at pa
     (more ∙ ap (λ (ns : List Text). ns ++ names) own.1)
 
 -- all entries of a folder
-pub walked : (endings : List (Bor Text)) (excluded : List IgnoreFile) (lists : Text → List Entry → Type 0) (holds : Text → Text → Type 0) (depth below : ℕ)
-    (above ignores : List IgnoreFile) (folder : Text) (entries borrowed : List Entry) (names : List Text)
+pub walked : (endings : List (Bor Text)) (excluded : List IgnoreFile) (lists : Text → List FolderEntry → Type 0) (holds : Text → Text → Type 0) (depth below : ℕ)
+    (above ignores : List IgnoreFile) (folder : Text) (entries borrowed : List FolderEntry) (names : List Text)
     → depth ≡ suc below → AreListed (lists folder) entries → borrowed ≡ entries → HasOwn lists holds folder borrowed above ignores
     → AllGive (Gives endings excluded (IsWalk endings excluded lists holds below) ignores folder) entries names
     → IsWalk endings excluded lists holds depth above folder names
@@ -107,7 +107,7 @@ walked endings excluded lists holds depth below above ignores folder entries bor
       entries,
       ignores,
       listed,
-      subst (λ (es : List Entry). HasOwn lists holds folder es above ignores) same own,
+      subst (λ (es : List FolderEntry). HasOwn lists holds folder es above ignores) same own,
       are,
     )
 
@@ -118,7 +118,7 @@ pub with_own : (holds : Text → Text → Type 0) (folder name : Text) (is : Boo
 with_own holds folder name is above all own has read added = rw has (own, read, added)
 
 -- a folder whose exclude file is added, if it has one, and then its own
-pub with_both : (lists : Text → List Entry → Type 0) (holds : Text → Text → Type 0) (folder : Text) (entries : List Entry)
+pub with_both : (lists : Text → List FolderEntry → Type 0) (holds : Text → Text → Type 0) (folder : Text) (entries : List FolderEntry)
     (above between all : List IgnoreFile) (excludes is : Bool) → HasExclude lists folder entries excludes
     → HasOwnIf excludes holds folder (codes ".git/info/exclude") above between
     → is ≡ has_entry kinds.File (codes ".gitignore") entries

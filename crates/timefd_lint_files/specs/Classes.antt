@@ -4,8 +4,8 @@ use denote.Ref.{Bor}
 use Rattle.timefd_lint_files.specs.declared.class.ByteRange.{ByteRange}
 use Rattle.timefd_lint_files.specs.declared.ranges.ByteStep.{ByteStep}
 use Rattle.timefd_lint_files.specs.declared.ranges.RangeStep.{RangeStep}
-use Rattle.timefd_lint_files.specs.declared.token.Token.{Token}
-use Rattle.timefd_lint_files.specs.declared.token.Token.TheVariants.{Byte, Any, OneOf, Star, Folders, Rest, Nothing}
+use Rattle.timefd_lint_files.specs.declared.token.PatternToken.{PatternToken}
+use Rattle.timefd_lint_files.specs.declared.token.PatternToken.TheVariants.{Byte, Any, OneOf, Star, Folders, Rest, Nothing}
 use Rattle.timefd_lint_files.specs.Lines.{backslash, exclamation}
 use Rattle.timefd_lint_files.specs.Matching.{Text}
 
@@ -122,7 +122,7 @@ abbrev pub unnegated : Text → Text
 unnegated text = if is_negated text then drop 1 text else text
 
 -- The class after the opening bracket. One that isn't closed, or has a named class in it, matches nothing.
-abbrev pub IsClass : Bool → Text → Token → Text → Type 0
+abbrev pub IsClass : Bool → Text → PatternToken → Text → Type 0
 IsClass negated text (Byte byte) rest = ⊥
 IsClass negated text Any rest = ⊥
 IsClass negated text (OneOf class) rest =
@@ -133,5 +133,5 @@ IsClass negated text Rest rest = ⊥
 IsClass negated text Nothing rest =
     (rest ≡ text) × (ranges : List ByteRange) × AreRanges true text ranges None
 
-abbrev pub BeginsClass : Text → Token → Text → Type 0
+abbrev pub BeginsClass : Text → PatternToken → Text → Type 0
 BeginsClass text token rest = IsClass (is_negated text) (unnegated text) token rest

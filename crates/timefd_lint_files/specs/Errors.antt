@@ -1,19 +1,19 @@
 -- Why a walk over folders ends early.
-use Rattle.std.specs.Prelude.{ℕ, ◌≡◌, ◌≤◌, ◌++◌, ⊤, List, nat_eq, string_bytes}
+use Rattle.std.specs.Prelude.{ℕ, ◌≡◌, ◌≤◌, ◌⊎◌, ◌∷◌, [], ◌++◌, ⊤, List, nat_eq, string_bytes}
 use denote.Ref.{Bor}
 use Rattle.std.specs.List.{Contains, count_by}
 use Rattle.std.specs.declared.io.ErrorKind.{ErrorKind}
-use Rattle.timefd_lint_files.specs.declared.system.ReadError.{ReadError}
-use Rattle.timefd_lint_files.specs.declared.system.ReadError.TheVariants as unread
-use Rattle.timefd_lint_files.specs.declared.walk_error.Reason.{Reason}
-use Rattle.timefd_lint_files.specs.declared.walk_error.Reason.TheVariants.{Unread, TooDeep}
+use Rattle.timefd_lint_files.specs.declared.system.FileError.{FileError}
+use Rattle.timefd_lint_files.specs.declared.system.FileError.TheVariants as unread
+use Rattle.timefd_lint_files.specs.declared.walk_error.WalkReason.{WalkReason}
+use Rattle.timefd_lint_files.specs.declared.walk_error.WalkReason.TheVariants.{Unread, TooDeep}
 use Rattle.timefd_lint_files.specs.declared.walk_error.WalkError.{WalkError}
 use Rattle.timefd_lint_files.specs.declared.walk_error.WalkError.TheVariants.{Memory, Failed}
 use Rattle.timefd_lint_files.specs.Matching.{Text, slash}
 use Rattle.timefd_lint_files.specs.Walks.{as_folder}
 
 -- The system reports this reason, or memory ran out.
-abbrev pub IsReadError : (ErrorKind → Type 0) → ReadError → Type 0
+abbrev pub IsReadError : (ErrorKind → Type 0) → FileError → Type 0
 IsReadError fails unread.Memory = ⊤
 IsReadError fails (unread.Failed kind) = fails kind
 
@@ -32,7 +32,7 @@ IsBelowAny names depth path =
     (name : Bor Text) × Contains names name × IsBelow (as_folder name.now) depth path
 
 -- A folder or a file below can't be read, or at least `depth` folders are around it.
-abbrev pub IsReason : (Text → ErrorKind → Type 0) → (ℕ → Text → Type 0) → ℕ → Text → Reason → Type 0
+abbrev pub IsReason : (Text → ErrorKind → Type 0) → (ℕ → Text → Type 0) → ℕ → Text → WalkReason → Type 0
 IsReason fails Below depth path (Unread kind) = fails path kind × Below 0 path
 IsReason fails Below depth path TooDeep = Below depth path
 
@@ -49,10 +49,15 @@ IsUnread fails folder (Failed path (Unread kind)) =
 IsUnread fails folder (Failed path TooDeep) = ⊥
 
 -- An error about a folder or a file has its name, unless there is no memory for that.
-abbrev pub IsFailureOf : Text → Reason → WalkError → Type 0
+abbrev pub IsFailureOf : Text → WalkReason → WalkError → Type 0
 IsFailureOf path reason Memory = ⊤
 IsFailureOf path reason (Failed named why) = (string_bytes named ≡ path) × (why ≡ reason)
 
-abbrev pub IsUnreadOf : Text → ReadError → WalkError → Type 0
+abbrev pub IsUnreadOf : Text → FileError → WalkError → Type 0
 IsUnreadOf path unread.Memory error = error ≡ Memory
 IsUnreadOf path (unread.Failed kind) error = IsFailureOf path (Unread kind) error
+
+-- It is so of one of these.
+abbrev pub OneOf : {X : Type 0} → (X → Type 0) → List X → Type 0
+OneOf Is [] = ⊥
+OneOf Is (one ∷ others) = Is one ⊎ OneOf Is others

@@ -1,6 +1,6 @@
 -- What a line of a `.gitignore` file says.
 use Rattle.std.specs.Prelude.{ℕ, ◌+◌, ◌-◌, Bool, true, false, not, ◌&&◌, ◌||◌, ◌==◌, if◌then◌else◌, [], ◌∷◌, length, take, slice_index, Option, Some, None}
-use Rattle.timefd_lint_files.specs.declared.line.Line.{Line}
+use Rattle.timefd_lint_files.specs.declared.line.PatternLine.{PatternLine}
 use Rattle.timefd_lint_files.specs.Matching.{Text, slash}
 
 -- space, `!`, `#`, `\`
@@ -23,7 +23,7 @@ pub record Said : Type 0 where
   pub is_anchored : Bool
   pub text : Text
 
-abbrev pub seen : Line → Said
+abbrev pub seen : PatternLine → Said
 seen line = record {
   is_negated = line.is_negated;
   is_for_folders = line.is_for_folders;
@@ -31,7 +31,7 @@ seen line = record {
   text = line.text.now;
 }
 
-abbrev pub seen_any : Option Line → Option Said
+abbrev pub seen_any : Option PatternLine → Option Said
 seen_any None = None
 seen_any (Some line) = Some (seen line)
 

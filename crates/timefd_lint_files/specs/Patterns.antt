@@ -1,20 +1,20 @@
 -- The patterns of a `.gitignore` file.
 use Rattle.std.specs.Prelude.{◌≡◌, Bool, true, false, not, ◌&&◌, List, ◌∷◌, Option, Some, None, IsTrue, ⊤}
-use Rattle.timefd_lint_files.specs.declared.token.Token.{Token}
-use Rattle.timefd_lint_files.specs.declared.token.Token.TheVariants.{Folders}
-use Rattle.timefd_lint_files.specs.declared.line.Line.{Line}
+use Rattle.timefd_lint_files.specs.declared.token.PatternToken.{PatternToken}
+use Rattle.timefd_lint_files.specs.declared.token.PatternToken.TheVariants.{Folders}
+use Rattle.timefd_lint_files.specs.declared.line.PatternLine.{PatternLine}
 use Rattle.timefd_lint_files.specs.declared.pattern.Pattern.{Pattern}
 use Rattle.timefd_lint_files.specs.Lines.{Said, line_of}
 use Rattle.timefd_lint_files.specs.Matching.{Text, Matches, matches}
 use Rattle.timefd_lint_files.specs.Tokens.{AreTokens}
 
 -- A pattern that isn't anchored matches below any folder: its tokens are `**/` and then those of its text.
-abbrev pub AreTokensOf : Bool → Text → List Token → Type 0
+abbrev pub AreTokensOf : Bool → Text → List PatternToken → Type 0
 AreTokensOf true text tokens = AreTokens true text tokens
 AreTokensOf false text tokens =
-    (more : List Token) × (tokens ≡ Folders ∷ more) × AreTokens true text more
+    (more : List PatternToken) × (tokens ≡ Folders ∷ more) × AreTokens true text more
 
-abbrev pub HasTokens : Line → List Token → Type 0
+abbrev pub HasTokens : PatternLine → List PatternToken → Type 0
 HasTokens line tokens = AreTokensOf line.is_anchored line.text.now tokens
 
 -- The pattern says what the line says.

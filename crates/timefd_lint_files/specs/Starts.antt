@@ -2,7 +2,7 @@
 use Rattle.std.specs.Prelude.{ℕ, ◌-◌, Bool, false, not, ◌&&◌, ◌==◌, nat_eq, if◌then◌else◌, [], ◌∷◌, ◌++◌, length, take, drop, Option, Some, None}
 use Rattle.std.specs.List.{starts_with}
 use Rattle.timefd_lint_files.specs.declared.excluded.Excluded.{Excluded}
-use Rattle.timefd_lint_files.specs.declared.start.Start.{Start}
+use Rattle.timefd_lint_files.specs.declared.start.NameParts.{NameParts}
 use Rattle.timefd_lint_files.specs.FileNames.{file_name}
 use Rattle.timefd_lint_files.specs.Matching.{Text, slash}
 
@@ -15,10 +15,10 @@ pub record Begun : Type 0 where
   pub front : Text
   pub rest : Text
 
-abbrev pub seen : Start → Begun
+abbrev pub seen : NameParts → Begun
 seen start = record { front = start.front.now; rest = start.rest.now }
 
-abbrev pub seen_any : Option Start → Option Begun
+abbrev pub seen_any : Option NameParts → Option Begun
 seen_any None = None
 seen_any (Some start) = Some (seen start)
 

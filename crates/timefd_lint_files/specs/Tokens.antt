@@ -1,8 +1,8 @@
 -- The tokens of a pattern.
 use Rattle.std.specs.Prelude.{ℕ, ◌≡◌, Bool, true, false, ◌&&◌, ◌==◌, nat_lt, if◌then◌else◌, List, [], ◌∷◌, length, Option, Some, None}
-use Rattle.timefd_lint_files.specs.declared.token.Token.{Token}
-use Rattle.timefd_lint_files.specs.declared.token.Token.TheVariants.{Byte, Any, OneOf, Star, Folders, Rest, Nothing}
-use Rattle.timefd_lint_files.specs.declared.token.Step.{Step}
+use Rattle.timefd_lint_files.specs.declared.token.PatternToken.{PatternToken}
+use Rattle.timefd_lint_files.specs.declared.token.PatternToken.TheVariants.{Byte, Any, OneOf, Star, Folders, Rest, Nothing}
+use Rattle.timefd_lint_files.specs.declared.token.TokenStep.{TokenStep}
 use Rattle.timefd_lint_files.specs.Classes.{BeginsClass, bracket}
 use Rattle.timefd_lint_files.specs.Lines.{backslash}
 use Rattle.timefd_lint_files.specs.Matching.{Text, slash}
@@ -16,10 +16,10 @@ question = 63
 
 -- a token, and what follows it
 pub record Begin : Type 0 where
-  pub token : Token
+  pub token : PatternToken
   pub rest : Text
 
-abbrev pub begun : Step → Begin
+abbrev pub begun : TokenStep → Begin
 begun step = record { token = step.token; rest = step.rest.now }
 
 abbrev pub after_stars : Text → Text
@@ -52,24 +52,24 @@ begun_by begins_name byte after =
     else if byte == question then record { token = Any; rest = after }
     else record { token = Byte byte; rest = after }
 
-abbrev pub BeginsBy : Bool → Bool → ℕ → Text → Token → Text → Type 0
+abbrev pub BeginsBy : Bool → Bool → ℕ → Text → PatternToken → Text → Type 0
 BeginsBy true begins_name byte after token rest = BeginsClass after token rest
 BeginsBy false begins_name byte after token rest =
     begun_by begins_name byte after ≡ record { token = token; rest = rest }
 
 -- The text begins with this token. A bracket opens a class.
-abbrev pub Begins : Bool → Text → Token → Text → Type 0
+abbrev pub Begins : Bool → Text → PatternToken → Text → Type 0
 Begins begins_name [] token rest = ⊥
 Begins begins_name (byte ∷ bytes) token rest =
     BeginsBy (byte == bracket) begins_name byte bytes token rest
 
 -- none at the end
-abbrev pub BeginsAny : Bool → Text → Option Step → Type 0
+abbrev pub BeginsAny : Bool → Text → Option TokenStep → Type 0
 BeginsAny begins_name text None = text ≡ []
 BeginsAny begins_name text (Some step) = Begins begins_name text step.token step.rest.now
 
 -- A name begins after a slash.
-abbrev pub ends_name : Token → Bool
+abbrev pub ends_name : PatternToken → Bool
 ends_name (Byte byte) = byte == slash
 ends_name Any = false
 ends_name (OneOf class) = false
@@ -79,7 +79,7 @@ ends_name Rest = false
 ends_name Nothing = false
 
 -- The text is these tokens, one after another, and nothing else.
-abbrev pub AreTokens : Bool → Text → List Token → Type 0
+abbrev pub AreTokens : Bool → Text → List PatternToken → Type 0
 AreTokens begins_name text [] = text ≡ []
 AreTokens begins_name text (token ∷ tokens) = (rest : Text)
     × Begins begins_name text token rest

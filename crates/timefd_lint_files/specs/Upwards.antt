@@ -52,7 +52,7 @@ IfClosed Above answer true = Above
 
 -- in the folder around, unless no name in it can be looked up
 abbrev pub IsAround : (Text → Bool → Type 0) → (Text → Option Near → Type 0) → Text → Option Near → Type 0
-IsAround tells Above outer answer = (answers : Bool) × tells (outer ++ codes ".") answers
+IsAround folders Above outer answer = (answers : Bool) × folders (outer ++ codes ".") answers
     × IfClosed (Above outer answer) answer answers
 
 abbrev pub Unless : Type 0 → Option Near → Bool → Type 0
@@ -62,8 +62,8 @@ Unless Around answer false = Around
 -- above a folder that has no such file: nowhere if the folder has `.git`
 abbrev pub IsBeyond : (Text → Text → Type 0) → (Text → ErrorKind → Type 0) → (Text → Bool → Type 0)
     → (Text → Option Near → Type 0) → Text → Option Near → Type 0
-IsBeyond holds fails tells Above folder answer = (has : Bool) × IsThereOr holds fails (folder ++ codes ".git") has
-    × Unless (IsAround tells Above (around folder) answer) answer has
+IsBeyond holds fails folders Above folder answer = (has : Bool) × IsThereOr holds fails (folder ++ codes ".git") has
+    × Unless (IsAround folders Above (around folder) answer) answer has
 
 abbrev pub IfAbsent : Type 0 → ℕ → Text → Option Near → Option Text → Type 0
 IfAbsent Beyond above folder answer None = Beyond
@@ -79,10 +79,10 @@ IsHereOr holds fails name Beyond above folder answer = (text : Option Text)
 -- The file of this name in a folder, or else in the nearest of the `above` folders around it that has one.
 unfoldable pub IsNearest : (Text → Text → Type 0) → (Text → ErrorKind → Type 0) → (Text → Bool → Type 0) → Text → ℕ
     → Text → Option Near → Type 0
-IsNearest holds fails tells name zero folder answer =
+IsNearest holds fails folders name zero folder answer =
     IsHereOr holds fails name (answer ≡ None) zero folder answer
-IsNearest holds fails tells name (suc above) folder answer =
-    IsHereOr holds fails name (IsBeyond holds fails tells (IsNearest holds fails tells name above) folder answer)
+IsNearest holds fails folders name (suc above) folder answer =
+    IsHereOr holds fails name (IsBeyond holds fails folders (IsNearest holds fails folders name above) folder answer)
     (suc above) folder answer
 
 -- how many slashes are still to come after a byte

@@ -5,11 +5,11 @@ use Rattle.std.specs.Cmp.Lexicographic.{pointwise}
 use Rattle.std.specs.List.Sorted.{IsPermutation, IsSortedByKey}
 use Rattle.std.specs.String.{string_cmp}
 use Rattle.std.specs.declared.alloc.Global.{Global}
-use Rattle.timefd_lint_files.specs.declared.entry.Entry.{Entry}
-use Rattle.timefd_lint_files.specs.declared.entry.Kind.{Kind}
-use Rattle.timefd_lint_files.specs.declared.entry.Kind.TheVariants as kinds
-use Rattle.timefd_lint_files.specs.declared.entry.Role.{Role}
-use Rattle.timefd_lint_files.specs.declared.entry.Role.TheVariants as roles
+use Rattle.timefd_lint_files.specs.declared.entry.FolderEntry.{FolderEntry}
+use Rattle.timefd_lint_files.specs.declared.entry.EntryKind.{EntryKind}
+use Rattle.timefd_lint_files.specs.declared.entry.EntryKind.TheVariants as kinds
+use Rattle.timefd_lint_files.specs.declared.entry.EntryRole.{EntryRole}
+use Rattle.timefd_lint_files.specs.declared.entry.EntryRole.TheVariants as roles
 use Rattle.timefd_lint_files.specs.declared.excluded.Excluded.{Excluded}
 use Rattle.timefd_lint_files.specs.declared.ignore_file.IgnoreFile.{IgnoreFile}
 use Rattle.timefd_lint_files.specs.Entries.{has_entry, role}
@@ -27,9 +27,9 @@ text_any None = None
 text_any (Some name) = Some (string_bytes name)
 
 -- The entries are those of the folder, sorted by name.
-abbrev pub AreListed : (List Entry → Type 0) → List Entry → Type 0
-AreListed lists entries = (listed : List Entry) × lists listed × IsPermutation listed entries
-    × IsSortedByKey (λ (entry : Entry). entry.name) string_cmp entries
+abbrev pub AreListed : (List FolderEntry → Type 0) → List FolderEntry → Type 0
+AreListed lists entries = (listed : List FolderEntry) × lists listed × IsPermutation listed entries
+    × IsSortedByKey (λ (entry : FolderEntry). entry.name) string_cmp entries
 
 -- the file of this name, whose patterns apply in a folder
 abbrev pub IsOwn : (Text → Text → Type 0) → Text → Text → IgnoreFile → Type 0
@@ -42,31 +42,31 @@ HasOwnIf true holds folder name above all =
     (own : IgnoreFile) × IsOwn holds folder name own × (all ≡ above ++ own ∷ [])
 
 -- whether a folder has an entry of this kind and name
-abbrev pub Tells : (Text → List Entry → Type 0) → Text → Kind → Text → Bool → Type 0
-Tells lists folder kind name has =
-    (entries : List Entry) × lists folder entries × (has ≡ has_entry kind name entries)
+abbrev pub FolderHas : (Text → List FolderEntry → Type 0) → Text → EntryKind → Text → Bool → Type 0
+FolderHas lists folder kind name has =
+    (entries : List FolderEntry) × lists folder entries × (has ≡ has_entry kind name entries)
 
 -- whether `.git/info/` has the file `exclude`, if there is such a folder
-abbrev pub TellsExclude : Bool → (Text → List Entry → Type 0) → Text → Bool → Type 0
-TellsExclude false lists folder has = has ≡ false
-TellsExclude true lists folder has =
-    Tells lists (folder ++ codes ".git/info/") kinds.File (codes "exclude") has
+abbrev pub InfoHasExclude : Bool → (Text → List FolderEntry → Type 0) → Text → Bool → Type 0
+InfoHasExclude false lists folder has = has ≡ false
+InfoHasExclude true lists folder has =
+    FolderHas lists (folder ++ codes ".git/info/") kinds.File (codes "exclude") has
 
 -- whether that file exists, if there is a folder `.git/`
-abbrev pub TellsRepository : Bool → (Text → List Entry → Type 0) → Text → Bool → Type 0
-TellsRepository false lists folder has = has ≡ false
-TellsRepository true lists folder has = (has_info : Bool)
-    × Tells lists (folder ++ codes ".git/") kinds.Folder (codes "info") has_info
-    × TellsExclude has_info lists folder has
+abbrev pub RepositoryHas : Bool → (Text → List FolderEntry → Type 0) → Text → Bool → Type 0
+RepositoryHas false lists folder has = has ≡ false
+RepositoryHas true lists folder has = (has_info : Bool)
+    × FolderHas lists (folder ++ codes ".git/") kinds.Folder (codes "info") has_info
+    × InfoHasExclude has_info lists folder has
 
 -- whether a folder with these entries has the exclude file of a repository
-abbrev pub HasExclude : (Text → List Entry → Type 0) → Text → List Entry → Bool → Type 0
+abbrev pub HasExclude : (Text → List FolderEntry → Type 0) → Text → List FolderEntry → Bool → Type 0
 HasExclude lists folder entries has =
-    TellsRepository (has_entry kinds.Folder (codes ".git") entries) lists folder has
+    RepositoryHas (has_entry kinds.Folder (codes ".git") entries) lists folder has
 
 -- In a folder the files above it apply, then its exclude file, then its `.gitignore` file. Later ones
 -- overrule earlier ones.
-abbrev pub HasOwn : (Text → List Entry → Type 0) → (Text → Text → Type 0) → Text → List Entry
+abbrev pub HasOwn : (Text → List FolderEntry → Type 0) → (Text → Text → Type 0) → Text → List FolderEntry
     → List IgnoreFile → List IgnoreFile → Type 0
 HasOwn lists holds folder entries above all = (has_exclude : Bool) × (between : List IgnoreFile)
     × HasExclude lists folder entries has_exclude
@@ -80,14 +80,14 @@ pub data Found : Type 0 where
   entered : Text → Found
 
 -- What is excluded or ignored is passed over, with all that is below it.
-abbrev pub found_as : List IgnoreFile → List IgnoreFile → Text → Role → Found
+abbrev pub found_as : List IgnoreFile → List IgnoreFile → Text → EntryRole → Found
 found_as excluded ignores path roles.None = passed
 found_as excluded ignores path roles.Source =
     if is_passed_over excluded ignores path false then passed else taken path
 found_as excluded ignores path roles.Folder =
     if is_passed_over excluded ignores path true then passed else entered (path ++ slash ∷ [])
 
-abbrev pub found : List (Bor Text) → List IgnoreFile → List IgnoreFile → Text → Entry → Found
+abbrev pub found : List (Bor Text) → List IgnoreFile → List IgnoreFile → Text → FolderEntry → Found
 found endings excluded ignores folder entry =
     found_as excluded ignores (folder ++ string_bytes entry.name) (role endings entry)
 
@@ -97,7 +97,7 @@ IsLeft passed before after below = (after ≡ before) × (below ≡ None)
 IsLeft (taken path) before after below = (after ≡ before ++ path ∷ []) × (below ≡ None)
 IsLeft (entered path) before after below = (after ≡ before) × (below ≡ Some path)
 
-abbrev pub IsLookedAt : List (Bor Text) → List IgnoreFile → List IgnoreFile → Text → Entry → List Text → List Text
+abbrev pub IsLookedAt : List (Bor Text) → List IgnoreFile → List IgnoreFile → Text → FolderEntry → List Text → List Text
     → Option Text → Type 0
 IsLookedAt endings excluded ignores folder entry before after below =
     IsLeft (found endings excluded ignores folder entry) before after below
@@ -116,16 +116,16 @@ AllGive Gives (x ∷ xs) names = (own : List Text) × (more : List Text)
 
 -- the names that an entry of a folder gives, under the files that apply in it
 abbrev pub Gives : List (Bor Text) → List IgnoreFile → (List IgnoreFile → Text → List Text → Type 0) → List IgnoreFile
-    → Text → Entry → List Text → Type 0
+    → Text → FolderEntry → List Text → Type 0
 Gives endings excluded Below ignores folder entry names =
     AreOf (Below ignores) (found endings excluded ignores folder entry) names
 
 -- The names of the sources below a folder that have one of these endings, in the order of the entries' names,
 -- if no more than `depth` folders are nested in one another. What is excluded is passed over.
-unfoldable pub IsWalk : List (Bor Text) → List IgnoreFile → (Text → List Entry → Type 0) → (Text → Text → Type 0) → ℕ
+unfoldable pub IsWalk : List (Bor Text) → List IgnoreFile → (Text → List FolderEntry → Type 0) → (Text → Text → Type 0) → ℕ
     → List IgnoreFile → Text → List Text → Type 0
 IsWalk endings excluded lists holds zero above folder names = ⊥
-IsWalk endings excluded lists holds (suc depth) above folder names = (entries : List Entry)
+IsWalk endings excluded lists holds (suc depth) above folder names = (entries : List FolderEntry)
     × (ignores : List IgnoreFile) × AreListed (lists folder) entries × HasOwn lists holds folder entries above ignores
     × AllGive (Gives endings excluded (IsWalk endings excluded lists holds depth) ignores folder) entries names
 
@@ -141,7 +141,7 @@ AreExcluded excluded folder files = IsAlone (start_below excluded folder).front
 
 -- The names of the sources below a folder, except what is excluded, where up to 255 folders are nested in one
 -- another.
-unfoldable pub IsWalkBut : List (Bor Text) → Excluded → (Text → List Entry → Type 0) → (Text → Text → Type 0) → Text
+unfoldable pub IsWalkBut : List (Bor Text) → Excluded → (Text → List FolderEntry → Type 0) → (Text → Text → Type 0) → Text
     → List Text → Type 0
 IsWalkBut endings excluded lists holds folder names = (files : List IgnoreFile) × AreExcluded excluded folder files
     × IsWalk endings files lists holds 255 [] folder names
@@ -189,16 +189,16 @@ AreOfName Below Kept name true names = Below (as_folder name) names
 -- The name of the standard input stays as it is.
 abbrev pub AreOfNameOr : (Text → List Text → Type 0) → (Text → List Text → Type 0) → (Text → Bool → Type 0)
     → Text → Bool → List Text → Type 0
-AreOfNameOr Below Kept tells name true names = names ≡ name ∷ []
-AreOfNameOr Below Kept tells name false names =
-    (is_folder : Bool) × tells name is_folder × AreOfName Below Kept name is_folder names
+AreOfNameOr Below Kept folders name true names = names ≡ name ∷ []
+AreOfNameOr Below Kept folders name false names =
+    (is_folder : Bool) × folders name is_folder × AreOfName Below Kept name is_folder names
 
 -- the names that a name of the command line gives
 abbrev pub IsExpanded : (Text → List Text → Type 0) → (Text → List Text → Type 0) → (Text → Bool → Type 0)
     → Bor Text → List Text → Type 0
-IsExpanded Below Kept tells name names = AreOfNameOr Below Kept tells name.now (is_input name.now) names
+IsExpanded Below Kept folders name names = AreOfNameOr Below Kept folders name.now (is_input name.now) names
 
 -- the names that all names give
 abbrev pub AreExpanded : (Text → List Text → Type 0) → (Text → List Text → Type 0) → (Text → Bool → Type 0)
     → List (Bor Text) → List Text → Type 0
-AreExpanded Below Kept tells given names = AllGive (IsExpanded Below Kept tells) given names
+AreExpanded Below Kept folders given names = AllGive (IsExpanded Below Kept folders) given names

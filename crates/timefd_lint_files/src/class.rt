@@ -13,7 +13,7 @@ pub struct ByteRange {
 
 /// A class of bytes, as `[a-z]`.
 #[derive(Debug, PartialEq, Eq, Drop)]
-pub struct Class {
+pub struct ByteClass {
     /// Whether the class has the bytes outside its ranges instead.
     pub is_negated: bool,
     pub ranges: Vec<ByteRange>,
@@ -40,7 +40,7 @@ fn is_within_any(ranges: &[ByteRange], byte: u8) -> bool
     false
 }
 
-impl Class {
+impl ByteClass {
     /// Whether the class has a byte.
     pub fn has(&self, byte: u8) -> bool
         ensures { result ≡ spec.has self.now byte }

@@ -4,19 +4,19 @@ ghost use Rattle.std.specs.Prelude.{◌≡◌};
 ghost use Rattle.timefd_lint_files.specs.Matching as spec;
 ghost use Rattle.timefd_lint_files.specs.Ends.{BeginsAlikeIn, Decides, EndsAlikeIn};
 
-use crate::token::Token;
+use crate::token::PatternToken;
 
 /// What remains of a pattern and a path.
 #[derive(Clone, Copy)]
-pub struct Left<'a> {
-    pub tokens: &'a [Token],
+pub struct LeftToMatch<'a> {
+    pub tokens: &'a [PatternToken],
     pub path: &'a [u8],
 }
 
 /// How many tokens at the end match one byte each, namely the last bytes of the path. `None` if one of them
 /// doesn't match its byte.
 #[tactic(auto, using(crate::proofs::EndLemmas::none_after, crate::proofs::EndLemmas::one_after, crate::proofs::EndLemmas::other_after, crate::proofs::EndLemmas::end_of_path_after))]
-fn end_len(tokens: &[Token], path: &[u8]) -> Option<usize>
+fn end_len(tokens: &[PatternToken], path: &[u8]) -> Option<usize>
     ensures { EndsAlikeIn tokens.now path.now result }
 {
     let mut count = 0;
@@ -39,7 +39,7 @@ fn end_len(tokens: &[Token], path: &[u8]) -> Option<usize>
 /// How many tokens at the front match one byte each, namely the first bytes of the path. `None` if one of
 /// them doesn't match its byte.
 #[tactic(auto, using(crate::proofs::EndLemmas::none_before, crate::proofs::EndLemmas::one_before, crate::proofs::EndLemmas::other_before, crate::proofs::EndLemmas::end_of_path_before))]
-fn front_len(tokens: &[Token], path: &[u8]) -> Option<usize>
+fn front_len(tokens: &[PatternToken], path: &[u8]) -> Option<usize>
     ensures { BeginsAlikeIn tokens.now path.now result }
 {
     let mut count = 0;
@@ -60,26 +60,26 @@ fn front_len(tokens: &[Token], path: &[u8]) -> Option<usize>
 }
 
 /// What comes before the end that both have in common. `None` if their ends differ.
-pub fn without_end<'a>(tokens: &'a [Token], path: &'a [u8]) -> Option<Left<'a>>
+pub fn without_end<'a>(tokens: &'a [PatternToken], path: &'a [u8]) -> Option<LeftToMatch<'a>>
     ensures { Decides (spec.matches tokens.now path.now) result }
 {
     let Some(count) = end_len(tokens, path) else {
         return None;
     };
-    Some(Left {
+    Some(LeftToMatch {
         tokens: &tokens[..tokens.len() - count],
         path: &path[..path.len() - count],
     })
 }
 
 /// What comes after the front that both have in common. `None` if their fronts differ.
-pub fn without_front<'a>(tokens: &'a [Token], path: &'a [u8]) -> Option<Left<'a>>
+pub fn without_front<'a>(tokens: &'a [PatternToken], path: &'a [u8]) -> Option<LeftToMatch<'a>>
     ensures { Decides (spec.matches tokens.now path.now) result }
 {
     let Some(count) = front_len(tokens, path) else {
         return None;
     };
-    Some(Left {
+    Some(LeftToMatch {
         tokens: &tokens[count..],
         path: &path[count..],
     })

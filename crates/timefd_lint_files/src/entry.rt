@@ -7,7 +7,7 @@ use std::alloc::{AllocError, Global};
 
 /// What kind of thing a name leads to.
 #[derive(Clone, Copy, Debug, PartialEq, Eq, PartialOrd, Ord)]
-pub enum Kind {
+pub enum EntryKind {
     /// A regular file.
     File,
     /// A folder.
@@ -18,15 +18,15 @@ pub enum Kind {
 
 /// An entry of a folder.
 #[derive(PartialEq, Eq, PartialOrd, Ord, Drop)]
-pub struct Entry {
+pub struct FolderEntry {
     /// The entry's name in its folder.
     pub name: String,
-    pub kind: Kind,
+    pub kind: EntryKind,
 }
 
 /// What a walk does with an entry.
 #[derive(Clone, Copy, Debug, PartialEq, Eq)]
-pub enum Role {
+pub enum EntryRole {
     /// The walk passes over it.
     None,
     /// The walk takes its name, unless it is ignored.
@@ -35,22 +35,22 @@ pub enum Role {
     Folder,
 }
 
-impl Entry {
+impl FolderEntry {
     /// What a walk does with the entry. It passes over links, hidden entries, and files whose names have none
     /// of these endings.
-    pub fn role(&self, endings: &[&str]) -> Role
+    pub fn role(&self, endings: &[&str]) -> EntryRole
         ensures { result ≡ spec.role endings.now self.now }
     {
         let name = self.name.as_str().as_bytes();
         match self.kind {
-            Kind::Folder if !is_hidden(name) => Role::Folder,
-            Kind::File if !is_hidden(name) && ends_in_any(name, endings) => Role::Source,
-            Kind::Folder | Kind::File | Kind::Other => Role::None,
+            EntryKind::Folder if !is_hidden(name) => EntryRole::Folder,
+            EntryKind::File if !is_hidden(name) && ends_in_any(name, endings) => EntryRole::Source,
+            EntryKind::Folder | EntryKind::File | EntryKind::Other => EntryRole::None,
         }
     }
 
     /// Whether the entry has this kind and this name.
-    fn is(&self, kind: Kind, name: &str) -> bool
+    fn is(&self, kind: EntryKind, name: &str) -> bool
         ensures { result ≡ spec.is_entry kind name.now self.now }
     {
         self.kind == kind && self.name.as_str() == name
@@ -58,7 +58,7 @@ impl Entry {
 }
 
 /// Whether one of the entries has this kind and this name.
-pub fn has_entry(entries: &[Entry], kind: Kind, name: &str) -> bool
+pub fn has_entry(entries: &[FolderEntry], kind: EntryKind, name: &str) -> bool
     ensures { result ≡ spec.has_entry kind name.now entries.now }
 {
     for entry in entries {

@@ -3,7 +3,8 @@
 ghost use Rattle.std.specs.Prelude.{◌≡◌, ◌≤◌, ◌-◌, ◌++◌, ◌∷◌, [], IfErr, IfOk, IsTrue, List, OnOk, Some, drop, length, string_bytes, take};
 ghost use denote.Ref.{Bor};
 ghost use Rattle.timefd_lint_files.specs.Matching.{Text};
-ghost use Rattle.timefd_lint_files.specs.declared.groups.Group.{Group};
+ghost use Rattle.timefd_lint_files.specs.declared.groups.NameGroup.{NameGroup};
+ghost use Rattle.timefd_lint_files.specs.declared.walk_error.WalkError.TheVariants as errors;
 ghost use Rattle.timefd_lint_files.specs.Groups as spec;
 
 use crate::around::folder_of;
@@ -20,7 +21,7 @@ const INPUT: &str = "-";
 
 /// Names one after another for which the same is found.
 #[derive(Drop)]
-pub struct Group<'a> {
+pub struct NameGroup<'a> {
     pub names: &'a [&'a str],
     /// The file that is sought, if there is one.
     pub found: Option<Nearest>,
@@ -42,7 +43,7 @@ fn folder_by(alloc: Global, is_folder: bool, name: &str) -> Result<String, Alloc
 /// standard input, and where no name in that folder can be looked up.
 #[tactic(auto, using(crate::proofs::GroupLemmas::at_input, crate::proofs::GroupLemmas::at_open, crate::proofs::GroupLemmas::at_closed))]
 fn start_for<S: FileSystem>(system: &S, alloc: Global, name: &str) -> Result<String, AllocError>
-    ensures { IfOk result (λ start. spec.IsStart (S.tells system.now) name.now (string_bytes start)) }
+    ensures { IfOk result (λ start. spec.IsStart (S.folders system.now) name.now (string_bytes start)) }
 {
     if is_input(name) {
         return Ok(String::new(alloc));
@@ -70,9 +71,9 @@ pub fn found_for<S: FileSystem>(
     here: &[u8],
     name: &str,
 ) -> Result<Option<Nearest>, WalkError>
-    ensures found { IfOk result (λ found. spec.IsFoundFor (S.holds system.now) (S.fails system.now) (S.tells system.now)
+    ensures found { IfOk result (λ found. spec.IsFoundFor (S.holds system.now) (S.fails system.now) (S.folders system.now)
         file.now here.now name.now (spec.site_any found)) }
-    ensures error { IfErr result (spec.IsUnreadFor (S.fails system.now) (S.tells system.now) file.now here.now name.now) }
+    ensures error { IfErr result (spec.IsUnreadFor (S.fails system.now) (S.folders system.now) file.now here.now name.now) }
 {
     let start = start_for(system, alloc, name)?;
     let above = folders_around(alloc, here, &start)?;
@@ -118,8 +119,10 @@ fn left_after<S: FileSystem>(
 ) -> Result<usize, WalkError>
     ensures few { IfOk result (λ left. left ≤ length names.now) }
     ensures same { IfOk result (λ left. (rest : List (Bor Text)) × (left ≡ length rest)
-        × spec.HaveSame (spec.IsFoundFor (S.holds system.now) (S.fails system.now) (S.tells system.now) file.now here.now)
+        × spec.HaveSame (spec.IsFoundFor (S.holds system.now) (S.fails system.now) (S.folders system.now) file.now here.now)
         (spec.site_any found.now) names.now rest) }
+    ensures error { IfErr result
+        (spec.IsUnreadForOne (S.fails system.now) (S.folders system.now) file.now here.now names.now) }
 {
     let mut rest = names;
     'names: while let [name, after @ ..] = rest {
@@ -150,14 +153,15 @@ fn last_of<'a>(names: &'a [&'a str], left: usize) -> &'a [&'a str]
 
 /// Adds a group.
 fn push_group<'a>(
-    groups: &mut Vec<Group<'a>>,
+    groups: &mut Vec<NameGroup<'a>>,
     names: &'a [&'a str],
     found: Option<Nearest>,
 ) -> Result<(), WalkError>
-    ensures { OnOk result ((group : Group) × (groups.new.items ≡ groups.old.items ++ group ∷ [])
+    ensures added { OnOk result ((group : NameGroup) × (groups.new.items ≡ groups.old.items ++ group ∷ [])
         × (group.names.now ≡ names.now) × (group.found ≡ found)) }
+    ensures memory { IfErr result (λ e. e ≡ errors.Memory) }
 {
-    match groups.push(Group { names, found }) {
+    match groups.push(NameGroup { names, found }) {
         Ok(()) => Ok(()),
         Err(_) => Err(WalkError::Memory),
     }
@@ -171,9 +175,11 @@ fn all_groups<'a, S: FileSystem>(
     file: &str,
     here: &[u8],
     names: &'a [&'a str],
-) -> Result<Vec<Group<'a>>, WalkError>
-    ensures { IfOk result (λ groups. spec.AreGroupsOf (spec.IsFoundFor (S.holds system.now) (S.fails system.now)
-        (S.tells system.now) file.now here.now) names.now groups.items) }
+) -> Result<Vec<NameGroup<'a>>, WalkError>
+    ensures all { IfOk result (λ groups. spec.AreGroupsOf (spec.IsFoundFor (S.holds system.now) (S.fails system.now)
+        (S.folders system.now) file.now here.now) names.now groups.items) }
+    ensures error { IfErr result
+        (spec.IsUnreadForOne (S.fails system.now) (S.folders system.now) file.now here.now names.now) }
 {
     let mut groups = Vec::new(alloc);
     let mut rest = names;
@@ -193,16 +199,18 @@ fn all_groups<'a, S: FileSystem>(
 /// # Errors
 ///
 /// An `Err` says that memory ran out, or names a file that is there and can't be read.
-#[tactic(auto, using(crate::proofs::GroupLemmas::some_named, crate::proofs::GroupLemmas::none_named))]
+#[tactic(auto, using(crate::proofs::GroupLemmas::some_named, crate::proofs::GroupLemmas::none_named, crate::proofs::GroupLemmas::unread_named, crate::proofs::GroupLemmas::unread_input))]
 pub fn grouped<'a, S: FileSystem>(
     system: &S,
     alloc: Global,
     file: &str,
     here: &[u8],
     names: &'a [&'a str],
-) -> Result<Vec<Group<'a>>, WalkError>
-    ensures { IfOk result (λ groups. spec.AreGroups (spec.IsFoundFor (S.holds system.now) (S.fails system.now)
-        (S.tells system.now) file.now here.now) names.now groups.items) }
+) -> Result<Vec<NameGroup<'a>>, WalkError>
+    ensures all { IfOk result (λ groups. spec.AreGroups (spec.IsFoundFor (S.holds system.now) (S.fails system.now)
+        (S.folders system.now) file.now here.now) names.now groups.items) }
+    ensures error { IfErr result
+        (spec.IsUnreadForAny (S.fails system.now) (S.folders system.now) file.now here.now names.now) }
 {
     if !names.is_empty() {
         return all_groups(system, alloc, file, here, names);

@@ -3,7 +3,7 @@
 ghost use Rattle.std.specs.Prelude.{◌≡◌};
 ghost use Rattle.timefd_lint_files.specs.FileNames as spec;
 
-use crate::token::Token;
+use crate::token::PatternToken;
 
 /// What follows the last `/`, or the whole path if it has none.
 #[tactic(auto, using(crate::proofs::FileNameLemmas::after_slash, crate::proofs::FileNameLemmas::one_byte, crate::proofs::FileNameLemmas::no_slash, crate::proofs::FileNameLemmas::none_yet))]
@@ -20,15 +20,18 @@ pub fn file_name(path: &[u8]) -> &[u8]
     path
 }
 
-impl Token {
+impl PatternToken {
     /// Whether the token matches within a name: it never matches a `/`.
     fn is_within_name(&self) -> bool
         ensures { result ≡ spec.is_within_name self.now }
     {
         match self {
-            Token::Byte(byte) => *byte != b'/',
-            Token::Any | Token::OneOf(_) | Token::Star | Token::Nothing => true,
-            Token::Folders | Token::Rest => false,
+            PatternToken::Byte(byte) => *byte != b'/',
+            PatternToken::Any
+            | PatternToken::OneOf(_)
+            | PatternToken::Star
+            | PatternToken::Nothing => true,
+            PatternToken::Folders | PatternToken::Rest => false,
         }
     }
 
@@ -36,19 +39,19 @@ impl Token {
         ensures { result ≡ spec.is_folders self.now }
     {
         match self {
-            Token::Folders => true,
-            Token::Byte(_)
-            | Token::Any
-            | Token::OneOf(_)
-            | Token::Star
-            | Token::Rest
-            | Token::Nothing => false,
+            PatternToken::Folders => true,
+            PatternToken::Byte(_)
+            | PatternToken::Any
+            | PatternToken::OneOf(_)
+            | PatternToken::Star
+            | PatternToken::Rest
+            | PatternToken::Nothing => false,
         }
     }
 }
 
 /// Whether each of these tokens matches within a name.
-fn are_within_name(tokens: &[Token]) -> bool
+fn are_within_name(tokens: &[PatternToken]) -> bool
     ensures { result ≡ spec.are_within_name tokens.now }
 {
     for token in tokens {
@@ -60,7 +63,7 @@ fn are_within_name(tokens: &[Token]) -> bool
 }
 
 /// Whether the tokens match a name in any folder: `**/`, and then tokens that match within a name.
-pub fn are_of_name(tokens: &[Token]) -> bool
+pub fn are_of_name(tokens: &[PatternToken]) -> bool
     ensures { result ≡ spec.are_of_name tokens.now }
 {
     match tokens {

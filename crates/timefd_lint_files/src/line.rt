@@ -6,7 +6,7 @@ ghost use Rattle.timefd_lint_files.specs.Lines.{seen, seen_any};
 
 /// What a line says, with its tokens still unread.
 #[derive(Clone, Copy)]
-pub struct Line<'a> {
+pub struct PatternLine<'a> {
     /// Whether matching paths are kept instead of ignored: the line begins with `!`.
     pub is_negated: bool,
     /// Whether it matches folders alone: the line ends with `/`.
@@ -67,7 +67,7 @@ fn without_return(line: &[u8]) -> &[u8]
 }
 
 /// What the line says after an optional `!`.
-fn unnegated(is_negated: bool, line: &[u8]) -> Line<'_>
+fn unnegated(is_negated: bool, line: &[u8]) -> PatternLine<'_>
     ensures { seen result ≡ spec.unnegated is_negated line.now }
 {
     match line {
@@ -77,14 +77,14 @@ fn unnegated(is_negated: bool, line: &[u8]) -> Line<'_>
 }
 
 /// What the line says, without a `/` at its end.
-fn anchored(is_negated: bool, is_for_folders: bool, line: &[u8]) -> Line<'_>
+fn anchored(is_negated: bool, is_for_folders: bool, line: &[u8]) -> PatternLine<'_>
     ensures { seen result ≡ spec.anchored is_negated is_for_folders line.now }
 {
     let text = match line {
         [b'/', after @ ..] => after,
         _ => line,
     };
-    Line {
+    PatternLine {
         is_negated,
         is_for_folders,
         is_anchored: line.contains(&b'/'),
@@ -93,7 +93,7 @@ fn anchored(is_negated: bool, is_for_folders: bool, line: &[u8]) -> Line<'_>
 }
 
 /// What a line says. `None` if it is empty or a comment.
-pub fn line_of(line: &[u8]) -> Option<Line<'_>>
+pub fn line_of(line: &[u8]) -> Option<PatternLine<'_>>
     ensures { seen_any result ≡ spec.line_of line.now }
 {
     let line = trimmed(without_return(line));

@@ -4,8 +4,8 @@ ghost use Rattle.std.specs.Prelude.{◌≡◌, ◌<◌, ◌↔◌, [], length, I
 ghost use Rattle.timefd_lint_files.specs.Matching as spec;
 ghost use Rattle.timefd_lint_files.specs.Matching.{IsRow, IsRowAfter, Matches};
 
-use crate::ends::{Left, without_end, without_front};
-use crate::token::Token;
+use crate::ends::{LeftToMatch, without_end, without_front};
+use crate::token::PatternToken;
 use std::alloc::AllocError;
 
 // A row has an entry for each position in a path, and for its end: whether the tokens match all bytes from
@@ -13,7 +13,7 @@ use std::alloc::AllocError;
 
 /// Turns the row of the tokens after the first one into the row of all tokens.
 #[tactic(auto, using(crate::proofs::RowLemmas::at_end, crate::proofs::RowLemmas::one_more, crate::proofs::RowLemmas::whole))]
-fn add_first(tokens: &[Token], path: &[u8], row: &mut [bool])
+fn add_first(tokens: &[PatternToken], path: &[u8], row: &mut [bool])
     requires some { 0 < length tokens.now }
     requires after { IsRowAfter tokens.now path.now row.old }
     ensures { IsRow tokens.now path.now row.new }
@@ -34,7 +34,7 @@ fn add_first(tokens: &[Token], path: &[u8], row: &mut [bool])
 
 /// Turns the row of no tokens into the row of all tokens.
 #[tactic(auto, using(crate::proofs::RowLemmas::after_first, crate::proofs::RowLemmas::as_slice))]
-fn add_all(tokens: &[Token], path: &[u8], row: &mut [bool])
+fn add_all(tokens: &[PatternToken], path: &[u8], row: &mut [bool])
     requires { IsRow [] path.now row.old }
     ensures { IsRow tokens.now path.now row.new }
 {
@@ -48,7 +48,11 @@ fn add_all(tokens: &[Token], path: &[u8], row: &mut [bool])
 /// Whether the tokens match the path, computed row by row. Takes one step for each pair of a token (or a
 /// range of a class) and a byte.
 #[tactic(auto, using(crate::proofs::RowLemmas::none_first, crate::proofs::MatchingLemmas::first_position))]
-fn matches_by_rows(tokens: &[Token], path: &[u8], row: &mut Vec<bool>) -> Result<bool, AllocError>
+fn matches_by_rows(
+    tokens: &[PatternToken],
+    path: &[u8],
+    row: &mut Vec<bool>,
+) -> Result<bool, AllocError>
     ensures { IfOk result (λ matches. matches ≡ spec.matches tokens.now path.now) }
 {
     row.clear();
@@ -60,7 +64,7 @@ fn matches_by_rows(tokens: &[Token], path: &[u8], row: &mut Vec<bool>) -> Result
 }
 
 /// Whether the remaining tokens match the rest of the path.
-fn matches_left(left: Left<'_>, row: &mut Vec<bool>) -> Result<bool, AllocError>
+fn matches_left(left: LeftToMatch<'_>, row: &mut Vec<bool>) -> Result<bool, AllocError>
     ensures { IfOk result (λ matches. matches ≡ spec.matches left.entry.tokens.now left.entry.path.now) }
 {
     if left.tokens.is_empty() {
@@ -77,7 +81,11 @@ fn matches_left(left: Left<'_>, row: &mut Vec<bool>) -> Result<bool, AllocError>
 ///
 /// An `Err` says that memory ran out.
 #[tactic(auto, using(crate::proofs::MatchingLemmas::as_decided))]
-pub fn matches(tokens: &[Token], path: &[u8], row: &mut Vec<bool>) -> Result<bool, AllocError>
+pub fn matches(
+    tokens: &[PatternToken],
+    path: &[u8],
+    row: &mut Vec<bool>,
+) -> Result<bool, AllocError>
     ensures exact { IfOk result (λ matches. IsTrue matches ↔ Matches tokens.now path.now) }
     ensures test { IfOk result (λ matches. matches ≡ spec.matches tokens.now path.now) }
 {

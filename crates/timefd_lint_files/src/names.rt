@@ -13,13 +13,13 @@ use crate::ignore_file::IgnoreFile;
 use crate::rules::is_ignored;
 use crate::start::{path_below, start_below};
 use crate::system::FileSystem;
-use crate::walk::{Choice, DEPTH_LIMIT, Walk, walk_folder};
+use crate::walk::{Choice, DEPTH_LIMIT, FolderWalk, walk_folder};
 use crate::walk_error::WalkError;
 use std::alloc::{AllocError, Global};
 
 /// Which files below a folder are taken.
 #[derive(Clone, Copy)]
-pub struct Sought<'a> {
+pub struct SoughtFiles<'a> {
     /// The endings of the names of sources, as `.rs`.
     pub endings: &'a [&'a str],
     /// What is passed over.
@@ -48,7 +48,7 @@ pub fn as_folder(alloc: Global, name: &str) -> Result<String, AllocError>
 }
 
 /// Adds a name as it is.
-fn push_name(alloc: Global, walk: &mut Walk, name: &str) -> Result<(), WalkError>
+fn push_name(alloc: Global, walk: &mut FolderWalk, name: &str) -> Result<(), WalkError>
     ensures names { OnOk result (texts walk.new.names.items
         ≡ texts walk.old.names.items ++ name.now ∷ []) }
     ensures ignores { walk.new.ignores.items ≡ walk.old.ignores.items }
@@ -97,8 +97,8 @@ fn excluded_below(
 fn expand_folder<S: FileSystem>(
     system: &S,
     alloc: Global,
-    sought: Sought<'_>,
-    walk: &mut Walk,
+    sought: SoughtFiles<'_>,
+    walk: &mut FolderWalk,
     folder: &str,
 ) -> Result<(), WalkError>
     requires { walk.old.ignores.items ≡ [] }
@@ -152,8 +152,8 @@ fn is_out(excluded: &[IgnoreFile], path: &[u8], row: &mut Vec<bool>) -> Result<b
 #[tactic(auto, using(crate::proofs::OutLemmas::kept, crate::proofs::OutLemmas::out))]
 fn expand_file(
     alloc: Global,
-    sought: Sought<'_>,
-    walk: &mut Walk,
+    sought: SoughtFiles<'_>,
+    walk: &mut FolderWalk,
     name: &str,
 ) -> Result<(), WalkError>
     ensures names { OnOk result ((names : List Text)
@@ -175,15 +175,15 @@ fn expand_file(
 fn expand<S: FileSystem>(
     system: &S,
     alloc: Global,
-    sought: Sought<'_>,
-    walk: &mut Walk,
+    sought: SoughtFiles<'_>,
+    walk: &mut FolderWalk,
     name: &str,
 ) -> Result<(), WalkError>
     requires { walk.old.ignores.items ≡ [] }
     ensures names { OnOk result ((names : List Text)
         × (texts walk.new.names.items ≡ texts walk.old.names.items ++ names)
         × IsExpanded (IsWalkBut sought.entry.endings.now sought.entry.excluded (S.lists system.now)
-        (S.holds system.now)) (IsKept sought.entry.excluded) (S.tells system.now) name.entry names) }
+        (S.holds system.now)) (IsKept sought.entry.excluded) (S.folders system.now) name.entry names) }
     ensures ignores { OnOk result (walk.new.ignores.items ≡ []) }
     ensures error { IfErr result
         (IsWalkError (S.fails system.now) (IsBelow (spec.as_folder name.entry.now)) 255) }
@@ -215,18 +215,18 @@ fn expand<S: FileSystem>(
 pub fn expanded<S: FileSystem>(
     system: &S,
     alloc: Global,
-    sought: Sought<'_>,
+    sought: SoughtFiles<'_>,
     names: &[&str],
 ) -> Result<Vec<String>, WalkError>
     ensures all { IfOk result (λ all. AreExpanded (IsWalkBut sought.entry.endings.now sought.entry.excluded
-        (S.lists system.now) (S.holds system.now)) (IsKept sought.entry.excluded) (S.tells system.now) names.now
+        (S.lists system.now) (S.holds system.now)) (IsKept sought.entry.excluded) (S.folders system.now) names.now
         (texts all.items)) }
 
     // The path of what isn't read begins with one of the names. If the depth is the reason, at least 255
     // slashes follow that name.
     ensures error { IfErr result (IsWalkError (S.fails system.now) (IsBelowAny names.now) 255) }
 {
-    let mut walk = Walk::new(alloc);
+    let mut walk = FolderWalk::new(alloc);
     for name in names {
         expand(system, alloc, sought, &mut walk, name)?;
     }

@@ -3,9 +3,9 @@
 ghost use Rattle.std.specs.Prelude.{IfOk, OnOk};
 ghost use Rattle.std.specs.Result.{IfErr};
 ghost use Rattle.timefd_lint_files.specs.Errors.{IsUnread};
-ghost use Rattle.timefd_lint_files.specs.Walks.{HasExclude, HasOwn, HasOwnIf, IsOwn, Tells};
+ghost use Rattle.timefd_lint_files.specs.Walks.{HasExclude, HasOwn, HasOwnIf, IsOwn, FolderHas};
 
-use crate::entry::{Entry, Kind, has_entry, joined};
+use crate::entry::{EntryKind, FolderEntry, has_entry, joined};
 use crate::ignore_file::IgnoreFile;
 use crate::system::FileSystem;
 use crate::walk_error::{WalkError, unread};
@@ -13,14 +13,14 @@ use std::alloc::Global;
 
 /// Whether a folder has an entry of this kind and name.
 #[tactic(auto, using(crate::proofs::ErrorLemmas::unread_at))]
-fn tells<S: FileSystem>(
+fn folder_has<S: FileSystem>(
     system: &S,
     alloc: Global,
     folder: &str,
-    kind: Kind,
+    kind: EntryKind,
     name: &str,
 ) -> Result<bool, WalkError>
-    ensures reported { IfOk result (λ has. Tells (S.lists system.now) folder.now kind name.now has) }
+    ensures reported { IfOk result (λ has. FolderHas (S.lists system.now) folder.now kind name.now has) }
     ensures error { IfErr result (IsUnread (S.fails system.now) folder.now) }
 {
     match system.entries(alloc, folder) {
@@ -35,20 +35,20 @@ fn has_exclude<S: FileSystem>(
     system: &S,
     alloc: Global,
     folder: &str,
-    entries: &[Entry],
+    entries: &[FolderEntry],
 ) -> Result<bool, WalkError>
     ensures reported { IfOk result (λ has. HasExclude (S.lists system.now) folder.now entries.now has) }
     ensures error { IfErr result (IsUnread (S.fails system.now) folder.now) }
 {
-    if !has_entry(entries, Kind::Folder, ".git") {
+    if !has_entry(entries, EntryKind::Folder, ".git") {
         return Ok(false);
     }
     let repository = joined(alloc, folder, ".git/")?;
-    if !tells(system, alloc, &repository, Kind::Folder, "info")? {
+    if !folder_has(system, alloc, &repository, EntryKind::Folder, "info")? {
         return Ok(false);
     }
     let info = joined(alloc, folder, ".git/info/")?;
-    tells(system, alloc, &info, Kind::File, "exclude")
+    folder_has(system, alloc, &info, EntryKind::File, "exclude")
 }
 
 /// Reads the file of this name, whose patterns apply in a folder.
@@ -100,7 +100,7 @@ pub fn add_own<S: FileSystem>(
     system: &S,
     alloc: Global,
     folder: &str,
-    entries: &[Entry],
+    entries: &[FolderEntry],
     ignores: &mut Vec<IgnoreFile>,
 ) -> Result<(), WalkError>
     ensures added { OnOk result (HasOwn (S.lists system.now) (S.holds system.now) folder.now entries.now
@@ -108,7 +108,7 @@ pub fn add_own<S: FileSystem>(
     ensures error { IfErr result (IsUnread (S.fails system.now) folder.now) }
 {
     let excludes = has_exclude(system, alloc, folder, entries)?;
-    let has_own = has_entry(entries, Kind::File, ".gitignore");
+    let has_own = has_entry(entries, EntryKind::File, ".gitignore");
     add_if(
         system,
         alloc,

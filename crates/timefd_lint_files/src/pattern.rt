@@ -3,13 +3,13 @@
 ghost use Rattle.std.specs.Prelude.{◌≡◌};
 ghost use Rattle.timefd_lint_files.specs.FileNames as spec;
 
-use crate::token::Token;
+use crate::token::PatternToken;
 
 /// A pattern of a `.gitignore` file.
 #[derive(Drop)]
 pub struct Pattern {
     /// The tokens that match a path, relative to its file's folder.
-    pub tokens: Vec<Token>,
+    pub tokens: Vec<PatternToken>,
     /// Whether matching paths are kept instead of ignored.
     pub is_negated: bool,
     /// Whether it matches folders alone.

@@ -5,8 +5,8 @@ ghost use Rattle.timefd_lint_files.specs.Classes as spec;
 ghost use Rattle.timefd_lint_files.specs.Classes.{AreRanges, BeginsClass, IsClass, read_byte, read_range, read_rest};
 ghost use Rattle.timefd_lint_files.specs.declared.class.ByteRange.{ByteRange};
 
-use crate::class::{ByteRange, Class};
-use crate::token::{Step, Token};
+use crate::class::{ByteClass, ByteRange};
+use crate::token::{PatternToken, TokenStep};
 use std::alloc::{AllocError, Global};
 
 /// A byte, and what follows it.
@@ -166,25 +166,25 @@ fn push_ranges<'a>(
 }
 
 /// The class with the ranges at the front of a text.
-fn class(alloc: Global, is_negated: bool, text: &[u8]) -> Result<Step<'_>, AllocError>
+fn class(alloc: Global, is_negated: bool, text: &[u8]) -> Result<TokenStep<'_>, AllocError>
     ensures begin { IfOk result (λ step. IsClass is_negated text.now step.token step.rest.now) }
     ensures within { IfOk result (λ step. length step.rest.now ≤ length text.now) }
 {
     let mut ranges = Vec::new(alloc);
     match push_ranges(&mut ranges, text)? {
-        Some(rest) => Ok(Step {
-            token: Token::OneOf(Class { is_negated, ranges }),
+        Some(rest) => Ok(TokenStep {
+            token: PatternToken::OneOf(ByteClass { is_negated, ranges }),
             rest,
         }),
-        None => Ok(Step {
-            token: Token::Nothing,
+        None => Ok(TokenStep {
+            token: PatternToken::Nothing,
             rest: text,
         }),
     }
 }
 
 /// The class after an opening bracket. An `Err` says that memory ran out.
-pub fn begin_class(alloc: Global, text: &[u8]) -> Result<Step<'_>, AllocError>
+pub fn begin_class(alloc: Global, text: &[u8]) -> Result<TokenStep<'_>, AllocError>
     ensures begin { IfOk result (λ step. BeginsClass text.now step.token step.rest.now) }
     ensures within { IfOk result (λ step. length step.rest.now ≤ length text.now) }
 {

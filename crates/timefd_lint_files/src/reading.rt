@@ -4,19 +4,21 @@ ghost use Rattle.std.specs.Prelude.{◌≡◌, IfOk};
 ghost use Rattle.timefd_lint_files.specs.Patterns.{HasTokens, IsRead};
 
 use crate::last_name::are_of_name;
-use crate::line::{Line, line_of};
+use crate::line::{PatternLine, line_of};
 use crate::pattern::Pattern;
-use crate::token::Token;
+use crate::token::PatternToken;
 use crate::tokens::push_tokens;
 use std::alloc::{AllocError, Global};
 
 /// The tokens of a line. A line that isn't anchored matches in any folder.
-fn tokens_of(alloc: Global, line: Line<'_>) -> Result<Vec<Token>, AllocError>
+fn tokens_of(alloc: Global, line: PatternLine<'_>) -> Result<Vec<PatternToken>, AllocError>
     ensures { IfOk result (λ tokens. HasTokens line.entry tokens.items) }
 {
     let mut tokens = Vec::new(alloc);
     if !line.is_anchored {
-        tokens.push(Token::Folders).map_err(AllocError::from)?;
+        tokens
+            .push(PatternToken::Folders)
+            .map_err(AllocError::from)?;
     }
     push_tokens(alloc, &mut tokens, line.text)?;
     Ok(tokens)

@@ -11,7 +11,7 @@ use std::alloc::AllocError;
 
 /// What a pattern says about the paths that it matches.
 #[derive(Clone, Copy, Debug, PartialEq, Eq)]
-pub enum Verdict {
+pub enum PatternVerdict {
     /// They are ignored.
     Ignored,
     /// They are kept, whatever earlier patterns say.
@@ -20,13 +20,13 @@ pub enum Verdict {
 
 impl Pattern {
     /// What the pattern says about the paths that it matches.
-    pub fn verdict(&self) -> Verdict
+    pub fn verdict(&self) -> PatternVerdict
         ensures { result ≡ spec.verdict self.now }
     {
         if self.is_negated {
-            Verdict::Kept
+            PatternVerdict::Kept
         } else {
-            Verdict::Ignored
+            PatternVerdict::Ignored
         }
     }
 }
@@ -48,7 +48,7 @@ impl IgnoreFile {
         path: &[u8],
         is_folder: bool,
         row: &mut Vec<bool>,
-    ) -> Result<Option<Verdict>, AllocError>
+    ) -> Result<Option<PatternVerdict>, AllocError>
         ensures { IfOk result (λ verdict. verdict ≡ spec.verdict_in self.now path.now is_folder) }
     {
         let below = path.get(self.folder_len..).unwrap_or(&[]);
@@ -70,7 +70,7 @@ fn last_verdict(
     name: &[u8],
     is_folder: bool,
     row: &mut Vec<bool>,
-) -> Result<Option<Verdict>, AllocError>
+) -> Result<Option<PatternVerdict>, AllocError>
     requires { name.now ≡ file_name path.now }
     ensures { IfOk result (λ verdict.
         verdict ≡ spec.last_verdict patterns.now path.now is_folder) }
@@ -92,7 +92,7 @@ fn deepest_verdict(
     path: &[u8],
     is_folder: bool,
     row: &mut Vec<bool>,
-) -> Result<Option<Verdict>, AllocError>
+) -> Result<Option<PatternVerdict>, AllocError>
     ensures { IfOk result (λ verdict.
         verdict ≡ spec.deepest_verdict files.now path.now is_folder) }
 {
@@ -121,8 +121,8 @@ pub fn is_ignored(
     ensures { IfOk result (λ ignored. ignored ≡ spec.is_ignored files.now path.now is_folder) }
 {
     match deepest_verdict(files, path, is_folder, row)? {
-        Some(Verdict::Ignored) => Ok(true),
-        Some(Verdict::Kept) | None => Ok(false),
+        Some(PatternVerdict::Ignored) => Ok(true),
+        Some(PatternVerdict::Kept) | None => Ok(false),
     }
 }
 

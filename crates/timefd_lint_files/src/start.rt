@@ -10,7 +10,7 @@ use std::alloc::{AllocError, Global};
 
 /// A name in two parts.
 #[derive(Clone, Copy)]
-pub struct Start<'a> {
+pub struct NameParts<'a> {
     /// The path of the folder in which the rest begins: empty, or names that each end in `/`.
     pub front: &'a [u8],
     /// The rest of the name.
@@ -39,12 +39,12 @@ fn is_up(front: &[u8], first: u8, second: u8, third: u8) -> bool
 }
 
 /// The parts of a name without its first three bytes, if these lead to the folder around.
-fn next_up<'a>(front: &'a [u8], first: u8, second: u8, after: &'a [u8]) -> Option<Start<'a>>
+fn next_up<'a>(front: &'a [u8], first: u8, second: u8, after: &'a [u8]) -> Option<NameParts<'a>>
     ensures next { seen_any result ≡ spec.next_up front.now first second after.now }
     ensures shorter { IfSome result (λ start. length start.rest.now + 1 ≤ length after.now) }
 {
     match after {
-        [third, rest @ ..] if is_up(front, first, second, *third) => Some(Start {
+        [third, rest @ ..] if is_up(front, first, second, *third) => Some(NameParts {
             front: parent(front),
             rest,
         }),
@@ -54,14 +54,14 @@ fn next_up<'a>(front: &'a [u8], first: u8, second: u8, after: &'a [u8]) -> Optio
 
 /// The parts of a name without the `./` or the `../` that it begins with. `None` if it begins with neither, or
 /// if no folder is around.
-fn next<'a>(front: &'a [u8], name: &'a [u8]) -> Option<Start<'a>>
+fn next<'a>(front: &'a [u8], name: &'a [u8]) -> Option<NameParts<'a>>
     ensures next { seen_any result ≡ spec.next front.now name.now }
     ensures shorter { IfSome result (λ start. length start.rest.now + 1 ≤ length name.now) }
 {
     match name {
         [first, second, rest @ ..] => {
             if is_here(*first, *second) {
-                return Some(Start { front, rest });
+                return Some(NameParts { front, rest });
             }
             next_up(front, *first, *second, rest)
         }
@@ -71,7 +71,7 @@ fn next<'a>(front: &'a [u8], name: &'a [u8]) -> Option<Start<'a>>
 
 /// The parts of a name that begins in the folder of this path.
 #[tactic(auto, using(crate::proofs::StartLemmas::goes_on, crate::proofs::StartLemmas::stops))]
-fn start_in<'a>(front: &'a [u8], name: &'a [u8]) -> Start<'a>
+fn start_in<'a>(front: &'a [u8], name: &'a [u8]) -> NameParts<'a>
     ensures { seen result ≡ spec.start_in front.now name.now }
 {
     let mut front = front;
@@ -80,15 +80,15 @@ fn start_in<'a>(front: &'a [u8], name: &'a [u8]) -> Start<'a>
         front = start.front;
         rest = start.rest;
     }
-    Start { front, rest }
+    NameParts { front, rest }
 }
 
 /// The parts of a name, if the working directory has the path `front`. An absolute name is all rest.
-pub fn start_of<'a>(front: &'a [u8], name: &'a [u8]) -> Start<'a>
+pub fn start_of<'a>(front: &'a [u8], name: &'a [u8]) -> NameParts<'a>
     ensures { seen result ≡ spec.start_of front.now name.now }
 {
     match name {
-        [b'/', ..] => Start {
+        [b'/', ..] => NameParts {
             front: &[],
             rest: name,
         },
@@ -104,7 +104,7 @@ pub fn path_of(alloc: Global, front: &[u8], name: &[u8]) -> Result<Vec<u8>, Allo
     joined(alloc, start_of(front, name))
 }
 
-fn joined(alloc: Global, start: Start<'_>) -> Result<Vec<u8>, AllocError>
+fn joined(alloc: Global, start: NameParts<'_>) -> Result<Vec<u8>, AllocError>
     ensures { IfOk result (λ path. path.items ≡ spec.joined (seen start.entry)) }
 {
     let mut path = start.front.to_vec(alloc)?;
@@ -126,12 +126,12 @@ pub fn without_here(name: &str) -> &str
 }
 
 /// The parts of a name as these patterns match it.
-pub fn start_below<'a>(excluded: Excluded<'a>, name: &'a str) -> Start<'a>
+pub fn start_below<'a>(excluded: Excluded<'a>, name: &'a str) -> NameParts<'a>
     ensures { seen result ≡ spec.start_below excluded.entry name.now }
 {
     let inner = without_here(name).as_bytes();
     if !excluded.folder.is_empty() && inner.starts_with(excluded.folder) {
-        return Start {
+        return NameParts {
             front: &[],
             rest: &inner[excluded.folder.len()..],
         };

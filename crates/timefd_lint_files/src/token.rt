@@ -3,17 +3,17 @@
 ghost use Rattle.std.specs.Prelude.{◌≡◌};
 ghost use Rattle.timefd_lint_files.specs.Matching as spec;
 
-use crate::class::Class;
+use crate::class::ByteClass;
 
 /// A part of a pattern.
 #[derive(Debug, PartialEq, Eq, Drop)]
-pub enum Token {
+pub enum PatternToken {
     /// This byte.
     Byte(u8),
     /// `?`: any byte but `/`.
     Any,
     /// `[a-z]`: a byte of this class but `/`.
-    OneOf(Class),
+    OneOf(ByteClass),
     /// `*`: any bytes but `/`, or none.
     Star,
     /// `**/`: any folders, each with the `/` after it, or none.
@@ -27,19 +27,22 @@ pub enum Token {
 
 /// A token, and what follows it.
 #[derive(Drop)]
-pub struct Step<'a> {
-    pub token: Token,
+pub struct TokenStep<'a> {
+    pub token: PatternToken,
     pub rest: &'a [u8],
 }
 
-impl Token {
+impl PatternToken {
     /// Whether the token also matches no byte at all.
     pub fn takes_none(&self) -> bool
         ensures { result ≡ spec.takes_none self.now }
     {
         match self {
-            Token::Byte(_) | Token::Any | Token::OneOf(_) | Token::Nothing => false,
-            Token::Star | Token::Folders | Token::Rest => true,
+            PatternToken::Byte(_)
+            | PatternToken::Any
+            | PatternToken::OneOf(_)
+            | PatternToken::Nothing => false,
+            PatternToken::Star | PatternToken::Folders | PatternToken::Rest => true,
         }
     }
 
@@ -50,13 +53,13 @@ impl Token {
         ensures { result ≡ spec.takes self.now byte fits goes_on }
     {
         match self {
-            Token::Byte(own) => byte == *own && fits,
-            Token::Any => byte != b'/' && fits,
-            Token::OneOf(class) => byte != b'/' && class.has(byte) && fits,
-            Token::Star => byte != b'/' && (goes_on || fits),
-            Token::Folders => goes_on || (byte == b'/' && fits),
-            Token::Rest => goes_on || fits,
-            Token::Nothing => false,
+            PatternToken::Byte(own) => byte == *own && fits,
+            PatternToken::Any => byte != b'/' && fits,
+            PatternToken::OneOf(class) => byte != b'/' && class.has(byte) && fits,
+            PatternToken::Star => byte != b'/' && (goes_on || fits),
+            PatternToken::Folders => goes_on || (byte == b'/' && fits),
+            PatternToken::Rest => goes_on || fits,
+            PatternToken::Nothing => false,
         }
     }
 }

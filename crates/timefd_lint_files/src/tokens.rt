@@ -5,7 +5,7 @@ ghost use Rattle.timefd_lint_files.specs.Tokens as spec;
 ghost use Rattle.timefd_lint_files.specs.Tokens.{AreTokens, BeginsAny, begun};
 
 use crate::ranges::begin_class;
-use crate::token::{Step, Token};
+use crate::token::{PatternToken, TokenStep};
 use std::alloc::{AllocError, Global};
 
 /// What follows all stars at the front.
@@ -21,28 +21,28 @@ fn after_stars(text: &[u8]) -> &[u8]
 }
 
 /// The token for two or more stars that begin a name. `after` is what follows them.
-fn doubled(after: &[u8]) -> Step<'_>
+fn doubled(after: &[u8]) -> TokenStep<'_>
     ensures begin { begun result ≡ spec.doubled after.now }
     ensures within { length result.rest.now ≤ length after.now }
 {
     match after {
-        [] => Step {
-            token: Token::Rest,
+        [] => TokenStep {
+            token: PatternToken::Rest,
             rest: after,
         },
-        [b'/', rest @ ..] => Step {
-            token: Token::Folders,
+        [b'/', rest @ ..] => TokenStep {
+            token: PatternToken::Folders,
             rest,
         },
-        _ => Step {
-            token: Token::Star,
+        _ => TokenStep {
+            token: PatternToken::Star,
             rest: after,
         },
     }
 }
 
 /// The token for a first star, read from what follows it.
-fn starred(begins_name: bool, text: &[u8]) -> Step<'_>
+fn starred(begins_name: bool, text: &[u8]) -> TokenStep<'_>
     ensures begin { begun result ≡ spec.starred begins_name text.now }
     ensures within { length result.rest.now ≤ length text.now }
 {
@@ -50,50 +50,50 @@ fn starred(begins_name: bool, text: &[u8]) -> Step<'_>
     if begins_name && rest.len() < text.len() {
         return doubled(rest);
     }
-    Step {
-        token: Token::Star,
+    TokenStep {
+        token: PatternToken::Star,
         rest,
     }
 }
 
 /// The token for a backslash, read from what follows it.
-fn escaped(text: &[u8]) -> Step<'_>
+fn escaped(text: &[u8]) -> TokenStep<'_>
     ensures begin { begun result ≡ spec.escaped text.now }
     ensures within { length result.rest.now ≤ length text.now }
 {
     match text {
-        [] => Step {
-            token: Token::Nothing,
+        [] => TokenStep {
+            token: PatternToken::Nothing,
             rest: text,
         },
-        [byte, rest @ ..] => Step {
-            token: Token::Byte(*byte),
+        [byte, rest @ ..] => TokenStep {
+            token: PatternToken::Byte(*byte),
             rest,
         },
     }
 }
 
 /// The token that begins with this byte, which doesn't open a class.
-fn begun_by(begins_name: bool, byte: u8, after: &[u8]) -> Step<'_>
+fn begun_by(begins_name: bool, byte: u8, after: &[u8]) -> TokenStep<'_>
     ensures begin { begun result ≡ spec.begun_by begins_name byte after.now }
     ensures within { length result.rest.now ≤ length after.now }
 {
     match byte {
         b'*' => starred(begins_name, after),
         b'\\' => escaped(after),
-        b'?' => Step {
-            token: Token::Any,
+        b'?' => TokenStep {
+            token: PatternToken::Any,
             rest: after,
         },
-        _ => Step {
-            token: Token::Byte(byte),
+        _ => TokenStep {
+            token: PatternToken::Byte(byte),
             rest: after,
         },
     }
 }
 
 /// The token that a text begins with. `None` at its end. At the beginning of a name two stars mean folders.
-fn first(alloc: Global, begins_name: bool, text: &[u8]) -> Result<Option<Step<'_>>, AllocError>
+fn first(alloc: Global, begins_name: bool, text: &[u8]) -> Result<Option<TokenStep<'_>>, AllocError>
     ensures begin { IfOk result (λ found. BeginsAny begins_name text.now found) }
     ensures within { IfOk result (λ found.
         MatchOption found ⊤ (λ step. length step.rest.now < length text.now)) }
@@ -106,20 +106,28 @@ fn first(alloc: Global, begins_name: bool, text: &[u8]) -> Result<Option<Step<'_
 }
 
 /// Whether a name begins after a token.
-fn ends_name(token: &Token) -> bool
+fn ends_name(token: &PatternToken) -> bool
     ensures { result ≡ spec.ends_name token.now }
 {
     match token {
-        Token::Byte(byte) => *byte == b'/',
-        Token::Folders => true,
-        Token::Any | Token::OneOf(_) | Token::Star | Token::Rest | Token::Nothing => false,
+        PatternToken::Byte(byte) => *byte == b'/',
+        PatternToken::Folders => true,
+        PatternToken::Any
+        | PatternToken::OneOf(_)
+        | PatternToken::Star
+        | PatternToken::Rest
+        | PatternToken::Nothing => false,
     }
 }
 
 /// Adds the tokens of a text that begins a name. An `Err` says that memory ran out.
 #[tactic(auto, using(crate::proofs::TokenLemmas::at_first, crate::proofs::TokenLemmas::one_more, crate::proofs::TokenLemmas::at_last))]
-pub fn push_tokens(alloc: Global, tokens: &mut Vec<Token>, text: &[u8]) -> Result<(), AllocError>
-    ensures { IfOk result (λ _. (more : List Token) × (tokens.new.items ≡ tokens.old.items ++ more)
+pub fn push_tokens(
+    alloc: Global,
+    tokens: &mut Vec<PatternToken>,
+    text: &[u8],
+) -> Result<(), AllocError>
+    ensures { IfOk result (λ _. (more : List PatternToken) × (tokens.new.items ≡ tokens.old.items ++ more)
         × AreTokens true text.now more) }
 {
     let mut begins_name = true;

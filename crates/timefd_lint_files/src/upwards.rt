@@ -8,7 +8,7 @@ ghost use Rattle.timefd_lint_files.specs.Upwards.{IsNearest, IsThereOr, IsTextOr
 
 use crate::around::around;
 use crate::entry::joined;
-use crate::system::{FileSystem, ReadError};
+use crate::system::{FileError, FileSystem};
 use crate::walk_error::{WalkError, unread};
 use std::alloc::{AllocError, Global};
 use std::io::ErrorKind;
@@ -50,7 +50,7 @@ fn text_any<S: FileSystem>(
     let path = joined(alloc, folder, name)?;
     match system.text(alloc, &path) {
         Ok(text) => Ok(Some(text)),
-        Err(ReadError::Failed(kind)) if is_absent(kind) => Ok(None),
+        Err(FileError::Failed(kind)) if is_absent(kind) => Ok(None),
         Err(error) => Err(unread(alloc, &path, error)),
     }
 }
@@ -61,8 +61,8 @@ fn is_there<S: FileSystem>(system: &S, alloc: Global, path: &str) -> Result<bool
 {
     match system.text(alloc, path) {
         Ok(_text) => Ok(true),
-        Err(ReadError::Failed(kind)) => Ok(!is_absent(kind)),
-        Err(ReadError::Memory) => Err(AllocError),
+        Err(FileError::Failed(kind)) => Ok(!is_absent(kind)),
+        Err(FileError::Memory) => Err(AllocError),
     }
 }
 
@@ -81,7 +81,7 @@ fn has_repository<S: FileSystem>(
 
 /// Whether names in a folder can be looked up.
 pub fn is_open<S: FileSystem>(system: &S, alloc: Global, folder: &str) -> Result<bool, AllocError>
-    ensures { IfOk result (λ answer. S.tells system.now (folder.now ++ codes ".") answer) }
+    ensures { IfOk result (λ answer. S.folders system.now (folder.now ++ codes ".") answer) }
 {
     let path = joined(alloc, folder, ".")?;
     Ok(system.is_folder(&path))
@@ -102,7 +102,7 @@ pub fn first_upwards<S: FileSystem>(
     folder: &str,
     above: usize,
 ) -> Result<Option<Nearest>, WalkError>
-    ensures found { IfOk result (λ found. IsNearest (S.holds system.now) (S.fails system.now) (S.tells system.now)
+    ensures found { IfOk result (λ found. IsNearest (S.holds system.now) (S.fails system.now) (S.folders system.now)
         name.now above folder.now (seen_any found)) }
     ensures error { IfErr result (IsUnreadUpwards (S.fails system.now) name.now above folder.now) }
 {

@@ -6,12 +6,12 @@ ghost use Rattle.timefd_lint_files.specs.Errors.{IsBelow, IsUnread, IsWalkError}
 ghost use Rattle.timefd_lint_files.specs.Matching.{Text};
 ghost use Rattle.timefd_lint_files.specs.Walks.{AreListed, IsLookedAt, IsWalk, text_any, texts};
 
-use crate::entry::{Entry, Role, joined};
+use crate::entry::{EntryRole, FolderEntry, joined};
 use crate::ignore_file::IgnoreFile;
 use crate::own::add_own;
 use crate::rules::is_passed_over;
 use crate::system::FileSystem;
-use crate::walk_error::{Reason, WalkError, failed, unread};
+use crate::walk_error::{WalkError, WalkReason, failed, unread};
 use std::alloc::{AllocError, Global};
 
 /// How many folders may be nested in one another.
@@ -28,7 +28,7 @@ pub struct Choice<'a> {
 
 /// Where a walk is, and what it has found so far.
 #[derive(Drop)]
-pub struct Walk {
+pub struct FolderWalk {
     /// The files with patterns of the folders around the current position, from the top.
     pub ignores: Vec<IgnoreFile>,
     /// Working space.
@@ -37,12 +37,12 @@ pub struct Walk {
     pub names: Vec<String>,
 }
 
-impl Walk {
-    pub fn new(alloc: Global) -> Walk
+impl FolderWalk {
+    pub fn new(alloc: Global) -> FolderWalk
         ensures ignores { result.ignores.items ≡ [] }
         ensures names { result.names.items ≡ [] }
     {
-        Walk {
+        FolderWalk {
             ignores: Vec::new(alloc),
             row: Vec::new(alloc),
             names: Vec::new(alloc),
@@ -52,7 +52,7 @@ impl Walk {
     pub fn into_names(self) -> Vec<String>
         ensures { result ≡ self.names }
     {
-        let Walk { names, .. } = self;
+        let FolderWalk { names, .. } = self;
         names
     }
 }
@@ -63,7 +63,7 @@ fn sorted_entries<S: FileSystem>(
     system: &S,
     alloc: Global,
     folder: &str,
-) -> Result<Vec<Entry>, WalkError>
+) -> Result<Vec<FolderEntry>, WalkError>
     ensures listed { IfOk result (λ entries. AreListed (S.lists system.now folder.now) entries.items) }
     ensures error { IfErr result (IsUnread (S.fails system.now) folder.now) }
 {
@@ -81,9 +81,9 @@ fn sorted_entries<S: FileSystem>(
 fn look_at(
     alloc: Global,
     choice: Choice<'_>,
-    walk: &mut Walk,
+    walk: &mut FolderWalk,
     folder: &str,
-    entry: &Entry,
+    entry: &FolderEntry,
 ) -> Result<Option<String>, AllocError>
     ensures looked { IfOk result (λ below. IsLookedAt choice.entry.endings.now choice.entry.excluded.now
         walk.old.ignores.items folder.now entry.now
@@ -91,11 +91,11 @@ fn look_at(
     ensures ignores { walk.new.ignores.items ≡ walk.old.ignores.items }
 {
     let role = entry.role(choice.endings);
-    if role == Role::None {
+    if role == EntryRole::None {
         return Ok(None);
     }
     let mut path = joined(alloc, folder, &entry.name)?;
-    let is_folder = role == Role::Folder;
+    let is_folder = role == EntryRole::Folder;
     let bytes = path.as_bytes();
     if is_passed_over(
         choice.excluded,
@@ -120,7 +120,7 @@ pub fn walk_folder<S: FileSystem>(
     system: &S,
     alloc: Global,
     choice: Choice<'_>,
-    walk: &mut Walk,
+    walk: &mut FolderWalk,
     folder: &str,
     depth: usize,
 ) -> Result<(), WalkError>
@@ -132,7 +132,7 @@ pub fn walk_folder<S: FileSystem>(
     ensures error { IfErr result (IsWalkError (S.fails system.now) (IsBelow folder.now) depth) }
 {
     if depth == 0 {
-        return Err(failed(alloc, folder, Reason::TooDeep));
+        return Err(failed(alloc, folder, WalkReason::TooDeep));
     }
     let entries = sorted_entries(system, alloc, folder)?;
     let outer = walk.ignores.len();

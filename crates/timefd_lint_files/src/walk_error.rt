@@ -2,13 +2,13 @@
 
 ghost use Rattle.timefd_lint_files.specs.Errors.{IsFailureOf, IsUnreadOf};
 
-use crate::system::ReadError;
+use crate::system::FileError;
 use std::alloc::{AllocError, Global};
 use std::io::ErrorKind;
 
 /// Why the sources below a folder aren't known.
 #[derive(Clone, Copy, Debug, PartialEq, Eq)]
-pub enum Reason {
+pub enum WalkReason {
     /// The folder, or a file with patterns in it, can't be read.
     Unread(ErrorKind),
     /// The folder is inside too many others.
@@ -21,7 +21,7 @@ pub enum WalkError {
     /// Memory ran out.
     Memory,
     /// A folder or a file fails, for this reason.
-    Failed { path: String, reason: Reason },
+    Failed { path: String, reason: WalkReason },
 }
 
 impl From<AllocError> for WalkError {
@@ -36,7 +36,7 @@ impl From<AllocError> for WalkError {
 }
 
 /// The error that a folder or a file fails for this reason. `Memory` if there is no memory for its name.
-pub fn failed(alloc: Global, path: &str, reason: Reason) -> WalkError
+pub fn failed(alloc: Global, path: &str, reason: WalkReason) -> WalkError
     ensures { IsFailureOf path.now reason result }
 {
     match String::from_str(alloc, path) {
@@ -46,11 +46,11 @@ pub fn failed(alloc: Global, path: &str, reason: Reason) -> WalkError
 }
 
 /// The error for a folder or a file that can't be read.
-pub fn unread(alloc: Global, path: &str, error: ReadError) -> WalkError
+pub fn unread(alloc: Global, path: &str, error: FileError) -> WalkError
     ensures { IsUnreadOf path.now error result }
 {
     match error {
-        ReadError::Memory => WalkError::Memory,
-        ReadError::Failed(kind) => failed(alloc, path, Reason::Unread(kind)),
+        FileError::Memory => WalkError::Memory,
+        FileError::Failed(kind) => failed(alloc, path, WalkReason::Unread(kind)),
     }
 }

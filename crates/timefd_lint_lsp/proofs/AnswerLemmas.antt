@@ -6,16 +6,16 @@ use Rattle.std.specs.declared.vec.Vec.{Vec}
 use Rattle.timefd_lint_lsp.specs.Editor.Actions.{AreActionsOf}
 use Rattle.timefd_lint_lsp.specs.Editor.Positions.{index_of}
 use Rattle.timefd_lint_lsp.specs.declared.editor.action.Action.{Action}
-use Rattle.timefd_lint_lsp.specs.declared.editor.action.Wanted.{Wanted}
-use Rattle.timefd_lint_lsp.specs.declared.editor.position.Range.{Range}
-use Rattle.timefd_lint_sources.specs.declared.reported.Source.{Source}
+use Rattle.timefd_lint_lsp.specs.declared.editor.action.WantedActions.{WantedActions}
+use Rattle.timefd_lint_lsp.specs.declared.editor.position.DocumentRange.{DocumentRange}
+use Rattle.timefd_lint_sources.specs.declared.reported.SourceText.{SourceText}
 use Rattle.timefd_lint_lsp.specs.Servers.{IsActionsAnswer, finder_of}
 use Rattle.timefd_lint_lsp.specs.declared.documents.Document.{Document}
-use Rattle.timefd_lint_lsp.specs.declared.reply.Answer.TheVariants as answers
-use Rattle.timefd_lint_lsp.specs.declared.server.Settings.{Settings}
+use Rattle.timefd_lint_lsp.specs.declared.reply.RequestAnswer.TheVariants as answers
+use Rattle.timefd_lint_lsp.specs.declared.server.EditorSettings.{EditorSettings}
 
-pub actions_of : (settings : Settings) (found : Option Document) (document : Document) (uri : String Global)
-    (range : Range) (wanted : Wanted) (source : Source) (actions : Vec Action Global) (from to : ℕ)
+pub actions_of : (settings : EditorSettings) (found : Option Document) (document : Document) (uri : String Global)
+    (range : DocumentRange) (wanted : WantedActions) (source : SourceText) (actions : Vec Action Global) (from to : ℕ)
     → found ≡ Some document
     → source.finder ≡ finder_of settings document.kind → source.text.now ≡ string_bytes document.text
     → from ≡ index_of source.text.now range.start → to ≡ index_of source.text.now range.end

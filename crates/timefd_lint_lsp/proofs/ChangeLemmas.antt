@@ -6,13 +6,13 @@ use Rattle.std.specs.declared.alloc.Global.{Global}
 use Rattle.serde_json.specs.View.{items_view, view}
 use Rattle.serde_json.specs.declared.value.Value.{Value}
 use Rattle.timefd_lint_lsp.specs.Changes.{Seen, after, after_all, all_changes, change_of, seen}
-use Rattle.timefd_lint_lsp.specs.declared.changes.Change.{Change}
+use Rattle.timefd_lint_lsp.specs.declared.changes.DocumentChange.{DocumentChange}
 
 -- So far the changes are those of the values before an index.
-abbrev pub AreSoFar : List Value → ℕ → List Change → Type 0
+abbrev pub AreSoFar : List Value → ℕ → List DocumentChange → Type 0
 AreSoFar all i changes = map seen changes ++ all_changes (items_view (drop i all)) ≡ all_changes (items_view all)
 
-pub one_more : (all : List Value) (i : ℕ) (value other : Value) (change : Change) (changes now : List Change)
+pub one_more : (all : List Value) (i : ℕ) (value other : Value) (change : DocumentChange) (changes now : List DocumentChange)
     → i < length all → value ≡ get_or all i other → seen change ≡ change_of (view value)
     → now ≡ changes ++ change ∷ [] → AreSoFar all i changes → AreSoFar all (i + 1) now
 one_more all i value other change changes now below at is pushed so_far =
@@ -25,14 +25,14 @@ one_more all i value other change changes now below at is pushed so_far =
     ∙ (ap (λ d. map seen changes ++ d ∷ rest) is
     ∙ (ap (λ vs. map seen changes ++ all_changes (items_view vs)) (sym left) ∙ so_far))))
 
-pub at_last : (all : List Value) (i : ℕ) (changes : List Change) → length all ≤ i → AreSoFar all i changes
+pub at_last : (all : List Value) (i : ℕ) (changes : List DocumentChange) → length all ≤ i → AreSoFar all i changes
     → map seen changes ≡ all_changes (items_view all)
 at_last all i changes none so_far =
     sym (append-nil (map seen changes))
     ∙ (ap (λ vs. map seen changes ++ all_changes (items_view vs)) (sym (drop_all i all none)) ∙ so_far)
 
 -- The changes that are left lead from one text to the next.
-pub one_made : (all : List Change) (i : ℕ) (change other : Change) (current next : String Global)
+pub one_made : (all : List DocumentChange) (i : ℕ) (change other : DocumentChange) (current next : String Global)
     (found : Option (String Global)) (text : List ℕ) (whole : Option (List ℕ)) → i < length all
     → change ≡ get_or all i other → text ≡ string_bytes current → found ≡ Some next
     → option_map string_bytes found ≡ after text change
@@ -47,7 +47,7 @@ one_made all i change other current next found text whole below at same is made 
     ap (λ o. option_and_then (λ t. after_all t (drop (i + 1) all)) o) after_it
     ∙ (ap (λ cs. after_all (string_bytes current) cs) (sym left) ∙ before)
 
-pub none_made : (all : List Change) (i : ℕ) (change other : Change) (current : String Global)
+pub none_made : (all : List DocumentChange) (i : ℕ) (change other : DocumentChange) (current : String Global)
     (found : Option (String Global)) (text : List ℕ) (whole : Option (List ℕ)) → i < length all
     → change ≡ get_or all i other → text ≡ string_bytes current → found ≡ None
     → option_map string_bytes found ≡ after text change
@@ -61,7 +61,7 @@ none_made all i change other current found text whole below at same is made befo
     ap (λ o. option_and_then (λ t. after_all t (drop (i + 1) all)) o) after_it
     ∙ (ap (λ cs. after_all (string_bytes current) cs) (sym left) ∙ before)
 
-pub all_made : (all : List Change) (i : ℕ) (current : String Global) (whole : Option (List ℕ)) → length all ≤ i
+pub all_made : (all : List DocumentChange) (i : ℕ) (current : String Global) (whole : Option (List ℕ)) → length all ≤ i
     → after_all (string_bytes current) (drop i all) ≡ whole → Some (string_bytes current) ≡ whole
 all_made all i current whole none before =
     ap (λ cs. after_all (string_bytes current) cs) (sym (drop_all i all none)) ∙ before

@@ -6,16 +6,16 @@ use Rattle.timefd_lint_lsp.specs.Documents.{NoneOpen}
 use Rattle.timefd_lint_lsp.specs.Frames.{IsFrame}
 use Rattle.timefd_lint_lsp.specs.Servers.{first}
 use Rattle.timefd_lint_lsp.specs.Sessions.{AreServed, AreStepped, At, IsAnswered, IsGreeted, IsServed, IsServedFrom, IsStepped, at}
-use Rattle.timefd_lint_lsp.specs.declared.frame.Frame.{Frame}
-use Rattle.timefd_lint_lsp.specs.declared.frame.Frame.TheVariants as got
+use Rattle.timefd_lint_lsp.specs.declared.frame.MessageFrame.{MessageFrame}
+use Rattle.timefd_lint_lsp.specs.declared.frame.MessageFrame.TheVariants as got
 use Rattle.timefd_lint_lsp.specs.declared.server.Server.{Server}
-use Rattle.timefd_lint_lsp.specs.declared.server.Settings.{Settings}
-use Rattle.timefd_lint_lsp.specs.declared.session.End.{End}
-use Rattle.timefd_lint_lsp.specs.declared.session.End.TheVariants.{InputEnded}
+use Rattle.timefd_lint_lsp.specs.declared.server.EditorSettings.{EditorSettings}
+use Rattle.timefd_lint_lsp.specs.declared.session.SessionEnd.{SessionEnd}
+use Rattle.timefd_lint_lsp.specs.declared.session.SessionEnd.TheVariants.{InputEnded}
 
 -- The content of a frame is answered.
-pub on_content : (settings : Settings) (left written left_then written_then : Option (List ℕ)) (before after : Server)
-    (frame : Frame) (content : Vec ℕ Global) (bytes : List ℕ) (end : Option End) → frame ≡ got.Content content
+pub on_content : (settings : EditorSettings) (left written left_then written_then : Option (List ℕ)) (before after : Server)
+    (frame : MessageFrame) (content : Vec ℕ Global) (bytes : List ℕ) (end : Option SessionEnd) → frame ≡ got.Content content
     → bytes ≡ content.items → IsFrame left left_then frame
     → IsAnswered settings before after bytes written written_then end
     → IsStepped settings (at left written before) (at left_then written_then after) end
@@ -26,16 +26,16 @@ on_content settings left written left_then written_then before after frame conte
       subst (λ b. IsAnswered settings before after b written written_then end) same answered,
     )
 
-pub none_served : (settings : Settings) (left written : Option (List ℕ)) (server : Server)
+pub none_served : (settings : EditorSettings) (left written : Option (List ℕ)) (server : Server)
     → AreServed settings server left written (at left written server) 0
 none_served settings left written server = record { turns = []; counted = refl; each = refl }
 
-stepped_more : (settings : Settings) (a b c : At) (turns : List At) → AreStepped settings a turns b
+stepped_more : (settings : EditorSettings) (a b c : At) (turns : List At) → AreStepped settings a turns b
     → IsStepped settings b c None → AreStepped settings a (turns ++ c ∷ []) c
 stepped_more settings a b c [] each one = (subst (λ x. IsStepped settings x c None) each one, refl)
 stepped_more settings a b c (m ∷ turns) each one = (each.0, stepped_more settings m b c turns each.1 one)
 
-pub one_more_served : (settings : Settings) (start : Server) (left written : Option (List ℕ)) (b c : At) (count : ℕ)
+pub one_more_served : (settings : EditorSettings) (start : Server) (left written : Option (List ℕ)) (b c : At) (count : ℕ)
     → AreServed settings start left written b count → IsStepped settings b c None
     → AreServed settings start left written c (count + 1)
 one_more_served settings start left written b c count before one = record {
@@ -44,8 +44,8 @@ one_more_served settings start left written b c count before one = record {
   each = stepped_more settings (at left written start) b c before.turns before.each one;
 }
 
-pub ended : (settings : Settings) (start : Server) (left written left_then written_then : Option (List ℕ)) (b : At)
-    (known : Server) (count : ℕ) (end : End) → AreServed settings start left written b count
+pub ended : (settings : EditorSettings) (start : Server) (left written left_then written_then : Option (List ℕ)) (b : At)
+    (known : Server) (count : ℕ) (end : SessionEnd) → AreServed settings start left written b count
     → IsStepped settings b (at left_then written_then known) (Some end)
     → IsServedFrom settings start left written left_then written_then end
 ended settings start left written left_then written_then b known count end before one = record {
@@ -55,7 +55,7 @@ ended settings start left written left_then written_then b known count end befor
   ends = inl (known, one);
 }
 
-pub ended_at_most : (settings : Settings) (start : Server) (left written left_then written_then : Option (List ℕ))
+pub ended_at_most : (settings : EditorSettings) (start : Server) (left written left_then written_then : Option (List ℕ))
     (known : Server) (count : ℕ) → AreServed settings start left written (at left_then written_then known) count
     → count ≡ 2 ^ 64 - 1 → IsServedFrom settings start left written left_then written_then InputEnded
 ended_at_most settings start left written left_then written_then known count before all = record {
@@ -66,7 +66,7 @@ ended_at_most settings start left written left_then written_then known count bef
 }
 
 -- A session is served from a new server on.
-pub from_new : (settings : Settings) (left written left_then written_then : Option (List ℕ)) (start : Server) (end : End)
+pub from_new : (settings : EditorSettings) (left written left_then written_then : Option (List ℕ)) (start : Server) (end : SessionEnd)
     → start.phase ≡ first → NoneOpen start.documents
     → IsServedFrom settings start left written left_then written_then end
     → IsServed settings left written left_then written_then end
@@ -74,7 +74,7 @@ from_new settings left written left_then written_then start end fresh none from 
     record { start = start; fresh = fresh; none_open = none; from = from }
 
 -- After the frame that changes the phase the session is begun.
-pub begun : (settings : Settings) (start : Server) (left written : Option (List ℕ)) (b c : At) (count : ℕ)
+pub begun : (settings : EditorSettings) (start : Server) (left written : Option (List ℕ)) (b c : At) (count : ℕ)
     → AreServed settings start left written b count → b.server.phase ≡ first → IsStepped settings b c None
     → c.server.phase ≢ first → IsGreeted settings (at left written start) c None
 begun settings start left written b c count before still one changed = record {

@@ -5,8 +5,8 @@ use Rattle.std.specs.Prelude.{Option, Some, None}
 use Rattle.std.specs.Io.KnownBytes.{Appends}
 use Rattle.timefd_lint_lsp.specs.Frames.{framed}
 use Rattle.timefd_lint_lsp.specs.Sessions.{frames, IsSession, WritesFrames}
-use Rattle.timefd_lint_lsp.specs.declared.session.End.{End}
-use Rattle.timefd_lint_lsp.specs.declared.session.End.TheVariants.{Done, Left, InputEnded, Cut, NoFrame, Unread, Unwritten, Memory}
+use Rattle.timefd_lint_lsp.specs.declared.session.SessionEnd.{SessionEnd}
+use Rattle.timefd_lint_lsp.specs.declared.session.SessionEnd.TheVariants.{Done, Left, InputEnded, Cut, NoFrame, Unread, Unwritten, Memory}
 
 append-none : (xs : List ℕ) → xs ++ [] ≡ xs
 append-none [] = refl
@@ -44,7 +44,7 @@ more_written old mid new first second = record {
 }
 
 -- A session that begins after whole frames ends as it does without them.
-pub ended_after : (old mid new : Option (List ℕ)) (end : End) → WritesFrames old mid → IsSession mid new end
+pub ended_after : (old mid new : Option (List ℕ)) (end : SessionEnd) → WritesFrames old mid → IsSession mid new end
     → IsSession old new end
 ended_after old mid new Done first second = more_written old mid new first second
 ended_after old mid new Left first second = more_written old mid new first second

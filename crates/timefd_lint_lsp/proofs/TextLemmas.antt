@@ -11,12 +11,12 @@ use Rattle.timefd_lint_lsp.specs.Shown.{action_data, edit_data, finding_data, wo
 use Rattle.timefd_lint_lsp.specs.Texts.{error_data, id_data, reply_data, response}
 use Rattle.timefd_lint_lsp.specs.declared.envelope.Id.{Id}
 use Rattle.timefd_lint_lsp.specs.declared.envelope.Id.TheVariants as ids
-use Rattle.timefd_lint_lsp.specs.declared.reply.Answer.{Answer}
-use Rattle.timefd_lint_lsp.specs.declared.reply.Answer.TheVariants as answers
-use Rattle.timefd_lint_lsp.specs.declared.reply.Refusal.{Refusal}
-use Rattle.timefd_lint_lsp.specs.declared.reply.Refusal.TheVariants.{NotJson, InvalidRequest, UnknownMethod, WrongParams, NotInitialized, TooLong}
-use Rattle.timefd_lint_lsp.specs.declared.reply.Reply.{Reply}
-use Rattle.timefd_lint_lsp.specs.declared.reply.Reply.TheVariants as replies
+use Rattle.timefd_lint_lsp.specs.declared.reply.RequestAnswer.{RequestAnswer}
+use Rattle.timefd_lint_lsp.specs.declared.reply.RequestAnswer.TheVariants as answers
+use Rattle.timefd_lint_lsp.specs.declared.reply.RequestRefusal.{RequestRefusal}
+use Rattle.timefd_lint_lsp.specs.declared.reply.RequestRefusal.TheVariants.{NotJson, InvalidRequest, UnknownMethod, WrongParams, NotInitialized, TooLong}
+use Rattle.timefd_lint_lsp.specs.declared.reply.ServerMessage.{ServerMessage}
+use Rattle.timefd_lint_lsp.specs.declared.reply.ServerMessage.TheVariants as replies
 
 abbrev IsWhole : Data → Type 0
 IsWhole d = has_float d ≡ false
@@ -37,7 +37,7 @@ id_is_whole (Some (ids.Number (pos n))) = refl
 id_is_whole (Some (ids.Number (negsuc n))) = refl
 id_is_whole (Some (ids.Text text)) = refl
 
-error_is_whole : (refusal : Refusal) → IsWhole (error_data refusal)
+error_is_whole : (refusal : RequestRefusal) → IsWhole (error_data refusal)
 error_is_whole NotJson = refl
 error_is_whole InvalidRequest = refl
 error_is_whole UnknownMethod = refl
@@ -49,7 +49,7 @@ action_is_whole : (uri : List ℕ) (action : Action) → IsWhole (action_data ur
 action_is_whole uri action =
     ap (λ b. ((b || false) || false) || false) (list_is_whole edit_data (λ edit. refl) action.edits.items)
 
-response_is_whole : (id : Data) (answer : Answer) → IsWhole id → IsWhole (response id answer)
+response_is_whole : (id : Data) (answer : RequestAnswer) → IsWhole id → IsWhole (response id answer)
 response_is_whole id answers.Capabilities whole = ap (λ b. b || false) whole
 response_is_whole id answers.Nothing whole = ap (λ b. b || false) whole
 response_is_whole id (answers.Hover hover) whole = ap (λ b. b || false) whole
@@ -69,13 +69,13 @@ response_is_whole id (answers.Refused refusal) whole =
     neither (has_float (error_data refusal)) (has_float id || false) (error_is_whole refusal)
     (ap (λ b. b || false) whole)
 
-reply_is_whole : (reply : Reply) → IsWhole (reply_data reply)
+reply_is_whole : (reply : ServerMessage) → IsWhole (reply_data reply)
 reply_is_whole (replies.Response id answer) = response_is_whole (id_data id) answer (id_is_whole id)
 reply_is_whole (replies.Findings uri findings) =
     ap (λ b. (b || false) || false) (list_is_whole finding_data (λ finding. refl) findings.items)
 reply_is_whole (replies.Lost uri) = refl
 
-pub written : (reply : Reply) (said : Data) (text : Result (String Global) AllocError) → said ≡ reply_data reply
+pub written : (reply : ServerMessage) (said : Data) (text : Result (String Global) AllocError) → said ≡ reply_data reply
     → IfOk text (λ s. IsWhole said → string_bytes s ≡ compact_text said)
     → IfOk text (λ s. string_bytes s ≡ compact_text (reply_data reply))
 written reply said (Ok s) is compact =

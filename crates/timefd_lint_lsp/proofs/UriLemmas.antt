@@ -1,7 +1,7 @@
 -- Paths that URIs name, byte after byte.
 use Rattle.std.proofs.Common.{◌≡◌, ◌≢◌, ℕ, ◌==◌, Bool, true, false, [], ◌∷◌, ◌++◌, Option, Some, None, length, refl, sym, ap, ◌∙◌, append_assoc, append-nil, arith}
 use Rattle.std.specs.Prelude.{if◌then◌else◌, option_map}
-use Rattle.timefd_lint_lsp.specs.declared.uri.Piece as got
+use Rattle.timefd_lint_lsp.specs.declared.uri.DecodedByte as got
 use Rattle.timefd_lint_lsp.specs.Uris.{Piece, Text, after_front, byte_of, decoded, first_piece, in_front, piece_of, seen}
 
 -- one more byte of the front
@@ -97,7 +97,7 @@ one_after front byte None = refl
 one_after front byte (Some bytes) = ap (λ (t : Text). Some t) (sym (append_assoc front (byte ∷ []) bytes))
 
 -- one more byte
-pub one_piece : (old new rest : Text) (all : Option Text) (result : Option got.Piece) (piece : got.Piece)
+pub one_piece : (old new rest : Text) (all : Option Text) (result : Option got.DecodedByte) (piece : got.DecodedByte)
     → option_map seen result ≡ first_piece rest → result ≡ Some piece → new ≡ old ++ piece.byte ∷ []
     → with_front old (decoded rest) ≡ all → with_front new (decoded piece.rest.now) ≡ all
 one_piece old new rest all result piece is got_it pushed so_far =
@@ -106,7 +106,7 @@ one_piece old new rest all result piece is got_it pushed so_far =
     ∙ (sym (one_after old piece.byte (decoded piece.rest.now))
     ∙ (ap (with_front old) (sym (step rest (seen piece) first)) ∙ so_far))
 
-pub none_stand : (old rest : Text) (all : Option Text) (result : Option got.Piece)
+pub none_stand : (old rest : Text) (all : Option Text) (result : Option got.DecodedByte)
     → option_map seen result ≡ first_piece rest → result ≡ None → length rest ≢ 0
     → with_front old (decoded rest) ≡ all → None ≡ all
 none_stand old rest all result is none some so_far =

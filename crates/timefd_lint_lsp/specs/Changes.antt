@@ -3,27 +3,27 @@ use Rattle.std.specs.Prelude.{ℕ, List, [], ◌∷◌, Bool, true, false, Optio
 use Rattle.serde_json.specs.Data.{Data, Items, no_items, item}
 use Rattle.serde_json.specs.Find.{as_str, get}
 use Rattle.timefd_lint_lsp.specs.Editor.Replacing.{replaced}
-use Rattle.timefd_lint_lsp.specs.declared.editor.position.Range.{Range}
+use Rattle.timefd_lint_lsp.specs.declared.editor.position.DocumentRange.{DocumentRange}
 use Rattle.timefd_lint_lsp.specs.Params.{changes_of, range_in}
-use Rattle.timefd_lint_lsp.specs.declared.changes.Change.{Change}
-use Rattle.timefd_lint_lsp.specs.declared.changes.Change.TheVariants.{Whole, Part, Unreadable}
+use Rattle.timefd_lint_lsp.specs.declared.changes.DocumentChange.{DocumentChange}
+use Rattle.timefd_lint_lsp.specs.declared.changes.DocumentChange.TheVariants.{Whole, Part, Unreadable}
 
 -- a change, without the address of its text in memory
 pub data Seen : Type 0 where
   whole : List ℕ → Seen
-  part : Range → List ℕ → Seen
+  part : DocumentRange → List ℕ → Seen
   unreadable : Seen
 
-abbrev pub seen : Change → Seen
+abbrev pub seen : DocumentChange → Seen
 seen (Whole text) = whole (string_bytes text)
 seen (Part range text) = part range (string_bytes text)
 seen Unreadable = unreadable
 
-abbrev pub of_range : Option Range → List ℕ → Seen
+abbrev pub of_range : Option DocumentRange → List ℕ → Seen
 of_range (Some range) text = part range text
 of_range None text = unreadable
 
-abbrev pub of_range_if : Bool → Option Range → List ℕ → Seen
+abbrev pub of_range_if : Bool → Option DocumentRange → List ℕ → Seen
 of_range_if true range text = of_range range text
 of_range_if false range text = whole text
 
@@ -51,12 +51,12 @@ abbrev pub changes_in : Data → List Seen
 changes_in d = changes_by (changes_of d)
 
 -- the text after a change, if the change can be made
-abbrev pub after : List ℕ → Change → Option (List ℕ)
+abbrev pub after : List ℕ → DocumentChange → Option (List ℕ)
 after text (Whole new) = Some (string_bytes new)
 after text (Part range new) = replaced text range (string_bytes new)
 after text Unreadable = None
 
 -- the text after some changes, if each of them can be made in the text that the one before made
-abbrev pub after_all : List ℕ → List Change → Option (List ℕ)
+abbrev pub after_all : List ℕ → List DocumentChange → Option (List ℕ)
 after_all text [] = Some text
 after_all text (change ∷ changes) = option_and_then (λ next. after_all next changes) (after text change)

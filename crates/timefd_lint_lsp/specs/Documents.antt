@@ -4,9 +4,9 @@ use Rattle.std.specs.BTreeMap.{BTreeMap, get_by_text}
 use Rattle.std.specs.declared.alloc.Global.{Global}
 use Rattle.timefd_lint_lsp.specs.Changes.{after_all}
 use Rattle.timefd_lint_lsp.specs.Kinds.{kind_of}
-use Rattle.timefd_lint_lsp.specs.declared.changes.Change.{Change}
+use Rattle.timefd_lint_lsp.specs.declared.changes.DocumentChange.{DocumentChange}
 use Rattle.timefd_lint_lsp.specs.declared.documents.Document.{Document}
-use Rattle.timefd_lint_lsp.specs.declared.documents.Kind.{Kind}
+use Rattle.timefd_lint_lsp.specs.declared.documents.DocumentKind.{DocumentKind}
 use Rattle.timefd_lint_lsp.specs.declared.message.Message.{Message}
 use Rattle.timefd_lint_lsp.specs.declared.message.Message.TheVariants as messages
 use Rattle.timefd_lint_lsp.specs.declared.message.Notification.{Notification}
@@ -43,16 +43,16 @@ AreWithResult (Some bytes) uri old new = (text : String Global) × (string_bytes
     × AreWithText uri text old new
 AreWithResult None uri old new = AreWith uri None old new
 
-abbrev pub AreChangedFrom : Option Document → List ℕ → List Change → Open → Open → Type 0
+abbrev pub AreChangedFrom : Option Document → List ℕ → List DocumentChange → Open → Open → Type 0
 AreChangedFrom (Some document) uri changes old new =
     AreWithResult (after_all (string_bytes document.text) changes) uri old new
 AreChangedFrom None uri changes old new = new ≡ old
 
 -- The changes are made if the document is open.
-abbrev pub AreChanged : List ℕ → List Change → Open → Open → Type 0
+abbrev pub AreChanged : List ℕ → List DocumentChange → Open → Open → Type 0
 AreChanged uri changes old new = AreChangedFrom (get_by_text old uri) uri changes old new
 
-abbrev pub AreOpenedAs : Option Kind → List ℕ → String Global → Open → Open → Type 0
+abbrev pub AreOpenedAs : Option DocumentKind → List ℕ → String Global → Open → Open → Type 0
 AreOpenedAs (Some kind) uri text old new = AreWith uri (Some (record { kind = kind; text = text })) old new
 AreOpenedAs None uri text old new = new ≡ old
 

@@ -3,9 +3,9 @@ use Rattle.std.specs.Prelude.{◌≡◌, ℕ, List, Option, Some, None, codes, b
 use Rattle.std.specs.declared.alloc.Global.{Global}
 use Rattle.serde_json.specs.Data.{Data}
 use Rattle.serde_json.specs.Read.{read}
-use Rattle.timefd_lint_lsp.specs.declared.editor.action.Wanted.{Wanted}
-use Rattle.timefd_lint_lsp.specs.declared.editor.position.Position.{Position}
-use Rattle.timefd_lint_lsp.specs.declared.editor.position.Range.{Range}
+use Rattle.timefd_lint_lsp.specs.declared.editor.action.WantedActions.{WantedActions}
+use Rattle.timefd_lint_lsp.specs.declared.editor.position.DocumentPosition.{DocumentPosition}
+use Rattle.timefd_lint_lsp.specs.declared.editor.position.DocumentRange.{DocumentRange}
 use Rattle.timefd_lint_lsp.specs.Changes.{Seen, changes_in, seen}
 use Rattle.timefd_lint_lsp.specs.Envelopes.{seen_id, Shape, envelope_of}
 use Rattle.timefd_lint_lsp.specs.Envelopes as shapes
@@ -15,15 +15,15 @@ use Rattle.timefd_lint_lsp.specs.declared.message.Message.{Message}
 use Rattle.timefd_lint_lsp.specs.declared.message.Message.TheVariants as messages
 use Rattle.timefd_lint_lsp.specs.declared.message.Notification.{Notification}
 use Rattle.timefd_lint_lsp.specs.declared.message.Notification.TheVariants as reported
-use Rattle.timefd_lint_lsp.specs.declared.message.Request.{Request}
-use Rattle.timefd_lint_lsp.specs.declared.message.Request.TheVariants as asked
+use Rattle.timefd_lint_lsp.specs.declared.message.EditorRequest.{EditorRequest}
+use Rattle.timefd_lint_lsp.specs.declared.message.EditorRequest.TheVariants as asked
 
 -- what is asked for, without the addresses of its texts in memory
 pub data Asked : Type 0 where
   initialize : Option (List ℕ) → Asked
-  hover : List ℕ → Position → Asked
-  completion : List ℕ → Position → Asked
-  actions : List ℕ → Range → Wanted → Asked
+  hover : List ℕ → DocumentPosition → Asked
+  completion : List ℕ → DocumentPosition → Asked
+  actions : List ℕ → DocumentRange → WantedActions → Asked
   shutdown : Asked
   unknown : Asked
   wrong_params : Asked
@@ -32,7 +32,7 @@ abbrev pub seen_root : Option (String Global) → Option (List ℕ)
 seen_root None = None
 seen_root (Some uri) = Some (string_bytes uri)
 
-abbrev pub seen_request : Request → Asked
+abbrev pub seen_request : EditorRequest → Asked
 seen_request (asked.Initialize root) = initialize (seen_root root)
 seen_request (asked.Hover uri position) = hover (string_bytes uri) position
 seen_request (asked.Completion uri position) = completion (string_bytes uri) position
@@ -44,7 +44,7 @@ seen_request asked.WrongParams = wrong_params
 abbrev pub initialize_of : Data → Asked
 initialize_of d = initialize (root_of d)
 
-abbrev pub hover_from : Option (List ℕ) → Option Position → Asked
+abbrev pub hover_from : Option (List ℕ) → Option DocumentPosition → Asked
 hover_from (Some uri) (Some position) = hover uri position
 hover_from (Some uri) None = wrong_params
 hover_from None position = wrong_params
@@ -52,7 +52,7 @@ hover_from None position = wrong_params
 abbrev pub hover_of : Data → Asked
 hover_of d = hover_from (uri_of d) (position_in d)
 
-abbrev pub completion_from : Option (List ℕ) → Option Position → Asked
+abbrev pub completion_from : Option (List ℕ) → Option DocumentPosition → Asked
 completion_from (Some uri) (Some position) = completion uri position
 completion_from (Some uri) None = wrong_params
 completion_from None position = wrong_params
@@ -60,7 +60,7 @@ completion_from None position = wrong_params
 abbrev pub completion_of : Data → Asked
 completion_of d = completion_from (uri_of d) (position_in d)
 
-abbrev pub actions_from : Option (List ℕ) → Option Range → Wanted → Asked
+abbrev pub actions_from : Option (List ℕ) → Option DocumentRange → WantedActions → Asked
 actions_from (Some uri) (Some range) wanted = actions uri range wanted
 actions_from (Some uri) None wanted = wrong_params
 actions_from None range wanted = wrong_params

@@ -14,14 +14,14 @@ use Rattle.timefd_lint_lsp.specs.declared.editor.finding.Finding.{Finding}
 use Rattle.timefd_lint_lsp.specs.declared.editor.finding.Severity.{Severity}
 use Rattle.timefd_lint_lsp.specs.declared.editor.finding.Severity.TheVariants.{Error, Warning}
 use Rattle.timefd_lint_lsp.specs.declared.editor.hovered.Hover.{Hover}
-use Rattle.timefd_lint_lsp.specs.declared.editor.position.Position.{Position}
-use Rattle.timefd_lint_lsp.specs.declared.editor.position.Range.{Range}
+use Rattle.timefd_lint_lsp.specs.declared.editor.position.DocumentPosition.{DocumentPosition}
+use Rattle.timefd_lint_lsp.specs.declared.editor.position.DocumentRange.{DocumentRange}
 
-abbrev pub position_data : Position → Data
+abbrev pub position_data : DocumentPosition → Data
 position_data position = object (member (codes "character") (number (unsigned position.character))
     (member (codes "line") (number (unsigned position.line)) no_members))
 
-abbrev pub range_data : Range → Data
+abbrev pub range_data : DocumentRange → Data
 range_data range = object (member (codes "end") (position_data range.end)
     (member (codes "start") (position_data range.start) no_members))
 
@@ -41,7 +41,7 @@ abbrev pub findings_data : List Finding → Data
 findings_data findings = array (items_of (map finding_data findings))
 
 -- the start of a document
-abbrev pub first : Position
+abbrev pub first : DocumentPosition
 first = record { line = 0; character = 0 }
 
 -- A warning at the start of a document says that it isn't checked any more.
@@ -71,16 +71,16 @@ kind_number (slots.Key name) = 10
 kind_number (slots.Value key) = 12
 
 -- a word in place of a range
-abbrev pub replacement : Range → List ℕ → Data
+abbrev pub replacement : DocumentRange → List ℕ → Data
 replacement range word = object (member (codes "newText") (string word)
     (member (codes "range") (range_data range) no_members))
 
-abbrev pub word_data : Range → Slot → List ℕ → Data
+abbrev pub word_data : DocumentRange → Slot → List ℕ → Data
 word_data range slot word = object (member (codes "kind") (number (unsigned (kind_number slot)))
     (member (codes "label") (string word)
     (member (codes "textEdit") (replacement range word) no_members)))
 
-abbrev pub words_data : Range → Slot → List (Bor (List ℕ)) → Data
+abbrev pub words_data : DocumentRange → Slot → List (Bor (List ℕ)) → Data
 words_data range slot words = array (items_of (map (λ w. word_data range slot w.now) words))
 
 -- each word that may be written at a position

@@ -6,11 +6,11 @@ use Rattle.timefd_lint_lsp.specs.Replies.{code_of, sentence_of}
 use Rattle.timefd_lint_lsp.specs.Shown.{actions_data, completion_data, findings_data, hover_data, loss_data}
 use Rattle.timefd_lint_lsp.specs.declared.envelope.Id.{Id}
 use Rattle.timefd_lint_lsp.specs.declared.envelope.Id.TheVariants as ids
-use Rattle.timefd_lint_lsp.specs.declared.reply.Answer.{Answer}
-use Rattle.timefd_lint_lsp.specs.declared.reply.Answer.TheVariants as answers
-use Rattle.timefd_lint_lsp.specs.declared.reply.Refusal.{Refusal}
-use Rattle.timefd_lint_lsp.specs.declared.reply.Reply.{Reply}
-use Rattle.timefd_lint_lsp.specs.declared.reply.Reply.TheVariants as replies
+use Rattle.timefd_lint_lsp.specs.declared.reply.RequestAnswer.{RequestAnswer}
+use Rattle.timefd_lint_lsp.specs.declared.reply.RequestAnswer.TheVariants as answers
+use Rattle.timefd_lint_lsp.specs.declared.reply.RequestRefusal.{RequestRefusal}
+use Rattle.timefd_lint_lsp.specs.declared.reply.ServerMessage.{ServerMessage}
+use Rattle.timefd_lint_lsp.specs.declared.reply.ServerMessage.TheVariants as replies
 
 abbrev pub id_data : Option Id → Data
 id_data None = null
@@ -22,12 +22,12 @@ abbrev pub answered : Data → Data → Data
 answered id result = object (member (codes "id") id (member (codes "jsonrpc") (string (codes "2.0"))
     (member (codes "result") result no_members)))
 
-abbrev pub error_data : Refusal → Data
+abbrev pub error_data : RequestRefusal → Data
 error_data refusal = object (member (codes "code") (number (of_integer (code_of refusal)))
     (member (codes "message") (string (sentence_of refusal)) no_members))
 
 -- the response that refuses the request
-abbrev pub refused : Data → Refusal → Data
+abbrev pub refused : Data → RequestRefusal → Data
 refused id refusal = object (member (codes "error") (error_data refusal)
     (member (codes "id") id (member (codes "jsonrpc") (string (codes "2.0")) no_members)))
 
@@ -66,7 +66,7 @@ server = object (member (codes "name") (string (codes "timefd_lint"))
 abbrev pub capabilities : Data
 capabilities = object (member (codes "capabilities") provided (member (codes "serverInfo") server no_members))
 
-abbrev pub response : Data → Answer → Data
+abbrev pub response : Data → RequestAnswer → Data
 response id (answers.Refused refusal) = refused id refusal
 response id answers.Capabilities = answered id capabilities
 response id answers.Nothing = answered id null
@@ -75,7 +75,7 @@ response id (answers.Completion completion) = answered id (completion_data compl
 response id (answers.Actions uri actions) = answered id (actions_data (string_bytes uri) actions.items)
 
 -- the value of a reply
-abbrev pub reply_data : Reply → Data
+abbrev pub reply_data : ServerMessage → Data
 reply_data (replies.Response id answer) = response (id_data id) answer
 reply_data (replies.Findings uri findings) = published (string_bytes uri) (findings_data findings.items)
 reply_data (replies.Lost uri) = published (string_bytes uri) loss_data

@@ -2,7 +2,7 @@
 use Rattle.std.specs.Prelude.{ℕ, ◌+◌, ◌-◌, ◌*◌, ◌==◌, ◌&&◌, Bool, nat_lt, not, if◌then◌else◌, List, [], ◌∷◌, codes, Option, Some, None}
 use Rattle.std.specs.declared.alloc.Global.{Global}
 use Rattle.std.specs.declared.vec.Vec.{Vec}
-use Rattle.timefd_lint_lsp.specs.declared.uri.Piece as got
+use Rattle.timefd_lint_lsp.specs.declared.uri.DecodedByte as got
 
 abbrev pub Text : Type 0
 Text = List ℕ
@@ -60,7 +60,7 @@ pub record Piece : Type 0 where
   pub byte : ℕ
   pub rest : Text
 
-abbrev pub seen : got.Piece → Piece
+abbrev pub seen : got.DecodedByte → Piece
 seen piece = record { byte = piece.byte; rest = piece.rest.now }
 
 abbrev pub piece_of : Option ℕ → Text → Option Piece

@@ -4,7 +4,7 @@ ghost use Rattle.std.specs.Prelude.{◌≡◌, IfOk, map, option_map, string_byt
 ghost use Rattle.serde_json.specs.View.{items_view, view};
 ghost use Rattle.timefd_lint_lsp.specs.Changes as spec;
 
-use crate::editor::{Range, replaced};
+use crate::editor::{DocumentRange, replaced};
 use crate::envelope::text_at;
 use crate::params::{changes_of, range_in};
 use serde_json::Value;
@@ -12,18 +12,18 @@ use std::alloc::{AllocError, Global};
 
 /// A change of a document.
 #[derive(Drop)]
-pub enum Change {
+pub enum DocumentChange {
     /// The whole text is replaced.
     Whole(String),
     /// A range of the text is replaced.
-    Part(Range, String),
+    Part(DocumentRange, String),
     /// It has no text, or its range isn't one.
     Unreadable,
 }
 
 /// The changes that a notification reports, in order. If it has no list of changes, it has one that can't be
 /// read. An `Err` says that memory ran out.
-pub fn changes_in(alloc: Global, value: &Value) -> Result<Vec<Change>, AllocError>
+pub fn changes_in(alloc: Global, value: &Value) -> Result<Vec<DocumentChange>, AllocError>
     ensures { IfOk result (λ changes. map spec.seen changes.items ≡ spec.changes_in (view value.now)) }
 {
     match changes_of(value) {
@@ -32,15 +32,15 @@ pub fn changes_in(alloc: Global, value: &Value) -> Result<Vec<Change>, AllocErro
     }
 }
 
-fn unreadable(alloc: Global) -> Result<Vec<Change>, AllocError>
+fn unreadable(alloc: Global) -> Result<Vec<DocumentChange>, AllocError>
     ensures { IfOk result (λ changes. map spec.seen changes.items ≡ spec.none_readable) }
 {
     let mut changes = Vec::new(alloc);
-    changes.push(Change::Unreadable)?;
+    changes.push(DocumentChange::Unreadable)?;
     Ok(changes)
 }
 
-fn all_changes(alloc: Global, values: &[Value]) -> Result<Vec<Change>, AllocError>
+fn all_changes(alloc: Global, values: &[Value]) -> Result<Vec<DocumentChange>, AllocError>
     ensures { IfOk result (λ changes. map spec.seen changes.items ≡ spec.all_changes (items_view values.now)) }
 {
     let mut changes = Vec::new(alloc);
@@ -50,18 +50,18 @@ fn all_changes(alloc: Global, values: &[Value]) -> Result<Vec<Change>, AllocErro
     Ok(changes)
 }
 
-fn change_of(alloc: Global, value: &Value) -> Result<Change, AllocError>
+fn change_of(alloc: Global, value: &Value) -> Result<DocumentChange, AllocError>
     ensures { IfOk result (λ change. spec.seen change ≡ spec.change_of (view value.now)) }
 {
     let Some(text) = text_at(value, "text") else {
-        return Ok(Change::Unreadable);
+        return Ok(DocumentChange::Unreadable);
     };
     if value.get("range").is_none() {
-        return Ok(Change::Whole(String::from_str(alloc, text)?));
+        return Ok(DocumentChange::Whole(String::from_str(alloc, text)?));
     }
     match range_in(value) {
-        Some(range) => Ok(Change::Part(range, String::from_str(alloc, text)?)),
-        None => Ok(Change::Unreadable),
+        Some(range) => Ok(DocumentChange::Part(range, String::from_str(alloc, text)?)),
+        None => Ok(DocumentChange::Unreadable),
     }
 }
 
@@ -70,7 +70,7 @@ fn change_of(alloc: Global, value: &Value) -> Result<Change, AllocError>
 pub fn after_all(
     alloc: Global,
     text: &str,
-    changes: &[Change],
+    changes: &[DocumentChange],
 ) -> Result<Option<String>, AllocError>
     ensures { IfOk result (λ after. option_map string_bytes after ≡ spec.after_all text.now changes.now) }
 {
@@ -84,12 +84,12 @@ pub fn after_all(
     Ok(Some(current))
 }
 
-fn after(alloc: Global, text: &str, change: &Change) -> Result<Option<String>, AllocError>
+fn after(alloc: Global, text: &str, change: &DocumentChange) -> Result<Option<String>, AllocError>
     ensures { IfOk result (λ after. option_map string_bytes after ≡ spec.after text.now change.now) }
 {
     match change {
-        Change::Whole(new) => Ok(Some(String::from_str(alloc, new.as_str())?)),
-        Change::Part(range, new) => replaced(alloc, text, *range, new.as_str()),
-        Change::Unreadable => Ok(None),
+        DocumentChange::Whole(new) => Ok(Some(String::from_str(alloc, new.as_str())?)),
+        DocumentChange::Part(range, new) => replaced(alloc, text, *range, new.as_str()),
+        DocumentChange::Unreadable => Ok(None),
     }
 }

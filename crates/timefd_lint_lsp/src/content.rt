@@ -2,11 +2,11 @@
 
 ghost use Rattle.std.specs.Prelude.{◌≡◌, ◌++◌, IfErr, IfOk, IsTrue, OnOk};
 ghost use Rattle.timefd_lint_lsp.specs.Contents as spec;
-ghost use Rattle.timefd_bin_streams.specs.declared.transfer.ReadError.{ReadError};
+ghost use Rattle.timefd_bin_streams.specs.declared.transfer.TransferError.{TransferError};
 
 use std::alloc::{AllocError, Global};
 use timefd_bin_streams::Source;
-use timefd_bin_streams::transfer::ReadError;
+use timefd_bin_streams::transfer::TransferError;
 
 // How many bytes one read asks for at most.
 const PIECE: usize = 8192;
@@ -16,10 +16,10 @@ pub fn read_content<R: Source>(
     alloc: Global,
     source: &mut R,
     wanted: usize,
-) -> Result<Vec<u8>, ReadError>
+) -> Result<Vec<u8>, TransferError>
     ensures content { IfOk result (λ content. spec.IsContent (R.remaining source.old)
         (R.remaining source.new) wanted content.items) }
-    ensures fails { IfErr result (λ e. e ≡ ReadError.Failed → IsTrue (R.has_failed source.new)) }
+    ensures fails { IfErr result (λ e. e ≡ TransferError.Failed → IsTrue (R.has_failed source.new)) }
 {
     let mut content = Vec::new(alloc);
     let mut piece = [0; PIECE];
@@ -41,10 +41,10 @@ fn append(content: &mut Vec<u8>, bytes: &[u8]) -> Result<(), AllocError>
 }
 
 /// Skips the next `wanted` bytes of the source, and returns how many there were: fewer only at its end.
-pub fn skip_content<R: Source>(source: &mut R, wanted: u64) -> Result<u64, ReadError>
+pub fn skip_content<R: Source>(source: &mut R, wanted: u64) -> Result<u64, TransferError>
     ensures skipped { IfOk result (λ count. spec.IsSkipped (R.remaining source.old)
         (R.remaining source.new) wanted count) }
-    ensures fails { IfErr result (λ e. e ≡ ReadError.Failed → IsTrue (R.has_failed source.new)) }
+    ensures fails { IfErr result (λ e. e ≡ TransferError.Failed → IsTrue (R.has_failed source.new)) }
 {
     let mut piece = [0; PIECE];
     let mut passed: u64 = 0;

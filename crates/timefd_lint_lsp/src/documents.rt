@@ -7,21 +7,21 @@ ghost use Rattle.timefd_lint_lsp.specs.Documents.{with_text};
 
 use std::alloc::AllocError;
 use std::collections::BTreeMap;
-use timefd_lint_scan::keys::{Format, format_named};
+use timefd_lint_scan::keys::{FileFormat, format_named};
 
 /// How the descriptions in a document are found.
 #[derive(Clone, Copy, Debug, PartialEq, Eq)]
-pub enum Kind {
+pub enum DocumentKind {
     /// They are string literals of Rust.
     Rust,
     /// They are strings of keys.
-    Keys(Format),
+    Keys(FileFormat),
 }
 
 /// An open document.
 #[derive(Drop)]
 pub struct Document {
-    pub kind: Kind,
+    pub kind: DocumentKind,
     pub text: String,
 }
 
@@ -30,26 +30,26 @@ pub type Documents = BTreeMap<String, Document>;
 
 /// How descriptions are found in a document, by the editor's name for its language, or else by the ending of
 /// the document's name. `None` if the document isn't checked.
-pub fn kind_of(language: &str, uri: &str) -> Option<Kind>
+pub fn kind_of(language: &str, uri: &str) -> Option<DocumentKind>
     ensures { result ≡ spec.kind_of language.now uri.now }
 {
     match language {
-        "rust" => Some(Kind::Rust),
-        "toml" => Some(Kind::Keys(Format::Toml)),
-        "json" => Some(Kind::Keys(Format::Json)),
-        "yaml" => Some(Kind::Keys(Format::Yaml)),
+        "rust" => Some(DocumentKind::Rust),
+        "toml" => Some(DocumentKind::Keys(FileFormat::Toml)),
+        "json" => Some(DocumentKind::Keys(FileFormat::Json)),
+        "yaml" => Some(DocumentKind::Keys(FileFormat::Yaml)),
         _ => kind_named(uri),
     }
 }
 
-fn kind_named(uri: &str) -> Option<Kind>
+fn kind_named(uri: &str) -> Option<DocumentKind>
     ensures { result ≡ spec.kind_named uri.now }
 {
     if uri.as_bytes().ends_with(b".rs") {
-        return Some(Kind::Rust);
+        return Some(DocumentKind::Rust);
     }
     match format_named(uri) {
-        Some(format) => Some(Kind::Keys(format)),
+        Some(format) => Some(DocumentKind::Keys(format)),
         None => None,
     }
 }

@@ -28,7 +28,7 @@ mod slot;
 mod walk;
 mod warned;
 
-pub use action::{Action, ActionKind, Edit, Wanted};
+pub use action::{Action, ActionKind, Edit, WantedActions};
 pub use all_actions::actions;
 pub use all_findings::findings;
 pub use completed::Completion;
@@ -36,5 +36,5 @@ pub use completing::complete;
 pub use finding::{Finding, Severity};
 pub use hovered::Hover;
 pub use hovering::hover;
-pub use position::{Position, Range, index_of, position_of};
+pub use position::{DocumentPosition, DocumentRange, index_of, position_of};
 pub use replacing::replaced;

@@ -4,13 +4,13 @@ ghost use Rattle.std.specs.Prelude.{◌≡◌, ◌≤◌, ◌<◌, ◌^◌, stri
 ghost use Rattle.std.specs.Io.KnownBytes.{Appends};
 ghost use Rattle.timefd_lint_lsp.specs.Frames as spec;
 ghost use Rattle.timefd_lint_lsp.specs.declared.frame.WriteError.{WriteError};
-ghost use Rattle.timefd_bin_streams.specs.declared.transfer.ReadError.{ReadError};
+ghost use Rattle.timefd_bin_streams.specs.declared.transfer.TransferError.{TransferError};
 
 use crate::content::{read_content, skip_content};
 use crate::head::{HeadEnd, read_head};
 use crate::length::length_in;
 use std::alloc::{AllocError, Global};
-use timefd_bin_streams::transfer::{ReadError, write_all};
+use timefd_bin_streams::transfer::{TransferError, write_all};
 use timefd_bin_streams::{Failed, Sink, Source};
 
 /// How many bytes a content may have: 16 MiB.
@@ -18,7 +18,7 @@ pub const MOST_CONTENT: u64 = 1 << 24;
 
 /// What comes next in a source.
 #[derive(Drop)]
-pub enum Frame {
+pub enum MessageFrame {
     /// Nothing: the source is at its end.
     AtEnd,
     /// A frame with this content.
@@ -32,56 +32,64 @@ pub enum Frame {
 }
 
 /// Reads a frame. After `NoHead` the start of the next frame can't be found.
-pub fn read_frame<R: Source>(alloc: Global, source: &mut R) -> Result<Frame, ReadError>
+pub fn read_frame<R: Source>(alloc: Global, source: &mut R) -> Result<MessageFrame, TransferError>
     ensures frame { IfOk result (spec.IsFrame (R.remaining source.old) (R.remaining source.new)) }
-    ensures fails { IfErr result (λ e. e ≡ ReadError.Failed → IsTrue (R.has_failed source.new)) }
+    ensures fails { IfErr result (λ e. e ≡ TransferError.Failed → IsTrue (R.has_failed source.new)) }
 {
     let head = read_head(alloc, source)?;
     match head.end {
-        HeadEnd::NoByte => Ok(Frame::AtEnd),
-        HeadEnd::Cut => Ok(Frame::Cut),
-        HeadEnd::TooLong => Ok(Frame::NoHead),
+        HeadEnd::NoByte => Ok(MessageFrame::AtEnd),
+        HeadEnd::Cut => Ok(MessageFrame::Cut),
+        HeadEnd::TooLong => Ok(MessageFrame::NoHead),
         HeadEnd::Whole => after_head(alloc, source, &head.bytes),
     }
 }
 
 // Reads what follows a head.
-fn after_head<R: Source>(alloc: Global, source: &mut R, head: &[u8]) -> Result<Frame, ReadError>
+fn after_head<R: Source>(
+    alloc: Global,
+    source: &mut R,
+    head: &[u8],
+) -> Result<MessageFrame, TransferError>
     ensures after { IfOk result (spec.IsAfter head.now (R.remaining source.old)
         (R.remaining source.new)) }
-    ensures fails { IfErr result (λ e. e ≡ ReadError.Failed → IsTrue (R.has_failed source.new)) }
+    ensures fails { IfErr result (λ e. e ≡ TransferError.Failed → IsTrue (R.has_failed source.new)) }
 {
     match length_in(head) {
-        None => Ok(Frame::NoHead),
+        None => Ok(MessageFrame::NoHead),
         Some(length) if length <= MOST_CONTENT => with_content(alloc, source, length as usize),
         Some(length) => without_content(source, length),
     }
 }
 
-fn with_content<R: Source>(alloc: Global, source: &mut R, length: usize) -> Result<Frame, ReadError>
+fn with_content<R: Source>(
+    alloc: Global,
+    source: &mut R,
+    length: usize,
+) -> Result<MessageFrame, TransferError>
     requires { length ≤ 2 ^ 24 }
     ensures frame { IfOk result (spec.IsOfLength length (R.remaining source.old)
         (R.remaining source.new)) }
-    ensures fails { IfErr result (λ e. e ≡ ReadError.Failed → IsTrue (R.has_failed source.new)) }
+    ensures fails { IfErr result (λ e. e ≡ TransferError.Failed → IsTrue (R.has_failed source.new)) }
 {
     let content = read_content(alloc, source, length)?;
     if content.len() < length {
-        return Ok(Frame::Cut);
+        return Ok(MessageFrame::Cut);
     }
-    Ok(Frame::Content(content))
+    Ok(MessageFrame::Content(content))
 }
 
-fn without_content<R: Source>(source: &mut R, length: u64) -> Result<Frame, ReadError>
+fn without_content<R: Source>(source: &mut R, length: u64) -> Result<MessageFrame, TransferError>
     requires { 2 ^ 24 < length }
     ensures frame { IfOk result (spec.IsOfLength length (R.remaining source.old)
         (R.remaining source.new)) }
-    ensures fails { IfErr result (λ e. e ≡ ReadError.Failed → IsTrue (R.has_failed source.new)) }
+    ensures fails { IfErr result (λ e. e ≡ TransferError.Failed → IsTrue (R.has_failed source.new)) }
 {
     let passed = skip_content(source, length)?;
     if passed < length {
-        return Ok(Frame::Cut);
+        return Ok(MessageFrame::Cut);
     }
-    Ok(Frame::TooLong)
+    Ok(MessageFrame::TooLong)
 }
 
 /// Why a frame was not written.

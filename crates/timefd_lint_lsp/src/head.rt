@@ -2,11 +2,11 @@
 
 ghost use Rattle.std.specs.Prelude.{◌≡◌, ◌+◌, ◌++◌, ◌∷◌, [], vec_len, IfErr, IfOk, IsTrue, OnOk};
 ghost use Rattle.timefd_lint_lsp.specs.Heads as spec;
-ghost use Rattle.timefd_bin_streams.specs.declared.transfer.ReadError.{ReadError};
+ghost use Rattle.timefd_bin_streams.specs.declared.transfer.TransferError.{TransferError};
 
 use std::alloc::{AllocError, Global};
 use timefd_bin_streams::Source;
-use timefd_bin_streams::transfer::ReadError;
+use timefd_bin_streams::transfer::TransferError;
 
 // How many bytes a head may have.
 const MOST_HEAD: usize = 4096;
@@ -26,15 +26,15 @@ pub enum HeadEnd {
 
 /// The bytes that were read of a head, and how the head ends.
 #[derive(Drop)]
-pub struct Head {
+pub struct MessageHead {
     pub bytes: Vec<u8>,
     pub end: HeadEnd,
 }
 
 // The next byte of a source. `None` at its end.
-fn next_byte<R: Source>(source: &mut R) -> Result<Option<u8>, ReadError>
+fn next_byte<R: Source>(source: &mut R) -> Result<Option<u8>, TransferError>
     ensures next { IfOk result (spec.IsNext (R.remaining source.old) (R.remaining source.new)) }
-    ensures fails { IfErr result (λ e. e ≡ ReadError.Failed → IsTrue (R.has_failed source.new)) }
+    ensures fails { IfErr result (λ e. e ≡ TransferError.Failed → IsTrue (R.has_failed source.new)) }
 {
     let mut position = [0];
     let count = source.read(&mut position)?;
@@ -45,10 +45,10 @@ fn next_byte<R: Source>(source: &mut R) -> Result<Option<u8>, ReadError>
 }
 
 /// Reads a head, and no byte after it.
-pub fn read_head<R: Source>(alloc: Global, source: &mut R) -> Result<Head, ReadError>
+pub fn read_head<R: Source>(alloc: Global, source: &mut R) -> Result<MessageHead, TransferError>
     ensures head { IfOk result (λ head. spec.IsHead (R.remaining source.old) (R.remaining source.new)
         head.bytes.items head.end) }
-    ensures fails { IfErr result (λ e. e ≡ ReadError.Failed → IsTrue (R.has_failed source.new)) }
+    ensures fails { IfErr result (λ e. e ≡ TransferError.Failed → IsTrue (R.has_failed source.new)) }
 {
     let mut bytes = Vec::new(alloc);
     'bytes: while bytes.len() < MOST_HEAD {
@@ -57,13 +57,13 @@ pub fn read_head<R: Source>(alloc: Global, source: &mut R) -> Result<Head, ReadE
         };
         push(&mut bytes, byte)?;
         if bytes.ends_with(b"\r\n\r\n") {
-            return Ok(Head {
+            return Ok(MessageHead {
                 bytes,
                 end: HeadEnd::Whole,
             });
         }
     }
-    Ok(Head {
+    Ok(MessageHead {
         bytes,
         end: HeadEnd::TooLong,
     })
@@ -78,17 +78,17 @@ fn push(bytes: &mut Vec<u8>, byte: u8) -> Result<(), AllocError>
 }
 
 // The head with these bytes, if the source has no more.
-fn at_end(bytes: Vec<u8>) -> Head
+fn at_end(bytes: Vec<u8>) -> MessageHead
     ensures bytes { result.bytes ≡ bytes }
     ensures end { result.end ≡ spec.end_of bytes.items }
 {
     if bytes.is_empty() {
-        return Head {
+        return MessageHead {
             bytes,
             end: HeadEnd::NoByte,
         };
     }
-    Head {
+    MessageHead {
         bytes,
         end: HeadEnd::Cut,
     }

@@ -24,13 +24,13 @@ mod wanted;
 // What an editor shows: findings, actions, what hovers, and words that may be written.
 pub mod editor;
 
-pub use changes::{Change, after_all, changes_in};
-pub use documents::{Document, Documents, Kind, change, close, kind_of, open};
+pub use changes::{DocumentChange, after_all, changes_in};
+pub use documents::{Document, DocumentKind, Documents, change, close, kind_of, open};
 pub use envelope::{Envelope, Id, envelope_of, text_at};
-pub use frame::{Frame, MOST_CONTENT, WriteError, read_frame, write_frame};
-pub use message::{Message, Notification, Request, message_of};
-pub use reply::{Answer, Refusal, Reply, code_of, sentence_of};
-pub use server::{Phase, Server, Settings, Step, take, unanswered};
-pub use session::{End, greet, serve, serve_on};
+pub use frame::{MOST_CONTENT, MessageFrame, WriteError, read_frame, write_frame};
+pub use message::{EditorRequest, Message, Notification, message_of};
+pub use reply::{RequestAnswer, RequestRefusal, ServerMessage, code_of, sentence_of};
+pub use server::{EditorSettings, Phase, Server, SessionStep, take, unanswered};
+pub use session::{SessionEnd, greet, serve, serve_on};
 pub use text::text_of;
 pub use uri::path_of;

@@ -4,8 +4,8 @@ ghost use Rattle.std.specs.Prelude.{◌≡◌, IfOk};
 ghost use Rattle.serde_json.specs.View.{view};
 ghost use Rattle.timefd_lint_lsp.specs.Messages as spec;
 
-use crate::changes::{Change, changes_in};
-use crate::editor::{Position, Range, Wanted};
+use crate::changes::{DocumentChange, changes_in};
+use crate::editor::{DocumentPosition, DocumentRange, WantedActions};
 use crate::envelope::{Envelope, Id, envelope_of};
 use crate::params::{position_in, range_of, root_of, text_by, uri_of};
 use crate::wanted::wanted_in;
@@ -14,7 +14,7 @@ use std::alloc::{AllocError, Global};
 
 /// What a request asks for.
 #[derive(Drop)]
-pub enum Request {
+pub enum EditorRequest {
     /// Begin. The editor may have a folder open, whose URI this is.
     Initialize {
         root: Option<String>,
@@ -22,18 +22,18 @@ pub enum Request {
     /// What does the part of a document at this position mean?
     Hover {
         uri: String,
-        position: Position,
+        position: DocumentPosition,
     },
     /// What may be written at this position of a document?
     Completion {
         uri: String,
-        position: Position,
+        position: DocumentPosition,
     },
     /// What can be done to this range of a document, or to all of it, of what is wanted?
     Actions {
         uri: String,
-        range: Range,
-        wanted: Wanted,
+        range: DocumentRange,
+        wanted: WantedActions,
     },
     Shutdown,
     /// Something that this server doesn't do.
@@ -53,7 +53,7 @@ pub enum Notification {
     /// A document is changed, by one change after another.
     Changed {
         uri: String,
-        changes: Vec<Change>,
+        changes: Vec<DocumentChange>,
     },
     Closed {
         uri: String,
@@ -66,7 +66,7 @@ pub enum Notification {
 /// What the content of a frame is.
 #[derive(Drop)]
 pub enum Message {
-    Request(Id, Request),
+    Request(Id, EditorRequest),
     Notification(Notification),
     /// It isn't JSON.
     NotJson,
@@ -74,59 +74,59 @@ pub enum Message {
     NotMessage,
 }
 
-fn initialize_of(alloc: Global, value: &Value) -> Result<Request, AllocError>
+fn initialize_of(alloc: Global, value: &Value) -> Result<EditorRequest, AllocError>
     ensures { IfOk result (λ request. spec.seen_request request ≡ spec.initialize_of (view value.now)) }
 {
     let Some(uri) = root_of(value) else {
-        return Ok(Request::Initialize { root: None });
+        return Ok(EditorRequest::Initialize { root: None });
     };
-    Ok(Request::Initialize {
+    Ok(EditorRequest::Initialize {
         root: Some(String::from_str(alloc, uri)?),
     })
 }
 
-fn hover_of(alloc: Global, value: &Value) -> Result<Request, AllocError>
+fn hover_of(alloc: Global, value: &Value) -> Result<EditorRequest, AllocError>
     ensures { IfOk result (λ request. spec.seen_request request ≡ spec.hover_of (view value.now)) }
 {
     let Some(uri) = uri_of(value) else {
-        return Ok(Request::WrongParams);
+        return Ok(EditorRequest::WrongParams);
     };
     let Some(position) = position_in(value) else {
-        return Ok(Request::WrongParams);
+        return Ok(EditorRequest::WrongParams);
     };
-    Ok(Request::Hover {
+    Ok(EditorRequest::Hover {
         uri: String::from_str(alloc, uri)?,
         position,
     })
 }
 
-fn completion_of(alloc: Global, value: &Value) -> Result<Request, AllocError>
+fn completion_of(alloc: Global, value: &Value) -> Result<EditorRequest, AllocError>
     ensures { IfOk result (λ request. spec.seen_request request ≡ spec.completion_of (view value.now)) }
 {
     let Some(uri) = uri_of(value) else {
-        return Ok(Request::WrongParams);
+        return Ok(EditorRequest::WrongParams);
     };
     let Some(position) = position_in(value) else {
-        return Ok(Request::WrongParams);
+        return Ok(EditorRequest::WrongParams);
     };
-    Ok(Request::Completion {
+    Ok(EditorRequest::Completion {
         uri: String::from_str(alloc, uri)?,
         position,
     })
 }
 
-fn actions_of(alloc: Global, value: &Value) -> Result<Request, AllocError>
+fn actions_of(alloc: Global, value: &Value) -> Result<EditorRequest, AllocError>
     ensures { IfOk result (λ request. spec.seen_request request
         ≡ spec.actions_of (view value.now)) }
 {
     let Some(uri) = uri_of(value) else {
-        return Ok(Request::WrongParams);
+        return Ok(EditorRequest::WrongParams);
     };
     let Some(range) = range_of(value) else {
-        return Ok(Request::WrongParams);
+        return Ok(EditorRequest::WrongParams);
     };
     let wanted = wanted_in(value);
-    Ok(Request::Actions {
+    Ok(EditorRequest::Actions {
         uri: String::from_str(alloc, uri)?,
         range,
         wanted,
@@ -134,17 +134,17 @@ fn actions_of(alloc: Global, value: &Value) -> Result<Request, AllocError>
 }
 
 /// What a request of this method asks for. An `Err` says that memory ran out.
-pub fn request_of(alloc: Global, method: &str, value: &Value) -> Result<Request, AllocError>
+pub fn request_of(alloc: Global, method: &str, value: &Value) -> Result<EditorRequest, AllocError>
     ensures { IfOk result (λ request. spec.seen_request request
         ≡ spec.request_of method.now (view value.now)) }
 {
     match method {
         "initialize" => initialize_of(alloc, value),
-        "shutdown" => Ok(Request::Shutdown),
+        "shutdown" => Ok(EditorRequest::Shutdown),
         "textDocument/hover" => hover_of(alloc, value),
         "textDocument/codeAction" => actions_of(alloc, value),
         "textDocument/completion" => completion_of(alloc, value),
-        _ => Ok(Request::Unknown),
+        _ => Ok(EditorRequest::Unknown),
     }
 }
 

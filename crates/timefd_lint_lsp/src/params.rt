@@ -4,7 +4,7 @@ ghost use Rattle.std.specs.Prelude.{◌≡◌, option_map};
 ghost use Rattle.serde_json.specs.View.{items_view, view};
 ghost use Rattle.timefd_lint_lsp.specs.Params as spec;
 
-use crate::editor::{Position, Range};
+use crate::editor::{DocumentPosition, DocumentRange};
 use serde_json::Value;
 
 /// The text at a JSON pointer. `None` if there is none.
@@ -37,25 +37,28 @@ fn count_of(number: Option<u64>) -> Option<usize>
 }
 
 // The position whose line and character are at these JSON pointers.
-fn position_by(value: &Value, line: &str, character: &str) -> Option<Position>
+fn position_by(value: &Value, line: &str, character: &str) -> Option<DocumentPosition>
     ensures { result ≡ spec.position_by line.now character.now (view value.now) }
 {
     let line = count_by(value, line)?;
     let character = count_by(value, character)?;
-    Some(Position { line, character })
+    Some(DocumentPosition { line, character })
 }
 
 // The range between two positions, if both exist.
-fn range_from(start: Option<Position>, end: Option<Position>) -> Option<Range>
+fn range_from(
+    start: Option<DocumentPosition>,
+    end: Option<DocumentPosition>,
+) -> Option<DocumentRange>
     ensures { result ≡ spec.range_from start end }
 {
     let start = start?;
     let end = end?;
-    Some(Range { start, end })
+    Some(DocumentRange { start, end })
 }
 
 /// The range in a request's parameters.
-pub fn range_of(value: &Value) -> Option<Range>
+pub fn range_of(value: &Value) -> Option<DocumentRange>
     ensures { result ≡ spec.range_of (view value.now) }
 {
     let start = position_by(
@@ -72,7 +75,7 @@ pub fn range_of(value: &Value) -> Option<Range>
 }
 
 /// The range that a change of a document replaces.
-pub fn range_in(change: &Value) -> Option<Range>
+pub fn range_in(change: &Value) -> Option<DocumentRange>
     ensures { result ≡ spec.range_in (view change.now) }
 {
     let start = position_by(change, "/range/start/line", "/range/start/character");
@@ -81,7 +84,7 @@ pub fn range_in(change: &Value) -> Option<Range>
 }
 
 /// The position in a request's parameters.
-pub fn position_in(value: &Value) -> Option<Position>
+pub fn position_in(value: &Value) -> Option<DocumentPosition>
     ensures { result ≡ spec.position_in (view value.now) }
 {
     position_by(value, "/params/position/line", "/params/position/character")

@@ -8,7 +8,7 @@ use crate::envelope::Id;
 
 /// Why a request is refused.
 #[derive(Clone, Copy, Debug, PartialEq, Eq)]
-pub enum Refusal {
+pub enum RequestRefusal {
     /// It isn't JSON.
     NotJson,
     /// It isn't a request, or the session doesn't allow it at this point.
@@ -25,7 +25,7 @@ pub enum Refusal {
 
 /// The answer to a request.
 #[derive(Drop)]
-pub enum Answer {
+pub enum RequestAnswer {
     /// What the server can do.
     Capabilities,
     Nothing,
@@ -34,43 +34,51 @@ pub enum Answer {
     Completion(Completion),
     /// What can be done to the document with this name.
     Actions { uri: String, actions: Vec<Action> },
-    Refused(Refusal),
+    Refused(RequestRefusal),
 }
 
 /// A message of the server.
 #[derive(Drop)]
-pub enum Reply {
+pub enum ServerMessage {
     /// The answer to the request with this id, or to one whose id isn't known.
-    Response { id: Option<Id>, answer: Answer },
+    Response {
+        id: Option<Id>,
+        answer: RequestAnswer,
+    },
     /// All that is wrong in a document.
-    Findings { uri: String, findings: Vec<Finding> },
+    Findings {
+        uri: String,
+        findings: Vec<Finding>,
+    },
     /// The document isn't checked any more, as its text isn't known after a change.
-    Lost { uri: String },
+    Lost {
+        uri: String,
+    },
 }
 
 /// The number of a refusal in JSON-RPC or in the protocol.
-pub fn code_of(refusal: Refusal) -> i64
+pub fn code_of(refusal: RequestRefusal) -> i64
     ensures { result ≡ spec.code_of refusal }
 {
     match refusal {
-        Refusal::NotJson => -32700,
-        Refusal::InvalidRequest | Refusal::TooLong => -32600,
-        Refusal::UnknownMethod => -32601,
-        Refusal::WrongParams => -32602,
-        Refusal::NotInitialized => -32002,
+        RequestRefusal::NotJson => -32700,
+        RequestRefusal::InvalidRequest | RequestRefusal::TooLong => -32600,
+        RequestRefusal::UnknownMethod => -32601,
+        RequestRefusal::WrongParams => -32602,
+        RequestRefusal::NotInitialized => -32002,
     }
 }
 
 /// The refusal as a sentence.
-pub fn sentence_of(refusal: Refusal) -> &'static str
+pub fn sentence_of(refusal: RequestRefusal) -> &'static str
     ensures { result.now ≡ spec.sentence_of refusal }
 {
     match refusal {
-        Refusal::NotJson => "the content isn't JSON",
-        Refusal::InvalidRequest => "the content isn't a request that is allowed here",
-        Refusal::UnknownMethod => "there is no such method",
-        Refusal::WrongParams => "the parameters are none of the method's",
-        Refusal::NotInitialized => "`initialize` has to come first",
-        Refusal::TooLong => "the content has more than 16 MiB",
+        RequestRefusal::NotJson => "the content isn't JSON",
+        RequestRefusal::InvalidRequest => "the content isn't a request that is allowed here",
+        RequestRefusal::UnknownMethod => "there is no such method",
+        RequestRefusal::WrongParams => "the parameters aren't those of the method",
+        RequestRefusal::NotInitialized => "`initialize` has to come first",
+        RequestRefusal::TooLong => "the content has more than 16 MiB",
     }
 }

@@ -4,22 +4,22 @@ ghost use Rattle.std.specs.Prelude.{◌≡◌, IfOk, OnOk, None, string_bytes};
 ghost use Rattle.timefd_lint_lsp.specs.Documents as opening;
 ghost use Rattle.timefd_lint_lsp.specs.Servers as spec;
 
-use crate::changes::{Change, after_all};
-use crate::documents::{Document, Documents, Kind, change, close, kind_of, open};
+use crate::changes::{DocumentChange, after_all};
+use crate::documents::{Document, DocumentKind, Documents, change, close, kind_of, open};
 use crate::editor::{Finding, findings};
 use crate::message::Notification;
-use crate::reply::Reply;
-use crate::server::{Phase, Server, Settings, Step, source_of};
+use crate::reply::ServerMessage;
+use crate::server::{EditorSettings, Phase, Server, SessionStep, source_of};
 use std::alloc::{AllocError, Global};
 
 /// What a notification leads to. Before `initialize` and after `shutdown` only `exit` leads to anything. An
 /// `Err` says that memory ran out.
 pub fn reported(
     alloc: Global,
-    settings: Settings<'_>,
+    settings: EditorSettings<'_>,
     server: &mut Server,
     notification: Notification,
-) -> Result<Step, AllocError>
+) -> Result<SessionStep, AllocError>
     ensures step { IfOk result (spec.IsReported settings.entry server.old.phase server.old.documents notification) }
     ensures phase { OnOk result (server.new.phase ≡ server.old.phase) }
     ensures root { OnOk result (server.new.root ≡ server.old.root) }
@@ -32,24 +32,24 @@ pub fn reported(
     }
 }
 
-fn unheard(notification: &Notification) -> Step
+fn unheard(notification: &Notification) -> SessionStep
     ensures { result ≡ spec.unheard notification.now }
 {
     match notification {
-        Notification::Exit => Step::Exit,
+        Notification::Exit => SessionStep::Exit,
         Notification::Opened { .. }
         | Notification::Changed { .. }
         | Notification::Closed { .. }
-        | Notification::Other => Step::Silent,
+        | Notification::Other => SessionStep::Silent,
     }
 }
 
 fn heard(
     alloc: Global,
-    settings: Settings<'_>,
+    settings: EditorSettings<'_>,
     server: &mut Server,
     notification: Notification,
-) -> Result<Step, AllocError>
+) -> Result<SessionStep, AllocError>
     ensures step { IfOk result (spec.IsHeard settings.entry server.old.documents notification) }
     ensures phase { OnOk result (server.new.phase ≡ server.old.phase) }
     ensures root { OnOk result (server.new.root ≡ server.old.root) }
@@ -65,17 +65,17 @@ fn heard(
             changed(alloc, settings, &mut server.documents, uri, &changes)
         }
         Notification::Closed { uri } => Ok(closed(alloc, &mut server.documents, uri)),
-        Notification::Exit => Ok(Step::Exit),
-        Notification::Other => Ok(Step::Silent),
+        Notification::Exit => Ok(SessionStep::Exit),
+        Notification::Other => Ok(SessionStep::Silent),
     }
 }
 
 // All that is wrong in a document.
 fn findings_in(
     alloc: Global,
-    settings: Settings<'_>,
+    settings: EditorSettings<'_>,
     uri: &str,
-    kind: Kind,
+    kind: DocumentKind,
     text: &str,
 ) -> Result<Vec<Finding>, AllocError>
     ensures { IfOk result (λ found. spec.AreWrongIn settings.entry kind text.now found.items) }
@@ -83,27 +83,27 @@ fn findings_in(
     findings(alloc, source_of(settings, uri, kind, text), settings.levels)
 }
 
-fn said(uri: String, findings: Vec<Finding>) -> Step
+fn said(uri: String, findings: Vec<Finding>) -> SessionStep
     ensures { result ≡ spec.said uri findings }
 {
-    Step::Say(Reply::Findings { uri, findings })
+    SessionStep::Say(ServerMessage::Findings { uri, findings })
 }
 
 // Opens a document, if it is one that is checked, and reports what is wrong in it.
 fn opened(
     alloc: Global,
-    settings: Settings<'_>,
+    settings: EditorSettings<'_>,
     documents: &mut Documents,
     uri: String,
     language: &str,
     text: String,
-) -> Result<Step, AllocError>
+) -> Result<SessionStep, AllocError>
     ensures step { IfOk result (spec.IsOpened settings.entry (string_bytes uri) language.now (string_bytes text)) }
     ensures documents { OnOk result (opening.AreOpened (string_bytes uri) language.now text documents.old
         documents.new) }
 {
     let Some(kind) = kind_of(language, &uri) else {
-        return Ok(Step::Silent);
+        return Ok(SessionStep::Silent);
     };
     let findings = findings_in(alloc, settings, &uri, kind, &text)?;
     let name = String::from_str(alloc, &uri)?;
@@ -116,16 +116,16 @@ fn opened(
 #[tactic(auto, using(crate::proofs::ChangedLemmas::not_open, crate::proofs::ChangedLemmas::are_not_open, crate::proofs::ChangedLemmas::made, crate::proofs::ChangedLemmas::are_made, crate::proofs::ChangedLemmas::failed, crate::proofs::ChangedLemmas::are_failed))]
 fn changed(
     alloc: Global,
-    settings: Settings<'_>,
+    settings: EditorSettings<'_>,
     documents: &mut Documents,
     uri: String,
-    changes: &[Change],
-) -> Result<Step, AllocError>
+    changes: &[DocumentChange],
+) -> Result<SessionStep, AllocError>
     ensures step { IfOk result (spec.IsChangedOf settings.entry (string_bytes uri) changes.now documents.old) }
     ensures documents { OnOk result (opening.AreChanged (string_bytes uri) changes.now documents.old documents.new) }
 {
     let Some(document) = documents.get(uri.as_str()) else {
-        return Ok(Step::Silent);
+        return Ok(SessionStep::Silent);
     };
     let kind = document.kind;
     match after_all(alloc, document.text.as_str(), changes)? {
@@ -140,12 +140,12 @@ fn changed(
 // Replaces the text of an open document, and reports what is wrong in it.
 fn with_text(
     alloc: Global,
-    settings: Settings<'_>,
+    settings: EditorSettings<'_>,
     documents: &mut Documents,
     uri: String,
-    kind: Kind,
+    kind: DocumentKind,
     new: String,
-) -> Result<Step, AllocError>
+) -> Result<SessionStep, AllocError>
     ensures step { IfOk result (spec.IsSaidOf settings.entry kind (string_bytes new) (string_bytes uri)) }
     ensures documents { OnOk result (opening.AreWithText (string_bytes uri) new documents.old documents.new) }
 {
@@ -155,22 +155,22 @@ fn with_text(
 }
 
 // Closes a document whose text isn't known any more, and says so.
-fn lost(documents: &mut Documents, uri: String) -> Step
+fn lost(documents: &mut Documents, uri: String) -> SessionStep
     ensures step { result ≡ spec.lost uri }
     ensures documents { opening.AreWith (string_bytes uri) None documents.old documents.new }
 {
     close(documents, &uri);
-    Step::Say(Reply::Lost { uri })
+    SessionStep::Say(ServerMessage::Lost { uri })
 }
 
 // Closes a document, and withdraws what was reported about it.
 #[tactic(auto, using(crate::proofs::ClosedLemmas::was_open, crate::proofs::ClosedLemmas::was_not_open))]
-fn closed(alloc: Global, documents: &mut Documents, uri: String) -> Step
+fn closed(alloc: Global, documents: &mut Documents, uri: String) -> SessionStep
     ensures step { spec.IsClosed (string_bytes uri) documents.old result }
     ensures documents { opening.AreWith (string_bytes uri) None documents.old documents.new }
 {
     if close(documents, &uri) {
         return said(uri, Vec::new(alloc));
     }
-    Step::Silent
+    SessionStep::Silent
 }

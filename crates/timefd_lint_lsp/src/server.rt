@@ -5,20 +5,20 @@ ghost use Rattle.timefd_lint_lsp.specs.Documents as opening;
 ghost use Rattle.timefd_lint_lsp.specs.Servers as spec;
 
 use crate::answering::answer_to;
-use crate::documents::{Documents, Kind};
+use crate::documents::{DocumentKind, Documents};
 use crate::message::Message;
-use crate::reply::{Answer, Refusal, Reply};
+use crate::reply::{RequestAnswer, RequestRefusal, ServerMessage};
 use crate::reporting::reported;
 use std::alloc::{AllocError, Global};
 use timefd_lang_warnings::Levels;
-use timefd_lint_scan::keys::Key;
-use timefd_lint_sources::{Finder, Source};
+use timefd_lint_scan::keys::DescriptionKey;
+use timefd_lint_sources::{Finder, SourceText};
 
 /// Which descriptions of a document are checked, and which warnings are reported.
 #[derive(Clone, Copy)]
-pub struct Settings<'a> {
+pub struct EditorSettings<'a> {
     /// The keys whose strings are descriptions in files with keys.
-    pub keys: &'a [Key<'a>],
+    pub keys: &'a [DescriptionKey<'a>],
     /// The level of each warning. `None` if no warning is reported.
     pub levels: Option<Levels>,
 }
@@ -44,9 +44,9 @@ pub struct Server {
 
 /// What a message leads to.
 #[derive(Drop)]
-pub enum Step {
+pub enum SessionStep {
     Silent,
-    Say(Reply),
+    Say(ServerMessage),
     Exit,
 }
 
@@ -68,10 +68,10 @@ impl Server {
 /// Takes a message, and returns what it leads to. An `Err` says that memory ran out.
 pub fn take(
     alloc: Global,
-    settings: Settings<'_>,
+    settings: EditorSettings<'_>,
     server: &mut Server,
     message: Message,
-) -> Result<Step, AllocError>
+) -> Result<SessionStep, AllocError>
     ensures step { IfOk result (spec.IsStep settings.entry server.old.phase server.old.documents message) }
     ensures phase { OnOk result (server.new.phase ≡ spec.phase_after server.old.phase message) }
     ensures root { OnOk result (server.new.root ≡ spec.root_after server.old.phase message server.old.root) }
@@ -81,37 +81,42 @@ pub fn take(
     match message {
         Message::Request(id, request) => {
             let answer = answer_to(alloc, settings, server, request)?;
-            Ok(Step::Say(Reply::Response {
+            Ok(SessionStep::Say(ServerMessage::Response {
                 id: Some(id),
                 answer,
             }))
         }
         Message::Notification(notification) => { reported(alloc, settings, server, notification) }
-        Message::NotJson => Ok(unanswered(Refusal::NotJson)),
-        Message::NotMessage => Ok(unanswered(Refusal::InvalidRequest)),
+        Message::NotJson => Ok(unanswered(RequestRefusal::NotJson)),
+        Message::NotMessage => Ok(unanswered(RequestRefusal::InvalidRequest)),
     }
 }
 
 /// The response to a content whose id isn't known.
-pub fn unanswered(refusal: Refusal) -> Step
+pub fn unanswered(refusal: RequestRefusal) -> SessionStep
     ensures { result ≡ spec.unanswered refusal }
 {
-    Step::Say(Reply::Response {
+    SessionStep::Say(ServerMessage::Response {
         id: None,
-        answer: Answer::Refused(refusal),
+        answer: RequestAnswer::Refused(refusal),
     })
 }
 
 /// A document as a source of descriptions.
-pub fn source_of<'a>(settings: Settings<'a>, uri: &'a str, kind: Kind, text: &'a str) -> Source<'a>
+pub fn source_of<'a>(
+    settings: EditorSettings<'a>,
+    uri: &'a str,
+    kind: DocumentKind,
+    text: &'a str,
+) -> SourceText<'a>
     ensures text { result.text.now ≡ text.now }
     ensures finder { result.finder ≡ spec.finder_of settings.entry kind }
 {
     let finder = match kind {
-        Kind::Rust => Finder::Rust,
-        Kind::Keys(format) => Finder::Keys(format, settings.keys),
+        DocumentKind::Rust => Finder::Rust,
+        DocumentKind::Keys(format) => Finder::Keys(format, settings.keys),
     };
-    Source {
+    SourceText {
         file: uri,
         finder,
         text,

@@ -3,21 +3,21 @@
 ghost use Rattle.std.specs.Prelude.{◌≡◌, Some, IfOk, IsTrue};
 ghost use Rattle.timefd_lint_lsp.specs.Servers.{first};
 ghost use Rattle.timefd_lint_lsp.specs.Sessions as spec;
-ghost use Rattle.timefd_lint_lsp.specs.declared.session.End.{End};
-ghost use Rattle.timefd_lint_lsp.specs.declared.server.Settings.{Settings};
+ghost use Rattle.timefd_lint_lsp.specs.declared.session.SessionEnd.{SessionEnd};
+ghost use Rattle.timefd_lint_lsp.specs.declared.server.EditorSettings.{EditorSettings};
 
-use crate::frame::{Frame, WriteError, read_frame, write_frame};
+use crate::frame::{MessageFrame, WriteError, read_frame, write_frame};
 use crate::message::message_of;
-use crate::reply::{Refusal, Reply};
-use crate::server::{Phase, Server, Settings, Step, take, unanswered};
+use crate::reply::{RequestRefusal, ServerMessage};
+use crate::server::{EditorSettings, Phase, Server, SessionStep, take, unanswered};
 use crate::text::text_of;
 use std::alloc::{AllocError, Global};
-use timefd_bin_streams::transfer::ReadError;
+use timefd_bin_streams::transfer::TransferError;
 use timefd_bin_streams::{Sink, Source};
 
 /// How a session ends.
 #[derive(Clone, Copy, Debug, PartialEq, Eq)]
-pub enum End {
+pub enum SessionEnd {
     /// The editor sent `exit` after `shutdown`.
     Done,
     /// The editor sent `exit` without `shutdown`.
@@ -44,17 +44,17 @@ pub fn greet<R: Source, W: Sink>(
     server: &mut Server,
     source: &mut R,
     sink: &mut W,
-) -> Option<End>
+) -> Option<SessionEnd>
     requires { server.old.phase ≡ first }
     ensures frames { spec.IsTurn (W.contents sink.old) (W.contents sink.new) result }
-    ensures greeted { (settings : Settings) × spec.IsGreeted settings
+    ensures greeted { (settings : EditorSettings) × spec.IsGreeted settings
         (spec.at (R.remaining source.old) (W.contents sink.old) server.old)
         (spec.at (R.remaining source.new) (W.contents sink.new) server.new) result }
-    ensures unread { result ≡ Some End.Unread → IsTrue (R.has_failed source.new) }
-    ensures unwritten { result ≡ Some End.Unwritten → IsTrue (W.has_failed sink.new) }
+    ensures unread { result ≡ Some SessionEnd.Unread → IsTrue (R.has_failed source.new) }
+    ensures unwritten { result ≡ Some SessionEnd.Unwritten → IsTrue (W.has_failed sink.new) }
 {
     // No answer before `initialize` depends on the settings.
-    let nothing = Settings {
+    let nothing = EditorSettings {
         keys: &[],
         levels: None,
     };
@@ -66,22 +66,22 @@ pub fn greet<R: Source, W: Sink>(
             return None;
         }
     }
-    Some(End::InputEnded)
+    Some(SessionEnd::InputEnded)
 }
 
 /// Serves an editor until the session ends, and returns how. It writes whole frames, unless a write fails.
 #[tactic(auto, using(crate::proofs::ServedLemmas::from_new))]
 pub fn serve<R: Source, W: Sink>(
     alloc: Global,
-    settings: Settings<'_>,
+    settings: EditorSettings<'_>,
     source: &mut R,
     sink: &mut W,
-) -> End
+) -> SessionEnd
     ensures frames { spec.IsSession (W.contents sink.old) (W.contents sink.new) result }
     ensures served { spec.IsServed settings.entry (R.remaining source.old) (W.contents sink.old)
         (R.remaining source.new) (W.contents sink.new) result }
-    ensures unread { result ≡ End.Unread → IsTrue (R.has_failed source.new) }
-    ensures unwritten { result ≡ End.Unwritten → IsTrue (W.has_failed sink.new) }
+    ensures unread { result ≡ SessionEnd.Unread → IsTrue (R.has_failed source.new) }
+    ensures unwritten { result ≡ SessionEnd.Unwritten → IsTrue (W.has_failed sink.new) }
 {
     let mut server = Server::new(alloc);
     serve_on(alloc, settings, &mut server, source, sink)
@@ -91,16 +91,16 @@ pub fn serve<R: Source, W: Sink>(
 #[tactic(auto, using(crate::proofs::SessionLemmas::none_written))]
 pub fn serve_on<R: Source, W: Sink>(
     alloc: Global,
-    settings: Settings<'_>,
+    settings: EditorSettings<'_>,
     server: &mut Server,
     source: &mut R,
     sink: &mut W,
-) -> End
+) -> SessionEnd
     ensures frames { spec.IsSession (W.contents sink.old) (W.contents sink.new) result }
     ensures served { spec.IsServedFrom settings.entry server.old (R.remaining source.old) (W.contents sink.old)
         (R.remaining source.new) (W.contents sink.new) result }
-    ensures unread { result ≡ End.Unread → IsTrue (R.has_failed source.new) }
-    ensures unwritten { result ≡ End.Unwritten → IsTrue (W.has_failed sink.new) }
+    ensures unread { result ≡ SessionEnd.Unread → IsTrue (R.has_failed source.new) }
+    ensures unwritten { result ≡ SessionEnd.Unwritten → IsTrue (W.has_failed sink.new) }
 {
     'frames: for _ in 0..u64::MAX {
         match turn(alloc, settings, server, source, sink) {
@@ -108,32 +108,37 @@ pub fn serve_on<R: Source, W: Sink>(
             None => {}
         }
     }
-    End::InputEnded
+    SessionEnd::InputEnded
 }
 
 // Takes one frame. `Some` if the session ends.
 #[tactic(auto, using(crate::proofs::SessionLemmas::none_written))]
 fn turn<R: Source, W: Sink>(
     alloc: Global,
-    settings: Settings<'_>,
+    settings: EditorSettings<'_>,
     server: &mut Server,
     source: &mut R,
     sink: &mut W,
-) -> Option<End>
+) -> Option<SessionEnd>
     ensures frames { spec.IsTurn (W.contents sink.old) (W.contents sink.new) result }
     ensures turn { spec.IsStepped settings.entry (spec.at (R.remaining source.old) (W.contents sink.old) server.old)
         (spec.at (R.remaining source.new) (W.contents sink.new) server.new) result }
-    ensures unread { result ≡ Some End.Unread → IsTrue (R.has_failed source.new) }
-    ensures unwritten { result ≡ Some End.Unwritten → IsTrue (W.has_failed sink.new) }
+    ensures unread { result ≡ Some SessionEnd.Unread → IsTrue (R.has_failed source.new) }
+    ensures unwritten { result ≡ Some SessionEnd.Unwritten → IsTrue (W.has_failed sink.new) }
 {
     match read_frame(alloc, source) {
-        Ok(Frame::Content(content)) => taken(alloc, settings, server, &content, sink),
-        Ok(Frame::TooLong) => followed(alloc, server, unanswered(Refusal::TooLong), sink),
-        Ok(Frame::AtEnd) => Some(End::InputEnded),
-        Ok(Frame::Cut) => Some(End::Cut),
-        Ok(Frame::NoHead) => Some(End::NoFrame),
-        Err(ReadError::Failed) => Some(End::Unread),
-        Err(ReadError::Memory) => Some(End::Memory),
+        Ok(MessageFrame::Content(content)) => taken(alloc, settings, server, &content, sink),
+        Ok(MessageFrame::TooLong) => followed(
+            alloc,
+            server,
+            unanswered(RequestRefusal::TooLong),
+            sink,
+        ),
+        Ok(MessageFrame::AtEnd) => Some(SessionEnd::InputEnded),
+        Ok(MessageFrame::Cut) => Some(SessionEnd::Cut),
+        Ok(MessageFrame::NoHead) => Some(SessionEnd::NoFrame),
+        Err(TransferError::Failed) => Some(SessionEnd::Unread),
+        Err(TransferError::Memory) => Some(SessionEnd::Memory),
     }
 }
 
@@ -141,29 +146,29 @@ fn turn<R: Source, W: Sink>(
 #[tactic(auto, using(crate::proofs::SessionLemmas::none_written))]
 fn taken<W: Sink>(
     alloc: Global,
-    settings: Settings<'_>,
+    settings: EditorSettings<'_>,
     server: &mut Server,
     content: &[u8],
     sink: &mut W,
-) -> Option<End>
+) -> Option<SessionEnd>
     ensures frames { spec.IsTurn (W.contents sink.old) (W.contents sink.new) result }
     ensures answered { spec.IsAnswered settings.entry server.old server.new content.now (W.contents sink.old)
         (W.contents sink.new) result }
-    ensures read { ¬ (result ≡ Some End.Unread) }
-    ensures unwritten { result ≡ Some End.Unwritten → IsTrue (W.has_failed sink.new) }
+    ensures read { ¬ (result ≡ Some SessionEnd.Unread) }
+    ensures unwritten { result ≡ Some SessionEnd.Unwritten → IsTrue (W.has_failed sink.new) }
 {
     match step_of(alloc, settings, server, content) {
         Ok(step) => followed(alloc, server, step, sink),
-        Err(AllocError) => Some(End::Memory),
+        Err(AllocError) => Some(SessionEnd::Memory),
     }
 }
 
 fn step_of(
     alloc: Global,
-    settings: Settings<'_>,
+    settings: EditorSettings<'_>,
     server: &mut Server,
     content: &[u8],
-) -> Result<Step, AllocError>
+) -> Result<SessionStep, AllocError>
     ensures { IfOk result (spec.IsStepOn settings.entry server.old server.new content.now) }
 {
     let message = message_of(alloc, content)?;
@@ -172,42 +177,47 @@ fn step_of(
 
 // Carries out a step. `Some` if the session ends.
 #[tactic(auto, using(crate::proofs::SessionLemmas::none_written))]
-fn followed<W: Sink>(alloc: Global, server: &Server, step: Step, sink: &mut W) -> Option<End>
+fn followed<W: Sink>(
+    alloc: Global,
+    server: &Server,
+    step: SessionStep,
+    sink: &mut W,
+) -> Option<SessionEnd>
     ensures frames { spec.IsTurn (W.contents sink.old) (W.contents sink.new) result }
     ensures done { spec.IsDone server.now.phase step (W.contents sink.old) (W.contents sink.new) result }
-    ensures read { ¬ (result ≡ Some End.Unread) }
-    ensures unwritten { result ≡ Some End.Unwritten → IsTrue (W.has_failed sink.new) }
+    ensures read { ¬ (result ≡ Some SessionEnd.Unread) }
+    ensures unwritten { result ≡ Some SessionEnd.Unwritten → IsTrue (W.has_failed sink.new) }
 {
     match step {
-        Step::Silent => None,
-        Step::Say(reply) => say(alloc, &reply, sink),
-        Step::Exit => Some(exit(server.phase)),
+        SessionStep::Silent => None,
+        SessionStep::Say(reply) => say(alloc, &reply, sink),
+        SessionStep::Exit => Some(exit(server.phase)),
     }
 }
 
-fn exit(phase: Phase) -> End
+fn exit(phase: Phase) -> SessionEnd
     ensures { result ≡ spec.exit phase }
 {
     match phase {
-        Phase::ShutDown => End::Done,
-        Phase::New | Phase::Running => End::Left,
+        Phase::ShutDown => SessionEnd::Done,
+        Phase::New | Phase::Running => SessionEnd::Left,
     }
 }
 
 // Writes a reply as a frame. `Some` if that fails.
 #[tactic(auto, using(crate::proofs::SessionLemmas::none_written, crate::proofs::SessionLemmas::same_written, crate::proofs::SessionLemmas::one_written))]
-fn say<W: Sink>(alloc: Global, reply: &Reply, sink: &mut W) -> Option<End>
+fn say<W: Sink>(alloc: Global, reply: &ServerMessage, sink: &mut W) -> Option<SessionEnd>
     ensures frames { spec.IsTurn (W.contents sink.old) (W.contents sink.new) result }
     ensures written { spec.IsWritten reply.now (W.contents sink.old) (W.contents sink.new) result }
-    ensures read { ¬ (result ≡ Some End.Unread) }
-    ensures unwritten { result ≡ Some End.Unwritten → IsTrue (W.has_failed sink.new) }
+    ensures read { ¬ (result ≡ Some SessionEnd.Unread) }
+    ensures unwritten { result ≡ Some SessionEnd.Unwritten → IsTrue (W.has_failed sink.new) }
 {
     let Ok(text) = text_of(alloc, reply) else {
-        return Some(End::Memory);
+        return Some(SessionEnd::Memory);
     };
     match write_frame(alloc, sink, &text) {
         Ok(()) => None,
-        Err(WriteError::Failed) => Some(End::Unwritten),
-        Err(WriteError::Memory) => Some(End::Memory),
+        Err(WriteError::Failed) => Some(SessionEnd::Unwritten),
+        Err(WriteError::Memory) => Some(SessionEnd::Memory),
     }
 }

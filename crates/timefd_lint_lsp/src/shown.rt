@@ -5,13 +5,13 @@ ghost use Rattle.serde_json.specs.View.{view};
 ghost use Rattle.timefd_lint_lsp.specs.Shown as spec;
 
 use crate::editor::{
-    Action, ActionKind, Completion, Edit, Finding, Hover, Position, Range, Severity,
+    Action, ActionKind, Completion, DocumentPosition, DocumentRange, Edit, Finding, Hover, Severity,
 };
 use serde_json::{Map, Value, json};
 use std::alloc::{AllocError, Global};
 use timefd_lint_diagnosis::Slot;
 
-fn position_value(alloc: Global, position: Position) -> Result<Value, AllocError>
+fn position_value(alloc: Global, position: DocumentPosition) -> Result<Value, AllocError>
     ensures { IfOk result (λ value. view value ≡ spec.position_data position) }
 {
     let line = position.line as u64;
@@ -19,7 +19,7 @@ fn position_value(alloc: Global, position: Position) -> Result<Value, AllocError
     json!(in alloc; {"character": character, "line": line})
 }
 
-fn range_value(alloc: Global, range: Range) -> Result<Value, AllocError>
+fn range_value(alloc: Global, range: DocumentRange) -> Result<Value, AllocError>
     ensures { IfOk result (λ value. view value ≡ spec.range_data range) }
 {
     let start = position_value(alloc, range.start)?;
@@ -67,13 +67,13 @@ pub fn findings_value(alloc: Global, findings: &[Finding]) -> Result<Value, Allo
 fn loss(alloc: Global) -> Result<Value, AllocError>
     ensures { IfOk result (λ value. view value ≡ spec.loss) }
 {
-    let first = Position {
+    let first = DocumentPosition {
         line: 0,
         character: 0,
     };
     let range = range_value(
         alloc,
-        Range {
+        DocumentRange {
             start: first,
             end: first,
         },
@@ -123,14 +123,19 @@ fn kind_number(slot: Slot) -> u64
 }
 
 // A word in place of a range.
-fn replacement(alloc: Global, range: Range, word: &str) -> Result<Value, AllocError>
+fn replacement(alloc: Global, range: DocumentRange, word: &str) -> Result<Value, AllocError>
     ensures { IfOk result (λ value. view value ≡ spec.replacement range word.now) }
 {
     let range = range_value(alloc, range)?;
     json!(in alloc; {"newText": word, "range": range})
 }
 
-fn word_value(alloc: Global, range: Range, slot: Slot, word: &str) -> Result<Value, AllocError>
+fn word_value(
+    alloc: Global,
+    range: DocumentRange,
+    slot: Slot,
+    word: &str,
+) -> Result<Value, AllocError>
     ensures { IfOk result (λ value. view value ≡ spec.word_data range slot word.now) }
 {
     let kind = kind_number(slot);
@@ -140,7 +145,7 @@ fn word_value(alloc: Global, range: Range, slot: Slot, word: &str) -> Result<Val
 
 fn words_value(
     alloc: Global,
-    range: Range,
+    range: DocumentRange,
     slot: Slot,
     words: &[&'static str],
 ) -> Result<Value, AllocError>

@@ -6,55 +6,55 @@ ghost use Rattle.serde_json.specs.Written.{compact_text};
 ghost use Rattle.timefd_lint_lsp.specs.Texts as spec;
 
 use crate::envelope::Id;
-use crate::reply::{Answer, Refusal, Reply, code_of, sentence_of};
+use crate::reply::{RequestAnswer, RequestRefusal, ServerMessage, code_of, sentence_of};
 use crate::shown::{actions_value, completion_value, findings_value, hover_value, loss_value};
 use serde_json::{Value, json};
 use std::alloc::{AllocError, Global};
 
 /// The text of a reply: its JSON, without white space. An `Err` says that memory ran out.
 #[tactic(auto, using(crate::proofs::TextLemmas::written))]
-pub fn text_of(alloc: Global, reply: &Reply) -> Result<String, AllocError>
+pub fn text_of(alloc: Global, reply: &ServerMessage) -> Result<String, AllocError>
     ensures { IfOk result (λ text. string_bytes text ≡ compact_text (spec.reply_data reply.now)) }
 {
     value_of(alloc, reply)?.to_string(alloc)
 }
 
-fn value_of(alloc: Global, reply: &Reply) -> Result<Value, AllocError>
+fn value_of(alloc: Global, reply: &ServerMessage) -> Result<Value, AllocError>
     ensures { IfOk result (λ value. view value ≡ spec.reply_data reply.now) }
 {
     match reply {
-        Reply::Response { id, answer } => response(alloc, id, answer),
-        Reply::Findings { uri, findings } => {
+        ServerMessage::Response { id, answer } => response(alloc, id, answer),
+        ServerMessage::Findings { uri, findings } => {
             let findings = findings_value(alloc, findings)?;
             published(alloc, uri, findings)
         }
-        Reply::Lost { uri } => {
+        ServerMessage::Lost { uri } => {
             let findings = loss_value(alloc)?;
             published(alloc, uri, findings)
         }
     }
 }
 
-fn response(alloc: Global, id: &Option<Id>, answer: &Answer) -> Result<Value, AllocError>
+fn response(alloc: Global, id: &Option<Id>, answer: &RequestAnswer) -> Result<Value, AllocError>
     ensures { IfOk result (λ value. view value ≡ spec.response (spec.id_data id.now) answer.now) }
 {
     let id = id_value(alloc, id)?;
     match answer {
-        Answer::Refused(refusal) => refused(alloc, id, *refusal),
-        Answer::Capabilities => {
+        RequestAnswer::Refused(refusal) => refused(alloc, id, *refusal),
+        RequestAnswer::Capabilities => {
             let capabilities = capabilities(alloc)?;
             answered(alloc, id, capabilities)
         }
-        Answer::Nothing => answered(alloc, id, Value::Null),
-        Answer::Hover(hover) => {
+        RequestAnswer::Nothing => answered(alloc, id, Value::Null),
+        RequestAnswer::Hover(hover) => {
             let hover = hover_value(alloc, hover)?;
             answered(alloc, id, hover)
         }
-        Answer::Completion(completion) => {
+        RequestAnswer::Completion(completion) => {
             let completion = completion_value(alloc, completion)?;
             answered(alloc, id, completion)
         }
-        Answer::Actions { uri, actions } => {
+        RequestAnswer::Actions { uri, actions } => {
             let actions = actions_value(alloc, uri, actions)?;
             answered(alloc, id, actions)
         }
@@ -79,7 +79,7 @@ fn answered(alloc: Global, id: Value, outcome: Value) -> Result<Value, AllocErro
 }
 
 // The error of a response: why the request is refused.
-fn error_value(alloc: Global, refusal: Refusal) -> Result<Value, AllocError>
+fn error_value(alloc: Global, refusal: RequestRefusal) -> Result<Value, AllocError>
     ensures { IfOk result (λ value. view value ≡ spec.error_data refusal) }
 {
     let code = code_of(refusal);
@@ -88,7 +88,7 @@ fn error_value(alloc: Global, refusal: Refusal) -> Result<Value, AllocError>
 }
 
 // A response that refuses a request.
-fn refused(alloc: Global, id: Value, refusal: Refusal) -> Result<Value, AllocError>
+fn refused(alloc: Global, id: Value, refusal: RequestRefusal) -> Result<Value, AllocError>
     ensures { IfOk result (λ value. view value ≡ spec.refused (view id) refusal) }
 {
     let error = error_value(alloc, refusal)?;

@@ -7,7 +7,7 @@ use std::alloc::{AllocError, Global};
 
 /// A byte of a decoded text, and what comes after it.
 #[derive(Clone, Copy)]
-struct Piece<'a> {
+struct DecodedByte<'a> {
     byte: u8,
     rest: &'a [u8],
 }
@@ -80,18 +80,18 @@ fn byte_of(high: u8, low: u8) -> Option<u8>
     }
 }
 
-fn piece_of(byte: Option<u8>, rest: &[u8]) -> Option<Piece<'_>>
+fn piece_of(byte: Option<u8>, rest: &[u8]) -> Option<DecodedByte<'_>>
     ensures piece { option_map spec.seen result ≡ spec.piece_of byte rest.now }
     ensures rest { IfSome result (λ piece. piece.rest.now ≡ rest.now) }
 {
     match byte {
-        Some(byte) => Some(Piece { byte, rest }),
+        Some(byte) => Some(DecodedByte { byte, rest }),
         None => None,
     }
 }
 
 /// The byte that a text begins with: two digits after a percent sign, or itself.
-fn first_piece(text: &[u8]) -> Option<Piece<'_>>
+fn first_piece(text: &[u8]) -> Option<DecodedByte<'_>>
     ensures piece { option_map spec.seen result ≡ spec.first_piece text.now }
     ensures shorter { IfSome result (λ piece. length piece.rest.now + 1 ≤ length text.now) }
 {

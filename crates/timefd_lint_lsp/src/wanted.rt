@@ -4,17 +4,17 @@ ghost use Rattle.std.specs.Prelude.{◌≡◌, option_map};
 ghost use Rattle.serde_json.specs.View.{items_view, view};
 ghost use Rattle.timefd_lint_lsp.specs.WantedKinds as spec;
 
-use crate::editor::Wanted;
+use crate::editor::WantedActions;
 use serde_json::Value;
 
 /// Which actions are wanted: those whose kinds are in the list `only`, or below one of these, as
 /// `source.fixAll` is below `source`. If there is no such list, fixes and rewrites are wanted.
-pub fn wanted_in(value: &Value) -> Wanted
+pub fn wanted_in(value: &Value) -> WantedActions
     ensures { result ≡ spec.wanted_in (view value.now) }
 {
     match only_in(value) {
         Some(kinds) => all_wanted(kinds),
-        None => Wanted {
+        None => WantedActions {
             fixes: true,
             rewrites: true,
             fix_all: false,
@@ -32,10 +32,10 @@ fn only_in(value: &Value) -> Option<&Vec<Value>>
 }
 
 // What is wanted by some kinds together.
-fn all_wanted(kinds: &[Value]) -> Wanted
+fn all_wanted(kinds: &[Value]) -> WantedActions
     ensures { result ≡ spec.all_wanted (items_view kinds.now) }
 {
-    let mut wanted = Wanted {
+    let mut wanted = WantedActions {
         fixes: false,
         rewrites: false,
         fix_all: false,
@@ -47,10 +47,10 @@ fn all_wanted(kinds: &[Value]) -> Wanted
     wanted
 }
 
-fn either(one: Wanted, other: Wanted) -> Wanted
+fn either(one: WantedActions, other: WantedActions) -> WantedActions
     ensures { result ≡ spec.either one other }
 {
-    Wanted {
+    WantedActions {
         fixes: one.fixes || other.fixes,
         rewrites: one.rewrites || other.rewrites,
         fix_all: one.fix_all || other.fix_all,
@@ -58,12 +58,12 @@ fn either(one: Wanted, other: Wanted) -> Wanted
 }
 
 // What is wanted by a kind. What isn't a text asks for nothing.
-fn wanted_by(kind: &Value) -> Wanted
+fn wanted_by(kind: &Value) -> WantedActions
     ensures { result ≡ spec.wanted_by (view kind.now) }
 {
     match kind.as_str() {
         Some(kind) => of_kind(kind),
-        None => Wanted {
+        None => WantedActions {
             fixes: false,
             rewrites: false,
             fix_all: false,
@@ -72,10 +72,10 @@ fn wanted_by(kind: &Value) -> Wanted
 }
 
 // What is wanted by the kind with this name. All kinds are below the empty one.
-fn of_kind(kind: &str) -> Wanted
+fn of_kind(kind: &str) -> WantedActions
     ensures { result ≡ spec.of_kind kind.now }
 {
-    Wanted {
+    WantedActions {
         fixes: asks_for_fixes(kind),
         rewrites: asks_for_rewrites(kind),
         fix_all: asks_for_fix_all(kind),

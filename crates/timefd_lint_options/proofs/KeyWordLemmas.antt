@@ -4,25 +4,25 @@ use Rattle.std.specs.Prelude.{Result, Ok, Err}
 use Rattle.std.proofs.lemmas.List.{map-append}
 use denote.Ref.{Bor}
 use Rattle.timefd_lang_component.specs.Tree.{Text}
-use Rattle.timefd_lint_scan.specs.declared.keys.key.Key.{Key}
+use Rattle.timefd_lint_scan.specs.declared.keys.key.DescriptionKey.{DescriptionKey}
 use Rattle.timefd_lint_scan.specs.declared.keys.key.KeyFault.{KeyFault}
 use Rattle.timefd_lint_scan.specs.Keys.Keys.{Named, key_of, keys_in, listed, named, named_all, seen}
 use Rattle.timefd_lint_options.specs.declared.keys.Expected.{Expected}
 use Rattle.timefd_lint_options.specs.KeyWords.{after, keys_at, keys_from}
 
-pub is_key : (word : Text) (old new : List Key) (key : Key) (r : Result Key KeyFault)
+pub is_key : (word : Text) (old new : List DescriptionKey) (key : DescriptionKey) (r : Result DescriptionKey KeyFault)
     → seen r ≡ key_of word → r ≡ Ok key → new ≡ old ++ key ∷ []
     → named_all new ≡ named_all old ++ keys_in word
 is_key word old new key r same is pushed =
     ap named_all pushed ∙ (map-append named old (key ∷ [])
     ∙ ap (λ x. named_all old ++ listed x) (sym (ap seen is) ∙ same))
 
-pub is_none : (word : Text) (old : List Key) (fault : KeyFault) (r : Result Key KeyFault)
+pub is_none : (word : Text) (old : List DescriptionKey) (fault : KeyFault) (r : Result DescriptionKey KeyFault)
     → seen r ≡ key_of word → r ≡ Err fault → named_all old ≡ named_all old ++ keys_in word
 is_none word old fault r same is =
     sym (append-nil (named_all old)) ∙ ap (λ x. named_all old ++ listed x) (sym (ap seen is) ∙ same)
 
-pub no_key : (old : List Key) → named_all old ≡ named_all old ++ []
+pub no_key : (old : List DescriptionKey) → named_all old ≡ named_all old ++ []
 no_key old = sym (append-nil (named_all old))
 
 pub one_more : (expected next : Expected) (word : Bor Text) (more rest : List (Bor Text))

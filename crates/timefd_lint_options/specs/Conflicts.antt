@@ -8,10 +8,10 @@ use Rattle.timefd_language.specs.declared.language.Language.{Language}
 use Rattle.timefd_language.specs.declared.language.Language.TheVariants as languages
 use Rattle.timefd_lint_options.specs.declared.error.Conflict.{Conflict}
 use Rattle.timefd_lint_options.specs.declared.error.Conflict.TheVariants.{ServesFiles, ServesAlone, ExplainUndrawn, LogRewritten, WriteWithoutVersion, PartialWithoutWrite, UnsafeWithoutFix, FixesRewritten, FixesWhole, FixesNoFile, FixesInput, NormalOfAnother, NoConversion, ExplainsOther, FixesOther, RewritesWarned, RewritesWhole, RewritesNoFile, RewritesInput}
-use Rattle.timefd_lint_options.specs.declared.names.Names.{Names}
-use Rattle.timefd_lint_options.specs.declared.settings.Settings.{Settings}
-use Rattle.timefd_lint_options.specs.declared.wording.Wording.{Wording}
-use Rattle.timefd_lint_options.specs.declared.wording.Wording.TheVariants.{Own, Other}
+use Rattle.timefd_lint_options.specs.declared.names.NamedFiles.{NamedFiles}
+use Rattle.timefd_lint_options.specs.declared.settings.RunSettings.{RunSettings}
+use Rattle.timefd_lint_options.specs.declared.wording.LineLanguage.{LineLanguage}
+use Rattle.timefd_lint_options.specs.declared.wording.LineLanguage.TheVariants.{Own, Other}
 use Rattle.timefd_lint_options.specs.Settings.{target}
 
 abbrev pub is_drawn : Format → Bool
@@ -48,7 +48,7 @@ is_three One = false
 is_three Two = false
 is_three Three = true
 
-abbrev pub rewriting_conflict : Settings → DescriptionVersion → Names → Option Conflict
+abbrev pub rewriting_conflict : RunSettings → DescriptionVersion → NamedFiles → Option Conflict
 rewriting_conflict s version names =
     if s.is_normal && not (is_three version) then Some NormalOfAnother
     else if s.warns then Some RewritesWarned
@@ -66,7 +66,7 @@ lines_conflict_by (Some version) is_normal language =
     if is_normal then None else conversion_conflict language version
 
 -- why lines in a language of `time` can't be rewritten: no conversion exists from their language to the version
-abbrev pub own_conflict : Settings → Language → Option Conflict
+abbrev pub own_conflict : RunSettings → Language → Option Conflict
 own_conflict s language = lines_conflict_by (target s) s.is_normal language
 
 -- Formats of other languages are rewritten in version 3 alone, and not in its normal form.
@@ -76,21 +76,21 @@ other_target (Some version) is_normal =
     if is_normal || not (is_three version) then Some NoConversion else None
 
 -- what can't be done with formats of other languages
-abbrev pub other_conflict : Settings → Option Conflict
+abbrev pub other_conflict : RunSettings → Option Conflict
 other_conflict s =
     if s.explains then Some ExplainsOther
     else if s.fixes then Some FixesOther
     else other_target (target s) s.is_normal
 
-abbrev pub lines_conflict_in : Wording → Settings → Option Conflict
+abbrev pub lines_conflict_in : LineLanguage → RunSettings → Option Conflict
 lines_conflict_in (Own language) s = own_conflict s language
 lines_conflict_in (Other dialect) s = other_conflict s
 
 -- why lines can't be looked at or rewritten as the options ask
-abbrev pub lines_conflict : Settings → Option Conflict
+abbrev pub lines_conflict : RunSettings → Option Conflict
 lines_conflict s = lines_conflict_in s.language s
 
-abbrev pub fixing_conflict : Settings → Names → Option Conflict
+abbrev pub fixing_conflict : RunSettings → NamedFiles → Option Conflict
 fixing_conflict s names =
     if is_some (target s) then Some FixesRewritten
     else if s.is_whole then Some FixesWhole
@@ -98,27 +98,27 @@ fixing_conflict s names =
     else if names.has_input then Some FixesInput
     else None
 
-abbrev pub version_conflict : Settings → Names → Option DescriptionVersion → Option Conflict
+abbrev pub version_conflict : RunSettings → NamedFiles → Option DescriptionVersion → Option Conflict
 version_conflict s names (Some version) = rewriting_conflict s version names
 version_conflict s names None = if s.writes then Some WriteWithoutVersion else None
 
 -- whether the settings say how files are checked
-abbrev pub looks_at_files : Settings → Bool
+abbrev pub looks_at_files : RunSettings → Bool
 looks_at_files s =
     s.is_whole || s.is_source || s.explains || is_some s.comment || not (is_drawn s.format)
 
 -- whether the settings say how files are rewritten
-abbrev pub rewrites : Settings → Bool
+abbrev pub rewrites : RunSettings → Bool
 rewrites s = s.fixes || s.is_unsafe || s.writes || s.is_partial || is_some (target s)
 
 -- An editor is served alone: no file is named, checked or rewritten.
-abbrev pub serving_conflict : Settings → Names → Option Conflict
+abbrev pub serving_conflict : RunSettings → NamedFiles → Option Conflict
 serving_conflict s names =
     if not (names.count == 0) then Some ServesFiles
     else if looks_at_files s || rewrites s then Some ServesAlone
     else None
 
-abbrev pub conflict : Settings → Names → Option Conflict
+abbrev pub conflict : RunSettings → NamedFiles → Option Conflict
 conflict s names =
     if s.serves then serving_conflict s names
     else if s.explains && not (is_drawn s.format) then Some ExplainUndrawn

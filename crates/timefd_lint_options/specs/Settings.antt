@@ -11,9 +11,9 @@ use Rattle.timefd_language.specs.declared.language.Language.TheVariants as langu
 use Rattle.timefd_lint_options.specs.declared.error.OptionError.{OptionError}
 use Rattle.timefd_lint_options.specs.declared.error.OptionError.TheVariants.{NotAKey, NotAValue}
 use Rattle.timefd_lint_options.specs.declared.settings.Color.TheVariants as colors
-use Rattle.timefd_lint_options.specs.declared.settings.Settings.{Settings}
-use Rattle.timefd_lint_options.specs.declared.wording.Wording.{Wording}
-use Rattle.timefd_lint_options.specs.declared.wording.Wording.TheVariants as wordings
+use Rattle.timefd_lint_options.specs.declared.settings.RunSettings.{RunSettings}
+use Rattle.timefd_lint_options.specs.declared.wording.LineLanguage.{LineLanguage}
+use Rattle.timefd_lint_options.specs.declared.wording.LineLanguage.TheVariants as wordings
 use Rattle.timefd_lint_options.specs.declared.word.Flag.{Flag}
 use Rattle.timefd_lint_options.specs.declared.word.Flag.TheVariants.{Whole, Source, Explain, Normal, Fix, Unsafe, Write, Partial, Warn, Lsp, Quiet}
 use Rattle.timefd_lint_options.specs.declared.word.Valued.{Valued}
@@ -26,7 +26,7 @@ use Rattle.timefd_lang_warnings.specs.declared.levels.Level.TheVariants.{Allowed
 use Rattle.timefd_lang_warnings.specs.Codes as warnings
 use Rattle.timefd_lang_warnings.specs.Levels.{all_at, with_level}
 
-abbrev pub initial : Settings
+abbrev pub initial : RunSettings
 initial = record {
   language = wordings.Own (languages.Version Three);
   format = formats.Human;
@@ -54,12 +54,12 @@ is_chosen_language (languages.Version Three) = false
 is_chosen_language languages.Strftime = true
 
 -- whether a wording is another than without an option
-abbrev pub is_chosen : Wording → Bool
+abbrev pub is_chosen : LineLanguage → Bool
 is_chosen (wordings.Own language) = is_chosen_language language
 is_chosen (wordings.Other dialect) = true
 
 -- whether the settings are about lines or a whole text, which may be read from the standard input
-abbrev pub reads_lines : Settings → Bool
+abbrev pub reads_lines : RunSettings → Bool
 reads_lines s = is_some s.comment || (s.is_whole || (s.is_source || (s.serves || is_chosen s.language)))
 
 abbrev pub target_by : Option DescriptionVersion → Bool → Option DescriptionVersion
@@ -67,10 +67,10 @@ target_by (Some version) is_normal = Some version
 target_by None is_normal = if is_normal then Some Three else None
 
 -- the version that descriptions are rewritten in: version 3 if only the normal form is asked for
-abbrev pub target : Settings → Option DescriptionVersion
+abbrev pub target : RunSettings → Option DescriptionVersion
 target s = target_by s.to s.is_normal
 
-abbrev pub with_flag : Settings → Flag → Settings
+abbrev pub with_flag : RunSettings → Flag → RunSettings
 with_flag s Whole = record s { is_whole = true }
 with_flag s Source = record s { is_source = true }
 with_flag s Explain = record s { explains = true }
@@ -83,36 +83,36 @@ with_flag s Warn = record s { warns = true }
 with_flag s Lsp = record s { serves = true }
 with_flag s Quiet = record s { is_quiet = true }
 
-abbrev pub with_language : Settings → Text → Option Settings
+abbrev pub with_language : RunSettings → Text → Option RunSettings
 with_language s word = option_map (λ l. record s { language = l }) (wording_named word)
 
-abbrev pub with_format : Settings → Text → Option Settings
+abbrev pub with_format : RunSettings → Text → Option RunSettings
 with_format s word = option_map (λ f. record s { format = f }) (format_named word)
 
-abbrev pub with_color : Settings → Text → Option Settings
+abbrev pub with_color : RunSettings → Text → Option RunSettings
 with_color s word = option_map (λ c. record s { color = c }) (color_named word)
 
 -- An empty mark isn't taken.
-abbrev pub with_comment : Settings → Bor Text → Option Settings
+abbrev pub with_comment : RunSettings → Bor Text → Option RunSettings
 with_comment s word = if is_empty word.now then None else Some (record s { comment = Some word })
 
-abbrev pub keyed_by : Settings → Option KeyFault → Option Settings
+abbrev pub keyed_by : RunSettings → Option KeyFault → Option RunSettings
 keyed_by s None = Some s
 keyed_by s (Some fault) = None
 
-abbrev pub with_key : Settings → Text → Option Settings
+abbrev pub with_key : RunSettings → Text → Option RunSettings
 with_key s word = keyed_by s (key_fault word)
 
-abbrev pub with_version : Settings → Text → Option Settings
+abbrev pub with_version : RunSettings → Text → Option RunSettings
 with_version s word = option_map (λ v. record s { to = Some v }) (version_named word)
 
 -- Setting the level of one warning also turns on the reports of all others.
-abbrev pub with_warning : Settings → Text → Level → Option Settings
+abbrev pub with_warning : RunSettings → Text → Level → Option RunSettings
 with_warning s word level =
     option_map (λ w. record s { warns = true; levels = with_level s.levels w level })
     (warnings.named word)
 
-abbrev pub set : Settings → Valued → Bor Text → Option Settings
+abbrev pub set : RunSettings → Valued → Bor Text → Option RunSettings
 set s Language word = with_language s word.now
 set s Format word = with_format s word.now
 set s Color word = with_color s word.now
@@ -122,7 +122,7 @@ set s To word = with_version s word.now
 set s Deny word = with_warning s word.now Denied
 set s Allow word = with_warning s word.now Allowed
 
-abbrev pub or_error : OptionError → Option Settings → Result Settings OptionError
+abbrev pub or_error : OptionError → Option RunSettings → Result RunSettings OptionError
 or_error e (Some s) = Ok s
 or_error e None = Err e
 
@@ -144,5 +144,5 @@ refused To word = NotAValue To word
 refused Deny word = NotAValue Deny word
 refused Allow word = NotAValue Allow word
 
-abbrev pub with_value : Settings → Valued → Bor Text → Result Settings OptionError
+abbrev pub with_value : RunSettings → Valued → Bor Text → Result RunSettings OptionError
 with_value s option word = or_error (refused option word) (set s option word)

@@ -11,8 +11,8 @@ use Rattle.timefd_lang_dialect.specs.declared.dialect.Dialect.{Dialect}
 use Rattle.timefd_lang_dialect.specs.Dialects.{named}
 use Rattle.timefd_lint_options.specs.declared.settings.Color.{Color}
 use Rattle.timefd_lint_options.specs.declared.settings.Color.TheVariants.{Always, Never, Auto}
-use Rattle.timefd_lint_options.specs.declared.wording.Wording.{Wording}
-use Rattle.timefd_lint_options.specs.declared.wording.Wording.TheVariants.{Own, Other}
+use Rattle.timefd_lint_options.specs.declared.wording.LineLanguage.{LineLanguage}
+use Rattle.timefd_lint_options.specs.declared.wording.LineLanguage.TheVariants.{Own, Other}
 
 abbrev pub language_named : Text → Option Language
 language_named word =
@@ -23,23 +23,23 @@ language_named word =
     else None
 
 -- the language, if it is one of `time`
-abbrev pub language_of : Wording → Option Language
+abbrev pub language_of : LineLanguage → Option Language
 language_of (Own language) = Some language
 language_of (Other dialect) = None
 
-abbrev pub dialect_by : Option Dialect → Option Wording
+abbrev pub dialect_by : Option Dialect → Option LineLanguage
 dialect_by (Some dialect) = Some (Other dialect)
 dialect_by None = None
 
-abbrev pub dialect_named : Text → Option Wording
+abbrev pub dialect_named : Text → Option LineLanguage
 dialect_named word = dialect_by (named word)
 
-abbrev pub wording_by : Option Language → Option Wording → Option Wording
+abbrev pub wording_by : Option Language → Option LineLanguage → Option LineLanguage
 wording_by (Some language) other = Some (Own language)
 wording_by None other = other
 
 -- a language of `time`, or else a dialect
-abbrev pub wording_named : Text → Option Wording
+abbrev pub wording_named : Text → Option LineLanguage
 wording_named word = wording_by (language_named word) (dialect_named word)
 
 abbrev pub format_named : Text → Option Format

@@ -4,14 +4,14 @@ ghost use Rattle.std.specs.Prelude.{◌≡◌};
 ghost use Rattle.timefd_lint_options.specs.Conflicts as spec;
 
 use crate::error::Conflict;
-use crate::names::Names;
-use crate::settings::{Settings, target};
-use crate::wording::Wording;
+use crate::names::NamedFiles;
+use crate::settings::{RunSettings, target};
+use crate::wording::LineLanguage;
 use timefd_lint_drawing::Format;
 use timefd_parse::{DescriptionVersion, Language};
 
 /// The conflict between the settings of a run over these files, if there is one.
-pub fn conflict(settings: Settings<'_>, names: Names) -> Option<Conflict>
+pub fn conflict(settings: RunSettings<'_>, names: NamedFiles) -> Option<Conflict>
     ensures { result ≡ spec.conflict settings.entry names }
 {
     if settings.serves {
@@ -40,7 +40,7 @@ pub fn conflict(settings: Settings<'_>, names: Names) -> Option<Conflict>
 }
 
 // Why an editor can't be served.
-fn serving_conflict(settings: Settings<'_>, names: Names) -> Option<Conflict>
+fn serving_conflict(settings: RunSettings<'_>, names: NamedFiles) -> Option<Conflict>
     ensures { result ≡ spec.serving_conflict settings.entry names }
 {
     if names.count != 0 {
@@ -53,7 +53,7 @@ fn serving_conflict(settings: Settings<'_>, names: Names) -> Option<Conflict>
 }
 
 // Whether the settings say how files are checked.
-fn looks_at_files(settings: Settings<'_>) -> bool
+fn looks_at_files(settings: RunSettings<'_>) -> bool
     ensures { result ≡ spec.looks_at_files settings.entry }
 {
     settings.is_whole
@@ -64,7 +64,7 @@ fn looks_at_files(settings: Settings<'_>) -> bool
 }
 
 // Whether the settings say how files are rewritten.
-fn rewrites(settings: Settings<'_>) -> bool
+fn rewrites(settings: RunSettings<'_>) -> bool
     ensures { result ≡ spec.rewrites settings.entry }
 {
     settings.fixes
@@ -75,7 +75,7 @@ fn rewrites(settings: Settings<'_>) -> bool
 }
 
 // Why files can't be mended.
-fn fixing_conflict(settings: Settings<'_>, names: Names) -> Option<Conflict>
+fn fixing_conflict(settings: RunSettings<'_>, names: NamedFiles) -> Option<Conflict>
     ensures { result ≡ spec.fixing_conflict settings.entry names }
 {
     if target(settings).is_some() {
@@ -93,9 +93,9 @@ fn fixing_conflict(settings: Settings<'_>, names: Names) -> Option<Conflict>
 
 // Why files can't be rewritten in a version.
 fn rewriting_conflict(
-    settings: Settings<'_>,
+    settings: RunSettings<'_>,
     version: DescriptionVersion,
-    names: Names,
+    names: NamedFiles,
 ) -> Option<Conflict>
     ensures { result ≡ spec.rewriting_conflict settings.entry version names }
 {
@@ -119,17 +119,17 @@ fn rewriting_conflict(
 
 /// Why lines can't be looked at or rewritten as the options ask, if some files aren't sources: no conversion exists from
 /// their language to the version, or it is no language of `time`.
-pub fn lines_conflict(settings: Settings<'_>) -> Option<Conflict>
+pub fn lines_conflict(settings: RunSettings<'_>) -> Option<Conflict>
     ensures { result ≡ spec.lines_conflict settings.entry }
 {
     match settings.language {
-        Wording::Own(language) => own_conflict(settings, language),
-        Wording::Other(_) => other_conflict(settings),
+        LineLanguage::Own(language) => own_conflict(settings, language),
+        LineLanguage::Other(_) => other_conflict(settings),
     }
 }
 
 // Why lines in a language of `time` can't be rewritten.
-fn own_conflict(settings: Settings<'_>, language: Language) -> Option<Conflict>
+fn own_conflict(settings: RunSettings<'_>, language: Language) -> Option<Conflict>
     ensures { result ≡ spec.own_conflict settings.entry language }
 {
     match target(settings) {
@@ -139,7 +139,7 @@ fn own_conflict(settings: Settings<'_>, language: Language) -> Option<Conflict>
 }
 
 // What can't be done with formats of other languages. They are rewritten in version 3 alone, and not in its normal form.
-fn other_conflict(settings: Settings<'_>) -> Option<Conflict>
+fn other_conflict(settings: RunSettings<'_>) -> Option<Conflict>
     ensures { result ≡ spec.other_conflict settings.entry }
 {
     if settings.explains {

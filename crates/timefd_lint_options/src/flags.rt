@@ -3,55 +3,55 @@
 ghost use Rattle.std.specs.Prelude.{◌≡◌};
 ghost use Rattle.timefd_lint_options.specs.Settings as spec;
 
-use crate::settings::Settings;
+use crate::settings::RunSettings;
 use crate::word::Flag;
 
 /// The settings with one more option that has no value.
-pub fn with_flag<'a>(settings: Settings<'a>, flag: Flag) -> Settings<'a>
+pub fn with_flag<'a>(settings: RunSettings<'a>, flag: Flag) -> RunSettings<'a>
     ensures { result ≡ spec.with_flag settings.entry flag }
 {
     match flag {
-        Flag::Whole => Settings {
+        Flag::Whole => RunSettings {
             is_whole: true,
             ..settings
         },
-        Flag::Source => Settings {
+        Flag::Source => RunSettings {
             is_source: true,
             ..settings
         },
-        Flag::Explain => Settings {
+        Flag::Explain => RunSettings {
             explains: true,
             ..settings
         },
-        Flag::Normal => Settings {
+        Flag::Normal => RunSettings {
             is_normal: true,
             ..settings
         },
-        Flag::Fix => Settings {
+        Flag::Fix => RunSettings {
             fixes: true,
             ..settings
         },
-        Flag::Unsafe => Settings {
+        Flag::Unsafe => RunSettings {
             is_unsafe: true,
             ..settings
         },
-        Flag::Write => Settings {
+        Flag::Write => RunSettings {
             writes: true,
             ..settings
         },
-        Flag::Partial => Settings {
+        Flag::Partial => RunSettings {
             is_partial: true,
             ..settings
         },
-        Flag::Warn => Settings {
+        Flag::Warn => RunSettings {
             warns: true,
             ..settings
         },
-        Flag::Lsp => Settings {
+        Flag::Lsp => RunSettings {
             serves: true,
             ..settings
         },
-        Flag::Quiet => Settings {
+        Flag::Quiet => RunSettings {
             is_quiet: true,
             ..settings
         },

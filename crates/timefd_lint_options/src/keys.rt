@@ -6,7 +6,7 @@ ghost use Rattle.timefd_lint_options.specs.KeyWords as spec;
 
 use crate::word::{Valued, Word, word_of};
 use std::alloc::{AllocError, Global};
-use timefd_lint_scan::keys::{Key, key_of};
+use timefd_lint_scan::keys::{DescriptionKey, key_of};
 
 /// What kind of word is expected, by the words before it.
 #[derive(Clone, Copy)]
@@ -60,7 +60,7 @@ fn after_word(word: Word) -> Expected
 // Adds the key that a word names, if a key is expected.
 #[tactic(auto, using(crate::proofs::KeyWordLemmas::no_key))]
 fn push_key<'a>(
-    keys: &mut Vec<Key<'a>>,
+    keys: &mut Vec<DescriptionKey<'a>>,
     expected: Expected,
     word: &'a str,
 ) -> Result<(), AllocError>
@@ -74,7 +74,7 @@ fn push_key<'a>(
 }
 
 #[tactic(auto, using(crate::proofs::KeyWordLemmas::is_key, crate::proofs::KeyWordLemmas::is_none))]
-fn push_named<'a>(keys: &mut Vec<Key<'a>>, word: &'a str) -> Result<(), AllocError>
+fn push_named<'a>(keys: &mut Vec<DescriptionKey<'a>>, word: &'a str) -> Result<(), AllocError>
     ensures { OnOk result (named_all keys.new.items
         ≡ named_all keys.old.items ++ keys_in word.now) }
 {
@@ -89,7 +89,7 @@ fn push_named<'a>(keys: &mut Vec<Key<'a>>, word: &'a str) -> Result<(), AllocErr
 
 /// The keys that the arguments name by `--key`, in order. An `Err` says that memory ran out.
 #[tactic(auto, using(crate::proofs::KeyWordLemmas::one_more, crate::proofs::KeyWordLemmas::at_last))]
-pub fn keys_of<'a>(alloc: Global, words: &[&'a str]) -> Result<Vec<Key<'a>>, AllocError>
+pub fn keys_of<'a>(alloc: Global, words: &[&'a str]) -> Result<Vec<DescriptionKey<'a>>, AllocError>
     ensures { IfOk result (λ keys. named_all keys.items ≡ spec.keys_of words.now) }
 {
     let mut keys = Vec::new(alloc);

@@ -18,12 +18,12 @@ mod wording;
 // The settings of a project, in `.timefd.toml`.
 pub mod config;
 
-pub use asked::{Asked, Options, options_of};
+pub use asked::{AskedRun, Options, options_of};
 pub use conflict::{is_log, lines_conflict};
 pub use error::{Conflict, OptionError};
 pub use keys::keys_of;
 pub use order::ordered;
-pub use settings::{Color, Settings, reads_lines, target};
+pub use settings::{Color, RunSettings, reads_lines, target};
 pub use suggestion::nearest_option;
 pub use word::{Flag, Valued, is_input};
-pub use wording::Wording;
+pub use wording::LineLanguage;

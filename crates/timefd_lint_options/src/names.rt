@@ -7,7 +7,7 @@ use crate::word::is_input;
 
 /// The arguments that name files.
 #[derive(Clone, Copy)]
-pub struct Names {
+pub struct NamedFiles {
     /// How many there are.
     pub count: usize,
     /// Whether one of them means the standard input.
@@ -15,20 +15,20 @@ pub struct Names {
 }
 
 /// The names in these arguments.
-pub fn names_of(words: &[&str]) -> Names
+pub fn names_of(words: &[&str]) -> NamedFiles
     ensures { result ≡ spec.names_of words.now }
 {
-    Names {
+    NamedFiles {
         count: words.len(),
         has_input: has_input(words),
     }
 }
 
 /// A name, and the names after it.
-pub fn names_from(name: &str, after: &[&str]) -> Names
+pub fn names_from(name: &str, after: &[&str]) -> NamedFiles
     ensures { result ≡ spec.names_from name.now after.now }
 {
-    Names {
+    NamedFiles {
         count: after.len().saturating_add(1),
         has_input: is_input(name) || has_input(after),
     }

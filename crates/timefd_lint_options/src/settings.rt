@@ -3,7 +3,7 @@
 ghost use Rattle.std.specs.Prelude.{◌≡◌};
 ghost use Rattle.timefd_lint_options.specs.Settings as spec;
 
-use crate::wording::Wording;
+use crate::wording::LineLanguage;
 use timefd_lang_warnings::{Level, Levels};
 use timefd_lint_drawing::Format;
 use timefd_parse::{DescriptionVersion, Language};
@@ -19,9 +19,9 @@ pub enum Color {
 
 /// The settings of a run.
 #[derive(Clone, Copy)]
-pub struct Settings<'a> {
+pub struct RunSettings<'a> {
     /// What the texts are written in.
-    pub language: Wording,
+    pub language: LineLanguage,
     /// How diagnostics are written.
     pub format: Format,
     /// Whether diagnostics are coloured.
@@ -56,13 +56,13 @@ pub struct Settings<'a> {
     pub is_quiet: bool,
 }
 
-impl Settings<'_> {
+impl RunSettings<'_> {
     /// The settings of a run without options.
-    pub fn initial() -> Settings<'static>
+    pub fn initial() -> RunSettings<'static>
         ensures { result ≡ spec.initial }
     {
-        Settings {
-            language: Wording::Own(Language::Version(DescriptionVersion::Three)),
+        RunSettings {
+            language: LineLanguage::Own(Language::Version(DescriptionVersion::Three)),
             format: Format::Human,
             color: Color::Auto,
             comment: None,
@@ -85,7 +85,7 @@ impl Settings<'_> {
 
 /// Whether the settings are about lines or a whole text, which may be read from the standard input: their
 /// language, a comment mark, or that all of it is one text.
-pub fn reads_lines(settings: Settings<'_>) -> bool
+pub fn reads_lines(settings: RunSettings<'_>) -> bool
     ensures { result ≡ spec.reads_lines settings.entry }
 {
     settings.comment.is_some()
@@ -96,12 +96,12 @@ pub fn reads_lines(settings: Settings<'_>) -> bool
 }
 
 // Whether a wording is another than without an option.
-fn is_chosen(wording: Wording) -> bool
+fn is_chosen(wording: LineLanguage) -> bool
     ensures { result ≡ spec.is_chosen wording }
 {
     match wording {
-        Wording::Own(language) => is_chosen_language(language),
-        Wording::Other(_) => true,
+        LineLanguage::Own(language) => is_chosen_language(language),
+        LineLanguage::Other(_) => true,
     }
 }
 
@@ -117,7 +117,7 @@ fn is_chosen_language(language: Language) -> bool
 
 /// The version that descriptions are rewritten in. It is version 3 if only the normal form is asked for, and
 /// `None` if nothing is rewritten.
-pub fn target(settings: Settings<'_>) -> Option<DescriptionVersion>
+pub fn target(settings: RunSettings<'_>) -> Option<DescriptionVersion>
     ensures { result ≡ spec.target settings.entry }
 {
     match settings.to {

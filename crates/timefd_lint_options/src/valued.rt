@@ -4,7 +4,7 @@ ghost use Rattle.std.specs.Prelude.{◌≡◌};
 ghost use Rattle.timefd_lint_options.specs.Settings as spec;
 
 use crate::error::OptionError;
-use crate::settings::Settings;
+use crate::settings::RunSettings;
 use crate::values::{color_named, format_named, version_named};
 use crate::word::Valued;
 use crate::wording::wording_named;
@@ -13,10 +13,10 @@ use timefd_lint_scan::keys::key_fault;
 
 /// The settings with the value of an option. `NotAValue` or `NotAKey` if the option doesn't take the value.
 pub fn with_value<'a>(
-    settings: Settings<'a>,
+    settings: RunSettings<'a>,
     option: Valued,
     value: &'a str,
-) -> Result<Settings<'a>, OptionError<'a>>
+) -> Result<RunSettings<'a>, OptionError<'a>>
     ensures { result ≡ spec.with_value settings.entry option value.entry }
 {
     let set = match option {
@@ -35,11 +35,11 @@ pub fn with_value<'a>(
     }
 }
 
-fn with_language<'a>(settings: Settings<'a>, value: &str) -> Option<Settings<'a>>
+fn with_language<'a>(settings: RunSettings<'a>, value: &str) -> Option<RunSettings<'a>>
     ensures { result ≡ spec.with_language settings.entry value.now }
 {
     match wording_named(value) {
-        Some(language) => Some(Settings {
+        Some(language) => Some(RunSettings {
             language,
             ..settings
         }),
@@ -47,38 +47,38 @@ fn with_language<'a>(settings: Settings<'a>, value: &str) -> Option<Settings<'a>
     }
 }
 
-fn with_format<'a>(settings: Settings<'a>, value: &str) -> Option<Settings<'a>>
+fn with_format<'a>(settings: RunSettings<'a>, value: &str) -> Option<RunSettings<'a>>
     ensures { result ≡ spec.with_format settings.entry value.now }
 {
     match format_named(value) {
-        Some(format) => Some(Settings { format, ..settings }),
+        Some(format) => Some(RunSettings { format, ..settings }),
         None => None,
     }
 }
 
-fn with_color<'a>(settings: Settings<'a>, value: &str) -> Option<Settings<'a>>
+fn with_color<'a>(settings: RunSettings<'a>, value: &str) -> Option<RunSettings<'a>>
     ensures { result ≡ spec.with_color settings.entry value.now }
 {
     match color_named(value) {
-        Some(color) => Some(Settings { color, ..settings }),
+        Some(color) => Some(RunSettings { color, ..settings }),
         None => None,
     }
 }
 
 // An empty mark would pass over every line.
-fn with_comment<'a>(settings: Settings<'a>, value: &'a str) -> Option<Settings<'a>>
+fn with_comment<'a>(settings: RunSettings<'a>, value: &'a str) -> Option<RunSettings<'a>>
     ensures { result ≡ spec.with_comment settings.entry value.entry }
 {
     if value.is_empty() {
         return None;
     }
-    Some(Settings {
+    Some(RunSettings {
         comment: Some(value),
         ..settings
     })
 }
 
-fn with_key<'a>(settings: Settings<'a>, value: &str) -> Option<Settings<'a>>
+fn with_key<'a>(settings: RunSettings<'a>, value: &str) -> Option<RunSettings<'a>>
     ensures { result ≡ spec.with_key settings.entry value.now }
 {
     match key_fault(value) {
@@ -112,11 +112,11 @@ fn key_refused<'a>(value: &'a str) -> OptionError<'a>
     }
 }
 
-fn with_version<'a>(settings: Settings<'a>, value: &str) -> Option<Settings<'a>>
+fn with_version<'a>(settings: RunSettings<'a>, value: &str) -> Option<RunSettings<'a>>
     ensures { result ≡ spec.with_version settings.entry value.now }
 {
     match version_named(value) {
-        Some(version) => Some(Settings {
+        Some(version) => Some(RunSettings {
             to: Some(version),
             ..settings
         }),
@@ -125,11 +125,11 @@ fn with_version<'a>(settings: Settings<'a>, value: &str) -> Option<Settings<'a>>
 }
 
 // Setting the level of one warning also turns on the reports of all others.
-fn with_warning<'a>(settings: Settings<'a>, value: &str, level: Level) -> Option<Settings<'a>>
+fn with_warning<'a>(settings: RunSettings<'a>, value: &str, level: Level) -> Option<RunSettings<'a>>
     ensures { result ≡ spec.with_warning settings.entry value.now level }
 {
     match Warning::named(value) {
-        Some(warning) => Some(Settings {
+        Some(warning) => Some(RunSettings {
             warns: true,
             levels: settings.levels.with(warning, level),
             ..settings

@@ -9,40 +9,40 @@ use timefd_parse::Language;
 
 /// What a text is written in.
 #[derive(Clone, Copy)]
-pub enum Wording {
+pub enum LineLanguage {
     /// In a language of `time`.
     Own(Language),
     /// As a format of another language or library.
     Other(Dialect),
 }
 
-impl Wording {
+impl LineLanguage {
     /// The language, if it is one of `time`.
     pub fn language(self) -> Option<Language>
         ensures { result ≡ spec.language_of self }
     {
         match self {
-            Wording::Own(language) => Some(language),
-            Wording::Other(_) => None,
+            LineLanguage::Own(language) => Some(language),
+            LineLanguage::Other(_) => None,
         }
     }
 }
 
 /// The wording that a word names.
-pub fn wording_named(word: &str) -> Option<Wording>
+pub fn wording_named(word: &str) -> Option<LineLanguage>
     ensures { result ≡ spec.wording_named word.now }
 {
     match language_named(word) {
-        Some(language) => Some(Wording::Own(language)),
+        Some(language) => Some(LineLanguage::Own(language)),
         None => dialect_named(word),
     }
 }
 
-fn dialect_named(word: &str) -> Option<Wording>
+fn dialect_named(word: &str) -> Option<LineLanguage>
     ensures { result ≡ spec.dialect_named word.now }
 {
     match Dialect::named(word) {
-        Some(dialect) => Some(Wording::Other(dialect)),
+        Some(dialect) => Some(LineLanguage::Other(dialect)),
         None => None,
     }
 }

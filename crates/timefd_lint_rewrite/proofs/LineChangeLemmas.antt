@@ -3,7 +3,7 @@ use Rattle.std.proofs.Common.{ℕ, ◌≡◌, subst}
 use Rattle.std.specs.Prelude.{string_bytes}
 use Rattle.timefd_lang_component.specs.Tree.{Text}
 use Rattle.timefd_lang_dialect.specs.declared.dialect.Dialect.{Dialect}
-use Rattle.timefd_lang_dialect.specs.declared.error.Refusal.{Refusal}
+use Rattle.timefd_lang_dialect.specs.declared.error.RefusedPart.{RefusedPart}
 use Rattle.timefd_lang_dialect.specs.declared.reading.Converted.{Converted}
 use Rattle.timefd_lang_dialect.specs.Answers.{IsConverted as IsConvertedTo}
 use Rattle.timefd_lang_dialect.specs.Items.{IsSpelledBy}
@@ -39,6 +39,6 @@ of_pieces dialect text answer converted spelled = record {
   same_items = spelled;
 }
 
-pub of_refusal : (dialect : Dialect) (text : Text) (refusal : Refusal)
+pub of_refusal : (dialect : Dialect) (text : Text) (refusal : RefusedPart)
     → RefusedAt dialect text refusal.reason refusal.index → IsUnchangeable (Other dialect) text
 of_refusal dialect text refusal is = (refusal.reason, refusal.index, is)

@@ -13,8 +13,8 @@ use Rattle.std.proofs.lemmas.Bool.Decides.{Decides-eqb}
 use denote.Ref.{Bor}
 use Rattle.timefd_lang_component.specs.Tree.{Text}
 use Rattle.timefd_lint_rewrite.specs.declared.counts.Counts.{Counts}
-use Rattle.timefd_lint_rewrite.specs.declared.counts.Outcome.{Outcome}
-use Rattle.timefd_lint_rewrite.specs.declared.counts.Outcome.TheVariants.{PassedOver, Same, Rewritten, Refused, NotText, NotALine}
+use Rattle.timefd_lint_rewrite.specs.declared.counts.LineOutcome.{LineOutcome}
+use Rattle.timefd_lint_rewrite.specs.declared.counts.LineOutcome.TheVariants.{PassedOver, Same, Rewritten, Refused, NotText, NotALine}
 use Rattle.timefd_lint_rewrite.specs.declared.line_change.LineChange.{LineChange}
 use Rattle.timefd_lint_rewrite.specs.declared.rewrite.RewriteError.{RewriteError}
 use Rattle.timefd_lint_rewrite.specs.declared.rewrite.RewriteError.TheVariants.{Memory, Read, Write}
@@ -29,7 +29,7 @@ other_text a b differs same =
 
 -- An answer with the line's end replaces the line.
 pub answer_placed : (line answer text : Text) (before between after : Option Text)
-    (r : Result Outcome RewriteError)
+    (r : Result LineOutcome RewriteError)
     → text ≡ without_newline line → pointwise nat_eq answer text ≡ false
     → has_newline answer ≡ false
     → Appends before between answer → IfOk r (λ o. o ≡ Rewritten)
@@ -52,7 +52,7 @@ answer_placed line answer text before between after (Err e) is other one first o
 
 -- The answer for a converted text replaces the line, or the line stays.
 pub converted_placed : (change : LineChange) (comment : Option (Bor Text))
-    (line text string answer : Text) (before after : Option Text) (r : Result Outcome RewriteError)
+    (line text string answer : Text) (before after : Option Text) (r : Result LineOutcome RewriteError)
     → text ≡ without_newline line → false ≡ is_passed_over comment text → string ≡ text
     → IsChanged change string answer
     → IfOk r (PositionsAnswer line answer before after)
@@ -63,7 +63,7 @@ converted_placed change comment line text string answer before after (Ok o) is l
     subst (λ t. IsChanged change t answer) (same_text ∙ is) means in
     by o reported converted
   where
-    by : (o : Outcome) → PositionsAnswer line answer before after o
+    by : (o : LineOutcome) → PositionsAnswer line answer before after o
         → IsChanged change (without_newline line) answer
         → Positions change comment line before after o
     by PassedOver placed converted = absurd placed.1
@@ -101,7 +101,7 @@ converted_placed change comment line text string answer before after (Err e) is 
 
 -- A line that is refused stays.
 pub refused_placed : (change : LineChange) (comment : Option (Bor Text))
-    (line text string : Text) (before after : Option Text) (r : Result Outcome RewriteError)
+    (line text string : Text) (before after : Option Text) (r : Result LineOutcome RewriteError)
     → text ≡ without_newline line → false ≡ is_passed_over comment text
     → string ≡ text → IsUtf8 text → IsUnchangeable change string
     → IfOk r (λ o. o ≡ Refused) → OnOk r (Appends before after line)
@@ -125,7 +125,7 @@ refused_placed change comment line text string before after (Err error) is looke
 
 -- A line that isn't UTF-8 stays.
 pub no_text_placed : (change : LineChange) (comment : Option (Bor Text)) (line text : Text)
-    (before after : Option Text) (r : Result Outcome RewriteError)
+    (before after : Option Text) (r : Result LineOutcome RewriteError)
     → text ≡ without_newline line → false ≡ is_passed_over comment text → ¬ IsUtf8 text
     → IfOk r (λ o. o ≡ NotText) → OnOk r (Appends before after line)
     → IfOk r (Positions change comment line before after)
@@ -191,7 +191,7 @@ positions_more placed p =
 
 pub one_more : (change : LineChange) (comment : Option (Bor Text))
     (bytes rest next before between after : Option Text) (counts all : Counts)
-    (o : Option Outcome) (outcome : Outcome) → o ≡ Some outcome
+    (o : Option LineOutcome) (outcome : LineOutcome) → o ≡ Some outcome
     → AreUpTo change comment bytes rest before between counts
     → IsNext change comment rest next between after o
     → all ≡ with_one counts outcome
@@ -238,7 +238,7 @@ kept change comment before between after placed are same = record {
 }
 
 pub at_end : (change : LineChange) (comment : Option (Bor Text))
-    (bytes rest next before between after : Option Text) (counts : Counts) (o : Option Outcome)
+    (bytes rest next before between after : Option Text) (counts : Counts) (o : Option LineOutcome)
     → o ≡ None → AreUpTo change comment bytes rest before between counts
     → IsNext change comment rest next between after o
     → AreRewritten change comment bytes before after counts

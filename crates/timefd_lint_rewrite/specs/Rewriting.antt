@@ -4,8 +4,8 @@ use Rattle.std.specs.Io.KnownBytes.{Appends, Keeps, IsAtEnd}
 use denote.Ref.{Bor}
 use Rattle.timefd_lang_component.specs.Tree.{Text}
 use Rattle.timefd_lint_rewrite.specs.declared.counts.Counts.{Counts}
-use Rattle.timefd_lint_rewrite.specs.declared.counts.Outcome.{Outcome}
-use Rattle.timefd_lint_rewrite.specs.declared.counts.Outcome.TheVariants.{PassedOver, Same, Rewritten, Refused, NotText, NotALine}
+use Rattle.timefd_lint_rewrite.specs.declared.counts.LineOutcome.{LineOutcome}
+use Rattle.timefd_lint_rewrite.specs.declared.counts.LineOutcome.TheVariants.{PassedOver, Same, Rewritten, Refused, NotText, NotALine}
 use Rattle.timefd_lint_rewrite.specs.declared.line_change.LineChange.{LineChange}
 use Rattle.timefd_lint_rewrite.specs.declared.rewrite.RewriteError.{RewriteError}
 use Rattle.timefd_lint_rewrite.specs.declared.rewrite.RewriteError.TheVariants.{Memory, Read, Write}
@@ -14,7 +14,7 @@ use Rattle.timefd_lint_rewrite.specs.Lines.{AreLinesOf, IsNextLine, end_of, has_
 
 -- What replaces a line: the text that it is converted or mended to, with the line's own end, if there is such
 -- a text and it is a line. Else it is the line itself, byte by byte.
-abbrev pub StandsFor : LineChange → Text → Outcome → Text → Type 0
+abbrev pub StandsFor : LineChange → Text → LineOutcome → Text → Type 0
 StandsFor change line PassedOver position = position ≡ line
 StandsFor change line Same position =
     IsChanged change (without_newline line) (without_newline line) × (position ≡ line)
@@ -29,7 +29,7 @@ StandsFor change line NotALine position =
     (answer : Text) × IsChanged change (without_newline line) answer
     × (has_newline answer ≡ true) × (position ≡ line)
 
-abbrev pub is_passing_over : Outcome → Bool
+abbrev pub is_passing_over : LineOutcome → Bool
 is_passing_over PassedOver = true
 is_passing_over Same = false
 is_passing_over Rewritten = false
@@ -37,7 +37,7 @@ is_passing_over Refused = false
 is_passing_over NotText = false
 is_passing_over NotALine = false
 
-abbrev pub is_rewriting : Outcome → Bool
+abbrev pub is_rewriting : LineOutcome → Bool
 is_rewriting PassedOver = false
 is_rewriting Same = false
 is_rewriting Rewritten = true
@@ -46,7 +46,7 @@ is_rewriting NotText = false
 is_rewriting NotALine = false
 
 -- Lines that aren't UTF-8 or would become more than a line count as refused.
-abbrev pub is_refusing : Outcome → Bool
+abbrev pub is_refusing : LineOutcome → Bool
 is_refusing PassedOver = false
 is_refusing Same = false
 is_refusing Rewritten = false
@@ -57,7 +57,7 @@ is_refusing NotALine = true
 -- A line with its newline, its outcome, and what replaces it.
 pub record Placed : Type 0 where
   pub line : Text
-  pub outcome : Outcome
+  pub outcome : LineOutcome
   pub position : Text
 
 -- A line is passed over exactly if it is empty or a comment.
@@ -81,7 +81,7 @@ counts_of placed = record {
   refused = count_by (λ p. is_refusing p.outcome) placed;
 }
 
-abbrev pub with_one : Counts → Outcome → Counts
+abbrev pub with_one : Counts → LineOutcome → Counts
 with_one counts outcome = record {
   lines = counts.lines + 1;
   rewritten = if is_rewriting outcome then counts.rewritten + 1 else counts.rewritten;
@@ -125,7 +125,7 @@ IsUnwritten before after Read = Keeps before after
 IsUnwritten before after Write = ⊤
 
 -- The replacement of one line is written.
-abbrev pub Positions : LineChange → Option (Bor Text) → Text → Option Text → Option Text → Outcome
+abbrev pub Positions : LineChange → Option (Bor Text) → Text → Option Text → Option Text → LineOutcome
     → Type 0
 Positions change comment line before after outcome =
     (position : Text)
@@ -134,7 +134,7 @@ Positions change comment line before after outcome =
 
 -- An answer replaces a line, with the line's end; or the line stays, if it has that text already or the
 -- answer has a newline.
-abbrev pub IsAnswer : Text → Text → Outcome → Text → Type 0
+abbrev pub IsAnswer : Text → Text → LineOutcome → Text → Type 0
 IsAnswer line answer PassedOver position = ⊥
 IsAnswer line answer Same position = (answer ≡ without_newline line) × (position ≡ line)
 IsAnswer line answer Rewritten position = (answer ≢ without_newline line)
@@ -143,13 +143,13 @@ IsAnswer line answer Refused position = ⊥
 IsAnswer line answer NotText position = ⊥
 IsAnswer line answer NotALine position = (has_newline answer ≡ true) × (position ≡ line)
 
-abbrev pub PositionsAnswer : Text → Text → Option Text → Option Text → Outcome → Type 0
+abbrev pub PositionsAnswer : Text → Text → Option Text → Option Text → LineOutcome → Type 0
 PositionsAnswer line answer before after outcome =
     (position : Text) × IsAnswer line answer outcome position × Appends before after position
 
 -- What happens with one more line. At the end of the bytes nothing is written.
 abbrev pub IsNext : LineChange → Option (Bor Text) → Option Text → Option Text → Option Text
-    → Option Text → Option Outcome → Type 0
+    → Option Text → Option LineOutcome → Type 0
 IsNext change comment bytes rest before after None = IsAtEnd bytes × Keeps before after
 IsNext change comment bytes rest before after (Some outcome) =
     (line : Text) × IsNextLine bytes line rest

@@ -5,7 +5,7 @@ ghost use Rattle.timefd_lint_rewrite.specs.Rewriting as spec;
 
 /// What happened to a line.
 #[derive(Clone, Copy)]
-pub enum Outcome {
+pub enum LineOutcome {
     /// It is empty or a comment, and stays as it is.
     PassedOver,
     /// It is converted to itself, or has nothing to mend, and stays as it is.
@@ -45,7 +45,7 @@ impl Counts {
     }
 
     /// The counts with one more line.
-    pub(crate) fn with(self, outcome: Outcome) -> Counts
+    pub(crate) fn with(self, outcome: LineOutcome) -> Counts
         requires lines { self.lines < 2 ^ 64 - 1 }
         requires rewritten { self.rewritten ≤ self.lines }
         requires refused { self.refused ≤ self.lines }
@@ -54,16 +54,18 @@ impl Counts {
         Counts {
             lines: self.lines + 1,
             rewritten: match outcome {
-                Outcome::Rewritten => self.rewritten + 1,
-                Outcome::PassedOver
-                | Outcome::Same
-                | Outcome::Refused
-                | Outcome::NotText
-                | Outcome::NotALine => self.rewritten,
+                LineOutcome::Rewritten => self.rewritten + 1,
+                LineOutcome::PassedOver
+                | LineOutcome::Same
+                | LineOutcome::Refused
+                | LineOutcome::NotText
+                | LineOutcome::NotALine => self.rewritten,
             },
             refused: match outcome {
-                Outcome::Refused | Outcome::NotText | Outcome::NotALine => self.refused + 1,
-                Outcome::PassedOver | Outcome::Same | Outcome::Rewritten => self.refused,
+                LineOutcome::Refused | LineOutcome::NotText | LineOutcome::NotALine => self.refused
+                    + 1,
+                LineOutcome::PassedOver | LineOutcome::Same | LineOutcome::Rewritten =>
+                    self.refused,
             },
         }
     }

@@ -13,7 +13,7 @@ use crate::cure::cured;
 use crate::fixes::Fixes;
 use std::alloc::Global;
 use timefd_lint_diagnosis::diagnose;
-use timefd_parse::{Language, NESTING_LIMIT, ParseError, amount_within};
+use timefd_parse::{Language, NESTING_LIMIT, ParseError, amount_all_borrowed};
 
 /// How many faults of a text are mended at most.
 pub const FIX_LIMIT: usize = 1000;
@@ -92,8 +92,8 @@ fn accepted(alloc: Global, language: Language, text: String) -> Result<String, P
         (list : List Tree) × SpellsIn language nesting_limit (string_bytes answer) list) }
     ensures fault { IfErr result (IsAssignedIn language nesting_limit (string_bytes text)) }
 {
-    match amount_within(alloc, language, NESTING_LIMIT, &text) {
+    match amount_all_borrowed(alloc, language, NESTING_LIMIT, &text) {
         Ok(_) => Ok(text),
-        Err(error) => Err(error),
+        Err(error) => Err(error.into_owned(alloc)),
     }
 }

@@ -48,7 +48,7 @@ fn convert_wholly(alloc: Global, conversion: Conversion, text: &str) -> Result<S
 {
     match convert_by(alloc, conversion, text) {
         Ok(answer) => Ok(answer),
-        Err(error) => Err(error),
+        Err(error) => Err(error.into_owned(alloc)),
     }
 }
 
@@ -64,6 +64,6 @@ fn convert_least(alloc: Global, conversion: Conversion, text: &str) -> Result<St
             Ok(None) => Ok(rewritten),
             Err(error) => Err(ParseError::Memory(error)),
         },
-        Err(error) => Err(error),
+        Err(error) => Err(error.into_owned(alloc)),
     }
 }

@@ -16,7 +16,7 @@ mod nearest;
 mod pairs;
 mod rewrite;
 
-pub use counts::{Counts, Outcome};
+pub use counts::{Counts, LineOutcome};
 pub use diff::write_diff;
 pub use fixes::Fixes;
 pub use fixing::{FIX_LIMIT, fixed};

@@ -4,8 +4,8 @@ ghost use Rattle.std.specs.Prelude.{◌≡◌, ◌<◌, true, length, IfOk, IfSo
 ghost use Rattle.timefd_lint_rewrite.specs.Layouts.{IsNearer, ReadsAs};
 
 use std::alloc::{AllocError, Global};
-use timefd_lang_convert::{Conversion, normalize_v3_borrowed};
-use timefd_lift::{v1_to_v2_borrowed, v2_to_v3_borrowed};
+use timefd_lang_convert::{Conversion, normalize_v3};
+use timefd_lift::{v1_to_v2_borrowed, v2_to_v3};
 use timefd_parse::{BorrowedParseError, DescriptionVersion, Language, first_piece};
 
 /// A text that has the items of `rewritten`, the converted text, but is nearer to the old text. `None` if there is
@@ -58,7 +58,7 @@ fn like(alloc: Global, text: String, rewritten: &str) -> Result<Option<String>, 
 fn reads_as(alloc: Global, text: &str, rewritten: &str) -> Result<bool, AllocError>
     ensures { IfOk result (λ same. same ≡ true → ReadsAs rewritten.now text.now) }
 {
-    match normalize_v3_borrowed(alloc, text) {
+    match normalize_v3(alloc, text) {
         Ok(normal) => Ok(normal.as_str() == rewritten),
         Err(BorrowedParseError::Memory(error)) => Err(error),
         Err(BorrowedParseError::Invalid(_)) => Ok(false),
@@ -99,7 +99,7 @@ fn push_piece(alloc: Global, answer: &mut String, piece: &str) -> Result<(), All
 // A bracket of version 2 in version 3: as it is, with its range, in small letters, or with both. It is
 // written from the start if version 3 reads none of these as the same.
 fn bracket_of(alloc: Global, bracket: &str) -> Result<String, AllocError> {
-    match v2_to_v3_borrowed(alloc, bracket) {
+    match v2_to_v3(alloc, bracket) {
         Ok(rewritten) => match bracket_like(alloc, bracket, &rewritten)? {
             Some(found) => Ok(found),
             None => Ok(rewritten),

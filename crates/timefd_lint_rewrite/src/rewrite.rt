@@ -6,7 +6,7 @@ ghost use Rattle.std.specs.Io.KnownBytes.{Appends};
 ghost use Rattle.timefd_lint_rewrite.specs.Rewriting.{AreCutShort, AreRewritten, IsNext, IsUnwritten, Positions, PositionsAnswer};
 ghost use Rattle.timefd_lint_rewrite.specs.declared.rewrite.RewriteError.TheVariants as errors;
 
-use crate::counts::{Counts, Outcome};
+use crate::counts::{Counts, LineOutcome};
 use crate::line_change::{LineChange, changed_text};
 use crate::lines::{has_newline, is_passed_over, without_newline};
 use std::alloc::Global;
@@ -58,7 +58,7 @@ fn rewrite_next<R: BufRead, W: Write>(
     bytes: &mut Vec<u8>,
     reader: &mut R,
     writer: &mut W,
-) -> Result<Option<Outcome>, RewriteError>
+) -> Result<Option<LineOutcome>, RewriteError>
     ensures next { IfOk result (IsNext change comment.entry (R.remaining reader.old)
         (R.remaining reader.new) (W.contents writer.old) (W.contents writer.new)) }
     ensures unwritten { IfErr result (IsUnwritten (W.contents writer.old)
@@ -89,7 +89,7 @@ fn rewrite_line<W: Write>(
     change: LineChange,
     line: &[u8],
     writer: &mut W,
-) -> Result<Outcome, RewriteError>
+) -> Result<LineOutcome, RewriteError>
     ensures positions { IfOk result (Positions change comment.entry line.now (W.contents writer.old)
         (W.contents writer.new)) }
     ensures unwritten { IfErr result (IsUnwritten (W.contents writer.old)
@@ -97,20 +97,24 @@ fn rewrite_line<W: Write>(
 {
     let text = without_newline(line);
     if is_passed_over(comment, text) {
-        return keep(line, Outcome::PassedOver, writer);
+        return keep(line, LineOutcome::PassedOver, writer);
     }
     let Ok(text) = str::from_utf8(text) else {
-        return keep(line, Outcome::NotText, writer);
+        return keep(line, LineOutcome::NotText, writer);
     };
     match changed_text(alloc, change, text) {
         Ok(Some(answer)) => write_answer(line, answer.as_bytes(), writer),
-        Ok(None) => keep(line, Outcome::Refused, writer),
+        Ok(None) => keep(line, LineOutcome::Refused, writer),
         Err(_) => Err(RewriteError::Memory),
     }
 }
 
 // Writes a line as it is.
-fn keep<W: Write>(line: &[u8], outcome: Outcome, writer: &mut W) -> Result<Outcome, RewriteError>
+fn keep<W: Write>(
+    line: &[u8],
+    outcome: LineOutcome,
+    writer: &mut W,
+) -> Result<LineOutcome, RewriteError>
     ensures outcome { IfOk result (λ o. o ≡ outcome) }
     ensures kept { OnOk result (Appends (W.contents writer.old) (W.contents writer.new) line.now) }
     ensures error { IfErr result (λ e. e ≡ errors.Write) }
@@ -127,18 +131,18 @@ fn write_answer<W: Write>(
     line: &[u8],
     answer: &[u8],
     writer: &mut W,
-) -> Result<Outcome, RewriteError>
+) -> Result<LineOutcome, RewriteError>
     ensures positions { IfOk result (PositionsAnswer line.now answer.now (W.contents writer.old)
         (W.contents writer.new)) }
     ensures error { IfErr result (λ e. e ≡ errors.Write) }
 {
     let text = without_newline(line);
     if answer == text {
-        return keep(line, Outcome::Same, writer);
+        return keep(line, LineOutcome::Same, writer);
     }
     if has_newline(answer) {
-        return keep(line, Outcome::NotALine, writer);
+        return keep(line, LineOutcome::NotALine, writer);
     }
-    keep(answer, Outcome::Rewritten, writer)?;
-    keep(&line[text.len()..], Outcome::Rewritten, writer)
+    keep(answer, LineOutcome::Rewritten, writer)?;
+    keep(&line[text.len()..], LineOutcome::Rewritten, writer)
 }

@@ -10,12 +10,12 @@ use Rattle.std.specs.declared.vec.Vec.{Vec}
 use Rattle.std.specs.Option.{option_to_list}
 use Rattle.std.specs.Prelude.{IfOk, Option, Some, None, Result, Ok, Err}
 use Rattle.timefd_lint_scan.specs.declared.alias.Alias.{Alias}
-use Rattle.timefd_lint_scan.specs.declared.calls.Frame.{Frame}
-use Rattle.timefd_lint_scan.specs.declared.candidate.Candidate.{Candidate}
-use Rattle.timefd_lint_scan.specs.declared.description.Description.{Description}
-use Rattle.timefd_lint_scan.specs.declared.dialect.Dialect.{Dialect}
-use Rattle.timefd_lint_scan.specs.declared.marks.Mark.{Mark}
-use Rattle.timefd_lint_scan.specs.declared.piece.Piece.{Piece}
+use Rattle.timefd_lint_scan.specs.declared.calls.OpenBracket.{OpenBracket}
+use Rattle.timefd_lint_scan.specs.declared.candidate.CandidateLiteral.{CandidateLiteral}
+use Rattle.timefd_lint_scan.specs.declared.description.SourceDescription.{SourceDescription}
+use Rattle.timefd_lint_scan.specs.declared.dialect.FormatLanguage.{FormatLanguage}
+use Rattle.timefd_lint_scan.specs.declared.marks.LanguageMark.{LanguageMark}
+use Rattle.timefd_lint_scan.specs.declared.piece.PlacedToken.{PlacedToken}
 use Rattle.timefd_lint_scan.specs.declared.uses.Use.{Use}
 use Rattle.timefd_lint_scan.specs.Between.{IsBetween}
 use Rattle.timefd_lint_scan.specs.Bytes.{Text}
@@ -29,18 +29,18 @@ use Rattle.timefd_lint_scan.specs.Marks.{still_open, reported_at}
 use Rattle.timefd_lint_scan.specs.Versions.{IsSaid}
 
 -- What is found so far, followed by what is found from an index on, is all that there is.
-pub record AreSoFar (source : Text) (ps : List Piece) (aliases : List Alias) (us : List Use) (comments : List Mark)
-    (i : ℕ) (frames : List Frame) (counting : List Mark) (end : ℕ) (so_far : List Description) : Type 0 where
-  pub others : (rest : List Description)
+pub record AreSoFar (source : Text) (ps : List PlacedToken) (aliases : List Alias) (us : List Use) (comments : List LanguageMark)
+    (i : ℕ) (frames : List OpenBracket) (counting : List LanguageMark) (end : ℕ) (so_far : List SourceDescription) : Type 0 where
+  pub others : (rest : List SourceDescription)
       → AreDescribed source end (candidates_from source ps aliases us i (drop i ps) frames counting) rest
       → AreDescribed source 0 (candidates_by source ps aliases us comments) (so_far ++ rest)
 
-pub at_first : (source : Text) (ps : List Piece) (aliases : List Alias) (us : List Use) (comments : List Mark)
+pub at_first : (source : Text) (ps : List PlacedToken) (aliases : List Alias) (us : List Use) (comments : List LanguageMark)
     → AreSoFar source ps aliases us comments 0 (outermost ∷ []) comments 0 []
 at_first source ps aliases us comments = record { others = λ rest described. described }
 
-one_described : (source : Text) (from : ℕ) (c : Option Candidate) (answer : Option Description)
-    (cs : List Candidate) (rest : List Description) → IsAnyDescribed source c answer
+one_described : (source : Text) (from : ℕ) (c : Option CandidateLiteral) (answer : Option SourceDescription)
+    (cs : List CandidateLiteral) (rest : List SourceDescription) → IsAnyDescribed source c answer
     → AreDescribed source (end_after from (begun_after from answer)) cs rest
     → AreDescribed source from (option_to_list c ++ cs) (option_to_list (begun_after from answer) ++ rest)
 one_described source from None answer cs rest is described =
@@ -48,10 +48,10 @@ one_described source from None answer cs rest is described =
     (subst (λ a. AreDescribed source (end_after from (begun_after from a)) cs rest) is described)
 one_described source from (Some c) answer cs rest is described = (answer, rest, is, described, refl)
 
-pub one_more : (source : Text) (ps : List Piece) (aliases : List Alias) (us : List Use)
-    (comments counting still : List Mark) (i : ℕ) (p other : Piece) (before later : List Frame)
-    (c : Option Candidate) (answer : Option Description) (from next : ℕ)
-    (so_far now : List Description) → i < length ps → p ≡ get_or ps i other
+pub one_more : (source : Text) (ps : List PlacedToken) (aliases : List Alias) (us : List Use)
+    (comments counting still : List LanguageMark) (i : ℕ) (p other : PlacedToken) (before later : List OpenBracket)
+    (c : Option CandidateLiteral) (answer : Option SourceDescription) (from next : ℕ)
+    (so_far now : List SourceDescription) → i < length ps → p ≡ get_or ps i other
     → later ≡ passed source ps aliases us i before → still ≡ still_open p.start counting
     → c ≡ candidate_at source ps i p (innermost later) (reported_at still p.start)
     → IsAnyDescribed source c answer → now ≡ so_far ++ option_to_list (begun_after from answer)
@@ -61,10 +61,10 @@ pub one_more : (source : Text) (ps : List Piece) (aliases : List Alias) (us : Li
 one_more source ps aliases us comments counting still i p other before later c answer from next so_far now below at opened left
     known is pushed ends so_far_is = record {
       others = λ rest described.
-          let after : List Piece = drop (i + 1) ps in
-          let step : List Frame → List Mark → Option Candidate → List Candidate =
+          let after : List PlacedToken = drop (i + 1) ps in
+          let step : List OpenBracket → List LanguageMark → Option CandidateLiteral → List CandidateLiteral =
           λ a s x. option_to_list x ++ candidates_from source ps aliases us (i + 1) after a s in
-          let at_token : List Frame → List Mark → List Candidate =
+          let at_token : List OpenBracket → List LanguageMark → List CandidateLiteral =
           λ a s. step a s (candidate_at source ps i p (innermost a) (reported_at s p.start)) in
           let split : drop i ps ≡ p ∷ after = drop_more ps i other below ∙ ap (λ x. x ∷ after) (sym at) in
           let here : step later still c ≡ candidates_from source ps aliases us i (drop i ps) before counting =
@@ -83,8 +83,8 @@ one_more source ps aliases us comments counting still i p other before later c a
     }
 
 -- What a token is, by the brackets that are open and the comments that apply to it.
-pub reported_at_token : (source bytes : Text) (ps : List Piece) (i : ℕ) (p : Piece) (frames seen : List Frame)
-    (frame : Option Frame) (still : List Mark) (dialect : Option Dialect) → bytes ≡ source → seen ≡ frames
+pub reported_at_token : (source bytes : Text) (ps : List PlacedToken) (i : ℕ) (p : PlacedToken) (frames seen : List OpenBracket)
+    (frame : Option OpenBracket) (still : List LanguageMark) (dialect : Option FormatLanguage) → bytes ≡ source → seen ≡ frames
     → frame ≡ innermost seen → dialect ≡ reported_at still p.start
     → candidate_at bytes ps i p frame dialect
     ≡ candidate_at source ps i p (innermost frames) (reported_at still p.start)
@@ -93,8 +93,8 @@ reported_at_token source bytes ps i p frames seen frame still dialect same all i
     ∙ (ap (λ f. candidate_at source ps i p f dialect) (inner ∙ ap innermost all)
     ∙ ap (candidate_at source ps i p (innermost frames)) known)
 
-pub at_last : (source : Text) (ps : List Piece) (aliases : List Alias) (us : List Use)
-    (comments counting : List Mark) (i : ℕ) (frames : List Frame) (from : ℕ) (so_far : List Description) → length ps ≤ i
+pub at_last : (source : Text) (ps : List PlacedToken) (aliases : List Alias) (us : List Use)
+    (comments counting : List LanguageMark) (i : ℕ) (frames : List OpenBracket) (from : ℕ) (so_far : List SourceDescription) → length ps ≤ i
     → AreSoFar source ps aliases us comments i frames counting from so_far
     → AreDescribed source 0 (candidates_by source ps aliases us comments) so_far
 at_last source ps aliases us comments counting i frames from so_far none is =
@@ -104,7 +104,7 @@ at_last source ps aliases us comments counting i frames from so_far none is =
     (sym (drop_all i ps none)) refl))
 
 -- The description of a literal stands in the source.
-text_stands : (source : Text) (c : Candidate) (d : Description) (text : Option Placed)
+text_stands : (source : Text) (c : CandidateLiteral) (d : SourceDescription) (text : Option Placed)
     → text ≡ literal_text source c.piece c.kind → IsOfText source c text (Some d) → StandsIn source d
 text_stands source c d None of is = elim is [ ]
 text_stands source c d (Some t) of is = record {
@@ -117,25 +117,25 @@ text_stands source c d (Some t) of is = record {
       (subst (λ l. IsSaid source c.piece l d.version) (sym is.dialect) is.said);
 }
 
-begun : (from : ℕ) (d : Description) → nat_le from (begin_of d) ≡ true → begun_after from (Some d) ≡ Some d
+begun : (from : ℕ) (d : SourceDescription) → nat_le from (begin_of d) ≡ true → begun_after from (Some d) ≡ Some d
 begun from d pass = rw pass refl
 
-not_begun : (from : ℕ) (d : Description) → nat_le from (begin_of d) ≡ false → begun_after from (Some d) ≡ None
+not_begun : (from : ℕ) (d : SourceDescription) → nat_le from (begin_of d) ≡ false → begun_after from (Some d) ≡ None
 not_begun from d fail = rw fail refl
 
-stands_more : (source : Text) (from : ℕ) (c : Candidate) (answer : Option Description) (rest : List Description)
+stands_more : (source : Text) (from : ℕ) (c : CandidateLiteral) (answer : Option SourceDescription) (rest : List SourceDescription)
     → IsDescribed source c answer → AllStandIn source rest
     → AllStandIn source (option_to_list (begun_after from answer) ++ rest)
 stands_more source from c None rest is all = all
 stands_more source from c (Some d) rest is all =
-    let stands : Option Description → Type 0 = λ o. AllStandIn source (option_to_list o ++ rest) in
+    let stands : Option SourceDescription → Type 0 = λ o. AllStandIn source (option_to_list o ++ rest) in
     elim (cases_Bool (nat_le from (begin_of d))) [
       | inl pass ↦ subst stands (sym (begun from d pass)) (All-cons (StandsIn source) d rest
           (text_stands source c d (literal_text source c.piece c.kind) refl is) all)
       | inr fail ↦ subst stands (sym (not_begun from d fail)) all
     ]
 
-pub all_stand : (source : Text) (from : ℕ) (cs : List Candidate) (found : List Description)
+pub all_stand : (source : Text) (from : ℕ) (cs : List CandidateLiteral) (found : List SourceDescription)
     → AreDescribed source from cs found → AllStandIn source found
 all_stand source from [] found none = subst (AllStandIn source) (sym none) (All-nil (StandsIn source))
 all_stand source from (c ∷ cs) found (answer, rest, is, more, split) =
@@ -143,12 +143,12 @@ all_stand source from (c ∷ cs) found (answer, rest, is, more, split) =
     (stands_more source from c answer rest is
     (all_stand source (end_after from (begun_after from answer)) cs rest more))
 
-in_order_more : (from : ℕ) (answer : Option Description) (rest : List Description)
+in_order_more : (from : ℕ) (answer : Option SourceDescription) (rest : List SourceDescription)
     → AreInOrder (end_after from (begun_after from answer)) rest
     → AreInOrder from (option_to_list (begun_after from answer) ++ rest)
 in_order_more from None rest more = more
 in_order_more from (Some d) rest more =
-    let in_order : Option Description → Type 0 =
+    let in_order : Option SourceDescription → Type 0 =
     λ o. AreInOrder (end_after from o) rest → AreInOrder from (option_to_list o ++ rest) in
     elim (cases_Bool (nat_le from (begin_of d))) [
       | inl pass ↦
@@ -157,7 +157,7 @@ in_order_more from (Some d) rest more =
       | inr fail ↦ subst in_order (sym (not_begun from d fail)) (λ later. later) more
     ]
 
-pub all_in_order : (source : Text) (from : ℕ) (cs : List Candidate) (found : List Description)
+pub all_in_order : (source : Text) (from : ℕ) (cs : List CandidateLiteral) (found : List SourceDescription)
     → AreDescribed source from cs found → AreInOrder from found
 all_in_order source from [] found none = subst (AreInOrder from) (sym none) tt
 all_in_order source from (c ∷ cs) found (answer, rest, is, more, split) =
@@ -166,13 +166,13 @@ all_in_order source from (c ∷ cs) found (answer, rest, is, more, split) =
     (all_in_order source (end_after from (begun_after from answer)) cs rest more))
 
 -- All descriptions that are found stand in the source.
-pub stand_if : (source : Text) (cs : List Candidate) (found : Result (Vec Description Global) AllocError)
+pub stand_if : (source : Text) (cs : List CandidateLiteral) (found : Result (Vec SourceDescription Global) AllocError)
     → IfOk found (λ ds. AreDescribed source 0 cs ds.items) → IfOk found (λ ds. AllStandIn source ds.items)
 stand_if source cs (Ok ds) described = all_stand source 0 cs ds.items described
 stand_if source cs (Err e) described = described
 
 -- The descriptions that are found are in order.
-pub in_order_if : (source : Text) (cs : List Candidate) (found : Result (Vec Description Global) AllocError)
+pub in_order_if : (source : Text) (cs : List CandidateLiteral) (found : Result (Vec SourceDescription Global) AllocError)
     → IfOk found (λ ds. AreDescribed source 0 cs ds.items) → IfOk found (λ ds. AreInOrder 0 ds.items)
 in_order_if source cs (Ok ds) described = all_in_order source 0 cs ds.items described
 in_order_if source cs (Err e) described = described

@@ -6,7 +6,7 @@ use Rattle.std.specs.Option.{option_to_list}
 use Rattle.std.proofs.lemmas.Bool.{cases_Bool}
 use Rattle.std.proofs.lemmas.Bool.Decides.{nat_tests}
 use Rattle.std.proofs.lemmas.List.Elements.{All-nil, All-push}
-use Rattle.timefd_lint_scan.specs.declared.description.Description.{Description}
+use Rattle.timefd_lint_scan.specs.declared.description.SourceDescription.{SourceDescription}
 use Rattle.timefd_lint_scan.specs.Bytes.{Text}
 use Rattle.timefd_lint_scan.specs.Found.{AllStandIn, AreInOrder, StandsIn, begin_of, begun_after, end_after}
 
@@ -14,39 +14,39 @@ pub at_first : (source : Text) → AllStandIn source []
 at_first source = All-nil (StandsIn source)
 
 -- where these end, from a position on
-abbrev pub end_of : ℕ → List Description → ℕ
+abbrev pub end_of : ℕ → List SourceDescription → ℕ
 end_of from [] = from
 end_of from (d ∷ ds) = end_of d.piece.end ds
 
-ordered : (from : ℕ) (ds : List Description) (d : Description) → AreInOrder from ds
+ordered : (from : ℕ) (ds : List SourceDescription) (d : SourceDescription) → AreInOrder from ds
     → end_of from ds ≤ begin_of d → AreInOrder from (ds ++ d ∷ [])
 ordered from [] d so_far after = (after, tt)
 ordered from (c ∷ ds) d so_far after = (so_far.0, ordered c.piece.end ds d so_far.1 after)
 
-last_end : (from : ℕ) (ds : List Description) (d : Description) → end_of from (ds ++ d ∷ []) ≡ d.piece.end
+last_end : (from : ℕ) (ds : List SourceDescription) (d : SourceDescription) → end_of from (ds ++ d ∷ []) ≡ d.piece.end
 last_end from [] d = refl
 last_end from (c ∷ ds) d = last_end c.piece.end ds d
 
 -- Something holds of each description, and they are in order, up to a position.
-pub record AreUpTo (Holds : Description → Type 0) (ds : List Description) (end : ℕ) : Type 0 where
+pub record AreUpTo (Holds : SourceDescription → Type 0) (ds : List SourceDescription) (end : ℕ) : Type 0 where
   pub each : All Holds ds
   pub in_order : AreInOrder 0 ds
   pub up_to : end ≡ end_of 0 ds
 
-pub none_yet : (Holds : Description → Type 0) → AreUpTo Holds [] 0
+pub none_yet : (Holds : SourceDescription → Type 0) → AreUpTo Holds [] 0
 none_yet Holds = record { each = All-nil Holds; in_order = tt; up_to = refl }
 
 pub no_piece_yet : (source : Text) → AreUpTo (StandsIn source) [] 0
 no_piece_yet source = none_yet (StandsIn source)
 
-each_more : (Holds : Description → Type 0) (ds more : List Description) (found : Option Description)
+each_more : (Holds : SourceDescription → Type 0) (ds more : List SourceDescription) (found : Option SourceDescription)
     → All Holds ds → MatchOption found ⊤ Holds → more ≡ ds ++ option_to_list found → All Holds more
 each_more Holds ds more None so_far holds pushed =
     subst (All Holds) (sym (pushed ∙ append-nil ds)) so_far
 each_more Holds ds more (Some d) so_far holds pushed =
     subst (All Holds) (sym pushed) (All-push Holds ds d so_far holds)
 
-below : (Holds : Description → Type 0) (end : ℕ) (found : Option Description) → MatchOption found ⊤ Holds
+below : (Holds : SourceDescription → Type 0) (end : ℕ) (found : Option SourceDescription) → MatchOption found ⊤ Holds
     → MatchOption (begun_after end found) ⊤ Holds
 below Holds end None holds = tt
 below Holds end (Some d) holds = elim (cases_Bool (nat_le end (begin_of d))) [
@@ -54,7 +54,7 @@ below Holds end (Some d) holds = elim (cases_Bool (nat_le end (begin_of d))) [
   | inr fail ↦ rw fail tt
 ]
 
-in_turn : (ds : List Description) (end : ℕ) (found : Option Description) → AreInOrder 0 ds
+in_turn : (ds : List SourceDescription) (end : ℕ) (found : Option SourceDescription) → AreInOrder 0 ds
     → end ≡ end_of 0 ds → AreInOrder 0 (ds ++ option_to_list (begun_after end found))
     × (end_after end (begun_after end found) ≡ end_of 0 (ds ++ option_to_list (begun_after end found)))
 in_turn ds end None so_far up_to =
@@ -67,7 +67,7 @@ in_turn ds end (Some d) so_far up_to = elim (cases_Bool (nat_le end (begin_of d)
       (subst (AreInOrder 0) (sym (append-nil ds)) so_far, up_to ∙ ap (end_of 0) (sym (append-nil ds)))
 ]
 
-pub any_more : (Holds : Description → Type 0) (ds more : List Description) (found : Option Description)
+pub any_more : (Holds : SourceDescription → Type 0) (ds more : List SourceDescription) (found : Option SourceDescription)
     (end next : ℕ) → AreUpTo Holds ds end → MatchOption found ⊤ Holds
     → more ≡ ds ++ option_to_list (begun_after end found) → next ≡ end_after end (begun_after end found)
     → AreUpTo Holds more next

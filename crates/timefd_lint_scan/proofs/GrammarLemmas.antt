@@ -1,11 +1,11 @@
 -- What is read as a string literal is one by the grammar.
 use Rattle.std.proofs.Common.{ℕ, zero, suc, ◌≡◌, ◌≤◌, ◌-◌, ◌==◌, ◌&&◌, ◌⊎◌, inl, inr, not, Bool, true, false, cond, nat_le, [], ◌∷◌, ◌++◌, length, drop, replicate, Option, Some, None, IsTrue, refl, sym, ap, subst, ◌∙◌, append_assoc, arith, eqb-true}
 use Rattle.std.proofs.lemmas.Bool.{cases_Bool, and_from}
-use Rattle.timefd_lint_scan.specs.declared.class.Class.TheVariants.{Line, Hash}
+use Rattle.timefd_lint_scan.specs.declared.class.ByteSet.TheVariants.{Line, Hash}
 use Rattle.timefd_lint_scan.specs.declared.token.Encoding.{Encoding}
 use Rattle.timefd_lint_scan.specs.declared.token.Encoding.TheVariants.{Str, Bytes, C}
-use Rattle.timefd_lint_scan.specs.declared.token.Kind.{Kind}
-use Rattle.timefd_lint_scan.specs.declared.token.Kind.TheVariants.{Escaped, Raw}
+use Rattle.timefd_lint_scan.specs.declared.token.LiteralKind.{LiteralKind}
+use Rattle.timefd_lint_scan.specs.declared.token.LiteralKind.TheVariants.{Escaped, Raw}
 use Rattle.timefd_lint_scan.specs.declared.token.Token.{Token}
 use Rattle.timefd_lint_scan.specs.declared.token.Token.TheVariants.{White, Comment, Word, Lifetime, Literal, Sign, Unclosed}
 use Rattle.timefd_lint_scan.specs.Bytes.{Text, quote, hash, apostrophe, star, slash, backslash, is_white, is_word, class_test}
@@ -105,36 +105,36 @@ raw_ends n (b ∷ bytes) rest e = elim (chosen ((b == quote) && nat_le n (hashes
     ]
 
 -- The text before another is a literal of this kind.
-abbrev Reads : Kind → Text → Text → Type 0
+abbrev Reads : LiteralKind → Text → Text → Type 0
 Reads kind text rest = (front : Text) × (text ≡ front ++ rest) × IsLiteral kind front rest
 
-unclosed_is_none : (kind : Kind) → Unclosed ≡ Literal kind → ⊥
+unclosed_is_none : (kind : LiteralKind) → Unclosed ≡ Literal kind → ⊥
 unclosed_is_none kind e = cc
 
-closed_is : (token : Token) (r : Option Text) (kind : Kind) (rest : Text)
+closed_is : (token : Token) (r : Option Text) (kind : LiteralKind) (rest : Text)
     → closed token r ≡ record { token = Literal kind; rest = rest }
     → (token ≡ Literal kind) × (r ≡ Some rest)
 closed_is token None kind rest e = absurd (unclosed_is_none kind (ap (λ (x : Begin). x.token) e))
 closed_is token (Some t) kind rest e =
     (ap (λ (x : Begin). x.token) e, ap (λ (x : Begin). Some x.rest) e)
 
-kind_of : (k kind : Kind) → Literal k ≡ Literal kind → k ≡ kind
+kind_of : (k kind : LiteralKind) → Literal k ≡ Literal kind → k ≡ kind
 kind_of k kind e = cc
 
-string_is : (e : Encoding) (bytes rest : Text) (kind : Kind)
+string_is : (e : Encoding) (bytes rest : Text) (kind : LiteralKind)
     → read.string e bytes ≡ record { token = Literal kind; rest = rest }
     → Reads kind (letters e ++ (quote ∷ bytes)) rest
 string_is e bytes rest kind begin =
     let is : (Literal (Escaped e) ≡ Literal kind) × (after_string bytes ≡ Some rest) =
     closed_is (Literal (Escaped e)) (after_string bytes) kind rest begin in
     let r : StringEnds bytes rest = string_ends bytes rest is.1 in
-    subst (λ (k : Kind). Reads k (letters e ++ (quote ∷ bytes)) rest) (kind_of (Escaped e) kind is.0) (
+    subst (λ (k : LiteralKind). Reads k (letters e ++ (quote ∷ bytes)) rest) (kind_of (Escaped e) kind is.0) (
       letters e ++ (quote ∷ []) ++ r.0 ++ (quote ∷ []),
       ap (λ (t : Text). letters e ++ (quote ∷ t)) r.1 ∙ simp (append_assoc {A = ℕ}),
       record { body = r.0; whole = refl; is = r.2 },
     )
 
-opened_raw_is : (e : Encoding) (n : ℕ) (bytes text rest : Text) (kind : Kind)
+opened_raw_is : (e : Encoding) (n : ℕ) (bytes text rest : Text) (kind : LiteralKind)
     → text ≡ replicate n hash ++ bytes
     → read.opened_raw e n bytes ≡ Some (record { token = Literal kind; rest = rest })
     → Reads kind (letters e ++ (114 ∷ text)) rest
@@ -151,7 +151,7 @@ opened_raw_is e n (b ∷ bytes) text rest kind front begin = elim (chosen (b == 
           let whole : text ≡ replicate n hash ++ (quote ∷ (r.0 ++ (quote ∷ (replicate n hash ++ rest)))) =
           front ∙ ap (λ (x : ℕ). replicate n hash ++ (x ∷ bytes)) q
           ∙ ap (λ (t : Text). replicate n hash ++ (quote ∷ t)) r.1 in
-          subst (λ (k : Kind). Reads k (letters e ++ (114 ∷ text)) rest) (kind_of (Raw e n) kind is.0) (
+          subst (λ (k : LiteralKind). Reads k (letters e ++ (114 ∷ text)) rest) (kind_of (Raw e n) kind is.0) (
             letters e ++ (114 ∷ (replicate n hash ++ (quote ∷ []))) ++ r.0 ++ (quote ∷ replicate n hash),
             ap (λ (t : Text). letters e ++ (114 ∷ t)) whole ∙ simp (append_assoc {A = ℕ}),
             record { body = r.0; whole = refl; is = r.2 },
@@ -159,7 +159,7 @@ opened_raw_is e n (b ∷ bytes) text rest kind front begin = elim (chosen (b == 
       | inr h ↦ absurd cc
     ]
 
-raw_is : (e : Encoding) (text rest : Text) (kind : Kind)
+raw_is : (e : Encoding) (text rest : Text) (kind : LiteralKind)
     → read.raw e text ≡ Some (record { token = Literal kind; rest = rest })
     → Reads kind (letters e ++ (114 ∷ text)) rest
 raw_is e text rest kind begin =
@@ -169,7 +169,7 @@ raw_is e text rest kind begin =
 some_begin : (b c : Begin) → Some b ≡ Some c → b ≡ c
 some_begin b c e = cc
 
-prefixed_is : (e : Encoding) (p : ℕ) (bytes rest : Text) (kind : Kind) → letters e ≡ p ∷ []
+prefixed_is : (e : Encoding) (p : ℕ) (bytes rest : Text) (kind : LiteralKind) → letters e ≡ p ∷ []
     → read.prefixed e bytes ≡ Some (record { token = Literal kind; rest = rest })
     → Reads kind (p ∷ bytes) rest
 prefixed_is e p [] rest kind is begin = absurd cc
@@ -190,7 +190,7 @@ prefixed_is e p (b ∷ bytes) rest kind is begin = elim (chosen (b == quote)
           ]
     ]
 
-literal_is : (text rest : Text) (kind : Kind)
+literal_is : (text rest : Text) (kind : LiteralKind)
     → read.literal text ≡ Some (record { token = Literal kind; rest = rest }) → Reads kind text rest
 literal_is [] rest kind begin = absurd cc
 literal_is (b ∷ bytes) rest kind begin = elim (chosen (b == quote) (Some (read.string Str bytes))
@@ -220,7 +220,7 @@ literal_is (b ∷ bytes) rest kind begin = elim (chosen (b == quote) (Some (read
 
 -- Nothing else is read as a literal.
 abbrev IsOther : Begin → Type 0
-IsOther begin = (kind : Kind) → begin.token ≡ Literal kind → ⊥
+IsOther begin = (kind : LiteralKind) → begin.token ≡ Literal kind → ⊥
 
 closed_comment : (r : Option Text) → IsOther (closed Comment r)
 closed_comment None kind e = cc
@@ -263,7 +263,7 @@ quoted_is_other : (b : ℕ) (bytes : Text) (r : Option Text) → IsOther (quoted
 quoted_is_other b bytes None = plain_is_other b bytes
 quoted_is_other b bytes (Some rest) = λ kind e. cc
 
-literal_found : (text : Text) (b : ℕ) (bytes : Text) (r : Option Begin) (rest : Text) (kind : Kind)
+literal_found : (text : Text) (b : ℕ) (bytes : Text) (r : Option Begin) (rest : Text) (kind : LiteralKind)
     → r ≡ read.literal text → literal_or_less text b bytes r ≡ record { token = Literal kind; rest = rest }
     → Reads kind text rest
 literal_found text b bytes None rest kind e begin =
@@ -271,7 +271,7 @@ literal_found text b bytes None rest kind e begin =
 literal_found text b bytes (Some found) rest kind e begin =
     literal_is text rest kind (sym e ∙ ap (λ (x : Begin). Some x) begin)
 
-comment_found : (text : Text) (b : ℕ) (bytes : Text) (r : Option Begin) (rest : Text) (kind : Kind)
+comment_found : (text : Text) (b : ℕ) (bytes : Text) (r : Option Begin) (rest : Text) (kind : LiteralKind)
     → r ≡ read.comment text → comment_or_less text b bytes r ≡ record { token = Literal kind; rest = rest }
     → Reads kind text rest
 comment_found text b bytes None rest kind e begin =
@@ -279,7 +279,7 @@ comment_found text b bytes None rest kind e begin =
 comment_found text b bytes (Some found) rest kind e begin =
     absurd (comment_is_other text found (sym e) kind (ap (λ (x : Begin). x.token) begin))
 
-pub read_as_literals : (text rest : Text) (kind : Kind)
+pub read_as_literals : (text rest : Text) (kind : LiteralKind)
     → first text ≡ Some (record { token = Literal kind; rest = rest })
     → Reads kind text rest
 read_as_literals [] rest kind e = absurd cc

@@ -3,9 +3,9 @@ use Rattle.std.proofs.Common.{ℕ, ◌≡◌, ◌≤◌, ◌<◌, ◌-◌, ◌+�
 use Rattle.std.proofs.lemmas.Bool.{cases_Bool}
 use Rattle.std.proofs.lemmas.Bool.Decides.{nat_tests}
 use Rattle.std.proofs.lemmas.List.{drop-drop, drop-take, length-drop, length-take, take-take}
-use Rattle.timefd_lint_scan.specs.declared.class.Class.TheVariants.{Unquoted}
-use Rattle.timefd_lint_scan.specs.declared.piece.Piece.{Piece}
-use Rattle.timefd_lint_scan.specs.declared.token.Kind.{Kind}
+use Rattle.timefd_lint_scan.specs.declared.class.ByteSet.TheVariants.{Unquoted}
+use Rattle.timefd_lint_scan.specs.declared.piece.PlacedToken.{PlacedToken}
+use Rattle.timefd_lint_scan.specs.declared.token.LiteralKind.{LiteralKind}
 use Rattle.timefd_lint_scan.specs.Bytes.{Text, class_test}
 use Rattle.timefd_lint_scan.specs.After.{after_run}
 use Rattle.timefd_lint_scan.specs.Literals.{EndsAt, body, body_end, cut, hash_count, inner}
@@ -29,7 +29,7 @@ run_is_suffix test (b ∷ text) = elim (cases_Bool (test b)) [
   | inr fail ↦ (0, rw fail refl)
 ]
 
-abbrev CutTo : Text → Piece → Text → Type 0
+abbrev CutTo : Text → PlacedToken → Text → Type 0
 CutTo source p literal = (p.start ≤ p.end) × (p.end ≤ length source)
     × (literal ≡ take (p.end - p.start) (drop p.start source))
 
@@ -43,17 +43,17 @@ chosen : (b : Bool) (x y : Text) → cond b (Some x) None ≡ Some y → (b ≡ 
 chosen true x y e = (refl, cc)
 chosen false x y e = absurd cc
 
-cut_to : (source : Text) (p : Piece) (literal : Text) → cut source p ≡ Some literal → CutTo source p literal
+cut_to : (source : Text) (p : PlacedToken) (literal : Text) → cut source p ≡ Some literal → CutTo source p literal
 cut_to source p literal e =
     let is = chosen (nat_le p.start p.end && nat_le p.end (length source)) (take (p.end - p.start) (drop p.start source)) literal e in
     let tests = both_true (nat_le p.start p.end) (nat_le p.end (length source)) is.0 in
     (le_of p.start p.end tests.0, le_of p.end (length source) tests.1, sym is.1)
 
-abbrev InnerOf : Kind → Text → Text → Type 0
+abbrev InnerOf : LiteralKind → Text → Text → Type 0
 InnerOf kind rest bytes = (b : ℕ) × (after : Text) × (rest ≡ b ∷ after) × (hash_count kind < length after)
     × (bytes ≡ take (length after - hash_count kind - 1) after)
 
-inner_of : (kind : Kind) (rest bytes : Text) → inner kind rest ≡ Some bytes → InnerOf kind rest bytes
+inner_of : (kind : LiteralKind) (rest bytes : Text) → inner kind rest ≡ Some bytes → InnerOf kind rest bytes
 inner_of kind [] bytes e = absurd cc
 inner_of kind (b ∷ after) bytes e =
     let is = chosen (nat_lt (hash_count kind) (length after)) (take (length after - hash_count kind - 1) after) bytes e in
@@ -83,7 +83,7 @@ ends source s e n hashes j literal after bytes within long order is_cut is_after
           ∙ ap (λ (x : ℕ). take (length bytes) (drop x source)) (sym start);
     }
 
-pub inside_stands : (source : Text) (p : Piece) (kind : Kind) (literal bytes : Text)
+pub inside_stands : (source : Text) (p : PlacedToken) (kind : LiteralKind) (literal bytes : Text)
     → cut source p ≡ Some literal → body kind literal ≡ Some bytes
     → EndsAt source (body_end p kind) bytes
 inside_stands source p kind literal bytes is_cut is_body =

@@ -7,6 +7,12 @@ pub mod EachLemmas
 pub mod CandidateLemmas
 pub mod UsingLemmas
 pub mod UsesLemmas
+pub mod RepeatedLemmas
+pub mod BlockLemmas
+pub mod BeginLemmas
+pub mod FirstsLemmas
+pub mod LayoutLemmas
+pub mod TakenLemmas
 pub mod LookLemmas
 pub mod FoundLemmas
 pub mod GrammarLemmas

@@ -1,8 +1,8 @@
 -- What is seen in a source.
 use Rattle.std.proofs.Common.{◌≡◌, ◌∙◌, List, ap, inl, inr, subst, sym}
 use Rattle.timefd_lint_scan.specs.declared.look.Look.{Look}
-use Rattle.timefd_lint_scan.specs.declared.marks.Mark.{Mark}
-use Rattle.timefd_lint_scan.specs.declared.piece.Piece.{Piece}
+use Rattle.timefd_lint_scan.specs.declared.marks.LanguageMark.{LanguageMark}
+use Rattle.timefd_lint_scan.specs.declared.piece.PlacedToken.{PlacedToken}
 use Rattle.timefd_lint_scan.specs.Bytes.{Text}
 use Rattle.timefd_lint_scan.specs.Candidates.{candidates_in, significant}
 use Rattle.timefd_lint_scan.specs.Found.{AllStandIn, AreDescribed, AreDescriptionsOf, AreInOrder}
@@ -27,7 +27,7 @@ seen_in_order source look (inl (none, blank)) = subst (AreInOrder 0) (sym blank.
 seen_in_order source look (inr (all, seen)) = all_in_order source 0 _ look.descriptions.items seen.descriptions
 
 -- What is seen among the tokens that are looked at is what is seen in the source.
-pub seen : (source bytes others : Text) (pieces notes given again those : List Piece) (marks handed : List Mark)
+pub seen : (source bytes others : Text) (pieces notes given again those : List PlacedToken) (marks handed : List LanguageMark)
     (look : Look) → AreGathered source pieces notes → bytes ≡ source → given ≡ notes
     → marks ≡ spec.marks bytes given → others ≡ source → again ≡ notes
     → look.comments.items ≡ spec.unknown_marks others again → those ≡ pieces → handed ≡ marks

@@ -1,13 +1,13 @@
 -- What the parts so far denote, and what is left of a body.
 use Rattle.std.proofs.Common.{ℕ, zero, suc, ◌≡◌, ◌≤◌, ◌-◌, List, [], ◌∷◌, ◌++◌, length, refl, sym, ap, subst, ◌∙◌, append_assoc, append-nil, arith}
 use Rattle.std.specs.Prelude.{Option, Some, None}
-use Rattle.timefd_lint_scan.specs.declared.part.Part as code
-use Rattle.timefd_lint_scan.specs.declared.token.Kind.{Kind}
+use Rattle.timefd_lint_scan.specs.declared.part.StringPart as code
+use Rattle.timefd_lint_scan.specs.declared.token.LiteralKind.{LiteralKind}
 use Rattle.timefd_lint_scan.specs.Bytes.{Text}
 use Rattle.timefd_lint_scan.specs.Escapes.{Part, Placed, parted, parted_any, part_of, stands_for, before, all_at, unescaped}
 
 -- The text so far, followed by what the rest denotes, is what the whole body denotes.
-pub record Left (kind : Kind) (end : ℕ) (text : Text) (positions : List ℕ) (rest body : Text) : Type 0 where
+pub record Left (kind : LiteralKind) (end : ℕ) (text : Text) (positions : List ℕ) (rest body : Text) : Type 0 where
   pub steps : ℕ
   pub enough : length rest ≤ steps
   pub within : length rest ≤ length body
@@ -27,7 +27,7 @@ before_before t u p q (Some x) =
     ap (λ (s : Text). both s (p ++ (q ++ x.positions))) (sym (append_assoc t u x.text))
     ∙ ap (λ (s : List ℕ). both ((t ++ u) ++ x.text) s) (sym (append_assoc p q x.positions))
 
-pub at_first : (kind : Kind) (end : ℕ) (body : Text) → Left kind end [] [] body body
+pub at_first : (kind : LiteralKind) (end : ℕ) (body : Text) → Left kind end [] [] body body
 at_first kind end body = record {
   steps = length body;
   enough = omega arith;
@@ -36,11 +36,11 @@ at_first kind end body = record {
 }
 
 -- the outcome of one part
-abbrev pub go : Kind → ℕ → ℕ → ℕ → Option Part → Option Placed
+abbrev pub go : LiteralKind → ℕ → ℕ → ℕ → Option Part → Option Placed
 go kind end position steps None = None
 go kind end position steps (Some p) = before p.stands (all_at position p.stands) (unescaped steps kind end p.rest)
 
-pub one_step : (kind : Kind) (end steps b : ℕ) (bytes : Text) (r : Option Part) → r ≡ part_of kind b bytes
+pub one_step : (kind : LiteralKind) (end steps b : ℕ) (bytes : Text) (r : Option Part) → r ≡ part_of kind b bytes
     → unescaped (suc steps) kind end (b ∷ bytes) ≡ go kind end (end - length (b ∷ bytes)) steps r
 one_step kind end steps b bytes r e = subst
     (λ (t : Option Part). elim t as (λ _. Option Placed) [
@@ -55,8 +55,8 @@ one_step kind end steps b bytes r e = subst
     same None = refl
     same (Some p) = refl
 
-pub one_more : (kind : Kind) (end : ℕ) (text more_text : Text) (positions more_positions : List ℕ) (b : ℕ)
-    (bytes rest body : Text) (r : Option code.Part) (p : code.Part)
+pub one_more : (kind : LiteralKind) (end : ℕ) (text more_text : Text) (positions more_positions : List ℕ) (b : ℕ)
+    (bytes rest body : Text) (r : Option code.StringPart) (p : code.StringPart)
     → Left kind end text positions rest body
     → parted_any r ≡ part_of kind b bytes → r ≡ Some p → rest ≡ b ∷ bytes
     → length p.rest.now ≤ length bytes
@@ -87,8 +87,8 @@ one_more kind end text more_text positions more_positions b bytes rest body r p 
           ∙ same);
     }
 
-pub faulty : (kind : Kind) (end : ℕ) (text : Text) (positions : List ℕ) (b : ℕ) (bytes rest body : Text)
-    (r : Option code.Part)
+pub faulty : (kind : LiteralKind) (end : ℕ) (text : Text) (positions : List ℕ) (b : ℕ) (bytes rest body : Text)
+    (r : Option code.StringPart)
     → Left kind end text positions rest body
     → parted_any r ≡ part_of kind b bytes → r ≡ None → rest ≡ b ∷ bytes
     → None ≡ unescaped (length body) kind end body
@@ -102,7 +102,7 @@ faulty kind end text positions b bytes rest body r l part is split =
     more (suc steps) same =
         ap (before text positions) (sym (one_step kind end steps b bytes None (sym (ap parted_any is) ∙ part))) ∙ same
 
-pub at_last : (kind : Kind) (end : ℕ) (text : Text) (positions : List ℕ) (rest body : Text)
+pub at_last : (kind : LiteralKind) (end : ℕ) (text : Text) (positions : List ℕ) (rest body : Text)
     → Left kind end text positions rest body → rest ≡ []
     → Some (record { text = text; positions = positions }) ≡ unescaped (length body) kind end body
 at_last kind end text positions rest body l split =

@@ -4,21 +4,21 @@ use Rattle.std.proofs.lemmas.Bool.{and_right, cases_Bool}
 use Rattle.std.proofs.lemmas.Bool.Decides.{nat_tests}
 use Rattle.std.proofs.lemmas.List.{get_or_append_left, get_or_push}
 use Rattle.std.specs.Prelude.{bytes_eq, codes}
-use Rattle.timefd_lint_scan.specs.declared.piece.Piece.{Piece}
+use Rattle.timefd_lint_scan.specs.declared.piece.PlacedToken.{PlacedToken}
 use Rattle.timefd_lint_scan.specs.declared.uses.Use.{Use}
 use Rattle.timefd_lint_scan.specs.Aliases.{after_first}
 use Rattle.timefd_lint_scan.specs.Bytes.{Text}
 use Rattle.timefd_lint_scan.specs.Uses.{AreBefore, AreFurthest, first_seen, first_start, is_meant, is_seen, is_use_of, known_by_name}
 use Rattle.timefd_lint_scan.specs.Words.{text_at, text_before, tokens_after}
 
-unseen : (source name : Text) (ps : List Piece) (position : ℕ) → position < first_start ps
+unseen : (source name : Text) (ps : List PlacedToken) (position : ℕ) → position < first_start ps
     → is_seen source name ps position ≡ false
 unseen source name [] position before = refl
 unseen source name (p ∷ ps) position before =
     let late : nat_le p.start position ≡ false = grind (arith, nat_tests, before) in
     rw late refl
 
-unmeant : (source : Text) (ps : List Piece) (declared position : ℕ) → position < first_seen source ps declared
+unmeant : (source : Text) (ps : List PlacedToken) (declared position : ℕ) → position < first_seen source ps declared
     → is_meant source ps declared position ≡ false
 unmeant source ps declared position before =
     elim (cases_Bool (bytes_eq (text_before source ps declared 1) (codes "let"))) [
@@ -38,12 +38,12 @@ unmeant source ps declared position before =
       ]
     ]
 
-unused : (source : Text) (ps : List Piece) (declared : ℕ) (u : Use) → u.name.start < first_seen source ps declared
+pub unused : (source : Text) (ps : List PlacedToken) (declared : ℕ) (u : Use) → u.name.start < first_seen source ps declared
     → is_use_of source ps declared u ≡ false
 unused source ps declared u before = and_right _ _ (unmeant source ps declared u.name.start before)
 
 -- The uses before are passed over.
-pub skipped : (source : Text) (ps : List Piece) (declared k : ℕ) (us : List Use)
+pub skipped : (source : Text) (ps : List PlacedToken) (declared k : ℕ) (us : List Use)
     → AreBefore (first_seen source ps declared) k us
     → known_by_name source ps declared (drop k us) ≡ known_by_name source ps declared us
 skipped source ps declared zero us before = refl

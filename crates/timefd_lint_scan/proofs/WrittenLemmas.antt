@@ -4,11 +4,11 @@ use Rattle.std.specs.List.{list_all}
 use Rattle.std.proofs.lemmas.Bool.{cases_Bool, and_from}
 use Rattle.std.proofs.lemmas.Bool.Decides.{nat_tests}
 use Rattle.std.proofs.lemmas.List.{take_more}
-use Rattle.timefd_lint_scan.specs.declared.class.Class.TheVariants.{Hash}
+use Rattle.timefd_lint_scan.specs.declared.class.ByteSet.TheVariants.{Hash}
 use Rattle.timefd_lint_scan.specs.declared.token.Encoding.{Encoding}
 use Rattle.timefd_lint_scan.specs.declared.token.Encoding.TheVariants.{Str, Bytes, C}
-use Rattle.timefd_lint_scan.specs.declared.token.Kind.{Kind}
-use Rattle.timefd_lint_scan.specs.declared.token.Kind.TheVariants.{Escaped, Raw}
+use Rattle.timefd_lint_scan.specs.declared.token.LiteralKind.{LiteralKind}
+use Rattle.timefd_lint_scan.specs.declared.token.LiteralKind.TheVariants.{Escaped, Raw}
 use Rattle.timefd_lint_scan.specs.declared.unescape.Unescaped as whole
 use Rattle.timefd_lint_scan.specs.Bytes.{Text, quote, hash, backslash, carriage_return, class_test}
 use Rattle.timefd_lint_scan.specs.After.{after_run, hashes}
@@ -32,7 +32,7 @@ text_before t text positions None e = absurd cc
 text_before t text positions (Some p) e = let same : p.text ≡ text = cc in ap (λ (x : Text). Some (t ++ x)) same
 
 -- one part that denotes a byte, and what follows it
-step : (kind : Kind) (end steps head b : ℕ) (tail rest text : Text)
+step : (kind : LiteralKind) (end steps head b : ℕ) (tail rest text : Text)
     → part_of kind head (tail ++ rest) ≡ Some (record { stands = b ∷ []; rest = rest })
     → text_alone (unescaped steps kind end rest) ≡ Some text
     → text_alone (unescaped (suc steps) kind end (head ∷ (tail ++ rest))) ≡ Some (b ∷ text)
@@ -216,11 +216,11 @@ raw_body e n text body fits same =
     })
 
 -- Reading a body back.
-closed : (kind : Kind) (body : Text) → closes kind body ≡ true → (rest : Text) → IsBody kind body (closing kind ++ rest)
+closed : (kind : LiteralKind) (body : Text) → closes kind body ≡ true → (rest : Text) → IsBody kind body (closing kind ++ rest)
 closed (Escaped e) body is rest = is
 closed (Raw e n) body is rest = raw_closes n body (replicate n hash ++ rest) is
 
-pub read_back : (kind : Kind) (text body : Text) (r : Option whole.Unescaped) (u : whole.Unescaped)
+pub read_back : (kind : LiteralKind) (text body : Text) (r : Option whole.Unescaped) (u : whole.Unescaped)
     → closes kind body ≡ true → placed_any r ≡ unescaped (length body) kind (length body) body
     → r ≡ Some u → u.text.items ≡ text → IsBodyFor kind text body
 read_back kind text body r u is read which same = record {

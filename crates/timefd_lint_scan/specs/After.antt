@@ -1,7 +1,7 @@
 -- What follows the piece that a text begins with; none if no such piece is closed.
 use Rattle.std.specs.Prelude.{ℕ, ◌-◌, ◌+◌, Bool, ◌&&◌, ◌==◌, nat_le, if◌then◌else◌, [], ◌∷◌, length, drop, Option, Some, None}
 use Rattle.timefd_lint_scan.specs.Bytes.{Text, quote, apostrophe, star, slash, backslash, is_continuation, class_test}
-use Rattle.timefd_lint_scan.specs.declared.class.Class.TheVariants.{Hash, Quoted}
+use Rattle.timefd_lint_scan.specs.declared.class.ByteSet.TheVariants.{Hash, Quoted}
 
 -- what follows the longest front of bytes that pass the test
 abbrev pub after_run : (ℕ → Bool) → Text → Text

@@ -2,18 +2,18 @@
 use Rattle.std.specs.Prelude.{ℕ, ◌+◌, ◌-◌, Bool, ◌&&◌, ◌||◌, ◌==◌, nat_le, nat_lt, if◌then◌else◌, List, [], ◌∷◌, ◌++◌, codes, bytes_eq, length, Option, Some, None}
 use Rattle.std.specs.Option.{option_or, option_to_list}
 use Rattle.timefd_lint_scan.specs.declared.alias.Alias.{Alias}
-use Rattle.timefd_lint_scan.specs.declared.piece.Piece.{Piece}
+use Rattle.timefd_lint_scan.specs.declared.piece.PlacedToken.{PlacedToken}
 use Rattle.timefd_lint_scan.specs.Bytes.{Text}
 use Rattle.timefd_lint_scan.specs.Words.{is_closing, is_opening, text_at, text_of}
 
 -- the tokens after the first one that is this sign; empty if there is no such token
-abbrev pub after_first : Text → Text → List Piece → List Piece
+abbrev pub after_first : Text → Text → List PlacedToken → List PlacedToken
 after_first source sign [] = []
 after_first source sign (p ∷ ps) =
     if bytes_eq (text_of source p) sign then ps else after_first source sign ps
 
 -- Where the block that these tokens begin in ends. `depth` blocks inside of it are open.
-abbrev pub block_end : Text → ℕ → List Piece → ℕ
+abbrev pub block_end : Text → ℕ → List PlacedToken → ℕ
 block_end source depth [] = length source
 block_end source depth (p ∷ ps) =
     if is_opening (text_of source p) then block_end source (depth + 1) ps
@@ -34,7 +34,7 @@ ends_import text =
     || bytes_eq text (codes "as")
 
 -- An alias is valid up to the end of the block that its statement is in.
-abbrev pub alias_of : Text → Piece → Piece → List Piece → Alias
+abbrev pub alias_of : Text → PlacedToken → PlacedToken → List PlacedToken → Alias
 alias_of source name original after = record {
   name = name;
   original = original;
@@ -42,7 +42,7 @@ alias_of source name original after = record {
 }
 
 -- `original as name`
-abbrev pub renamed : Text → Piece → List Piece → Option Alias
+abbrev pub renamed : Text → PlacedToken → List PlacedToken → Option Alias
 renamed source original [] = None
 renamed source original (sign ∷ []) = None
 renamed source original (sign ∷ name ∷ ps) =
@@ -51,14 +51,14 @@ renamed source original (sign ∷ name ∷ ps) =
     else None
 
 -- `original;`, `original,`, `original}`, `original as name`
-abbrev pub imported : Text → Piece → List Piece → Option Alias
+abbrev pub imported : Text → PlacedToken → List PlacedToken → Option Alias
 imported source original after =
     if ends_import (text_at source after 0) then
     option_or (renamed source original after) (Some (alias_of source original original after))
     else None
 
 -- `.., parse, ..}`
-abbrev pub parse_in_list : Text → List Piece → Option Alias
+abbrev pub parse_in_list : Text → List PlacedToken → Option Alias
 parse_in_list source [] = None
 parse_in_list source (p ∷ ps) =
     if bytes_eq (text_of source p) (codes "}") then None
@@ -66,14 +66,14 @@ parse_in_list source (p ∷ ps) =
     else parse_in_list source ps
 
 -- after `format_description::`
-abbrev pub parse_or_list : Text → Piece → List Piece → Option Alias
+abbrev pub parse_or_list : Text → PlacedToken → List PlacedToken → Option Alias
 parse_or_list source next after =
     if bytes_eq (text_of source next) (codes "{") then parse_in_list source after
     else if bytes_eq (text_of source next) (codes "parse") then imported source next after
     else None
 
 -- after `format_description`
-abbrev pub parse_after : Text → List Piece → Option Alias
+abbrev pub parse_after : Text → List PlacedToken → Option Alias
 parse_after source [] = None
 parse_after source (first ∷ []) = None
 parse_after source (first ∷ second ∷ []) = None
@@ -83,19 +83,19 @@ parse_after source (first ∷ second ∷ next ∷ after) =
     else None
 
 -- the import of `parse` that follows the name of its module
-abbrev pub parse_beside : Text → Piece → List Piece → Option Alias
+abbrev pub parse_beside : Text → PlacedToken → List PlacedToken → Option Alias
 parse_beside source p after =
     if bytes_eq (text_of source p) (codes "format_description") then parse_after source after else None
 
 -- the alias that is declared at a token, which these follow
-abbrev pub alias_at : Text → Piece → List Piece → Option Alias
+abbrev pub alias_at : Text → PlacedToken → List PlacedToken → Option Alias
 alias_at source p after =
     if is_known (text_of source p) then
     option_or (renamed source p after) (parse_beside source p after)
     else None
 
 -- the aliases of a source, in order
-abbrev pub aliases_in : Text → List Piece → List Alias
+abbrev pub aliases_in : Text → List PlacedToken → List Alias
 aliases_in source [] = []
 aliases_in source (p ∷ ps) = option_to_list (alias_at source p ps) ++ aliases_in source ps
 
@@ -104,13 +104,13 @@ is_named_so source alias name position =
     bytes_eq (text_of source alias.name) name && nat_le alias.name.start position && nat_lt position alias.until
 
 -- the original of the first alias with this name that is valid at a position
-abbrev pub original_of : Text → Text → ℕ → List Alias → Option Piece
+abbrev pub original_of : Text → Text → ℕ → List Alias → Option PlacedToken
 original_of source name position [] = None
 original_of source name position (alias ∷ others) =
     if is_named_so source alias name position then Some alias.original
     else original_of source name position others
 
-abbrev pub name_or : Text → Text → Option Piece → Text
+abbrev pub name_or : Text → Text → Option PlacedToken → Text
 name_or source name None = name
 name_or source name (Some original) = text_of source original
 

@@ -6,13 +6,13 @@ use Rattle.timefd_lint_scan.specs.declared.calls.Argument.{Argument}
 use Rattle.timefd_lint_scan.specs.declared.calls.Argument.TheVariants as arguments
 use Rattle.timefd_lint_scan.specs.declared.calls.Call.{Call}
 use Rattle.timefd_lint_scan.specs.declared.calls.Call.TheVariants.{Macro, First, Owned, Second, Format, Other}
-use Rattle.timefd_lint_scan.specs.declared.calls.Frame.{Frame}
+use Rattle.timefd_lint_scan.specs.declared.calls.OpenBracket.{OpenBracket}
 use Rattle.timefd_lint_scan.specs.declared.known.Items.{Items}
 use Rattle.timefd_lint_scan.specs.declared.known.Items.TheVariants.{Taken, Refused}
 use Rattle.timefd_lint_scan.specs.declared.known.Known.{Known}
-use Rattle.timefd_lint_scan.specs.declared.dialect.Dialect.{Dialect}
-use Rattle.timefd_lint_scan.specs.declared.dialect.Dialect.TheVariants.{One, Chrono}
-use Rattle.timefd_lint_scan.specs.declared.piece.Piece.{Piece}
+use Rattle.timefd_lint_scan.specs.declared.dialect.FormatLanguage.{FormatLanguage}
+use Rattle.timefd_lint_scan.specs.declared.dialect.FormatLanguage.TheVariants.{One, Chrono}
+use Rattle.timefd_lint_scan.specs.declared.piece.PlacedToken.{PlacedToken}
 use Rattle.timefd_lint_scan.specs.declared.version.VersionPosition.{VersionPosition}
 use Rattle.timefd_lint_scan.specs.declared.version.VersionPosition.TheVariants as positions
 use Rattle.timefd_lint_scan.specs.Bytes.{Text}
@@ -20,46 +20,46 @@ use Rattle.timefd_lint_scan.specs.Dialects.{version_named}
 use Rattle.timefd_lint_scan.specs.Words.{is_closing, is_opening, text_before, text_after}
 
 -- The arguments of a macro begin with its version: `version = `
-abbrev pub says_version : Text → List Piece → ℕ → Bool
+abbrev pub says_version : Text → List PlacedToken → ℕ → Bool
 says_version source ps opening =
     bytes_eq (text_after source ps opening 1) (codes "version")
     && bytes_eq (text_after source ps opening 2) (codes "=")
 
 -- the version of a macro's description: 1 if its arguments don't say one
-abbrev pub macro_version : Text → List Piece → ℕ → Option Dialect
+abbrev pub macro_version : Text → List PlacedToken → ℕ → Option FormatLanguage
 macro_version source ps opening =
     if says_version source ps opening then version_named (text_after source ps opening 3) else Some One
 
 -- A token is a whole argument.
-abbrev pub is_argument : Text → List Piece → ℕ → Bool
+abbrev pub is_argument : Text → List PlacedToken → ℕ → Bool
 is_argument source ps i =
     (is_opening (text_before source ps i 1) || bytes_eq (text_before source ps i 1) (codes ","))
     && (is_closing (text_after source ps i 1) || bytes_eq (text_after source ps i 1) (codes ","))
 
 -- It is the last argument of its bracket.
-abbrev pub is_last : Text → List Piece → ℕ → Bool
+abbrev pub is_last : Text → List PlacedToken → ℕ → Bool
 is_last source ps i = is_closing (text_after source ps i 1)
     || (bytes_eq (text_after source ps i 1) (codes ",") && is_closing (text_after source ps i 2))
 
-abbrev pub digit_of_piece : Option Piece → VersionPosition
+abbrev pub digit_of_piece : Option PlacedToken → VersionPosition
 digit_of_piece None = positions.Elsewhere
 digit_of_piece (Some p) = positions.Digit p.start
 
 -- the first byte of the token `back` tokens before this one
-abbrev pub digit_before : List Piece → ℕ → ℕ → VersionPosition
+abbrev pub digit_before : List PlacedToken → ℕ → ℕ → VersionPosition
 digit_before ps i back = if nat_le back i then digit_of_piece (slice_get ps (i - back)) else positions.Elsewhere
 
 -- the first byte of the token `ahead` tokens after this one
-abbrev pub digit_after : List Piece → ℕ → ℕ → VersionPosition
+abbrev pub digit_after : List PlacedToken → ℕ → ℕ → VersionPosition
 digit_after ps i ahead = digit_of_piece (slice_get ps (i + ahead))
 
 -- A module follows the version: `version = 2, mod m, T, ".."`
-abbrev pub says_module : Text → List Piece → ℕ → Bool
+abbrev pub says_module : Text → List PlacedToken → ℕ → Bool
 says_module source ps opening = bytes_eq (text_after source ps opening 5) (codes "mod")
 
 -- Where a macro says the version of its description, which is the last argument: nowhere if it is the only
 -- one; after `version = ` if the description comes next, or if the macro makes a module of it.
-abbrev pub macro_position : Text → List Piece → ℕ → ℕ → VersionPosition
+abbrev pub macro_position : Text → List PlacedToken → ℕ → ℕ → VersionPosition
 macro_position source ps opening i =
     if not (is_last source ps i) then positions.Call
     else if nat_eq i (opening + 1) then positions.Unsaid
@@ -68,13 +68,13 @@ macro_position source ps opening i =
     else positions.Call
 
 -- Where another call says the version: `parse_borrowed::<2>(`
-abbrev pub call_position : Text → List Piece → ℕ → VersionPosition
+abbrev pub call_position : Text → List PlacedToken → ℕ → VersionPosition
 call_position source ps opening =
     if bytes_eq (text_before source ps opening 1) (codes ">") then digit_before ps opening 2
     else positions.Call
 
 -- the language of the argument of a call that is a description
-abbrev pub dialect_by : Call → Argument → Option Dialect → Option Dialect
+abbrev pub dialect_by : Call → Argument → Option FormatLanguage → Option FormatLanguage
 dialect_by Macro argument version = version
 dialect_by (First dialect) arguments.First version = Some dialect
 dialect_by (First dialect) arguments.Second version = None
@@ -91,13 +91,13 @@ dialect_by Format arguments.Later version = None
 dialect_by Other argument version = None
 
 -- the language of a token in a bracket; none if it isn't a whole argument, or isn't a description
-abbrev pub dialect_in : Text → List Piece → ℕ → Frame → Option Dialect
+abbrev pub dialect_in : Text → List PlacedToken → ℕ → OpenBracket → Option FormatLanguage
 dialect_in source ps i frame =
     if is_argument source ps i then
     dialect_by frame.call frame.argument (macro_version source ps frame.opened)
     else None
 
-abbrev pub version_position : Text → List Piece → ℕ → Frame → Call → VersionPosition
+abbrev pub version_position : Text → List PlacedToken → ℕ → OpenBracket → Call → VersionPosition
 version_position source ps i frame Macro = macro_position source ps frame.opened i
 version_position source ps i frame (First dialect) = call_position source ps frame.opened
 version_position source ps i frame (Owned dialect) = call_position source ps frame.opened
@@ -123,7 +123,7 @@ items_in (Second dialect) = Refused
 items_in Format = Refused
 items_in Other = Refused
 
-abbrev pub known_of : Text → List Piece → ℕ → Frame → Option Dialect → Option Known
+abbrev pub known_of : Text → List PlacedToken → ℕ → OpenBracket → Option FormatLanguage → Option Known
 known_of source ps i frame None = None
 known_of source ps i frame (Some dialect) = Some (record {
   dialect = dialect;
@@ -134,11 +134,11 @@ known_of source ps i frame (Some dialect) = Some (record {
 })
 
 -- what the bracket that a token is in says about it
-abbrev pub reported_in : Text → List Piece → ℕ → Option Frame → Option Known
+abbrev pub reported_in : Text → List PlacedToken → ℕ → Option OpenBracket → Option Known
 reported_in source ps i None = None
 reported_in source ps i (Some frame) = known_of source ps i frame (dialect_in source ps i frame)
 
-abbrev pub reported_as : Call → Option Dialect → Option Known
+abbrev pub reported_as : Call → Option FormatLanguage → Option Known
 reported_as call None = None
 reported_as call (Some dialect) = Some (record {
   dialect = dialect;

@@ -1,8 +1,8 @@
 -- Positions of a source that are character boundaries.
 use Rattle.std.specs.Prelude.{ℕ, ◌≡◌, ◌<◌, false, List, length, slice_index}
 use Rattle.std.specs.Str.{IsCharBoundary}
-use Rattle.timefd_lint_scan.specs.declared.piece.Piece.{Piece}
-use Rattle.timefd_lint_scan.specs.declared.token.Kind.{Kind}
+use Rattle.timefd_lint_scan.specs.declared.piece.PlacedToken.{PlacedToken}
+use Rattle.timefd_lint_scan.specs.declared.token.LiteralKind.{LiteralKind}
 use Rattle.timefd_lint_scan.specs.Bytes.{Text, is_continuation}
 use Rattle.timefd_lint_scan.specs.Literals.{body_end}
 
@@ -14,14 +14,14 @@ pub record AllBetween (source text : Text) (positions : List ℕ) : Type 0 where
       → IsCharBoundary source (slice_index positions k)
 
 -- a position in a token, after its first byte
-pub record IsInside (p : Piece) (position : ℕ) : Type 0 where
+pub record IsInside (p : PlacedToken) (position : ℕ) : Type 0 where
   pub after : p.start < position
   pub before : position < p.end
 
-abbrev pub AllInside : Piece → List ℕ → Type 0
+abbrev pub AllInside : PlacedToken → List ℕ → Type 0
 AllInside p positions = (k : ℕ) → k < length positions → IsInside p (slice_index positions k)
 
-pub record IsBetween (source : Text) (p : Piece) (kind : Kind) (text : Text) (positions : List ℕ) : Type 0 where
+pub record IsBetween (source : Text) (p : PlacedToken) (kind : LiteralKind) (text : Text) (positions : List ℕ) : Type 0 where
   pub start : IsCharBoundary source p.start
   pub end : IsCharBoundary source p.end
   pub closing : IsCharBoundary source (body_end p kind)

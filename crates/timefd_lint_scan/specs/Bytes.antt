@@ -2,8 +2,8 @@
 use Rattle.std.specs.Prelude.{ℕ, Bool, not, ◌&&◌, ◌||◌, ◌==◌, nat_le, List, Option, Some, None}
 use Rattle.std.specs.Char.{is_ascii_alphanumeric}
 use denote.Ref.{Bor}
-use Rattle.timefd_lint_scan.specs.declared.class.Class.{Class}
-use Rattle.timefd_lint_scan.specs.declared.class.Class.TheVariants.{White, Skipped, Blank, Word, Bare, Aside, Line, Hash, Continuation, Quoted, Unquoted}
+use Rattle.timefd_lint_scan.specs.declared.class.ByteSet.{ByteSet}
+use Rattle.timefd_lint_scan.specs.declared.class.ByteSet.TheVariants.{White, Skipped, Blank, Word, Bare, Aside, Line, Hash, Continuation, Quoted, Unquoted}
 
 abbrev pub Text : Type 0
 Text = List ℕ
@@ -66,7 +66,7 @@ is_aside b = is_blank b || (b == quote) || (b == apostrophe) || (b == 44) || (b 
 abbrev pub is_continuation : ℕ → Bool
 is_continuation b = is_between 128 191 b
 
-abbrev pub class_test : Class → ℕ → Bool
+abbrev pub class_test : ByteSet → ℕ → Bool
 class_test White = is_white
 class_test Skipped = is_skipped
 class_test Blank = is_blank

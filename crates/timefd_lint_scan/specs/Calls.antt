@@ -3,9 +3,9 @@ use Rattle.std.specs.Prelude.{ℕ, Bool, not, ◌&&◌, ◌||◌, if◌then◌el
 use Rattle.timefd_lint_scan.specs.declared.alias.Alias.{Alias}
 use Rattle.timefd_lint_scan.specs.declared.calls.Call.{Call}
 use Rattle.timefd_lint_scan.specs.declared.calls.Call.TheVariants.{Macro, First, Owned, Second, Format, Other}
-use Rattle.timefd_lint_scan.specs.declared.dialect.Dialect.{Dialect}
-use Rattle.timefd_lint_scan.specs.declared.dialect.Dialect.TheVariants.{One, Strftime, Chrono, Jiff}
-use Rattle.timefd_lint_scan.specs.declared.piece.Piece.{Piece}
+use Rattle.timefd_lint_scan.specs.declared.dialect.FormatLanguage.{FormatLanguage}
+use Rattle.timefd_lint_scan.specs.declared.dialect.FormatLanguage.TheVariants.{One, Strftime, Chrono, Jiff}
+use Rattle.timefd_lint_scan.specs.declared.piece.PlacedToken.{PlacedToken}
 use Rattle.timefd_lint_scan.specs.Bytes.{Text}
 use Rattle.timefd_lint_scan.specs.Dialects.{version_named}
 use Rattle.timefd_lint_scan.specs.Aliases.{original_of, real_name}
@@ -20,7 +20,7 @@ abbrev pub takes_version : Text → Bool
 takes_version name = bytes_eq name (codes "parse_borrowed") || bytes_eq name (codes "parse_owned")
 
 -- `parse_owned` makes an owned description, which may have items that the others refuse.
-abbrev pub parser_named : Text → Dialect → Call
+abbrev pub parser_named : Text → FormatLanguage → Call
 parser_named name dialect = if bytes_eq name (codes "parse_owned") then Owned dialect else First dialect
 
 abbrev pub is_of_strftime : Text → Bool
@@ -88,7 +88,7 @@ call_in_module name path =
 abbrev pub call_imported : Text → Call
 call_imported name = if bytes_eq name (codes "parse") then First One else call_named name
 
-abbrev pub bare_by : Text → Text → Option Piece → Call
+abbrev pub bare_by : Text → Text → Option PlacedToken → Call
 bare_by source name None = call_named name
 bare_by source name (Some original) = call_imported (text_of source original)
 
@@ -96,33 +96,33 @@ bare_by source name (Some original) = call_imported (text_of source original)
 abbrev pub bare_call : Text → Text → ℕ → List Alias → Call
 bare_call source name position aliases = bare_by source name (original_of source name position aliases)
 
-abbrev pub parser_by : Text → Option Dialect → Call
+abbrev pub parser_by : Text → Option FormatLanguage → Call
 parser_by name None = Other
 parser_by name (Some dialect) = parser_named name dialect
 
 -- `::<2>(`
-abbrev pub is_turbofish : Text → List Piece → ℕ → Bool
+abbrev pub is_turbofish : Text → List PlacedToken → ℕ → Bool
 is_turbofish source ps i = bytes_eq (text_before source ps i 3) (codes "<")
     && bytes_eq (text_before source ps i 4) (codes ":")
     && bytes_eq (text_before source ps i 5) (codes ":")
 
-abbrev pub with_version : Text → List Piece → ℕ → Text → Call
+abbrev pub with_version : Text → List PlacedToken → ℕ → Text → Call
 with_version source ps i name =
     if is_turbofish source ps i && takes_version name then
     parser_by name (version_named (text_before source ps i 2))
     else Other
 
 -- `parse_borrowed::<2>(`
-abbrev pub call_with_version : Text → List Piece → List Alias → ℕ → Call
+abbrev pub call_with_version : Text → List PlacedToken → List Alias → ℕ → Call
 call_with_version source ps aliases i =
     with_version source ps i (real_name source (text_before source ps i 6) (position_at ps i) aliases)
 
-abbrev pub is_after_path : Text → List Piece → ℕ → Bool
+abbrev pub is_after_path : Text → List PlacedToken → ℕ → Bool
 is_after_path source ps i =
     bytes_eq (text_before source ps i 2) (codes ":") && bytes_eq (text_before source ps i 3) (codes ":")
 
 -- the call whose arguments are in the bracket that this token opens, with these aliases declared
-abbrev pub call_of : Text → List Piece → List Alias → ℕ → Call
+abbrev pub call_of : Text → List PlacedToken → List Alias → ℕ → Call
 call_of source ps aliases i =
     if bytes_eq (text_before source ps i 1) (codes "!") then
     macro_named (real_name source (text_before source ps i 2) (position_at ps i) aliases)

@@ -4,15 +4,15 @@ use Rattle.std.specs.Prelude.{ℕ, ◌+◌, Bool, true, false, if◌then◌else�
 use Rattle.std.specs.List.{flat_map}
 use Rattle.std.specs.Option.{option_or, option_to_list}
 use Rattle.timefd_lint_scan.specs.declared.alias.Alias.{Alias}
-use Rattle.timefd_lint_scan.specs.declared.calls.Frame.{Frame}
-use Rattle.timefd_lint_scan.specs.declared.candidate.Candidate.{Candidate}
-use Rattle.timefd_lint_scan.specs.declared.dialect.Dialect.{Dialect}
-use Rattle.timefd_lint_scan.specs.declared.marks.Mark.{Mark}
-use Rattle.timefd_lint_scan.specs.declared.piece.Piece.{Piece}
+use Rattle.timefd_lint_scan.specs.declared.calls.OpenBracket.{OpenBracket}
+use Rattle.timefd_lint_scan.specs.declared.candidate.CandidateLiteral.{CandidateLiteral}
+use Rattle.timefd_lint_scan.specs.declared.dialect.FormatLanguage.{FormatLanguage}
+use Rattle.timefd_lint_scan.specs.declared.marks.LanguageMark.{LanguageMark}
+use Rattle.timefd_lint_scan.specs.declared.piece.PlacedToken.{PlacedToken}
 use Rattle.timefd_lint_scan.specs.declared.known.Items.TheVariants.{Refused}
 use Rattle.timefd_lint_scan.specs.declared.known.Known.{Known}
 use Rattle.timefd_lint_scan.specs.declared.uses.Use.{Use}
-use Rattle.timefd_lint_scan.specs.declared.token.Kind.{Kind}
+use Rattle.timefd_lint_scan.specs.declared.token.LiteralKind.{LiteralKind}
 use Rattle.timefd_lint_scan.specs.declared.token.Token.{Token}
 use Rattle.timefd_lint_scan.specs.declared.token.Token.TheVariants.{White, Comment, Word, Lifetime, Character, Literal, Sign, Unclosed}
 use Rattle.timefd_lint_scan.specs.declared.version.VersionPosition.TheVariants.{Elsewhere}
@@ -25,7 +25,7 @@ use Rattle.timefd_lint_scan.specs.Frames.{innermost, passed}
 use Rattle.timefd_lint_scan.specs.Marks.{marks, still_open, reported_at}
 use Rattle.timefd_lint_scan.specs.Using.{uses_in}
 
-abbrev pub kind_of : Token → Option Kind
+abbrev pub kind_of : Token → Option LiteralKind
 kind_of White = None
 kind_of Comment = None
 kind_of Word = None
@@ -46,25 +46,25 @@ is_significant (Literal kind) = true
 is_significant Sign = true
 is_significant Unclosed = true
 
-abbrev pub kept : Piece → List Piece
+abbrev pub kept : PlacedToken → List PlacedToken
 kept p = if is_significant p.token then p ∷ [] else []
 
-abbrev pub significant : List Piece → List Piece
+abbrev pub significant : List PlacedToken → List PlacedToken
 significant ps = flat_map kept ps
 
 -- what a comment says about a literal
-abbrev pub by_comment : Option Dialect → Option Known
+abbrev pub by_comment : Option FormatLanguage → Option Known
 by_comment None = None
 by_comment (Some dialect) = Some (record { dialect = dialect; items = Refused; version = Elsewhere; wants_percent = false; call = None })
 
-abbrev pub candidate_from : Piece → Option Kind → Option Known → Option Candidate
+abbrev pub candidate_from : PlacedToken → Option LiteralKind → Option Known → Option CandidateLiteral
 candidate_from p None known = None
 candidate_from p (Some kind) None = None
 candidate_from p (Some kind) (Some known) = Some (record { piece = p; kind = kind; known = known })
 
 -- A comment that names a language decides first, then the bracket that the literal is in, then what its value
 -- is passed to, then its attribute.
-abbrev pub candidate_at : Text → List Piece → ℕ → Piece → Option Frame → Option Dialect → Option Candidate
+abbrev pub candidate_at : Text → List PlacedToken → ℕ → PlacedToken → Option OpenBracket → Option FormatLanguage → Option CandidateLiteral
 candidate_at source ps i p frame dialect =
     candidate_from p (kind_of p.token)
     (option_or (option_or (option_or (by_comment dialect) (reported_in source ps i frame)) (known_of source ps i frame))
@@ -72,8 +72,8 @@ candidate_at source ps i p frame dialect =
 
 -- the candidates among the tokens from an index on, with these open brackets and these comments that name a
 -- language
-abbrev pub candidates_from : Text → List Piece → List Alias → List Use → ℕ → List Piece → List Frame → List Mark
-    → List Candidate
+abbrev pub candidates_from : Text → List PlacedToken → List Alias → List Use → ℕ → List PlacedToken → List OpenBracket → List LanguageMark
+    → List CandidateLiteral
 candidates_from source ps aliases us i [] frames comments = []
 candidates_from source ps aliases us i (p ∷ rest) frames comments =
     option_to_list (candidate_at source ps i p (innermost (passed source ps aliases us i frames))
@@ -81,13 +81,13 @@ candidates_from source ps aliases us i (p ∷ rest) frames comments =
     ++ candidates_from source ps aliases us (i + 1) rest (passed source ps aliases us i frames)
     (still_open p.start comments)
 
-abbrev pub candidates_by : Text → List Piece → List Alias → List Use → List Mark → List Candidate
+abbrev pub candidates_by : Text → List PlacedToken → List Alias → List Use → List LanguageMark → List CandidateLiteral
 candidates_by source ps aliases us comments = candidates_from source ps aliases us 0 ps (outermost ∷ []) comments
 
-abbrev pub candidates_in : Text → List Piece → List Mark → List Candidate
+abbrev pub candidates_in : Text → List PlacedToken → List LanguageMark → List CandidateLiteral
 candidates_in source ps comments =
     candidates_by source ps (aliases_in source ps) (uses_in source ps (aliases_in source ps)) comments
 
 -- the candidates of a source that is cut into these tokens
-abbrev pub candidates : Text → List Piece → List Candidate
+abbrev pub candidates : Text → List PlacedToken → List CandidateLiteral
 candidates source all = candidates_in source (significant all) (marks source all)

@@ -1,11 +1,11 @@
 -- The words that name languages.
 use Rattle.std.specs.Prelude.{Option, Some, None, codes, bytes_eq, if◌then◌else◌}
-use Rattle.timefd_lint_scan.specs.declared.dialect.Dialect.{Dialect}
-use Rattle.timefd_lint_scan.specs.declared.dialect.Dialect.TheVariants.{One, Two, Three, Strftime, Python, C, Gnu, Chrono, Jiff, Ruby, Java, Go, Moment}
+use Rattle.timefd_lint_scan.specs.declared.dialect.FormatLanguage.{FormatLanguage}
+use Rattle.timefd_lint_scan.specs.declared.dialect.FormatLanguage.TheVariants.{One, Two, Three, Strftime, Python, C, Gnu, Chrono, Jiff, Ruby, Java, Go, Moment}
 use Rattle.timefd_lint_scan.specs.Bytes.{Text}
 
 -- the other language or library that a word names
-abbrev pub other_named : Text → Option Dialect
+abbrev pub other_named : Text → Option FormatLanguage
 other_named word =
     if bytes_eq word (codes "python") then Some Python
     else if bytes_eq word (codes "c") then Some C
@@ -19,7 +19,7 @@ other_named word =
     else None
 
 -- the language that a word names
-abbrev pub dialect_named : Text → Option Dialect
+abbrev pub dialect_named : Text → Option FormatLanguage
 dialect_named word =
     if bytes_eq word (codes "1") then Some One
     else if bytes_eq word (codes "2") then Some Two
@@ -27,7 +27,7 @@ dialect_named word =
     else if bytes_eq word (codes "strftime") then Some Strftime
     else other_named word
 
-abbrev pub version_in : Option Dialect → Option Dialect
+abbrev pub version_in : Option FormatLanguage → Option FormatLanguage
 version_in None = None
 version_in (Some One) = Some One
 version_in (Some Two) = Some Two
@@ -44,5 +44,5 @@ version_in (Some Go) = None
 version_in (Some Moment) = None
 
 -- the version that a number names
-abbrev pub version_named : Text → Option Dialect
+abbrev pub version_named : Text → Option FormatLanguage
 version_named word = version_in (dialect_named word)

@@ -5,11 +5,11 @@ use Rattle.std.specs.Char.{encode_utf8}
 use lib.Utf8.{scalar}
 use Rattle.timefd_lint_scan.specs.declared.token.Encoding.{Encoding}
 use Rattle.timefd_lint_scan.specs.declared.token.Encoding.TheVariants.{Str, Bytes, C}
-use Rattle.timefd_lint_scan.specs.declared.token.Kind.{Kind}
-use Rattle.timefd_lint_scan.specs.declared.token.Kind.TheVariants.{Escaped, Raw}
+use Rattle.timefd_lint_scan.specs.declared.token.LiteralKind.{LiteralKind}
+use Rattle.timefd_lint_scan.specs.declared.token.LiteralKind.TheVariants.{Escaped, Raw}
 use Rattle.timefd_lint_scan.specs.declared.part.Stands.{Stands}
 use Rattle.timefd_lint_scan.specs.declared.part.Stands.TheVariants.{Nothing, Byte, Char}
-use Rattle.timefd_lint_scan.specs.declared.part.Part as code
+use Rattle.timefd_lint_scan.specs.declared.part.StringPart as code
 use Rattle.timefd_lint_scan.specs.declared.unescape.Unescaped as whole
 use Rattle.timefd_lint_scan.specs.Bytes.{Text, quote, apostrophe, backslash, line_feed, carriage_return, is_between, is_skipped}
 use Rattle.timefd_lint_scan.specs.After.{after_run}
@@ -24,10 +24,10 @@ stands_for Nothing = []
 stands_for (Byte b) = b ∷ []
 stands_for (Char c) = encode_utf8 c
 
-abbrev pub parted : code.Part → Part
+abbrev pub parted : code.StringPart → Part
 parted part = record { stands = stands_for part.stands; rest = part.rest.now }
 
-abbrev pub parted_any : Option code.Part → Option Part
+abbrev pub parted_any : Option code.StringPart → Option Part
 parted_any None = None
 parted_any (Some part) = Some (parted part)
 
@@ -146,7 +146,7 @@ itself b bytes =
     if (b == carriage_return) && begins_line_feed bytes then record { stands = []; rest = bytes }
     else record { stands = b ∷ []; rest = bytes }
 
-abbrev pub part_of : Kind → ℕ → Text → Option Part
+abbrev pub part_of : LiteralKind → ℕ → Text → Option Part
 part_of (Escaped e) b bytes = if b == backslash then escape e bytes else Some (itself b bytes)
 part_of (Raw e n) b bytes = Some (itself b bytes)
 
@@ -173,7 +173,7 @@ all_at position bytes = map (λ _. position) bytes
 
 -- The bytes that a body denotes, in at most this many parts. The body ends at `end`, from which the
 -- positions of its parts are counted back.
-abbrev pub unescaped : ℕ → Kind → ℕ → Text → Option Placed
+abbrev pub unescaped : ℕ → LiteralKind → ℕ → Text → Option Placed
 unescaped zero kind end [] = Some (record { text = []; positions = [] })
 unescaped zero kind end (b ∷ bytes) = None
 unescaped (suc steps) kind end [] = Some (record { text = []; positions = [] })

@@ -2,9 +2,9 @@
 use Rattle.std.specs.Prelude.{ℕ, ◌≡◌, ◌≤◌, ◌⊎◌, Bool, true, false, not, ◌&&◌, List, [], ◌∷◌, ◌++◌, Option, None, Some, length, nat_le, nat_lt, slice_index, if◌then◌else◌, ⊤}
 use Rattle.std.specs.List.{All}
 use Rattle.std.specs.Option.{option_to_list}
-use Rattle.timefd_lint_scan.specs.declared.candidate.Candidate.{Candidate}
-use Rattle.timefd_lint_scan.specs.declared.description.Description.{Description}
-use Rattle.timefd_lint_scan.specs.declared.piece.Piece.{Piece}
+use Rattle.timefd_lint_scan.specs.declared.candidate.CandidateLiteral.{CandidateLiteral}
+use Rattle.timefd_lint_scan.specs.declared.description.SourceDescription.{SourceDescription}
+use Rattle.timefd_lint_scan.specs.declared.piece.PlacedToken.{PlacedToken}
 use Rattle.timefd_lint_scan.specs.declared.known.Known.{Known}
 use Rattle.timefd_lint_scan.specs.Bytes.{Text}
 use Rattle.timefd_lint_scan.specs.Between.{IsBetween}
@@ -18,29 +18,29 @@ use Rattle.timefd_lint_scan.specs.Versions.{IsSaid, first_position}
 
 -- The text of a description is what its literal in the source denotes, on character boundaries of the source;
 -- and its version is said there.
-pub record StandsIn (source : Text) (d : Description) : Type 0 where
+pub record StandsIn (source : Text) (d : SourceDescription) : Type 0 where
   pub text : Some (placed d.unescaped) ≡ literal_text source d.piece d.kind
   pub between : IsBetween source d.piece d.kind d.unescaped.text.items d.unescaped.positions.items
   pub version : IsSaid source d.piece d.dialect d.version
 
-abbrev pub AllStandIn : Text → List Description → Type 0
+abbrev pub AllStandIn : Text → List SourceDescription → Type 0
 AllStandIn source ds = All (StandsIn source) ds
 
 -- the first position that belongs to a description
-abbrev pub begin_of : Description → ℕ
+abbrev pub begin_of : SourceDescription → ℕ
 begin_of d = first_position d.version d.piece.start
 
 -- Each begins where the one before ends, or after that.
-abbrev pub AreInOrder : ℕ → List Description → Type 0
+abbrev pub AreInOrder : ℕ → List SourceDescription → Type 0
 AreInOrder from [] = ⊤
 AreInOrder from (d ∷ ds) = (from ≤ begin_of d) × AreInOrder d.piece.end ds
 
 -- the description, if it doesn't begin before a position
-abbrev pub begun_after : ℕ → Option Description → Option Description
+abbrev pub begun_after : ℕ → Option SourceDescription → Option SourceDescription
 begun_after from None = None
 begun_after from (Some d) = if nat_le from (begin_of d) then Some d else None
 
-abbrev pub end_after : ℕ → Option Description → ℕ
+abbrev pub end_after : ℕ → Option SourceDescription → ℕ
 end_after from None = from
 end_after from (Some d) = d.piece.end
 
@@ -49,7 +49,7 @@ abbrev pub lacks_percent : Known → Text → Bool
 lacks_percent known text = known.wants_percent && not (is_of_dates text)
 
 -- The description of a literal that denotes a text.
-pub record IsDescription (source : Text) (c : Candidate) (t : Placed) (d : Description) : Type 0 where
+pub record IsDescription (source : Text) (c : CandidateLiteral) (t : Placed) (d : SourceDescription) : Type 0 where
   pub percent : lacks_percent c.known t.text ≡ false
   pub between : IsBetween source c.piece c.kind t.text t.positions
   pub piece : d.piece ≡ c.piece
@@ -63,7 +63,7 @@ pub record IsDescription (source : Text) (c : Candidate) (t : Placed) (d : Descr
 
 -- What a literal is that denotes a text: a description, unless a date format is wanted and it isn't one, or
 -- it isn't on character boundaries.
-abbrev pub IsOfText : Text → Candidate → Option Placed → Option Description → Type 0
+abbrev pub IsOfText : Text → CandidateLiteral → Option Placed → Option SourceDescription → Type 0
 IsOfText source c None None = ⊤
 IsOfText source c None (Some d) = ⊥
 IsOfText source c (Some t) None =
@@ -71,31 +71,31 @@ IsOfText source c (Some t) None =
 IsOfText source c (Some t) (Some d) = IsDescription source c t d
 
 -- A literal with an invalid escape isn't a description.
-abbrev pub IsDescribed : Text → Candidate → Option Description → Type 0
+abbrev pub IsDescribed : Text → CandidateLiteral → Option SourceDescription → Type 0
 IsDescribed source c answer = IsOfText source c (literal_text source c.piece c.kind) answer
 
-abbrev pub IsAnyDescribed : Text → Option Candidate → Option Description → Type 0
+abbrev pub IsAnyDescribed : Text → Option CandidateLiteral → Option SourceDescription → Type 0
 IsAnyDescribed source None answer = answer ≡ None
 IsAnyDescribed source (Some c) answer = IsDescribed source c answer
 
 -- The descriptions are those of the literals in order, without those that begin inside of another one.
-abbrev pub AreDescribed : Text → ℕ → List Candidate → List Description → Type 0
+abbrev pub AreDescribed : Text → ℕ → List CandidateLiteral → List SourceDescription → Type 0
 AreDescribed source from [] found = found ≡ []
 AreDescribed source from (c ∷ cs) found =
-    (answer : Option Description) × (rest : List Description)
+    (answer : Option SourceDescription) × (rest : List SourceDescription)
     × IsDescribed source c answer
     × AreDescribed source (end_after from (begun_after from answer)) cs rest
     × (found ≡ option_to_list (begun_after from answer) ++ rest)
 
 -- These are the descriptions of a source: none if it has none of the names that descriptions come with.
-abbrev pub AreDescriptionsOf : Text → List Description → Type 0
+abbrev pub AreDescriptionsOf : Text → List SourceDescription → Type 0
 AreDescriptionsOf source found =
     (HasNoName source × (found ≡ []))
-    ⊎ ((all : List Piece) × AreTokens (length source) source all
+    ⊎ ((all : List PlacedToken) × AreTokens (length source) source all
     × AreDescribed source 0 (candidates source all) found)
 
 -- the position of a byte of a description; after the last byte it is the position of the closing quote
-abbrev pub index_in_source : Description → ℕ → ℕ
+abbrev pub index_in_source : SourceDescription → ℕ → ℕ
 index_in_source d index =
     if nat_lt index (length d.unescaped.positions.items) then slice_index d.unescaped.positions.items index
     else body_end d.piece d.kind

@@ -2,8 +2,8 @@
 use Rattle.std.specs.Prelude.{ℕ, ◌≡◌, Bool, true, not, ◌&&◌, ◌==◌, nat_le, if◌then◌else◌, [], ◌∷◌, ◌++◌, replicate, Some, IsTrue}
 use Rattle.timefd_lint_scan.specs.declared.token.Encoding.{Encoding}
 use Rattle.timefd_lint_scan.specs.declared.token.Encoding.TheVariants.{Str, Bytes, C}
-use Rattle.timefd_lint_scan.specs.declared.token.Kind.{Kind}
-use Rattle.timefd_lint_scan.specs.declared.token.Kind.TheVariants.{Escaped, Raw}
+use Rattle.timefd_lint_scan.specs.declared.token.LiteralKind.{LiteralKind}
+use Rattle.timefd_lint_scan.specs.declared.token.LiteralKind.TheVariants.{Escaped, Raw}
 use Rattle.timefd_lint_scan.specs.declared.token.Token.TheVariants.{Literal}
 use Rattle.timefd_lint_scan.specs.Bytes.{Text, quote, hash, backslash}
 use Rattle.timefd_lint_scan.specs.After.{hashes}
@@ -28,26 +28,26 @@ letters Str = []
 letters Bytes = 98 ∷ []
 letters C = 99 ∷ []
 
-abbrev pub opening : Kind → Text
+abbrev pub opening : LiteralKind → Text
 opening (Escaped e) = letters e ++ (quote ∷ [])
 opening (Raw e n) = letters e ++ (114 ∷ (replicate n hash ++ (quote ∷ [])))
 
-abbrev pub closing : Kind → Text
+abbrev pub closing : LiteralKind → Text
 closing (Escaped e) = quote ∷ []
 closing (Raw e n) = quote ∷ replicate n hash
 
-abbrev pub IsBody : Kind → Text → Text → Type 0
+abbrev pub IsBody : LiteralKind → Text → Text → Type 0
 IsBody (Escaped e) body after = IsTrue (is_body body)
 IsBody (Raw e n) body after = IsTrue (is_raw_body n body after)
 
 -- a literal, before what follows it
-pub record IsLiteral (kind : Kind) (text rest : Text) : Type 0 where
+pub record IsLiteral (kind : LiteralKind) (text rest : Text) : Type 0 where
   pub body : Text
   pub whole : text ≡ opening kind ++ body ++ closing kind
   pub is : IsBody kind body (closing kind ++ rest)
 
 -- What is read as a literal is one.
 abbrev pub ReadAsLiterals : Type 0
-ReadAsLiterals = (text rest : Text) (kind : Kind)
+ReadAsLiterals = (text rest : Text) (kind : LiteralKind)
     → first text ≡ Some (record { token = Literal kind; rest = rest })
     → (front : Text) × (text ≡ front ++ rest) × IsLiteral kind front rest

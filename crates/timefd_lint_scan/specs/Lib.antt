@@ -16,7 +16,10 @@ pub mod Calls
 pub mod Arguments
 pub mod Dates
 pub mod Attributes
+pub mod Layouts
 pub mod Uses
+pub mod Kept
+pub mod FoundUses
 pub mod Values
 pub mod Flows
 pub mod Frames

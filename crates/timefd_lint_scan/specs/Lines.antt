@@ -3,7 +3,7 @@ use Rattle.std.specs.Prelude.{ℕ, ◌-◌, drop, length, take}
 use Rattle.std.specs.List.{suffix_len}
 use Rattle.timefd_lint_scan.specs.After.{after_run}
 use Rattle.timefd_lint_scan.specs.Bytes.{Text, class_test}
-use Rattle.timefd_lint_scan.specs.declared.class.Class.TheVariants.{Line}
+use Rattle.timefd_lint_scan.specs.declared.class.ByteSet.TheVariants.{Line}
 
 -- where the line of a position begins: after the last line feed before it
 abbrev pub line_start : Text → ℕ → ℕ

@@ -1,9 +1,9 @@
 -- What is seen in a source: its descriptions, and what can't be checked.
 use Rattle.std.specs.Prelude.{ℕ, ◌≡◌, ◌⊎◌, Bool, true, false, not, ◌&&◌, ◌||◌, ◌==◌, if◌then◌else◌, List, [], ◌∷◌, codes, bytes_eq, length, Option, Some, None}
 use Rattle.std.specs.List.{flat_map}
-use Rattle.timefd_lint_scan.specs.declared.description.Description.{Description}
+use Rattle.timefd_lint_scan.specs.declared.description.SourceDescription.{SourceDescription}
 use Rattle.timefd_lint_scan.specs.declared.look.Look.{Look}
-use Rattle.timefd_lint_scan.specs.declared.piece.Piece.{Piece}
+use Rattle.timefd_lint_scan.specs.declared.piece.PlacedToken.{PlacedToken}
 use Rattle.timefd_lint_scan.specs.declared.uses.Use.{Use}
 use Rattle.timefd_lint_scan.specs.Aliases.{aliases_in}
 use Rattle.timefd_lint_scan.specs.Bytes.{Text}
@@ -16,7 +16,7 @@ use Rattle.timefd_lint_scan.specs.Using.{uses_in}
 use Rattle.timefd_lint_scan.specs.Words.{text_of}
 
 -- A word is among these tokens.
-abbrev pub has_word : Text → Text → List Piece → Bool
+abbrev pub has_word : Text → Text → List PlacedToken → Bool
 has_word source word [] = false
 has_word source word (p ∷ ps) = if bytes_eq (text_of source p) word then true else has_word source word ps
 
@@ -25,32 +25,36 @@ is_at None position = false
 is_at (Some at) position = at == position
 
 -- One of these descriptions is used by its name at a position.
-abbrev pub is_taken : ℕ → List Description → Bool
+abbrev pub is_taken : ℕ → List SourceDescription → Bool
 is_taken position [] = false
 is_taken position (d ∷ ds) = if is_at d.call position then true else is_taken position ds
+
+-- These are the positions at which one of these descriptions is used by its name.
+pub record AreTaken (ds : List SourceDescription) (taken : ℕ → Bool) : Type 0 where
+  pub taken_at : (n : ℕ) → taken n ≡ is_taken n ds
 
 -- A call is known to take a date format: by its own name, or because the source mentions chrono.
 abbrev pub is_sure : Use → Bool → Bool
 is_sure u has_chrono = not u.known.wants_percent || has_chrono
 
-abbrev pub is_unread : List Description → Bool → Use → Bool
+abbrev pub is_unread : List SourceDescription → Bool → Use → Bool
 is_unread ds has_chrono u =
     is_at u.known.call u.name.start && is_sure u has_chrono && not (is_taken u.name.start ds)
 
-abbrev pub unread : List Description → Bool → Use → List ℕ
+abbrev pub unread : List SourceDescription → Bool → Use → List ℕ
 unread ds has_chrono u = if is_unread ds has_chrono u then u.name.start ∷ [] else []
 
 -- where names begin that calls take, and that don't name one of these descriptions
-abbrev pub unread_calls : List Description → Bool → List Use → List ℕ
+abbrev pub unread_calls : List SourceDescription → Bool → List Use → List ℕ
 unread_calls ds has_chrono us = flat_map (unread ds has_chrono) us
 
 -- such names among the tokens of a source in which these descriptions are found
-abbrev pub calls_in : Text → List Piece → List Description → List ℕ
+abbrev pub calls_in : Text → List PlacedToken → List SourceDescription → List ℕ
 calls_in source ps ds =
     unread_calls ds (has_word source (codes "chrono") ps) (uses_in source ps (aliases_in source ps))
 
 -- What is seen in a source that is cut into these tokens.
-pub record IsSeen (source : Text) (all : List Piece) (look : Look) : Type 0 where
+pub record IsSeen (source : Text) (all : List PlacedToken) (look : Look) : Type 0 where
   pub tokens : AreTokens (length source) source all
   pub descriptions : AreDescribed source 0 (candidates source all) look.descriptions.items
   pub calls : look.calls.items ≡ calls_in source (significant all) look.descriptions.items
@@ -64,4 +68,4 @@ pub record IsBlank (look : Look) : Type 0 where
 
 -- Nothing is seen in a source that has none of the names that descriptions come with.
 abbrev pub IsLook : Text → Look → Type 0
-IsLook source look = (HasNoName source × IsBlank look) ⊎ ((all : List Piece) × IsSeen source all look)
+IsLook source look = (HasNoName source × IsBlank look) ⊎ ((all : List PlacedToken) × IsSeen source all look)

@@ -2,9 +2,9 @@
 use Rattle.std.specs.Prelude.{ℕ, ◌-◌, Bool, true, false, not, ◌&&◌, ◌==◌, nat_eq, nat_le, nat_lt, if◌then◌else◌, List, [], ◌∷◌, bytes_eq, codes, drop, is_none, length, take, Option, Some, None}
 use Rattle.std.specs.List.{flat_map, starts_with}
 use Rattle.std.specs.Option.{option_to_list}
-use Rattle.timefd_lint_scan.specs.declared.dialect.Dialect.{Dialect}
-use Rattle.timefd_lint_scan.specs.declared.marks.Mark.{Mark}
-use Rattle.timefd_lint_scan.specs.declared.piece.Piece.{Piece}
+use Rattle.timefd_lint_scan.specs.declared.dialect.FormatLanguage.{FormatLanguage}
+use Rattle.timefd_lint_scan.specs.declared.marks.LanguageMark.{LanguageMark}
+use Rattle.timefd_lint_scan.specs.declared.piece.PlacedToken.{PlacedToken}
 use Rattle.timefd_lint_scan.specs.declared.token.Token.{Token}
 use Rattle.timefd_lint_scan.specs.declared.token.Token.TheVariants.{White, Comment, Word, Lifetime, Character, Literal, Sign, Unclosed}
 use Rattle.timefd_lint_scan.specs.After.{after_run}
@@ -22,21 +22,21 @@ abbrev pub in_front : Text → Text → Text
 in_front text rest = take (length text - length rest) text
 
 -- the language that a text names if it is one word, with only white bytes after it
-abbrev pub word_dialect : Text → Option Dialect
+abbrev pub word_dialect : Text → Option FormatLanguage
 word_dialect text =
     if length (after_run is_white (after_run is_word text)) == 0 then
     dialect_named (in_front text (after_run is_word text))
     else None
 
-abbrev pub mark_reported : Option Text → Option Dialect
+abbrev pub mark_reported : Option Text → Option FormatLanguage
 mark_reported None = None
 mark_reported (Some text) = word_dialect (after_run is_white text)
 
-abbrev pub line_reported : Option Text → Option Dialect
+abbrev pub line_reported : Option Text → Option FormatLanguage
 line_reported None = None
 line_reported (Some text) = mark_reported (after (after_run is_white text) (codes "timefd:"))
 
-abbrev pub comment_dialect : Option Text → Option Dialect
+abbrev pub comment_dialect : Option Text → Option FormatLanguage
 comment_dialect None = None
 comment_dialect (Some text) = line_reported (after text (codes "//"))
 
@@ -65,7 +65,7 @@ is_alone source at =
 
 -- A comment applies to the literals before it in its line, or to those of the next line if nothing else is
 -- in its own.
-abbrev pub mark_of : Text → Piece → Option Dialect → Option Mark
+abbrev pub mark_of : Text → PlacedToken → Option FormatLanguage → Option LanguageMark
 mark_of source p None = None
 mark_of source p (Some dialect) =
     if is_alone source p.start then
@@ -82,7 +82,7 @@ is_comment (Literal kind) = false
 is_comment Sign = false
 is_comment Unclosed = false
 
-abbrev pub mark_at : Text → Piece → Option Mark
+abbrev pub mark_at : Text → PlacedToken → Option LanguageMark
 mark_at source p = if is_comment p.token then mark_of source p (comment_dialect (cut source p)) else None
 
 -- the start of a text that ends at an index, if it should name a language, but doesn't
@@ -90,23 +90,23 @@ abbrev pub unknown_in : ℕ → Option Text → List ℕ
 unknown_in end None = []
 unknown_in end (Some text) = if is_unknown text then (end - length text) ∷ [] else []
 
-abbrev pub unknown_mark : Text → Piece → List ℕ
+abbrev pub unknown_mark : Text → PlacedToken → List ℕ
 unknown_mark source p = if is_comment p.token then unknown_in p.end (marked (cut source p)) else []
 
 -- where the words of comments begin that should name a language, but don't, in order
-abbrev pub unknown_marks : Text → List Piece → List ℕ
+abbrev pub unknown_marks : Text → List PlacedToken → List ℕ
 unknown_marks source ps = flat_map (unknown_mark source) ps
 
 -- the comments that name a language, in order
-abbrev pub marks : Text → List Piece → List Mark
+abbrev pub marks : Text → List PlacedToken → List LanguageMark
 marks source ps = flat_map (λ p. option_to_list (mark_at source p)) ps
 
 -- the marks from the first one on that ends after this position
-abbrev pub still_open : ℕ → List Mark → List Mark
+abbrev pub still_open : ℕ → List LanguageMark → List LanguageMark
 still_open position [] = []
 still_open position (m ∷ ms) = if nat_lt position m.to then m ∷ ms else still_open position ms
 
 -- the language that the first of these marks names for a position
-abbrev pub reported_at : List Mark → ℕ → Option Dialect
+abbrev pub reported_at : List LanguageMark → ℕ → Option FormatLanguage
 reported_at [] position = None
 reported_at (m ∷ ms) position = if nat_le m.from position && nat_lt position m.to then Some m.dialect else None

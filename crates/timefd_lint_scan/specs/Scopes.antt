@@ -1,12 +1,12 @@
 -- Where a name may be used that a token declares.
 use Rattle.std.specs.Prelude.{ℕ, ◌+◌, ◌-◌, Bool, true, false, ◌&&◌, ◌==◌, nat_le, if◌then◌else◌, List, [], ◌∷◌, drop}
-use Rattle.timefd_lint_scan.specs.declared.piece.Piece.{Piece}
+use Rattle.timefd_lint_scan.specs.declared.piece.PlacedToken.{PlacedToken}
 use Rattle.timefd_lint_scan.specs.Bytes.{Text}
 use Rattle.timefd_lint_scan.specs.Words.{is_closing, is_opening, position_at, text_of}
 
 -- A block isn't closed before a position. At the first of these tokens, `depth` blocks inside of it are
 -- open.
-abbrev pub stays_open : Text → ℕ → ℕ → List Piece → Bool
+abbrev pub stays_open : Text → ℕ → ℕ → List PlacedToken → Bool
 stays_open source position depth [] = true
 stays_open source position depth (p ∷ ps) =
     if nat_le position p.start then true
@@ -17,7 +17,7 @@ stays_open source position depth (p ∷ ps) =
 
 -- At `position`, all brackets are closed again that open after the position `from`. At the first of these
 -- tokens, `depth` of them are open.
-abbrev pub is_outside : Text → ℕ → ℕ → ℕ → List Piece → Bool
+abbrev pub is_outside : Text → ℕ → ℕ → ℕ → List PlacedToken → Bool
 is_outside source from position depth [] = depth == 0
 is_outside source from position depth (p ∷ ps) =
     if nat_le position p.start then depth == 0
@@ -26,7 +26,7 @@ is_outside source from position depth (p ∷ ps) =
     else is_outside source from position depth ps
 
 -- The block that a token is in also contains a position, before or after the token.
-abbrev pub reaches : Text → List Piece → ℕ → ℕ → Bool
+abbrev pub reaches : Text → List PlacedToken → ℕ → ℕ → Bool
 reaches source ps declared position =
     if nat_le (position_at ps declared) position then stays_open source position 0 (drop declared ps)
     else is_outside source position (position_at ps declared) 0 ps

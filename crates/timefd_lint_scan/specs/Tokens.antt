@@ -1,10 +1,10 @@
 -- The token that a text begins with, as in Rust's reference: the first that fits of a comment, a
 -- string literal, a character literal, a run of white bytes, a word, a lifetime and a sign.
 use Rattle.std.specs.Prelude.{ℕ, Bool, false, ◌&&◌, ◌==◌, if◌then◌else◌, [], ◌∷◌, drop, Option, Some, None}
-use Rattle.timefd_lint_scan.specs.declared.class.Class.TheVariants.{Line}
+use Rattle.timefd_lint_scan.specs.declared.class.ByteSet.TheVariants.{Line}
 use Rattle.timefd_lint_scan.specs.declared.token.Encoding.{Encoding}
 use Rattle.timefd_lint_scan.specs.declared.token.Encoding.TheVariants.{Str, Bytes, C}
-use Rattle.timefd_lint_scan.specs.declared.token.Kind.TheVariants.{Escaped, Raw}
+use Rattle.timefd_lint_scan.specs.declared.token.LiteralKind.TheVariants.{Escaped, Raw}
 use Rattle.timefd_lint_scan.specs.declared.token.Token.{Token}
 use Rattle.timefd_lint_scan.specs.declared.token.Token.TheVariants.{White, Comment, Word, Lifetime, Character, Literal, Sign, Unclosed}
 use Rattle.timefd_lint_scan.specs.declared.token.Step.{Step}

@@ -1,6 +1,6 @@
 -- Names that are used instead of descriptions, and what their use says about the text that they denote.
 use Rattle.std.specs.Prelude.{ℕ, ◌≤◌, ◌<◌, Bool, false, not, ◌&&◌, nat_le, if◌then◌else◌, List, [], ◌∷◌, codes, bytes_eq, get_or, length, Option, Some, None}
-use Rattle.timefd_lint_scan.specs.declared.piece.Piece.{Piece}
+use Rattle.timefd_lint_scan.specs.declared.piece.PlacedToken.{PlacedToken}
 use Rattle.timefd_lint_scan.specs.declared.known.Known.{Known}
 use Rattle.timefd_lint_scan.specs.declared.uses.Use.{Use}
 use Rattle.timefd_lint_scan.specs.declared.uses.Way.{Way}
@@ -13,14 +13,14 @@ use Rattle.timefd_lint_scan.specs.Words.{position_at, text_at, text_before, text
 
 -- A position is after the first of these tokens, in the block that they begin in, and the name isn't declared
 -- again before it.
-abbrev pub is_seen : Text → Text → List Piece → ℕ → Bool
+abbrev pub is_seen : Text → Text → List PlacedToken → ℕ → Bool
 is_seen source name [] position = false
 is_seen source name (p ∷ ps) position =
     nat_le p.start position && stays_open source position 0 (p ∷ ps)
     && not (is_declared_before source name position name (p ∷ ps))
 
 -- No other item or variable of the source has the name.
-abbrev pub is_only : Text → List Piece → ℕ → Bool
+abbrev pub is_only : Text → List PlacedToken → ℕ → Bool
 is_only source ps declared =
     not (is_named source (text_at source ps declared) (position_at ps declared) [] ps)
     && not (is_named source (text_at source ps declared) (length source) (text_at source ps declared)
@@ -29,7 +29,7 @@ is_only source ps declared =
 -- A name used at a position is the one that a token declares: with `let` up to the end of its block, with
 -- `for` in the loop's block, and otherwise in the block of its item, if no other item or variable has the
 -- name.
-abbrev pub is_meant : Text → List Piece → ℕ → ℕ → Bool
+abbrev pub is_meant : Text → List PlacedToken → ℕ → ℕ → Bool
 is_meant source ps declared position =
     if bytes_eq (text_before source ps declared 1) (codes "let") then
     is_seen source (text_at source ps declared) (tokens_after ps declared) position
@@ -42,18 +42,18 @@ abbrev pub is_alike : Way → Bool → Bool
 is_alike Value is_function = not is_function
 is_alike Call is_function = is_function
 
-abbrev pub is_use_of : Text → List Piece → ℕ → Use → Bool
+abbrev pub is_use_of : Text → List PlacedToken → ℕ → Use → Bool
 is_use_of source ps declared u =
     bytes_eq (text_of source u.name) (text_at source ps declared)
     && is_alike u.way (bytes_eq (text_before source ps declared 1) (codes "fn"))
     && is_meant source ps declared u.name.start
 
-abbrev pub first_start : List Piece → ℕ
+abbrev pub first_start : List PlacedToken → ℕ
 first_start [] = 0
 first_start (p ∷ ps) = p.start
 
 -- Before this position no use is of the name that a token declares with `let` or `for`.
-abbrev pub first_seen : Text → List Piece → ℕ → ℕ
+abbrev pub first_seen : Text → List PlacedToken → ℕ → ℕ
 first_seen source ps declared =
     if bytes_eq (text_before source ps declared 1) (codes "let") then first_start (tokens_after ps declared)
     else if bytes_eq (text_before source ps declared 1) (codes "for") then
@@ -70,7 +70,7 @@ AreFurthest us furthest =
     (i k : ℕ) → (d : Use) → i ≤ k → k < length furthest → i < length us → (get_or us i d).name.start ≤ get_or furthest k 0
 
 -- what the first use says about the name that a token declares
-abbrev pub known_by_name : Text → List Piece → ℕ → List Use → Option Known
+abbrev pub known_by_name : Text → List PlacedToken → ℕ → List Use → Option Known
 known_by_name source ps declared [] = None
 known_by_name source ps declared (u ∷ us) =
     if is_use_of source ps declared u then Some u.known

@@ -3,8 +3,8 @@ use Rattle.std.specs.Prelude.{ℕ, ◌+◌, ◌-◌, Bool, ◌&&◌, ◌||◌, i
 use Rattle.std.specs.List.{slice_get}
 use Rattle.std.specs.Option.{option_to_list}
 use Rattle.timefd_lint_scan.specs.declared.alias.Alias.{Alias}
-use Rattle.timefd_lint_scan.specs.declared.calls.Frame.{Frame}
-use Rattle.timefd_lint_scan.specs.declared.piece.Piece.{Piece}
+use Rattle.timefd_lint_scan.specs.declared.calls.OpenBracket.{OpenBracket}
+use Rattle.timefd_lint_scan.specs.declared.piece.PlacedToken.{PlacedToken}
 use Rattle.timefd_lint_scan.specs.declared.known.Known.{Known}
 use Rattle.timefd_lint_scan.specs.declared.uses.Use.{Use}
 use Rattle.timefd_lint_scan.specs.declared.uses.Way.{Way}
@@ -17,7 +17,7 @@ use Rattle.timefd_lint_scan.specs.Values.{ends_value, is_begun}
 use Rattle.timefd_lint_scan.specs.Words.{is_word_token, text_at, text_before, text_after}
 
 -- the token that a name begins with: `F`, `Self::F`, `self.f(`
-abbrev pub path_start : Text → List Piece → ℕ → Option ℕ
+abbrev pub path_start : Text → List PlacedToken → ℕ → Option ℕ
 path_start source ps i =
     if bytes_eq (text_before source ps i 1) (codes ":") then
     (if bytes_eq (text_before source ps i 2) (codes ":") && bytes_eq (text_before source ps i 3) (codes "Self") then
@@ -27,7 +27,7 @@ path_start source ps i =
     Some (i - 2) else None)
     else Some i
 
-abbrev pub way_from : Text → List Piece → ℕ → Option ℕ → Option Way
+abbrev pub way_from : Text → List PlacedToken → ℕ → Option ℕ → Option Way
 way_from source ps i None = None
 way_from source ps i (Some start) =
     if is_begun source ps start then
@@ -37,77 +37,77 @@ way_from source ps i (Some start) =
     else None
 
 -- how a name is used as a value, if it is
-abbrev pub way_of : Text → List Piece → ℕ → Option Way
+abbrev pub way_of : Text → List PlacedToken → ℕ → Option Way
 way_of source ps i = way_from source ps i (path_start source ps i)
 
-abbrev pub use_of : Piece → Option Way → Known → Option Use
+abbrev pub use_of : PlacedToken → Option Way → Known → Option Use
 use_of name None known = None
 use_of name (Some way) known =
     Some (record { name = name; way = way; known = record known { call = Some name.start } })
 
-abbrev pub use_reported : Text → List Piece → ℕ → Piece → Option Known → Option Use
+abbrev pub use_reported : Text → List PlacedToken → ℕ → PlacedToken → Option Known → Option Use
 use_reported source ps i p None = None
 use_reported source ps i p (Some known) =
     if is_word_token p.token then use_of p (way_of source ps i) known else None
 
 -- the use of the name at a token, with this bracket open
-abbrev pub use_at : Text → List Piece → ℕ → Piece → Option Frame → Option Use
+abbrev pub use_at : Text → List PlacedToken → ℕ → PlacedToken → Option OpenBracket → Option Use
 use_at source ps i p frame = use_reported source ps i p (pending_of frame)
 
 -- the uses among the tokens from an index on, with these open brackets
-abbrev pub in_calls_from : Text → List Piece → List Alias → ℕ → List Piece → List Frame → List Use
+abbrev pub in_calls_from : Text → List PlacedToken → List Alias → ℕ → List PlacedToken → List OpenBracket → List Use
 in_calls_from source ps aliases i [] frames = []
 in_calls_from source ps aliases i (p ∷ rest) frames =
     option_to_list (use_at source ps i p (innermost (passed source ps aliases [] i frames)))
     ++ in_calls_from source ps aliases (i + 1) rest (passed source ps aliases [] i frames)
 
-abbrev pub in_calls : Text → List Piece → List Alias → List Use
+abbrev pub in_calls : Text → List PlacedToken → List Alias → List Use
 in_calls source ps aliases = in_calls_from source ps aliases 0 ps (outermost ∷ [])
 
-abbrev pub piece_after : List Piece → ℕ → ℕ → Option Piece
+abbrev pub piece_after : List PlacedToken → ℕ → ℕ → Option PlacedToken
 piece_after ps i ahead = slice_get ps (i + ahead)
 
 -- `in F {`, `in &F {`, `in F.iter() {`
-abbrev pub looped_over : Text → List Piece → ℕ → ℕ → ℕ → Option Piece
+abbrev pub looped_over : Text → List PlacedToken → ℕ → ℕ → ℕ → Option PlacedToken
 looped_over source ps i ahead next =
     if bytes_eq (text_after source ps i next) (codes "{") || bytes_eq (text_after source ps i next) (codes ".") then
     piece_after ps i ahead
     else None
 
 -- the name of the list that a loop goes over, which may be borrowed
-abbrev pub looped : Text → List Piece → ℕ → Option Piece
+abbrev pub looped : Text → List PlacedToken → ℕ → Option PlacedToken
 looped source ps i =
     if bytes_eq (text_after source ps i 1) (codes "&") then looped_over source ps i 2 3
     else looped_over source ps i 1 2
 
-abbrev pub list_of : Option Piece → Option Known → Option Use
+abbrev pub list_of : Option PlacedToken → Option Known → Option Use
 list_of None known = None
 list_of (Some name) None = None
 list_of (Some name) (Some known) = Some (record { name = name; way = Value; known = known })
 
-abbrev pub is_loop : Text → List Piece → ℕ → Bool
+abbrev pub is_loop : Text → List PlacedToken → ℕ → Bool
 is_loop source ps i =
     bytes_eq (text_at source ps i) (codes "in") && bytes_eq (text_before source ps i 2) (codes "for")
 
 -- The list that a loop goes over by name: what is known about the loop's variable is known about
 -- the list.
-abbrev pub loop_at : Text → List Piece → List Use → ℕ → Option Use
+abbrev pub loop_at : Text → List PlacedToken → List Use → ℕ → Option Use
 loop_at source ps us i =
     if is_loop source ps i then
     list_of (looped source ps i) (known_by_name source ps (i - 1) us)
     else None
 
-abbrev pub in_loops_from : Text → List Piece → List Use → ℕ → List Piece → List Use
+abbrev pub in_loops_from : Text → List PlacedToken → List Use → ℕ → List PlacedToken → List Use
 in_loops_from source ps us i [] = []
 in_loops_from source ps us i (p ∷ rest) =
     option_to_list (loop_at source ps us i) ++ in_loops_from source ps us (i + 1) rest
 
-abbrev pub in_loops : Text → List Piece → List Use → List Use
+abbrev pub in_loops : Text → List PlacedToken → List Use → List Use
 in_loops source ps us = in_loops_from source ps us 0 ps
 
-abbrev pub with_loops : Text → List Piece → List Use → List Use
+abbrev pub with_loops : Text → List PlacedToken → List Use → List Use
 with_loops source ps us = us ++ in_loops source ps us
 
 -- the uses in known calls, followed by the lists that loops go over
-abbrev pub uses_in : Text → List Piece → List Alias → List Use
+abbrev pub uses_in : Text → List PlacedToken → List Alias → List Use
 uses_in source ps aliases = with_loops source ps (in_calls source ps aliases)

@@ -1,6 +1,6 @@
 -- Whether a token is a whole value of what is around it: of an argument, a block, an arm, an array.
 use Rattle.std.specs.Prelude.{ℕ, ◌-◌, Bool, not, ◌&&◌, ◌||◌, if◌then◌else◌, List, codes, bytes_eq}
-use Rattle.timefd_lint_scan.specs.declared.piece.Piece.{Piece}
+use Rattle.timefd_lint_scan.specs.declared.piece.PlacedToken.{PlacedToken}
 use Rattle.timefd_lint_scan.specs.Bytes.{Text}
 use Rattle.timefd_lint_scan.specs.Words.{is_closing, is_opening, text_before, text_after}
 
@@ -11,7 +11,7 @@ is_operator text =
     || bytes_eq text (codes ">") || bytes_eq text (codes "+") || bytes_eq text (codes "|")
 
 -- A value may begin after an opening bracket, `,`, `;`, `}`, `in`, `=>` and `=`.
-abbrev pub begins_value : Text → List Piece → ℕ → Bool
+abbrev pub begins_value : Text → List PlacedToken → ℕ → Bool
 begins_value source ps i =
     is_opening (text_before source ps i 1) || bytes_eq (text_before source ps i 1) (codes ",")
     || bytes_eq (text_before source ps i 1) (codes ";") || bytes_eq (text_before source ps i 1) (codes "}")
@@ -30,7 +30,7 @@ abbrev pub ends : Text → Bool
 ends text = is_closing text || bytes_eq text (codes ",") || bytes_eq text (codes ";")
 
 -- A value may end before a closing bracket, `,` and `;`, or go on with `.as_ref()`.
-abbrev pub ends_value : Text → List Piece → ℕ → Bool
+abbrev pub ends_value : Text → List PlacedToken → ℕ → Bool
 ends_value source ps i =
     ends (text_after source ps i 1)
     || (bytes_eq (text_after source ps i 1) (codes ".") && hands_on (text_after source ps i 2)
@@ -38,14 +38,14 @@ ends_value source ps i =
     && ends (text_after source ps i 5))
 
 -- where a value begins that may be borrowed, `&F`, or dereferenced, `*f`
-abbrev pub borrowed_at : Text → List Piece → ℕ → ℕ
+abbrev pub borrowed_at : Text → List PlacedToken → ℕ → ℕ
 borrowed_at source ps i =
     if bytes_eq (text_before source ps i 1) (codes "&") || bytes_eq (text_before source ps i 1) (codes "*") then i - 1
     else i
 
-abbrev pub is_begun : Text → List Piece → ℕ → Bool
+abbrev pub is_begun : Text → List PlacedToken → ℕ → Bool
 is_begun source ps i = begins_value source ps (borrowed_at source ps i)
 
 -- A token is a whole value.
-abbrev pub is_value : Text → List Piece → ℕ → Bool
+abbrev pub is_value : Text → List PlacedToken → ℕ → Bool
 is_value source ps i = is_begun source ps i && ends_value source ps i

@@ -3,8 +3,8 @@ use Rattle.std.specs.Prelude.{ℕ, ◌≡◌, Bool, true, not, ◌&&◌, ◌==�
 use Rattle.std.specs.List.{list_all}
 use Rattle.timefd_lint_scan.specs.declared.token.Encoding.{Encoding}
 use Rattle.timefd_lint_scan.specs.declared.token.Encoding.TheVariants.{Str, Bytes, C}
-use Rattle.timefd_lint_scan.specs.declared.token.Kind.{Kind}
-use Rattle.timefd_lint_scan.specs.declared.token.Kind.TheVariants.{Escaped, Raw}
+use Rattle.timefd_lint_scan.specs.declared.token.LiteralKind.{LiteralKind}
+use Rattle.timefd_lint_scan.specs.declared.token.LiteralKind.TheVariants.{Escaped, Raw}
 use Rattle.timefd_lint_scan.specs.Bytes.{Text, quote, backslash, carriage_return}
 use Rattle.timefd_lint_scan.specs.After.{hashes}
 use Rattle.timefd_lint_scan.specs.Escapes.{Placed, part_of, unescaped}
@@ -15,12 +15,12 @@ text_alone None = None
 text_alone (Some p) = Some p.text
 
 -- what a body denotes, wherever it is
-abbrev pub text_in : Kind → Text → Option Text
+abbrev pub text_in : LiteralKind → Text → Option Text
 text_in kind body = text_alone (unescaped (length body) kind (length body) body)
 
 -- A body denotes a text, and between its quotes it is the body of a literal by the grammar, whatever
 -- follows.
-pub record IsBodyFor (kind : Kind) (text body : Text) : Type 0 where
+pub record IsBodyFor (kind : LiteralKind) (text body : Text) : Type 0 where
   pub stands : text_in kind body ≡ Some text
   pub closes : (rest : Text) → IsBody kind body (closing kind ++ rest)
 
@@ -46,12 +46,12 @@ closes_nowhere n [] = true
 closes_nowhere n (b ∷ bytes) = not ((b == quote) && nat_le n (hashes bytes)) && closes_nowhere n bytes
 
 -- Whether a literal of this kind can denote a text.
-abbrev pub has_body : Kind → Text → Bool
+abbrev pub has_body : LiteralKind → Text → Bool
 has_body (Escaped e) text = list_all (may_stand e) text
 has_body (Raw e n) text = list_all (may_stand_raw e) text && closes_nowhere n text
 
 -- whether this can be the body of a literal, whatever follows it
-abbrev pub closes : Kind → Text → Bool
+abbrev pub closes : LiteralKind → Text → Bool
 closes (Escaped e) body = is_body body
 closes (Raw e n) body = closes_nowhere n body
 
@@ -78,7 +78,7 @@ abbrev pub AddsPiece : Encoding → ℕ → Text → Text → Type 0
 AddsPiece e b body more = (piece : Text) × Writes e b piece × (more ≡ body ++ piece)
 
 -- One more byte in a literal of this kind: in a raw one as it is, else as a piece that denotes it.
-abbrev pub AddsByte : Kind → ℕ → Text → Text → Type 0
+abbrev pub AddsByte : LiteralKind → ℕ → Text → Text → Type 0
 AddsByte (Escaped e) b body more = AddsPiece e b body more
 AddsByte (Raw e n) b body more = more ≡ body ++ b ∷ []
 

@@ -5,7 +5,7 @@ ghost use Rattle.std.specs.Option.{option_to_list};
 ghost use Rattle.timefd_lint_scan.specs.Aliases as spec;
 
 use crate::dialect::is;
-use crate::piece::Piece;
+use crate::piece::PlacedToken;
 use crate::word::{is_closing, is_opening, text_at, text_of};
 use std::alloc::{AllocError, Global};
 
@@ -13,15 +13,15 @@ use std::alloc::{AllocError, Global};
 #[derive(Clone, Copy)]
 pub struct Alias {
     /// The name.
-    pub name: Piece,
+    pub name: PlacedToken,
     /// The name that it replaces.
-    pub original: Piece,
+    pub original: PlacedToken,
     /// Where the block in which it is valid ends, as a byte index.
     pub until: usize,
 }
 
 /// The tokens after the first one that is this sign; empty if there is no such token.
-pub fn after_first<'a>(source: &[u8], pieces: &'a [Piece], sign: &str) -> &'a [Piece]
+pub fn after_first<'a>(source: &[u8], pieces: &'a [PlacedToken], sign: &str) -> &'a [PlacedToken]
     ensures { result.now ≡ spec.after_first source.now sign.now pieces.now }
 {
     let mut rest = pieces;
@@ -36,7 +36,7 @@ pub fn after_first<'a>(source: &[u8], pieces: &'a [Piece], sign: &str) -> &'a [P
 
 /// Where the block that these tokens begin in ends: at the bracket that closes it, or at the end of
 /// the source.
-fn block_end(source: &[u8], pieces: &[Piece]) -> usize
+fn block_end(source: &[u8], pieces: &[PlacedToken]) -> usize
     ensures { result ≡ spec.block_end source.now 0 pieces.now }
 {
     let mut depth: usize = 0;
@@ -78,7 +78,7 @@ fn ends_import(text: &[u8]) -> bool
 }
 
 /// The alias that these two tokens make. The rest of the tokens follow the second one.
-fn alias_of(source: &[u8], name: Piece, original: Piece, after: &[Piece]) -> Alias
+fn alias_of(source: &[u8], name: PlacedToken, original: PlacedToken, after: &[PlacedToken]) -> Alias
     ensures { result ≡ spec.alias_of source.now name original after.now }
 {
     let until = block_end(source, after_first(source, after, ";"));
@@ -90,7 +90,7 @@ fn alias_of(source: &[u8], name: Piece, original: Piece, after: &[Piece]) -> Ali
 }
 
 /// The alias `original as name`, if `as` follows the original.
-fn renamed(source: &[u8], original: Piece, after: &[Piece]) -> Option<Alias>
+fn renamed(source: &[u8], original: PlacedToken, after: &[PlacedToken]) -> Option<Alias>
     ensures { result ≡ spec.renamed source.now original after.now }
 {
     match after {
@@ -102,7 +102,7 @@ fn renamed(source: &[u8], original: Piece, after: &[Piece]) -> Option<Alias>
 }
 
 /// The alias of an imported name: the name itself, or the one after `as`.
-fn imported(source: &[u8], original: Piece, after: &[Piece]) -> Option<Alias>
+fn imported(source: &[u8], original: PlacedToken, after: &[PlacedToken]) -> Option<Alias>
     ensures { result ≡ spec.imported source.now original after.now }
 {
     if !ends_import(text_at(source, after, 0)) {
@@ -115,7 +115,7 @@ fn imported(source: &[u8], original: Piece, after: &[Piece]) -> Option<Alias>
 }
 
 /// The import of `parse` in this list of names.
-fn parse_in_list(source: &[u8], pieces: &[Piece]) -> Option<Alias>
+fn parse_in_list(source: &[u8], pieces: &[PlacedToken]) -> Option<Alias>
     ensures { result ≡ spec.parse_in_list source.now pieces.now }
 {
     let mut rest = pieces;
@@ -133,7 +133,7 @@ fn parse_in_list(source: &[u8], pieces: &[Piece]) -> Option<Alias>
 }
 
 /// The import of `parse` that follows the path of its module.
-fn parse_after(source: &[u8], pieces: &[Piece]) -> Option<Alias>
+fn parse_after(source: &[u8], pieces: &[PlacedToken]) -> Option<Alias>
     ensures { result ≡ spec.parse_after source.now pieces.now }
 {
     match pieces {
@@ -145,7 +145,7 @@ fn parse_after(source: &[u8], pieces: &[Piece]) -> Option<Alias>
     }
 }
 
-fn parse_or_list(source: &[u8], next: Piece, after: &[Piece]) -> Option<Alias>
+fn parse_or_list(source: &[u8], next: PlacedToken, after: &[PlacedToken]) -> Option<Alias>
     ensures { result ≡ spec.parse_or_list source.now next after.now }
 {
     let text = text_of(source, next);
@@ -159,7 +159,7 @@ fn parse_or_list(source: &[u8], next: Piece, after: &[Piece]) -> Option<Alias>
 }
 
 /// The alias that is declared at a token. The other tokens follow it.
-fn alias_at(source: &[u8], piece: Piece, after: &[Piece]) -> Option<Alias>
+fn alias_at(source: &[u8], piece: PlacedToken, after: &[PlacedToken]) -> Option<Alias>
     ensures { result ≡ spec.alias_at source.now piece after.now }
 {
     let text = text_of(source, piece);
@@ -186,7 +186,11 @@ fn push_any(aliases: &mut Vec<Alias>, alias: Option<Alias>) -> Result<(), AllocE
 }
 
 /// The aliases that a source declares, in order.
-pub fn aliases_of(alloc: Global, source: &[u8], pieces: &[Piece]) -> Result<Vec<Alias>, AllocError>
+pub fn aliases_of(
+    alloc: Global,
+    source: &[u8],
+    pieces: &[PlacedToken],
+) -> Result<Vec<Alias>, AllocError>
     ensures { IfOk result (λ aliases. aliases.items ≡ spec.aliases_in source.now pieces.now) }
 {
     let mut aliases = Vec::new(alloc);
@@ -205,7 +209,12 @@ fn is_named_so(source: &[u8], alias: Alias, name: &[u8], position: usize) -> boo
 }
 
 /// The original of the first alias with this name that is valid at a position.
-pub fn original_of(source: &[u8], aliases: &[Alias], name: &[u8], position: usize) -> Option<Piece>
+pub fn original_of(
+    source: &[u8],
+    aliases: &[Alias],
+    name: &[u8],
+    position: usize,
+) -> Option<PlacedToken>
     ensures { result ≡ spec.original_of source.now name.now position aliases.now }
 {
     let mut rest = aliases;

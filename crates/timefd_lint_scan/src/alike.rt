@@ -6,9 +6,9 @@ ghost use Rattle.timefd_lint_scan.specs.Written.{IsBodyFor, has_body};
 ghost use Rattle.timefd_lint_scan.specs.Written as spec;
 
 use crate::class::is_white;
-use crate::description::Description;
+use crate::description::SourceDescription;
 use crate::literal::{body_end, inside};
-use crate::token::Kind;
+use crate::token::LiteralKind;
 use crate::unescape::unescape;
 use crate::written::{body_for, closes_nowhere, push_byte};
 use memchr::memchr;
@@ -20,7 +20,7 @@ use std::alloc::{AllocError, Global};
 pub fn body_alike(
     alloc: Global,
     source: &str,
-    description: &Description,
+    description: &SourceDescription,
     text: &[u8],
 ) -> Result<Option<Vec<u8>>, AllocError>
     ensures body { IfOk result (λ found. IfSome found (λ body.
@@ -36,7 +36,12 @@ pub fn body_alike(
 }
 
 // Whether this is a body of a literal of this kind, and denotes the text.
-fn is_body_for(alloc: Global, kind: Kind, body: &[u8], text: &[u8]) -> Result<bool, AllocError>
+fn is_body_for(
+    alloc: Global,
+    kind: LiteralKind,
+    body: &[u8],
+    text: &[u8],
+) -> Result<bool, AllocError>
     ensures { IfOk result (λ is. is ≡ true → IsBodyFor kind text.now body.now) }
 {
     if !closes(kind, body) {
@@ -49,12 +54,12 @@ fn is_body_for(alloc: Global, kind: Kind, body: &[u8], text: &[u8]) -> Result<bo
 }
 
 // Whether this can be the body of a literal of this kind, whatever follows it.
-fn closes(kind: Kind, body: &[u8]) -> bool
+fn closes(kind: LiteralKind, body: &[u8]) -> bool
     ensures { result ≡ spec.closes kind body.now }
 {
     match kind {
-        Kind::Escaped(_) => is_body(body),
-        Kind::Raw(_, hash_count) => closes_nowhere(hash_count, body),
+        LiteralKind::Escaped(_) => is_body(body),
+        LiteralKind::Raw(_, hash_count) => closes_nowhere(hash_count, body),
     }
 }
 
@@ -130,7 +135,7 @@ fn between(source: &str, from: usize, to: usize) -> &[u8] {
     source.as_bytes().get(from..to).unwrap_or(&[])
 }
 
-fn old_of<'a>(source: &'a str, description: &'a Description) -> Old<'a> {
+fn old_of<'a>(source: &'a str, description: &'a SourceDescription) -> Old<'a> {
     let end = body_end(description.piece, description.kind);
     let len = match inside(source, description.piece, description.kind) {
         Some(inside) => inside.len(),
@@ -149,7 +154,7 @@ fn old_of<'a>(source: &'a str, description: &'a Description) -> Old<'a> {
 fn respelled(
     alloc: Global,
     source: &str,
-    description: &Description,
+    description: &SourceDescription,
     text: &[u8],
 ) -> Result<Vec<u8>, AllocError> {
     let old = old_of(source, description);
@@ -172,7 +177,7 @@ fn respelled(
     Ok(body)
 }
 
-fn push_all(body: &mut Vec<u8>, kind: Kind, text: &[u8]) -> Result<(), AllocError> {
+fn push_all(body: &mut Vec<u8>, kind: LiteralKind, text: &[u8]) -> Result<(), AllocError> {
     for byte in text {
         push_byte(body, kind, *byte)?;
     }
@@ -191,38 +196,38 @@ fn common_len(text: &[u8], other: &[u8]) -> usize {
 
 // How many bytes are removed from a text, and how many replace them.
 #[derive(Clone, Copy)]
-struct Change {
+struct ByteChange {
     gone: usize,
     come: usize,
 }
 
 // What changes at the front of two texts: a doubled bracket that is escaped instead, a mark that is written
 // before what is wrong, the end of a component, or else a word.
-fn change_between(old: &[u8], new: &[u8]) -> Change {
+fn change_between(old: &[u8], new: &[u8]) -> ByteChange {
     if old.starts_with(b"[[") && new.starts_with(b"\\[") {
-        return Change { gone: 1, come: 1 };
+        return ByteChange { gone: 1, come: 1 };
     }
     match new {
-        [b' ' | b'\\' | b'%', ..] => Change { gone: 0, come: 1 },
+        [b' ' | b'\\' | b'%', ..] => ByteChange { gone: 0, come: 1 },
         [b']', ..] => match memchr(b']', old) {
-            Some(gone) => Change { gone, come: 0 },
-            None => Change { gone: 0, come: 1 },
+            Some(gone) => ByteChange { gone, come: 0 },
+            None => ByteChange { gone: 0, come: 1 },
         },
         _ => word_change(old, new),
     }
 }
 
 // Another word, or at least one more byte.
-fn word_change(old: &[u8], new: &[u8]) -> Change {
+fn word_change(old: &[u8], new: &[u8]) -> ByteChange {
     let gone = word_len(old);
     let come = word_len(new);
     if gone == 0 && come == 0 {
-        Change {
+        ByteChange {
             gone,
             come: new.len().min(1),
         }
     } else {
-        Change { gone, come }
+        ByteChange { gone, come }
     }
 }
 

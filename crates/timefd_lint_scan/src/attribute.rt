@@ -3,13 +3,13 @@
 ghost use Rattle.std.specs.Prelude.{◌≡◌};
 ghost use Rattle.timefd_lint_scan.specs.Attributes as spec;
 
-use crate::dialect::{Dialect, is};
+use crate::dialect::{FormatLanguage, is};
 use crate::known::{Items, Known};
-use crate::piece::Piece;
+use crate::piece::PlacedToken;
 use crate::version::VersionPosition;
 use crate::word::{text_at, text_before};
 
-fn is_in_attribute(source: &[u8], pieces: &[Piece], index: usize) -> bool
+fn is_in_attribute(source: &[u8], pieces: &[PlacedToken], index: usize) -> bool
     ensures { result ≡ spec.is_in_attribute source.now pieces.now index }
 {
     is(text_before(source, pieces, index, 1), "=")
@@ -21,18 +21,18 @@ fn is_in_attribute(source: &[u8], pieces: &[Piece], index: usize) -> bool
 }
 
 /// The language of a literal by its bytes: chrono's if it has a `%`, and version 1 if not.
-fn dialect_by_bytes(literal: &[u8]) -> Dialect
+fn dialect_by_bytes(literal: &[u8]) -> FormatLanguage
     ensures { result ≡ spec.dialect_by_bytes literal.now }
 {
     if literal.contains(&b'%') {
-        Dialect::Chrono
+        FormatLanguage::Chrono
     } else {
-        Dialect::One
+        FormatLanguage::One
     }
 }
 
 /// What an attribute says about a token; `None` if the token isn't in such an attribute.
-pub fn known_by_attribute(source: &[u8], pieces: &[Piece], index: usize) -> Option<Known>
+pub fn known_by_attribute(source: &[u8], pieces: &[PlacedToken], index: usize) -> Option<Known>
     ensures { result ≡ spec.known_by_attribute source.now pieces.now index }
 {
     if is_in_attribute(source, pieces, index) {

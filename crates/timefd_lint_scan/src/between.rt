@@ -7,8 +7,8 @@ ghost use Rattle.timefd_lint_scan.specs.Bytes as spec;
 
 use crate::class::is_continuation;
 use crate::literal::body_end;
-use crate::piece::Piece;
-use crate::token::Kind;
+use crate::piece::PlacedToken;
+use crate::token::LiteralKind;
 use crate::unescape::Unescaped;
 
 // A byte that begins a character has to be on a character boundary of the source.
@@ -36,7 +36,7 @@ pub fn lie_between(source: &str, text: &[u8], positions: &[usize]) -> bool
 }
 
 /// Whether a position is in a token, after its first byte.
-fn is_inside(piece: Piece, position: usize) -> bool
+fn is_inside(piece: PlacedToken, position: usize) -> bool
     ensures so { IsTrue result → IsInside piece position }
     ensures all { IsInside piece position → IsTrue result }
 {
@@ -44,7 +44,7 @@ fn is_inside(piece: Piece, position: usize) -> bool
 }
 
 /// Whether all positions are in a token, after its first byte.
-fn are_inside(piece: Piece, positions: &[usize]) -> bool
+fn are_inside(piece: PlacedToken, positions: &[usize]) -> bool
     ensures so { IsTrue result → AllInside piece positions.now }
     ensures all { AllInside piece positions.now → IsTrue result }
 {
@@ -59,7 +59,12 @@ fn are_inside(piece: Piece, positions: &[usize]) -> bool
 /// Whether a literal, its closing quote and each character that it denotes are on character boundaries of
 /// the source, and all that it denotes is inside of it. This holds of all literals that are found; the
 /// test makes sure.
-pub fn is_between(source: &str, piece: Piece, kind: Kind, unescaped: &Unescaped) -> bool
+pub fn is_between(
+    source: &str,
+    piece: PlacedToken,
+    kind: LiteralKind,
+    unescaped: &Unescaped,
+) -> bool
     ensures so { IsTrue result
         → IsBetween source.now piece kind unescaped.now.text.items unescaped.now.positions.items }
     ensures all { IsBetween source.now piece kind unescaped.now.text.items unescaped.now.positions.items

@@ -4,9 +4,9 @@ ghost use Rattle.std.specs.Prelude.{◌≡◌};
 ghost use Rattle.timefd_lint_scan.specs.Calls as spec;
 
 use crate::alias::{Alias, original_of, real_name};
-use crate::dialect::{Dialect, is, version_named};
+use crate::dialect::{FormatLanguage, is, version_named};
 use crate::known::Known;
-use crate::piece::Piece;
+use crate::piece::PlacedToken;
 use crate::word::{position_at, text_before, text_of};
 
 /// Which arguments of a call are descriptions.
@@ -15,11 +15,11 @@ pub enum Call {
     /// A macro of `time`: the arguments hold a description, and may begin with its version.
     Macro,
     /// The first is a description.
-    First(Dialect),
+    First(FormatLanguage),
     /// The first is an owned description: it may have `[optional ..]` and `[first ..]`.
-    Owned(Dialect),
+    Owned(FormatLanguage),
     /// The second is a description.
-    Second(Dialect),
+    Second(FormatLanguage),
     /// The first is a description of chrono if it looks like a date format: `format` is a common name.
     Format,
     /// None is known to be a description.
@@ -36,7 +36,7 @@ pub enum Argument {
 
 /// An open bracket.
 #[derive(Clone, Copy)]
-pub struct Frame {
+pub struct OpenBracket {
     /// The index of its token.
     pub opened: usize,
     /// The call whose arguments it holds.
@@ -52,7 +52,7 @@ pub struct Frame {
 }
 
 /// The call whose arguments are in the bracket that this token opens, with these aliases declared.
-pub fn call_of(source: &[u8], pieces: &[Piece], aliases: &[Alias], opening: usize) -> Call
+pub fn call_of(source: &[u8], pieces: &[PlacedToken], aliases: &[Alias], opening: usize) -> Call
     ensures { result ≡ spec.call_of source.now pieces.now aliases.now opening }
 {
     let position = position_at(pieces, opening);
@@ -87,13 +87,13 @@ fn call_imported(name: &[u8]) -> Call
     ensures { result ≡ spec.call_imported name.now }
 {
     if is(name, "parse") {
-        Call::First(Dialect::One)
+        Call::First(FormatLanguage::One)
     } else {
         call_named(name)
     }
 }
 
-fn is_after_path(source: &[u8], pieces: &[Piece], opening: usize) -> bool
+fn is_after_path(source: &[u8], pieces: &[PlacedToken], opening: usize) -> bool
     ensures { result ≡ spec.is_after_path source.now pieces.now opening }
 {
     is(text_before(source, pieces, opening, 2), ":")
@@ -117,11 +117,11 @@ fn method_named(name: &[u8]) -> Call
     if is(name, "format") {
         Call::Format
     } else if is(name, "format_localized") {
-        Call::First(Dialect::Chrono)
+        Call::First(FormatLanguage::Chrono)
     } else if is(name, "strftime") {
-        Call::First(Dialect::Jiff)
+        Call::First(FormatLanguage::Jiff)
     } else if is_of_chrono(name) {
-        Call::Second(Dialect::Chrono)
+        Call::Second(FormatLanguage::Chrono)
     } else {
         Call::Other
     }
@@ -131,13 +131,13 @@ fn call_in_module(name: &[u8], path: &[u8]) -> Call
     ensures { result ≡ spec.call_in_module name.now path.now }
 {
     if is(name, "parse") && is(path, "format_description") {
-        Call::First(Dialect::One)
+        Call::First(FormatLanguage::One)
     } else if is(name, "format") && is_type_of_chrono(path) {
-        Call::Second(Dialect::Chrono)
+        Call::Second(FormatLanguage::Chrono)
     } else if is_new(name) && is_items_of_chrono(path) {
-        Call::First(Dialect::Chrono)
+        Call::First(FormatLanguage::Chrono)
     } else if is_of_jiff(name, path) {
-        Call::First(Dialect::Jiff)
+        Call::First(FormatLanguage::Jiff)
     } else {
         call_named(name)
     }
@@ -196,7 +196,7 @@ fn takes_version(name: &[u8]) -> bool
 }
 
 /// The call of a parser that takes a version, for a description in this language.
-fn parser_named(name: &[u8], dialect: Dialect) -> Call
+fn parser_named(name: &[u8], dialect: FormatLanguage) -> Call
     ensures { result ≡ spec.parser_named name.now dialect }
 {
     if is(name, "parse_owned") {
@@ -222,17 +222,17 @@ fn call_named(name: &[u8]) -> Call
     ensures { result ≡ spec.call_named name.now }
 {
     if takes_version(name) {
-        parser_named(name, Dialect::One)
+        parser_named(name, FormatLanguage::One)
     } else if is_of_strftime(name) {
-        Call::First(Dialect::Strftime)
+        Call::First(FormatLanguage::Strftime)
     } else if is_of_chrono(name) {
-        Call::Second(Dialect::Chrono)
+        Call::Second(FormatLanguage::Chrono)
     } else {
         Call::Other
     }
 }
 
-fn is_turbofish(source: &[u8], pieces: &[Piece], opening: usize) -> bool
+fn is_turbofish(source: &[u8], pieces: &[PlacedToken], opening: usize) -> bool
     ensures { result ≡ spec.is_turbofish source.now pieces.now opening }
 {
     is(text_before(source, pieces, opening, 3), "<")
@@ -240,7 +240,7 @@ fn is_turbofish(source: &[u8], pieces: &[Piece], opening: usize) -> bool
         && is(text_before(source, pieces, opening, 5), ":")
 }
 
-fn parser_by(name: &[u8], dialect: Option<Dialect>) -> Call
+fn parser_by(name: &[u8], dialect: Option<FormatLanguage>) -> Call
     ensures { result ≡ spec.parser_by name.now dialect }
 {
     match dialect {
@@ -250,7 +250,12 @@ fn parser_by(name: &[u8], dialect: Option<Dialect>) -> Call
 }
 
 /// A call with a version after its name: `parse_borrowed::<2>(`.
-fn call_with_version(source: &[u8], pieces: &[Piece], aliases: &[Alias], opening: usize) -> Call
+fn call_with_version(
+    source: &[u8],
+    pieces: &[PlacedToken],
+    aliases: &[Alias],
+    opening: usize,
+) -> Call
     ensures { result ≡ spec.call_with_version source.now pieces.now aliases.now opening }
 {
     let name = text_before(source, pieces, opening, 6);

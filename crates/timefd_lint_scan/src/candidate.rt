@@ -4,27 +4,27 @@ ghost use Rattle.std.specs.Prelude.{◌≡◌, ◌++◌, OnOk};
 ghost use Rattle.timefd_lint_scan.specs.Candidates as spec;
 
 use crate::attribute::known_by_attribute;
-use crate::calls::Frame;
-use crate::dialect::Dialect;
+use crate::calls::OpenBracket;
+use crate::dialect::FormatLanguage;
 use crate::flow::known_of;
 use crate::known::{Items, Known, reported_in};
-use crate::piece::Piece;
-use crate::token::{Kind, Token};
+use crate::piece::PlacedToken;
+use crate::token::{LiteralKind, Token};
 use crate::version::VersionPosition;
 use std::alloc::AllocError;
 
 /// A literal that is a description if its text can be one.
 #[derive(Clone, Copy)]
-pub struct Candidate {
+pub struct CandidateLiteral {
     /// The literal.
-    pub piece: Piece,
+    pub piece: PlacedToken,
     /// How it is written.
-    pub kind: Kind,
+    pub kind: LiteralKind,
     /// What is known about it.
     pub known: Known,
 }
 
-fn kind_of(token: Token) -> Option<Kind>
+fn kind_of(token: Token) -> Option<LiteralKind>
     ensures { result ≡ spec.kind_of token }
 {
     match token {
@@ -55,7 +55,7 @@ fn is_significant(token: Token) -> bool
 }
 
 /// Adds a token, if it is neither white nor a comment. An `Err` says that memory ran out.
-pub fn keep(kept: &mut Vec<Piece>, piece: Piece) -> Result<(), AllocError>
+pub fn keep(kept: &mut Vec<PlacedToken>, piece: PlacedToken) -> Result<(), AllocError>
     ensures { OnOk result (kept.new.items ≡ kept.old.items ++ spec.kept piece) }
 {
     if is_significant(piece.token) {
@@ -64,7 +64,7 @@ pub fn keep(kept: &mut Vec<Piece>, piece: Piece) -> Result<(), AllocError>
     Ok(())
 }
 
-fn by_comment(dialect: Option<Dialect>) -> Option<Known>
+fn by_comment(dialect: Option<FormatLanguage>) -> Option<Known>
     ensures { result ≡ spec.by_comment dialect }
 {
     match dialect {
@@ -79,11 +79,15 @@ fn by_comment(dialect: Option<Dialect>) -> Option<Known>
     }
 }
 
-fn candidate_from(piece: Piece, kind: Option<Kind>, known: Option<Known>) -> Option<Candidate>
+fn candidate_from(
+    piece: PlacedToken,
+    kind: Option<LiteralKind>,
+    known: Option<Known>,
+) -> Option<CandidateLiteral>
     ensures { result ≡ spec.candidate_from piece kind known }
 {
     match (kind, known) {
-        (Some(kind), Some(known)) => Some(Candidate { piece, kind, known }),
+        (Some(kind), Some(known)) => Some(CandidateLiteral { piece, kind, known }),
         (Some(_), None) | (None, _) => None,
     }
 }
@@ -92,12 +96,12 @@ fn candidate_from(piece: Piece, kind: Option<Kind>, known: Option<Known>) -> Opt
 /// is in, then what its value is passed to, then its attribute.
 pub fn candidate_at(
     source: &[u8],
-    pieces: &[Piece],
+    pieces: &[PlacedToken],
     index: usize,
-    piece: Piece,
-    frame: Option<Frame>,
-    dialect: Option<Dialect>,
-) -> Option<Candidate>
+    piece: PlacedToken,
+    frame: Option<OpenBracket>,
+    dialect: Option<FormatLanguage>,
+) -> Option<CandidateLiteral>
     ensures { result ≡ spec.candidate_at source.now pieces.now index piece frame dialect }
 {
     let known = by_comment(dialect).or(reported_in(source, pieces, index, frame));

@@ -4,7 +4,7 @@ ghost use Rattle.std.specs.Prelude.{◌≡◌, ◌≤◌, length, MatchOption, �
 ghost use Rattle.timefd_lint_scan.specs.Bytes.{seen};
 ghost use Rattle.timefd_lint_scan.specs.After as spec;
 
-use crate::class::{Class, after_run};
+use crate::class::{ByteSet, after_run};
 
 fn after_apostrophe(text: &[u8]) -> Option<&[u8]>
     ensures rest { seen result ≡ spec.after_apostrophe text.now }
@@ -22,7 +22,7 @@ fn after_quoted_escape(text: &[u8]) -> Option<&[u8]>
 {
     match text {
         [] => None,
-        [_, after @ ..] => after_apostrophe(after_run(Class::Quoted, after)),
+        [_, after @ ..] => after_apostrophe(after_run(ByteSet::Quoted, after)),
     }
 }
 
@@ -36,6 +36,6 @@ pub fn after_character(text: &[u8]) -> Option<&[u8]>
         [] => None,
         [b'\\', after @ ..] => after_quoted_escape(after),
         [b'\'', ..] => None,
-        [_, after @ ..] => after_apostrophe(after_run(Class::Continuation, after)),
+        [_, after @ ..] => after_apostrophe(after_run(ByteSet::Continuation, after)),
     }
 }

@@ -7,7 +7,7 @@ ghost use Rattle.timefd_lint_scan.specs.After.{after_run};
 
 /// A set of bytes.
 #[derive(Clone, Copy)]
-pub enum Class {
+pub enum ByteSet {
     /// White bytes.
     White,
     /// Blanks and line ends: the white bytes that a backslash at the end of a line skips.
@@ -90,26 +90,26 @@ pub fn is_continuation(byte: u8) -> bool
     128 <= byte && byte <= 191
 }
 
-fn is_in(class: Class, byte: u8) -> bool
+fn is_in(class: ByteSet, byte: u8) -> bool
     ensures { result ≡ class_test class byte }
 {
     match class {
-        Class::White => is_white(byte),
-        Class::Skipped => is_skipped(byte),
-        Class::Blank => is_blank(byte),
-        Class::Word => is_word(byte),
-        Class::Bare => is_bare(byte),
-        Class::Aside => is_aside(byte),
-        Class::Line => byte != b'\n',
-        Class::Hash => byte == b'#',
-        Class::Continuation => is_continuation(byte),
-        Class::Unquoted => byte != b'"',
-        Class::Quoted => !(byte == b'\'' || byte == b'\n'),
+        ByteSet::White => is_white(byte),
+        ByteSet::Skipped => is_skipped(byte),
+        ByteSet::Blank => is_blank(byte),
+        ByteSet::Word => is_word(byte),
+        ByteSet::Bare => is_bare(byte),
+        ByteSet::Aside => is_aside(byte),
+        ByteSet::Line => byte != b'\n',
+        ByteSet::Hash => byte == b'#',
+        ByteSet::Continuation => is_continuation(byte),
+        ByteSet::Unquoted => byte != b'"',
+        ByteSet::Quoted => !(byte == b'\'' || byte == b'\n'),
     }
 }
 
 /// What follows the longest run of the class at the front.
-pub fn after_run(class: Class, text: &[u8]) -> &[u8]
+pub fn after_run(class: ByteSet, text: &[u8]) -> &[u8]
     ensures rest { result.now ≡ after_run (class_test class) text.now }
     ensures within { length result.now ≤ length text.now }
 {

@@ -5,20 +5,20 @@ ghost use Rattle.std.specs.Option.{option_to_list};
 ghost use Rattle.timefd_lint_scan.specs.Candidates.{candidates_by};
 ghost use Rattle.timefd_lint_scan.specs.Escapes.{placed};
 ghost use Rattle.timefd_lint_scan.specs.Found.{AreDescribed, IsAnyDescribed, IsDescribed, IsOfText, begun_after, end_after};
-ghost use Rattle.timefd_lint_scan.specs.Uses.{AreFurthest};
+ghost use Rattle.timefd_lint_scan.specs.FoundUses.{IsFound};
 
 use crate::alias::Alias;
 use crate::between::is_between;
-use crate::candidate::{Candidate, candidate_at};
+use crate::candidate::{CandidateLiteral, candidate_at};
 use crate::dates::is_of_dates;
-use crate::dialect::Dialect;
+use crate::dialect::FormatLanguage;
 use crate::flow::outermost;
 use crate::frames::{innermost, pass};
 use crate::known::Items;
 use crate::literal::literal_text;
-use crate::marks::{Mark, reported_at, still_open};
-use crate::piece::Piece;
-use crate::token::Kind;
+use crate::marks::{LanguageMark, reported_at, still_open};
+use crate::piece::PlacedToken;
+use crate::token::LiteralKind;
 use crate::unescape::Unescaped;
 use crate::uses::Uses;
 use crate::version::{VersionPosition, first_position, tested};
@@ -26,13 +26,13 @@ use std::alloc::{AllocError, Global};
 
 /// A description that is a string literal of a source.
 #[derive(Drop)]
-pub struct Description {
+pub struct SourceDescription {
     /// The literal.
-    pub piece: Piece,
+    pub piece: PlacedToken,
     /// How it is written.
-    pub kind: Kind,
+    pub kind: LiteralKind,
     /// The language.
-    pub dialect: Dialect,
+    pub dialect: FormatLanguage,
     /// What it may hold.
     pub items: Items,
     /// Where the source says the version.
@@ -45,17 +45,21 @@ pub struct Description {
 }
 
 /// The description of a literal that denotes this text; `None` if a date format is wanted and this isn't one.
-fn of_text(source: &str, candidate: Candidate, unescaped: Unescaped) -> Option<Description>
+fn of_text(
+    source: &str,
+    candidate: CandidateLiteral,
+    unescaped: Unescaped,
+) -> Option<SourceDescription>
     ensures { IsOfText source.now candidate (Some (placed unescaped)) result }
 {
-    let Candidate { piece, kind, known } = candidate;
+    let CandidateLiteral { piece, kind, known } = candidate;
     if known.wants_percent && !is_of_dates(&unescaped.text) {
         return None;
     }
     if !is_between(source, piece, kind, &unescaped) {
         return None;
     }
-    Some(Description {
+    Some(SourceDescription {
         piece,
         kind,
         dialect: known.dialect,
@@ -70,8 +74,8 @@ fn of_text(source: &str, candidate: Candidate, unescaped: Unescaped) -> Option<D
 fn described(
     alloc: Global,
     source: &str,
-    candidate: Candidate,
-) -> Result<Option<Description>, AllocError>
+    candidate: CandidateLiteral,
+) -> Result<Option<SourceDescription>, AllocError>
     ensures { IfOk result (IsDescribed source.now candidate) }
 {
     match literal_text(alloc, source, candidate.piece, candidate.kind)? {
@@ -83,8 +87,8 @@ fn described(
 fn described_any(
     alloc: Global,
     source: &str,
-    candidate: Option<Candidate>,
-) -> Result<Option<Description>, AllocError>
+    candidate: Option<CandidateLiteral>,
+) -> Result<Option<SourceDescription>, AllocError>
     ensures { IfOk result (IsAnyDescribed source.now candidate) }
 {
     match candidate {
@@ -97,8 +101,8 @@ fn described_any(
 /// All descriptions that are found begin after the others; the test makes sure. An `Err` says that memory ran
 /// out.
 pub fn push_any(
-    descriptions: &mut Vec<Description>,
-    found: Option<Description>,
+    descriptions: &mut Vec<SourceDescription>,
+    found: Option<SourceDescription>,
     end: usize,
 ) -> Result<usize, AllocError>
     ensures pushed { OnOk result (descriptions.new.items
@@ -123,12 +127,12 @@ pub fn push_any(
 pub fn described_by(
     alloc: Global,
     source: &str,
-    pieces: &[Piece],
+    pieces: &[PlacedToken],
     aliases: &[Alias],
     uses: Uses<'_>,
-    marks: &[Mark],
-) -> Result<Vec<Description>, AllocError>
-    requires { AreFurthest uses.list.now uses.furthest.now }
+    marks: &[LanguageMark],
+) -> Result<Vec<SourceDescription>, AllocError>
+    requires { IsFound source.now pieces.now uses }
     ensures { IfOk result (λ found. AreDescribed source.now 0
         (candidates_by source.now pieces.now aliases.now uses.entry.list.now marks.now) found.items) }
 {

@@ -6,7 +6,7 @@ ghost use Rattle.timefd_lint_scan.specs.Dialects as spec;
 /// The language of a description: a version of the language of `time`, its strftime, or the formats of
 /// another language or library.
 #[derive(Clone, Copy, Debug, PartialEq, Eq)]
-pub enum Dialect {
+pub enum FormatLanguage {
     One,
     Two,
     Three,
@@ -39,75 +39,75 @@ pub fn is(word: &[u8], name: &str) -> bool
 }
 
 /// The language that the bytes of a word name.
-pub fn dialect_of_word(word: &[u8]) -> Option<Dialect>
+pub fn dialect_of_word(word: &[u8]) -> Option<FormatLanguage>
     ensures { result ≡ spec.dialect_named word.now }
 {
     if is(word, "1") {
-        Some(Dialect::One)
+        Some(FormatLanguage::One)
     } else if is(word, "2") {
-        Some(Dialect::Two)
+        Some(FormatLanguage::Two)
     } else if is(word, "3") {
-        Some(Dialect::Three)
+        Some(FormatLanguage::Three)
     } else if is(word, "strftime") {
-        Some(Dialect::Strftime)
+        Some(FormatLanguage::Strftime)
     } else {
         other_of_word(word)
     }
 }
 
 // The language or library of formats that aren't `time`'s that the bytes of a word name.
-fn other_of_word(word: &[u8]) -> Option<Dialect>
+fn other_of_word(word: &[u8]) -> Option<FormatLanguage>
     ensures { result ≡ spec.other_named word.now }
 {
     if is(word, "python") {
-        Some(Dialect::Python)
+        Some(FormatLanguage::Python)
     } else if is(word, "c") {
-        Some(Dialect::C)
+        Some(FormatLanguage::C)
     } else if is(word, "gnu") {
-        Some(Dialect::Gnu)
+        Some(FormatLanguage::Gnu)
     } else if is(word, "chrono") {
-        Some(Dialect::Chrono)
+        Some(FormatLanguage::Chrono)
     } else if is(word, "jiff") {
-        Some(Dialect::Jiff)
+        Some(FormatLanguage::Jiff)
     } else if is(word, "ruby") {
-        Some(Dialect::Ruby)
+        Some(FormatLanguage::Ruby)
     } else if is(word, "java") {
-        Some(Dialect::Java)
+        Some(FormatLanguage::Java)
     } else if is(word, "go") {
-        Some(Dialect::Go)
+        Some(FormatLanguage::Go)
     } else if is(word, "moment") {
-        Some(Dialect::Moment)
+        Some(FormatLanguage::Moment)
     } else {
         None
     }
 }
 
 /// The language that a word names: `1`, `2`, `3`, `strftime`, or one of the other languages and libraries, like `java`.
-pub fn dialect_named(word: &str) -> Option<Dialect>
+pub fn dialect_named(word: &str) -> Option<FormatLanguage>
     ensures { result ≡ spec.dialect_named word.now }
 {
     dialect_of_word(word.as_bytes())
 }
 
 /// The version that a number names.
-pub fn version_named(word: &[u8]) -> Option<Dialect>
+pub fn version_named(word: &[u8]) -> Option<FormatLanguage>
     ensures { result ≡ spec.version_named word.now }
 {
     match dialect_of_word(word) {
-        Some(Dialect::One) => Some(Dialect::One),
-        Some(Dialect::Two) => Some(Dialect::Two),
-        Some(Dialect::Three) => Some(Dialect::Three),
+        Some(FormatLanguage::One) => Some(FormatLanguage::One),
+        Some(FormatLanguage::Two) => Some(FormatLanguage::Two),
+        Some(FormatLanguage::Three) => Some(FormatLanguage::Three),
         Some(
-            Dialect::Strftime
-            | Dialect::Python
-            | Dialect::C
-            | Dialect::Gnu
-            | Dialect::Chrono
-            | Dialect::Jiff
-            | Dialect::Ruby
-            | Dialect::Java
-            | Dialect::Go
-            | Dialect::Moment,
+            FormatLanguage::Strftime
+            | FormatLanguage::Python
+            | FormatLanguage::C
+            | FormatLanguage::Gnu
+            | FormatLanguage::Chrono
+            | FormatLanguage::Jiff
+            | FormatLanguage::Ruby
+            | FormatLanguage::Java
+            | FormatLanguage::Go
+            | FormatLanguage::Moment,
         )
         | None => None,
     }

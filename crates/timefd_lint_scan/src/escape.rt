@@ -4,10 +4,10 @@ ghost use Rattle.std.specs.Prelude.{◌≡◌, ◌≤◌, ◌<◌, length, Match
 ghost use Rattle.timefd_lint_scan.specs.Escapes as spec;
 ghost use Rattle.timefd_lint_scan.specs.Escapes.{parted, parted_any};
 
-use crate::class::{Class, after_run};
+use crate::class::{ByteSet, after_run};
 use crate::number::{hex_digit, next_value};
-use crate::part::{Part, Stands, character};
-use crate::token::{Encoding, Kind};
+use crate::part::{Stands, StringPart, character};
+use crate::token::{Encoding, LiteralKind};
 
 fn letter(byte: u8) -> Option<u8>
     ensures { result ≡ spec.letter byte }
@@ -33,12 +33,12 @@ fn is_allowed(encoding: Encoding, value: u8) -> bool
     }
 }
 
-fn byte_value(encoding: Encoding, value: u8, rest: &[u8]) -> Option<Part<'_>>
+fn byte_value(encoding: Encoding, value: u8, rest: &[u8]) -> Option<StringPart<'_>>
     ensures part { parted_any result ≡ spec.byte_value encoding value rest.now }
     ensures within { MatchOption result ⊤ (λ part. length part.rest.now ≤ length rest.now) }
 {
     if is_allowed(encoding, value) {
-        Some(Part {
+        Some(StringPart {
             stands: Stands::Byte(value),
             rest,
         })
@@ -47,7 +47,7 @@ fn byte_value(encoding: Encoding, value: u8, rest: &[u8]) -> Option<Part<'_>>
     }
 }
 
-fn low_by(encoding: Encoding, high: u8, rest: &[u8], low: Option<u8>) -> Option<Part<'_>>
+fn low_by(encoding: Encoding, high: u8, rest: &[u8], low: Option<u8>) -> Option<StringPart<'_>>
     requires high { high < 16 }
     requires low { MatchOption low ⊤ (λ low. low < 16) }
     ensures part { parted_any result ≡ spec.low_by encoding high rest.now low }
@@ -59,7 +59,7 @@ fn low_by(encoding: Encoding, high: u8, rest: &[u8], low: Option<u8>) -> Option<
     }
 }
 
-fn low_digit(encoding: Encoding, high: u8, text: &[u8]) -> Option<Part<'_>>
+fn low_digit(encoding: Encoding, high: u8, text: &[u8]) -> Option<StringPart<'_>>
     requires { high < 16 }
     ensures part { parted_any result ≡ spec.low_digit encoding high text.now }
     ensures within { MatchOption result ⊤ (λ part. length part.rest.now ≤ length text.now) }
@@ -70,7 +70,7 @@ fn low_digit(encoding: Encoding, high: u8, text: &[u8]) -> Option<Part<'_>>
     }
 }
 
-fn high_by(encoding: Encoding, rest: &[u8], high: Option<u8>) -> Option<Part<'_>>
+fn high_by(encoding: Encoding, rest: &[u8], high: Option<u8>) -> Option<StringPart<'_>>
     requires { MatchOption high ⊤ (λ high. high < 16) }
     ensures part { parted_any result ≡ spec.high_by encoding rest.now high }
     ensures within { MatchOption result ⊤ (λ part. length part.rest.now ≤ length rest.now) }
@@ -81,7 +81,7 @@ fn high_by(encoding: Encoding, rest: &[u8], high: Option<u8>) -> Option<Part<'_>
     }
 }
 
-fn byte_of(encoding: Encoding, text: &[u8]) -> Option<Part<'_>>
+fn byte_of(encoding: Encoding, text: &[u8]) -> Option<StringPart<'_>>
     ensures part { parted_any result ≡ spec.byte_of encoding text.now }
     ensures within { MatchOption result ⊤ (λ part. length part.rest.now ≤ length text.now) }
 {
@@ -91,7 +91,7 @@ fn byte_of(encoding: Encoding, text: &[u8]) -> Option<Part<'_>>
     }
 }
 
-fn digits(first: Option<u32>, text: &[u8]) -> Option<Part<'_>>
+fn digits(first: Option<u32>, text: &[u8]) -> Option<StringPart<'_>>
     requires { MatchOption first ⊤ (λ value. value ≤ 1114111) }
     ensures part { parted_any result ≡ spec.digits first text.now }
     ensures within { MatchOption result ⊤ (λ part. length part.rest.now ≤ length text.now) }
@@ -121,7 +121,7 @@ fn first_value(digit: Option<u8>) -> Option<u32>
     }
 }
 
-fn first_digit(text: &[u8]) -> Option<Part<'_>>
+fn first_digit(text: &[u8]) -> Option<StringPart<'_>>
     ensures part { parted_any result ≡ spec.first_digit text.now }
     ensures within { MatchOption result ⊤ (λ part. length part.rest.now ≤ length text.now) }
 {
@@ -131,7 +131,7 @@ fn first_digit(text: &[u8]) -> Option<Part<'_>>
     }
 }
 
-fn scalar_of(text: &[u8]) -> Option<Part<'_>>
+fn scalar_of(text: &[u8]) -> Option<StringPart<'_>>
     ensures part { parted_any result ≡ spec.scalar_of text.now }
     ensures within { MatchOption result ⊤ (λ part. length part.rest.now ≤ length text.now) }
 {
@@ -165,12 +165,17 @@ fn ends_line(byte: u8, after: &[u8]) -> bool
     byte == b'\n' || byte == b'\r' && begins_line_feed(after)
 }
 
-fn escape_by(encoding: Encoding, byte: u8, after: &[u8], letter: Option<u8>) -> Option<Part<'_>>
+fn escape_by(
+    encoding: Encoding,
+    byte: u8,
+    after: &[u8],
+    letter: Option<u8>,
+) -> Option<StringPart<'_>>
     ensures part { parted_any result ≡ spec.escape_by encoding byte after.now letter }
     ensures within { MatchOption result ⊤ (λ part. length part.rest.now ≤ length after.now) }
 {
     if let Some(c) = letter {
-        return Some(Part {
+        return Some(StringPart {
             stands: Stands::Byte(c),
             rest: after,
         });
@@ -182,15 +187,15 @@ fn escape_by(encoding: Encoding, byte: u8, after: &[u8], letter: Option<u8>) -> 
         return scalar_of(after);
     }
     if ends_line(byte, after) {
-        return Some(Part {
+        return Some(StringPart {
             stands: Stands::Nothing,
-            rest: after_run(Class::Skipped, after),
+            rest: after_run(ByteSet::Skipped, after),
         });
     }
     None
 }
 
-fn escape(encoding: Encoding, text: &[u8]) -> Option<Part<'_>>
+fn escape(encoding: Encoding, text: &[u8]) -> Option<StringPart<'_>>
     ensures part { parted_any result ≡ spec.escape encoding text.now }
     ensures within { MatchOption result ⊤ (λ part. length part.rest.now ≤ length text.now) }
 {
@@ -200,17 +205,17 @@ fn escape(encoding: Encoding, text: &[u8]) -> Option<Part<'_>>
     }
 }
 
-fn itself(byte: u8, after: &[u8]) -> Part<'_>
+fn itself(byte: u8, after: &[u8]) -> StringPart<'_>
     ensures part { parted result ≡ spec.itself byte after.now }
     ensures within { length result.rest.now ≤ length after.now }
 {
     if byte == b'\r' && begins_line_feed(after) {
-        Part {
+        StringPart {
             stands: Stands::Nothing,
             rest: after,
         }
     } else {
-        Part {
+        StringPart {
             stands: Stands::Byte(byte),
             rest: after,
         }
@@ -218,18 +223,18 @@ fn itself(byte: u8, after: &[u8]) -> Part<'_>
 }
 
 /// The part of a body that begins with this byte; `None` if it is an invalid escape.
-pub fn part_of(kind: Kind, byte: u8, after: &[u8]) -> Option<Part<'_>>
+pub fn part_of(kind: LiteralKind, byte: u8, after: &[u8]) -> Option<StringPart<'_>>
     ensures part { parted_any result ≡ spec.part_of kind byte after.now }
     ensures within { MatchOption result ⊤ (λ part. length part.rest.now ≤ length after.now) }
 {
     match kind {
-        Kind::Escaped(encoding) => {
+        LiteralKind::Escaped(encoding) => {
             if byte == b'\\' {
                 escape(encoding, after)
             } else {
                 Some(itself(byte, after))
             }
         }
-        Kind::Raw(_, _) => Some(itself(byte, after)),
+        LiteralKind::Raw(_, _) => Some(itself(byte, after)),
     }
 }

@@ -2,39 +2,39 @@
 
 ghost use Rattle.std.specs.Prelude.{◌≡◌, None};
 ghost use Rattle.timefd_lint_scan.specs.Flows as spec;
-ghost use Rattle.timefd_lint_scan.specs.Uses.{AreFurthest};
+ghost use Rattle.timefd_lint_scan.specs.FoundUses.{IsFound};
 
 use crate::alias::Alias;
-use crate::calls::{Argument, Call, Frame, call_of};
+use crate::calls::{Argument, Call, OpenBracket, call_of};
 use crate::dialect::is;
 use crate::known::{Known, known_by_call};
-use crate::piece::Piece;
+use crate::piece::PlacedToken;
 use crate::uses::{Uses, known_by_name};
 use crate::value::{is_operator, is_value};
 use crate::word::{is_word_at, text_after, text_at, text_before};
 
 /// What is known about a value that is a whole argument, or the last one of a block.
-fn reported_of_value(frame: Frame) -> Option<Known>
+fn reported_of_value(frame: OpenBracket) -> Option<Known>
     ensures { result ≡ spec.reported_of_value frame }
 {
     known_by_call(frame.call, frame.argument).or(frame.passes)
 }
 
 /// A bracket after the end of a statement, an arm or an argument.
-pub fn settled(frame: Frame) -> Frame
+pub fn settled(frame: OpenBracket) -> OpenBracket
     ensures { result ≡ spec.settled frame }
 {
-    Frame {
+    OpenBracket {
         pending: reported_of_value(frame),
         name: None,
         ..frame
     }
 }
 
-fn with_pending(frame: Frame, pending: Option<Known>) -> Frame
+fn with_pending(frame: OpenBracket, pending: Option<Known>) -> OpenBracket
     ensures { result ≡ spec.with_pending frame pending }
 {
-    Frame {
+    OpenBracket {
         pending,
         name: None,
         ..frame
@@ -42,7 +42,12 @@ fn with_pending(frame: Frame, pending: Option<Known>) -> Frame
 }
 
 /// A colon is followed by a type, or the value of a field.
-fn after_colon(source: &[u8], pieces: &[Piece], index: usize, frame: Frame) -> Frame
+fn after_colon(
+    source: &[u8],
+    pieces: &[PlacedToken],
+    index: usize,
+    frame: OpenBracket,
+) -> OpenBracket
     ensures { result ≡ spec.after_colon source.now pieces.now index frame }
 {
     if is(text_before(source, pieces, index, 1), ":")
@@ -50,7 +55,7 @@ fn after_colon(source: &[u8], pieces: &[Piece], index: usize, frame: Frame) -> F
     {
         frame
     } else {
-        Frame {
+        OpenBracket {
             pending: None,
             ..frame
         }
@@ -62,12 +67,12 @@ fn after_colon(source: &[u8], pieces: &[Piece], index: usize, frame: Frame) -> F
 /// whole expression.
 fn assigned(
     source: &[u8],
-    pieces: &[Piece],
+    pieces: &[PlacedToken],
     uses: Uses<'_>,
     index: usize,
-    frame: Frame,
+    frame: OpenBracket,
 ) -> Option<Known>
-    requires { AreFurthest uses.list.now uses.furthest.now }
+    requires { IsFound source.now pieces.now uses }
     ensures { result ≡ spec.assigned source.now pieces.now uses.entry.list.now index frame }
 {
     match frame.name {
@@ -79,12 +84,12 @@ fn assigned(
 
 fn after_equals_sign(
     source: &[u8],
-    pieces: &[Piece],
+    pieces: &[PlacedToken],
     uses: Uses<'_>,
     index: usize,
-    frame: Frame,
-) -> Frame
-    requires { AreFurthest uses.list.now uses.furthest.now }
+    frame: OpenBracket,
+) -> OpenBracket
+    requires { IsFound source.now pieces.now uses }
     ensures { result ≡ spec.after_equals_sign source.now pieces.now uses.entry.list.now index frame }
 {
     if is(text_after(source, pieces, index, 1), ">") {
@@ -106,7 +111,7 @@ fn is_condition(text: &[u8]) -> bool
 }
 
 /// Whether a token is the name of a constant, or of a variable.
-fn names_value(source: &[u8], pieces: &[Piece], index: usize) -> bool
+fn names_value(source: &[u8], pieces: &[PlacedToken], index: usize) -> bool
     ensures { result ≡ spec.names_value source.now pieces.now index }
 {
     let before = text_before(source, pieces, index, 1);
@@ -116,8 +121,14 @@ fn names_value(source: &[u8], pieces: &[Piece], index: usize) -> bool
 }
 
 /// The bracket after a word: `let`, the name of an item or of a variable, `in`.
-fn after_word(source: &[u8], pieces: &[Piece], uses: Uses<'_>, index: usize, frame: Frame) -> Frame
-    requires { AreFurthest uses.list.now uses.furthest.now }
+fn after_word(
+    source: &[u8],
+    pieces: &[PlacedToken],
+    uses: Uses<'_>,
+    index: usize,
+    frame: OpenBracket,
+) -> OpenBracket
+    requires { IsFound source.now pieces.now uses }
     ensures { result ≡ spec.after_word source.now pieces.now uses.entry.list.now index frame }
 {
     let text = text_at(source, pieces, index);
@@ -127,7 +138,7 @@ fn after_word(source: &[u8], pieces: &[Piece], uses: Uses<'_>, index: usize, fra
     } else if is(before, "fn") {
         with_pending(frame, known_by_name(source, pieces, uses, index))
     } else if names_value(source, pieces, index) {
-        Frame {
+        OpenBracket {
             pending: None,
             name: Some(index),
             ..frame
@@ -141,8 +152,14 @@ fn after_word(source: &[u8], pieces: &[Piece], uses: Uses<'_>, index: usize, fra
 }
 
 /// The innermost bracket after a token that neither opens nor closes one and isn't a comma.
-pub fn entered(source: &[u8], pieces: &[Piece], uses: Uses<'_>, index: usize, frame: Frame) -> Frame
-    requires { AreFurthest uses.list.now uses.furthest.now }
+pub fn entered(
+    source: &[u8],
+    pieces: &[PlacedToken],
+    uses: Uses<'_>,
+    index: usize,
+    frame: OpenBracket,
+) -> OpenBracket
+    requires { IsFound source.now pieces.now uses }
     ensures { result ≡ spec.entered source.now pieces.now uses.entry.list.now index frame }
 {
     let text = text_at(source, pieces, index);
@@ -165,7 +182,7 @@ fn is_handing_on(name: &[u8]) -> bool
 }
 
 /// Whether the round bracket that a token opens only groups a value, or is a call that passes it on.
-fn is_group(source: &[u8], pieces: &[Piece], index: usize) -> bool
+fn is_group(source: &[u8], pieces: &[PlacedToken], index: usize) -> bool
     ensures { result ≡ spec.is_group source.now pieces.now index }
 {
     let before = text_before(source, pieces, index, 1);
@@ -179,7 +196,7 @@ fn is_group(source: &[u8], pieces: &[Piece], index: usize) -> bool
 }
 
 /// Whether the square bracket that a token opens is an array or a `vec![..]`.
-fn is_array(source: &[u8], pieces: &[Piece], index: usize) -> bool
+fn is_array(source: &[u8], pieces: &[PlacedToken], index: usize) -> bool
     ensures { result ≡ spec.is_array source.now pieces.now index }
 {
     let before = text_before(source, pieces, index, 1);
@@ -194,7 +211,7 @@ fn is_array(source: &[u8], pieces: &[Piece], index: usize) -> bool
 }
 
 /// Whether the value of the bracket that a token opens is one of the values inside.
-fn is_around_values(source: &[u8], pieces: &[Piece], index: usize) -> bool
+fn is_around_values(source: &[u8], pieces: &[PlacedToken], index: usize) -> bool
     ensures { result ≡ spec.is_around_values source.now pieces.now index }
 {
     let text = text_at(source, pieces, index);
@@ -208,7 +225,7 @@ fn is_around_values(source: &[u8], pieces: &[Piece], index: usize) -> bool
 }
 
 /// What is known about the next expression in a bracket.
-pub fn pending_of(frame: Option<Frame>) -> Option<Known>
+pub fn pending_of(frame: Option<OpenBracket>) -> Option<Known>
     ensures { result ≡ spec.pending_of frame }
 {
     match frame {
@@ -221,10 +238,10 @@ pub fn pending_of(frame: Option<Frame>) -> Option<Known>
 /// arguments of a known call.
 fn passed_into(
     source: &[u8],
-    pieces: &[Piece],
+    pieces: &[PlacedToken],
     index: usize,
     call: Call,
-    outer: Option<Frame>,
+    outer: Option<OpenBracket>,
 ) -> Option<Known>
     ensures { result ≡ spec.passed_into source.now pieces.now index call outer }
 {
@@ -242,16 +259,16 @@ fn passed_into(
 /// The bracket that a token opens, inside of another one.
 pub fn opened(
     source: &[u8],
-    pieces: &[Piece],
+    pieces: &[PlacedToken],
     aliases: &[Alias],
     index: usize,
-    outer: Option<Frame>,
-) -> Frame
+    outer: Option<OpenBracket>,
+) -> OpenBracket
     ensures { result ≡ spec.opened source.now pieces.now aliases.now index outer }
 {
     let call = call_of(source, pieces, aliases, index);
     let passes = passed_into(source, pieces, index, call, outer);
-    settled(Frame {
+    settled(OpenBracket {
         opened: index,
         call,
         argument: Argument::First,
@@ -262,10 +279,10 @@ pub fn opened(
 }
 
 /// The frame around all brackets of a source.
-pub fn outermost() -> Frame
+pub fn outermost() -> OpenBracket
     ensures { result ≡ spec.outermost }
 {
-    Frame {
+    OpenBracket {
         opened: 0,
         call: Call::Other,
         argument: Argument::First,
@@ -278,9 +295,9 @@ pub fn outermost() -> Frame
 /// What is known about a token that is a whole value, because of what the value is passed to.
 pub fn known_of(
     source: &[u8],
-    pieces: &[Piece],
+    pieces: &[PlacedToken],
     index: usize,
-    frame: Option<Frame>,
+    frame: Option<OpenBracket>,
 ) -> Option<Known>
     ensures { result ≡ spec.known_of source.now pieces.now index frame }
 {

@@ -2,26 +2,26 @@
 
 ghost use Rattle.std.specs.Prelude.{◌≡◌, OnOk};
 ghost use Rattle.timefd_lint_scan.specs.Frames as spec;
-ghost use Rattle.timefd_lint_scan.specs.Uses.{AreFurthest};
+ghost use Rattle.timefd_lint_scan.specs.FoundUses.{IsFound};
 
 use crate::alias::Alias;
-use crate::calls::{Argument, Frame};
+use crate::calls::{Argument, OpenBracket};
 use crate::dialect::is;
 use crate::flow::{entered, opened, settled};
-use crate::piece::Piece;
+use crate::piece::PlacedToken;
 use crate::uses::Uses;
 use crate::word::{is_closing, is_opening, text_after, text_at};
 use std::alloc::AllocError;
 
 /// The innermost bracket.
-pub fn innermost(frames: &[Frame]) -> Option<Frame>
+pub fn innermost(frames: &[OpenBracket]) -> Option<OpenBracket>
     ensures { result ≡ spec.innermost frames.now }
 {
     frames.last().copied()
 }
 
 // Closes the innermost bracket.
-fn close(frames: &mut Vec<Frame>) -> Option<Frame>
+fn close(frames: &mut Vec<OpenBracket>) -> Option<OpenBracket>
     ensures rest { frames.new.items ≡ spec.but_last frames.old.items }
     ensures closed { result ≡ spec.innermost frames.old.items }
 {
@@ -39,24 +39,30 @@ fn next_argument(argument: Argument) -> Argument
     }
 }
 
-fn with_comma(frame: Frame) -> Frame
+fn with_comma(frame: OpenBracket) -> OpenBracket
     ensures { result ≡ spec.with_comma frame }
 {
     let argument = next_argument(frame.argument);
-    settled(Frame { argument, ..frame })
+    settled(OpenBracket { argument, ..frame })
 }
 
 /// Whether another statement, arm or argument begins after a closing token: after a block that no `else`
 /// follows.
-fn is_end(source: &[u8], pieces: &[Piece], index: usize) -> bool
+fn is_end(source: &[u8], pieces: &[PlacedToken], index: usize) -> bool
     ensures { result ≡ spec.is_end source.now pieces.now index }
 {
     is(text_at(source, pieces, index), "}") && !is(text_after(source, pieces, index, 1), "else")
 }
 
 /// The innermost bracket after a token that doesn't open one.
-fn after_token(source: &[u8], pieces: &[Piece], uses: Uses<'_>, index: usize, frame: Frame) -> Frame
-    requires { AreFurthest uses.list.now uses.furthest.now }
+fn after_token(
+    source: &[u8],
+    pieces: &[PlacedToken],
+    uses: Uses<'_>,
+    index: usize,
+    frame: OpenBracket,
+) -> OpenBracket
+    requires { IsFound source.now pieces.now uses }
     ensures { result ≡ spec.after_token source.now pieces.now uses.entry.list.now index frame }
 {
     let text = text_at(source, pieces, index);
@@ -75,13 +81,13 @@ fn after_token(source: &[u8], pieces: &[Piece], uses: Uses<'_>, index: usize, fr
 
 // Replaces the innermost bracket by what it is after a token.
 fn replace(
-    frames: &mut Vec<Frame>,
+    frames: &mut Vec<OpenBracket>,
     source: &[u8],
-    pieces: &[Piece],
+    pieces: &[PlacedToken],
     uses: Uses<'_>,
     index: usize,
 ) -> Result<(), AllocError>
-    requires { AreFurthest uses.list.now uses.furthest.now }
+    requires { IsFound source.now pieces.now uses }
     ensures { OnOk result (frames.new.items
         ≡ spec.replaced source.now pieces.now uses.entry.list.now index frames.old.items) }
 {
@@ -97,14 +103,14 @@ fn replace(
 /// Opens or closes a bracket, counts a comma, or notes where the next value goes, with these aliases and uses
 /// of names.
 pub fn pass(
-    frames: &mut Vec<Frame>,
+    frames: &mut Vec<OpenBracket>,
     source: &[u8],
-    pieces: &[Piece],
+    pieces: &[PlacedToken],
     aliases: &[Alias],
     uses: Uses<'_>,
     index: usize,
 ) -> Result<(), AllocError>
-    requires { AreFurthest uses.list.now uses.furthest.now }
+    requires { IsFound source.now pieces.now uses }
     ensures { OnOk result (frames.new.items
         ≡ spec.passed source.now pieces.now aliases.now uses.entry.list.now index frames.old.items) }
 {

@@ -5,7 +5,7 @@ ghost use Rattle.timefd_lint_scan.specs.Gathered.{AreComments, AreGathered, comm
 
 use crate::candidate::keep;
 use crate::marks::is_comment;
-use crate::piece::Piece;
+use crate::piece::PlacedToken;
 use crate::token::first;
 use std::alloc::{AllocError, Global};
 
@@ -13,12 +13,12 @@ use std::alloc::{AllocError, Global};
 #[derive(Drop)]
 pub struct Gathered {
     /// Those that are neither white nor comments, in order.
-    pub pieces: Vec<Piece>,
+    pub pieces: Vec<PlacedToken>,
     /// The comments, in order.
-    pub comments: Vec<Piece>,
+    pub comments: Vec<PlacedToken>,
 }
 
-fn keep_comment(comments: &mut Vec<Piece>, piece: Piece) -> Result<(), AllocError>
+fn keep_comment(comments: &mut Vec<PlacedToken>, piece: PlacedToken) -> Result<(), AllocError>
     ensures { OnOk result (comments.new.items ≡ comments.old.items ++ comment_kept piece) }
 {
     if is_comment(piece.token) {
@@ -37,7 +37,7 @@ pub fn tokens_of(alloc: Global, source: &str) -> Result<Gathered, AllocError>
     let mut comments = Vec::new(alloc);
     let mut rest = source.as_bytes();
     'tokens: while let Some(step) = first(rest) {
-        let piece = Piece {
+        let piece = PlacedToken {
             token: step.token,
             start: len - rest.len(),
             end: len - step.rest.len(),
@@ -51,7 +51,7 @@ pub fn tokens_of(alloc: Global, source: &str) -> Result<Gathered, AllocError>
 
 /// The comments of a source, in order. An `Err` says that memory ran out.
 #[tactic(auto, using(crate::proofs::GatheredLemmas::no_comments, crate::proofs::GatheredLemmas::more_comments, crate::proofs::GatheredLemmas::all_comments))]
-pub fn comments_of(alloc: Global, source: &str) -> Result<Vec<Piece>, AllocError>
+pub fn comments_of(alloc: Global, source: &str) -> Result<Vec<PlacedToken>, AllocError>
     ensures { IfOk result (λ found. AreComments source.now found.items) }
 {
     let len = source.len();
@@ -60,7 +60,7 @@ pub fn comments_of(alloc: Global, source: &str) -> Result<Vec<Piece>, AllocError
     'tokens: while let Some(step) = first(rest) {
         keep_comment(
             &mut comments,
-            Piece {
+            PlacedToken {
                 token: step.token,
                 start: len - rest.len(),
                 end: len - step.rest.len(),

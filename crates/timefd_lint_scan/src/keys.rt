@@ -19,7 +19,7 @@ mod step;
 mod style;
 mod visit;
 
-pub use format::{Format, format_named};
+pub use format::{FileFormat, format_named};
 pub use found::{Values, descriptions_by, values_by};
-pub use key::{Key, KeyFault, dialect_of, key_fault, key_of};
+pub use key::{DescriptionKey, KeyFault, dialect_of, key_fault, key_of};
 pub use spelled::{string_end, string_for};

@@ -4,13 +4,13 @@
 ghost use Rattle.std.specs.Prelude.{◌≡◌, ◌+◌, nat_eq};
 ghost use Rattle.timefd_lint_scan.specs.Arguments as spec;
 
-use crate::calls::{Argument, Call, Frame};
-use crate::dialect::{Dialect, is, version_named};
-use crate::piece::Piece;
+use crate::calls::{Argument, Call, OpenBracket};
+use crate::dialect::{FormatLanguage, is, version_named};
+use crate::piece::PlacedToken;
 use crate::version::VersionPosition;
 use crate::word::{is_closing, is_opening, text_after, text_before};
 
-fn says_version(source: &[u8], pieces: &[Piece], opening: usize) -> bool
+fn says_version(source: &[u8], pieces: &[PlacedToken], opening: usize) -> bool
     ensures { result ≡ spec.says_version source.now pieces.now opening }
 {
     is(text_after(source, pieces, opening, 1), "version")
@@ -18,18 +18,18 @@ fn says_version(source: &[u8], pieces: &[Piece], opening: usize) -> bool
 }
 
 /// The version that the arguments of a macro begin with; 1 if they don't begin with one.
-fn macro_version(source: &[u8], pieces: &[Piece], opening: usize) -> Option<Dialect>
+fn macro_version(source: &[u8], pieces: &[PlacedToken], opening: usize) -> Option<FormatLanguage>
     ensures { result ≡ spec.macro_version source.now pieces.now opening }
 {
     if says_version(source, pieces, opening) {
         version_named(text_after(source, pieces, opening, 3))
     } else {
-        Some(Dialect::One)
+        Some(FormatLanguage::One)
     }
 }
 
 /// Whether a token is a whole argument.
-fn is_argument(source: &[u8], pieces: &[Piece], index: usize) -> bool
+fn is_argument(source: &[u8], pieces: &[PlacedToken], index: usize) -> bool
     ensures { result ≡ spec.is_argument source.now pieces.now index }
 {
     let before = text_before(source, pieces, index, 1);
@@ -38,7 +38,7 @@ fn is_argument(source: &[u8], pieces: &[Piece], index: usize) -> bool
 }
 
 /// Whether a token is the last argument of its bracket.
-fn is_last(source: &[u8], pieces: &[Piece], index: usize) -> bool
+fn is_last(source: &[u8], pieces: &[PlacedToken], index: usize) -> bool
     ensures { result ≡ spec.is_last source.now pieces.now index }
 {
     let after = text_after(source, pieces, index, 1);
@@ -46,7 +46,7 @@ fn is_last(source: &[u8], pieces: &[Piece], index: usize) -> bool
 }
 
 /// The first byte of the token `back` tokens before this one, as the digit of a version.
-fn digit_before(pieces: &[Piece], index: usize, back: usize) -> VersionPosition
+fn digit_before(pieces: &[PlacedToken], index: usize, back: usize) -> VersionPosition
     ensures { result ≡ spec.digit_before pieces.now index back }
 {
     if back > index {
@@ -59,7 +59,7 @@ fn digit_before(pieces: &[Piece], index: usize, back: usize) -> VersionPosition
 }
 
 /// The first byte of the token `ahead` tokens after this one, as the digit of a version.
-fn digit_after(pieces: &[Piece], index: usize, ahead: usize) -> VersionPosition
+fn digit_after(pieces: &[PlacedToken], index: usize, ahead: usize) -> VersionPosition
     ensures { result ≡ spec.digit_after pieces.now index ahead }
 {
     let Some(at) = index.checked_add(ahead) else {
@@ -72,7 +72,7 @@ fn digit_after(pieces: &[Piece], index: usize, ahead: usize) -> VersionPosition
 }
 
 /// Whether a module follows the version in the arguments of a macro, as in the macro for serde.
-fn says_module(source: &[u8], pieces: &[Piece], opening: usize) -> bool
+fn says_module(source: &[u8], pieces: &[PlacedToken], opening: usize) -> bool
     ensures { result ≡ spec.says_module source.now pieces.now opening }
 {
     is(text_after(source, pieces, opening, 5), "mod")
@@ -87,7 +87,12 @@ fn stands_after(index: usize, other: usize, ahead: usize) -> bool
 
 /// Where the version of a macro's only description is given: `version = 2, ".."`,
 /// `version = 2, mod m, T, ".."`. With other arguments it is nowhere.
-fn macro_position(source: &[u8], pieces: &[Piece], opening: usize, index: usize) -> VersionPosition
+fn macro_position(
+    source: &[u8],
+    pieces: &[PlacedToken],
+    opening: usize,
+    index: usize,
+) -> VersionPosition
     ensures { result ≡ spec.macro_position source.now pieces.now opening index }
 {
     if !is_last(source, pieces, index) {
@@ -104,7 +109,7 @@ fn macro_position(source: &[u8], pieces: &[Piece], opening: usize, index: usize)
 }
 
 /// Where the version of a call's description is given: `parse_borrowed::<2>(`, or nowhere.
-fn call_position(source: &[u8], pieces: &[Piece], opening: usize) -> VersionPosition
+fn call_position(source: &[u8], pieces: &[PlacedToken], opening: usize) -> VersionPosition
     ensures { result ≡ spec.call_position source.now pieces.now opening }
 {
     if is(text_before(source, pieces, opening, 1), ">") {
@@ -115,7 +120,11 @@ fn call_position(source: &[u8], pieces: &[Piece], opening: usize) -> VersionPosi
 }
 
 /// The language of an argument that is a description.
-fn dialect_by(call: Call, argument: Argument, version: Option<Dialect>) -> Option<Dialect>
+fn dialect_by(
+    call: Call,
+    argument: Argument,
+    version: Option<FormatLanguage>,
+) -> Option<FormatLanguage>
     ensures { result ≡ spec.dialect_by call argument version }
 {
     match (call, argument) {
@@ -123,7 +132,7 @@ fn dialect_by(call: Call, argument: Argument, version: Option<Dialect>) -> Optio
         (Call::First(dialect), Argument::First) => Some(dialect),
         (Call::Owned(dialect), Argument::First) => Some(dialect),
         (Call::Second(dialect), Argument::Second) => Some(dialect),
-        (Call::Format, Argument::First) => Some(Dialect::Chrono),
+        (Call::Format, Argument::First) => Some(FormatLanguage::Chrono),
         (Call::First(_), Argument::Second | Argument::Later)
         | (Call::Owned(_), Argument::Second | Argument::Later)
         | (Call::Second(_), Argument::First | Argument::Later)
@@ -133,7 +142,12 @@ fn dialect_by(call: Call, argument: Argument, version: Option<Dialect>) -> Optio
 }
 
 /// The language of a literal, by the bracket that it is in; `None` if it isn't known to be a description.
-fn dialect_in(source: &[u8], pieces: &[Piece], index: usize, frame: Frame) -> Option<Dialect>
+fn dialect_in(
+    source: &[u8],
+    pieces: &[PlacedToken],
+    index: usize,
+    frame: OpenBracket,
+) -> Option<FormatLanguage>
     ensures { result ≡ spec.dialect_in source.now pieces.now index frame }
 {
     if is_argument(source, pieces, index) {
@@ -157,7 +171,7 @@ pub enum Items {
 #[derive(Clone, Copy)]
 pub struct Known {
     /// The language.
-    pub dialect: Dialect,
+    pub dialect: FormatLanguage,
     /// What it may hold.
     pub items: Items,
     /// Where the source says the version.
@@ -169,7 +183,12 @@ pub struct Known {
     pub call: Option<usize>,
 }
 
-fn version_position(source: &[u8], pieces: &[Piece], index: usize, frame: Frame) -> VersionPosition
+fn version_position(
+    source: &[u8],
+    pieces: &[PlacedToken],
+    index: usize,
+    frame: OpenBracket,
+) -> VersionPosition
     ensures { result ≡ spec.version_position source.now pieces.now index frame frame.call }
 {
     match frame.call {
@@ -200,9 +219,9 @@ fn items_in(call: Call) -> Items
 /// What the bracket that a literal is in says about it; `None` if it isn't known to be a description.
 pub fn reported_in(
     source: &[u8],
-    pieces: &[Piece],
+    pieces: &[PlacedToken],
     index: usize,
-    frame: Option<Frame>,
+    frame: Option<OpenBracket>,
 ) -> Option<Known>
     ensures { result ≡ spec.reported_in source.now pieces.now index frame }
 {

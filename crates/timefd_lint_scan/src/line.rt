@@ -3,7 +3,7 @@
 ghost use Rattle.std.specs.Prelude.{◌≡◌, ◌≤◌, drop, length};
 ghost use Rattle.timefd_lint_scan.specs.Lines as spec;
 
-use crate::class::{Class, after_run};
+use crate::class::{ByteSet, after_run};
 
 /// Where the line of the position `to` begins. `known` is where the line of the earlier position
 /// `from` begins.
@@ -36,7 +36,7 @@ pub fn next_line_end(source: &[u8], at: usize) -> usize
     ensures { result ≡ spec.next_line_end source.now at }
 {
     match from(source, at) {
-        [_, next @ ..] => source.len() - after_run(Class::Line, next).len(),
+        [_, next @ ..] => source.len() - after_run(ByteSet::Line, next).len(),
         [] => source.len(),
     }
 }

@@ -5,27 +5,27 @@ ghost use Rattle.timefd_lint_scan.specs.Bytes.{seen};
 ghost use Rattle.timefd_lint_scan.specs.Escapes.{placed_any};
 ghost use Rattle.timefd_lint_scan.specs.Literals as spec;
 
-use crate::class::{Class, after_run};
-use crate::piece::Piece;
-use crate::token::Kind;
+use crate::class::{ByteSet, after_run};
+use crate::piece::PlacedToken;
+use crate::token::LiteralKind;
 use crate::unescape::{Unescaped, unescape};
 use std::alloc::{AllocError, Global};
 
-fn hash_count(kind: Kind) -> usize
+fn hash_count(kind: LiteralKind) -> usize
     ensures { result ≡ spec.hash_count kind }
 {
     match kind {
-        Kind::Escaped(_) => 0,
-        Kind::Raw(_, hash_count) => hash_count,
+        LiteralKind::Escaped(_) => 0,
+        LiteralKind::Raw(_, hash_count) => hash_count,
     }
 }
 
 /// What is between the quotes of a literal.
-fn body(kind: Kind, literal: &[u8]) -> Option<&[u8]>
+fn body(kind: LiteralKind, literal: &[u8]) -> Option<&[u8]>
     ensures body { seen result ≡ spec.body kind literal.now }
     ensures within { MatchOption result ⊤ (λ body. length body.now + (spec.hash_count kind + 1) < length literal.now) }
 {
-    let [_, inner @ ..] = after_run(Class::Unquoted, literal) else {
+    let [_, inner @ ..] = after_run(ByteSet::Unquoted, literal) else {
         return None;
     };
     let hash_count = hash_count(kind);
@@ -37,14 +37,14 @@ fn body(kind: Kind, literal: &[u8]) -> Option<&[u8]>
 }
 
 /// The position of a literal's closing quote, as a byte index.
-pub fn body_end(piece: Piece, kind: Kind) -> usize
+pub fn body_end(piece: PlacedToken, kind: LiteralKind) -> usize
     ensures { result ≡ spec.body_end piece kind }
 {
     piece.end.saturating_sub(hash_count(kind)).saturating_sub(1)
 }
 
 /// The bytes of a token.
-pub fn cut(source: &[u8], piece: Piece) -> Option<&[u8]>
+pub fn cut(source: &[u8], piece: PlacedToken) -> Option<&[u8]>
     ensures cut { seen result ≡ spec.cut source.now piece }
     ensures bounds { MatchOption result ⊤ (λ text. piece.end ≤ length source.now) }
     ensures within { MatchOption result ⊤ (λ text. length text.now + piece.start ≡ piece.end) }
@@ -59,7 +59,7 @@ pub fn cut(source: &[u8], piece: Piece) -> Option<&[u8]>
 /// What is between the quotes of the literal that is this token of the source. `None` if the token
 /// isn't a literal of this kind.
 #[tactic(auto, using(crate::proofs::InsideLemmas::inside_stands))]
-pub fn inside(source: &str, piece: Piece, kind: Kind) -> Option<&[u8]>
+pub fn inside(source: &str, piece: PlacedToken, kind: LiteralKind) -> Option<&[u8]>
     ensures inside { seen result ≡ spec.inside source.now piece kind }
     ensures within { MatchOption result ⊤ (λ inside. piece.start + length inside.now < spec.body_end piece kind) }
     ensures position { MatchOption result ⊤ (λ inside. spec.EndsAt source.now (spec.body_end piece kind) inside.now) }
@@ -75,8 +75,8 @@ pub fn inside(source: &str, piece: Piece, kind: Kind) -> Option<&[u8]>
 pub fn literal_text(
     alloc: Global,
     source: &str,
-    piece: Piece,
-    kind: Kind,
+    piece: PlacedToken,
+    kind: LiteralKind,
 ) -> Result<Option<Unescaped>, AllocError>
     ensures { IfOk result (λ answer. placed_any answer ≡ spec.literal_text source.now piece kind) }
 {

@@ -1,29 +1,33 @@
 //! What is seen in a source: its descriptions, and what can't be checked.
 
-ghost use Rattle.std.specs.Prelude.{◌≡◌, ◌++◌, IfOk, OnOk};
+ghost use Rattle.std.specs.HashSet.{contains};
+ghost use Rattle.std.specs.Prelude.{◌≡◌, ◌++◌, ◌||◌, IfOk, OnOk, nat_eq, ℕ};
 ghost use Rattle.timefd_lint_scan.specs.Candidates.{candidates_in};
 ghost use Rattle.timefd_lint_scan.specs.Found.{AllStandIn, AreDescribed, AreDescriptionsOf, AreInOrder};
-ghost use Rattle.timefd_lint_scan.specs.Looks.{IsLook, IsSeen};
+ghost use Rattle.timefd_lint_scan.specs.Looks.{AreTaken, IsLook, IsSeen};
 ghost use Rattle.timefd_lint_scan.specs.Looks as spec;
 
 use crate::alias::aliases_of;
-use crate::description::{Description, described_by};
+use crate::description::{SourceDescription, described_by};
 use crate::dialect::is;
+use crate::firsts::firsts_of;
 use crate::furthest::furthest_of;
 use crate::gathered::{Gathered, tokens_of};
-use crate::marks::{Mark, marks_of, unknown_marks};
+use crate::layout::layout_of;
+use crate::marks::{LanguageMark, marks_of, unknown_marks};
 use crate::names::may_describe;
-use crate::piece::Piece;
+use crate::piece::PlacedToken;
 use crate::uses::{Use, Uses};
 use crate::using::uses_of;
 use crate::word::text_of;
 use std::alloc::{AllocError, Global};
+use std::collections::HashSet;
 
 /// What is seen in a source.
 #[derive(Drop)]
 pub struct Look {
     /// The descriptions, in order; they don't overlap.
-    pub descriptions: Vec<Description>,
+    pub descriptions: Vec<SourceDescription>,
     /// Where names begin that known calls take instead of a literal, and for which no text is found in the
     /// source. Byte indices.
     pub calls: Vec<usize>,
@@ -33,13 +37,13 @@ pub struct Look {
 
 /// What is seen among tokens.
 #[derive(Drop)]
-struct Seen {
-    descriptions: Vec<Description>,
+struct SeenTokens {
+    descriptions: Vec<SourceDescription>,
     calls: Vec<usize>,
 }
 
 /// Whether a word is among these tokens.
-fn has_word(source: &[u8], pieces: &[Piece], word: &str) -> bool
+fn has_word(source: &[u8], pieces: &[PlacedToken], word: &str) -> bool
     ensures { result ≡ spec.has_word source.now word.now pieces.now }
 {
     let mut rest = pieces;
@@ -52,18 +56,31 @@ fn has_word(source: &[u8], pieces: &[Piece], word: &str) -> bool
     false
 }
 
-/// Whether one of these descriptions is used by its name at a position.
-fn is_taken(descriptions: &[Description], position: usize) -> bool
-    ensures { result ≡ spec.is_taken position descriptions.now }
+// Notes where a name begins that a description is used by.
+fn note(taken: &mut HashSet<usize>, call: Option<usize>) -> Result<(), AllocError>
+    ensures { OnOk result ((n : ℕ) → contains nat_eq taken.new n ≡ (spec.is_at call n || contains nat_eq taken.old n)) }
 {
+    match call {
+        Some(position) => {
+            taken.insert(position)?;
+            Ok(())
+        }
+        None => Ok(()),
+    }
+}
+
+/// Where names begin that these descriptions are used by. An `Err` says that memory ran out.
+#[tactic(auto, using(crate::proofs::TakenLemmas::at_last))]
+fn taken_by(alloc: Global, descriptions: &[SourceDescription]) -> Result<HashSet<usize>, AllocError>
+    ensures { IfOk result (λ taken. AreTaken descriptions.now (contains nat_eq taken)) }
+{
+    let mut taken: HashSet<usize> = HashSet::new(alloc);
     let mut rest = descriptions;
     'descriptions: while let [description, after @ ..] = rest {
-        if description.call == Some(position) {
-            return true;
-        }
+        note(&mut taken, description.call)?;
         rest = after;
     }
-    false
+    Ok(taken)
 }
 
 /// Whether a call is known to take a date format: by its own name, or because the source mentions chrono.
@@ -73,25 +90,31 @@ fn is_sure(used: Use, has_chrono: bool) -> bool
     !used.known.wants_percent || has_chrono
 }
 
-fn is_unread(used: Use, descriptions: &[Description], has_chrono: bool) -> bool
+fn is_unread(
+    used: Use,
+    descriptions: &[SourceDescription],
+    taken: &HashSet<usize>,
+    has_chrono: bool,
+) -> bool
+    requires { AreTaken descriptions.now (contains nat_eq taken.now) }
     ensures { result ≡ spec.is_unread descriptions.now has_chrono used }
 {
     let position = used.name.start;
-    used.known.call == Some(position)
-        && is_sure(used, has_chrono)
-        && !is_taken(descriptions, position)
+    used.known.call == Some(position) && is_sure(used, has_chrono) && !taken.contains(&position)
 }
 
 fn push_unread(
     calls: &mut Vec<usize>,
     used: Use,
-    descriptions: &[Description],
+    descriptions: &[SourceDescription],
+    taken: &HashSet<usize>,
     has_chrono: bool,
 ) -> Result<(), AllocError>
+    requires { AreTaken descriptions.now (contains nat_eq taken.now) }
     ensures { OnOk result (calls.new.items
         ≡ calls.old.items ++ spec.unread descriptions.now has_chrono used) }
 {
-    if is_unread(used, descriptions, has_chrono) {
+    if is_unread(used, descriptions, taken, has_chrono) {
         calls.push(used.name.start)?;
     }
     Ok(())
@@ -101,14 +124,15 @@ fn push_unread(
 fn unread_calls(
     alloc: Global,
     uses: &[Use],
-    descriptions: &[Description],
+    descriptions: &[SourceDescription],
     has_chrono: bool,
 ) -> Result<Vec<usize>, AllocError>
     ensures { IfOk result (λ calls. calls.items ≡ spec.unread_calls descriptions.now has_chrono uses.now) }
 {
+    let taken = taken_by(alloc, descriptions)?;
     let mut calls = Vec::new(alloc);
     for used in uses {
-        push_unread(&mut calls, *used, descriptions, has_chrono)?;
+        push_unread(&mut calls, *used, descriptions, &taken, has_chrono)?;
     }
     Ok(calls)
 }
@@ -117,9 +141,9 @@ fn unread_calls(
 fn seen_in(
     alloc: Global,
     source: &str,
-    pieces: &[Piece],
-    marks: &[Mark],
-) -> Result<Seen, AllocError>
+    pieces: &[PlacedToken],
+    marks: &[LanguageMark],
+) -> Result<SeenTokens, AllocError>
     ensures described { IfOk result (λ seen. AreDescribed source.now 0
         (candidates_in source.now pieces.now marks.now) seen.descriptions.items) }
     ensures calls { IfOk result (λ seen. seen.calls.items
@@ -127,16 +151,20 @@ fn seen_in(
 {
     let bytes = source.as_bytes();
     let aliases = aliases_of(alloc, bytes, pieces)?;
-    let uses = uses_of(alloc, bytes, pieces, &aliases)?;
+    let layout = layout_of(alloc, bytes, pieces)?;
+    let uses = uses_of(alloc, bytes, pieces, &aliases, &layout)?;
     let furthest = furthest_of(alloc, &uses)?;
+    let firsts = firsts_of(alloc, bytes, &uses)?;
     let named = Uses {
         list: &uses,
         furthest: &furthest,
+        firsts: &firsts,
+        layout: &layout,
     };
     let descriptions = described_by(alloc, source, pieces, &aliases, named, marks)?;
     let has_chrono = has_word(bytes, pieces, "chrono");
     let calls = unread_calls(alloc, &uses, &descriptions, has_chrono)?;
-    Ok(Seen {
+    Ok(SeenTokens {
         descriptions,
         calls,
     })
@@ -156,7 +184,7 @@ pub fn looked_at(alloc: Global, source: &str) -> Result<Look, AllocError>
     let Gathered { pieces, comments } = tokens_of(alloc, source)?;
     let marks = marks_of(alloc, source.as_bytes(), &comments)?;
     let words = unknown_marks(alloc, source.as_bytes(), &comments)?;
-    let Seen {
+    let SeenTokens {
         descriptions,
         calls,
     } = seen_in(alloc, source, &pieces, &marks)?;
@@ -169,7 +197,7 @@ pub fn looked_at(alloc: Global, source: &str) -> Result<Look, AllocError>
 
 /// The descriptions in a source, in order: arguments of known calls, what such a call gets by a name of the
 /// same file, and literals for which a comment names a language. An `Err` says that memory ran out.
-pub fn descriptions_of(alloc: Global, source: &str) -> Result<Vec<Description>, AllocError>
+pub fn descriptions_of(alloc: Global, source: &str) -> Result<Vec<SourceDescription>, AllocError>
     ensures all { IfOk result (λ found. AreDescriptionsOf source.now found.items) }
     ensures stand { IfOk result (λ found. AllStandIn source.now found.items) }
     ensures in_order { IfOk result (λ found. AreInOrder 0 found.items) }

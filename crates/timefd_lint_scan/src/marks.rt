@@ -8,21 +8,21 @@ ghost use Rattle.timefd_lint_scan.specs.Lines.{line_start as line_start_of};
 ghost use Rattle.timefd_lint_scan.specs.Literals as literals;
 ghost use Rattle.timefd_lint_scan.specs.Marks as spec;
 
-use crate::class::{Class, after_run};
-use crate::dialect::{Dialect, dialect_of_word, is};
+use crate::class::{ByteSet, after_run};
+use crate::dialect::{FormatLanguage, dialect_of_word, is};
 use crate::line::{line_start, next_line_end};
 use crate::literal::cut;
-use crate::piece::Piece;
+use crate::piece::PlacedToken;
 use crate::token::Token;
 use std::alloc::{AllocError, Global};
 
 /// A comment that names a language, for the literals that begin in the bytes `from..to`: those before it in
 /// its line, or those of the next line if nothing else is in its own.
 #[derive(Clone, Copy)]
-pub struct Mark {
+pub struct LanguageMark {
     pub from: usize,
     pub to: usize,
-    pub dialect: Dialect,
+    pub dialect: FormatLanguage,
 }
 
 /// The text without this front; `None` if it begins differently.
@@ -48,14 +48,14 @@ pub fn in_front<'a>(text: &'a [u8], rest: &[u8]) -> &'a [u8]
 pub fn first_word(text: &[u8]) -> &[u8]
     ensures { result.now ≡ spec.in_front text.now (after_spec is_word text.now) }
 {
-    in_front(text, after_run(Class::Word, text))
+    in_front(text, after_run(ByteSet::Word, text))
 }
 
 /// The language that a text names if it is one word, with only white bytes after it.
-fn word_dialect(text: &[u8]) -> Option<Dialect>
+fn word_dialect(text: &[u8]) -> Option<FormatLanguage>
     ensures { result ≡ spec.word_dialect text.now }
 {
-    if after_run(Class::White, after_run(Class::Word, text)).is_empty() {
+    if after_run(ByteSet::White, after_run(ByteSet::Word, text)).is_empty() {
         dialect_of_word(first_word(text))
     } else {
         None
@@ -63,16 +63,16 @@ fn word_dialect(text: &[u8]) -> Option<Dialect>
 }
 
 /// The language that a comment names: `// timefd: 3`, `// timefd: strftime`.
-fn comment_dialect(comment: &[u8]) -> Option<Dialect>
+fn comment_dialect(comment: &[u8]) -> Option<FormatLanguage>
     ensures { result ≡ spec.comment_dialect (Some comment.now) }
 {
     let Some(line) = after(comment, b"//") else {
         return None;
     };
-    let Some(word) = after(after_run(Class::White, line), b"timefd:") else {
+    let Some(word) = after(after_run(ByteSet::White, line), b"timefd:") else {
         return None;
     };
-    word_dialect(after_run(Class::White, word))
+    word_dialect(after_run(ByteSet::White, word))
 }
 
 /// Whether the text after `timefd:` neither names a language nor silences a warning.
@@ -92,10 +92,10 @@ fn marked(comment: &[u8]) -> Option<&[u8]>
     let Some(line) = after(comment, b"//") else {
         return None;
     };
-    let Some(text) = after(after_run(Class::White, line), b"timefd:") else {
+    let Some(text) = after(after_run(ByteSet::White, line), b"timefd:") else {
         return None;
     };
-    Some(after_run(Class::White, text))
+    Some(after_run(ByteSet::White, text))
 }
 
 // Adds where a text begins that ends at `end`, if it should name a language, but doesn't.
@@ -112,7 +112,11 @@ fn push_unnamed(
     }
 }
 
-fn push_unknown(positions: &mut Vec<usize>, source: &[u8], piece: Piece) -> Result<(), AllocError>
+fn push_unknown(
+    positions: &mut Vec<usize>,
+    source: &[u8],
+    piece: PlacedToken,
+) -> Result<(), AllocError>
     ensures { OnOk result (positions.new.items ≡ positions.old.items ++ spec.unknown_mark source.now piece) }
 {
     if !is_comment(piece.token) {
@@ -129,7 +133,7 @@ fn push_unknown(positions: &mut Vec<usize>, source: &[u8], piece: Piece) -> Resu
 pub fn unknown_marks(
     alloc: Global,
     source: &[u8],
-    pieces: &[Piece],
+    pieces: &[PlacedToken],
 ) -> Result<Vec<usize>, AllocError>
     ensures { IfOk result (λ positions. positions.items ≡ spec.unknown_marks source.now pieces.now) }
 {
@@ -146,11 +150,11 @@ fn is_alone(source: &[u8], start: usize, at: usize) -> bool
     requires within { at ≤ length source.now }
     ensures { result ≡ spec.is_alone source.now at }
 {
-    after_run(Class::White, &source[start..at]).is_empty()
+    after_run(ByteSet::White, &source[start..at]).is_empty()
 }
 
 /// The mark of a comment that names a language.
-fn mark_of(source: &[u8], comment: Piece) -> Option<Mark>
+fn mark_of(source: &[u8], comment: PlacedToken) -> Option<LanguageMark>
     ensures { result ≡ spec.mark_of source.now comment (spec.comment_dialect (literals.cut source.now comment)) }
 {
     let Some(text) = cut(source, comment) else {
@@ -162,13 +166,13 @@ fn mark_of(source: &[u8], comment: Piece) -> Option<Mark>
     let start = line_start(source, 0, 0, comment.start);
     if is_alone(source, start, comment.start) {
         let to = next_line_end(source, comment.end);
-        Some(Mark {
+        Some(LanguageMark {
             from: comment.end,
             to,
             dialect,
         })
     } else {
-        Some(Mark {
+        Some(LanguageMark {
             from: start,
             to: comment.start,
             dialect,
@@ -192,7 +196,7 @@ pub fn is_comment(token: Token) -> bool
     }
 }
 
-fn mark_at(source: &[u8], piece: Piece) -> Option<Mark>
+fn mark_at(source: &[u8], piece: PlacedToken) -> Option<LanguageMark>
     ensures { result ≡ spec.mark_at source.now piece }
 {
     if is_comment(piece.token) {
@@ -202,7 +206,7 @@ fn mark_at(source: &[u8], piece: Piece) -> Option<Mark>
     }
 }
 
-fn push_any(marks: &mut Vec<Mark>, mark: Option<Mark>) -> Result<(), AllocError>
+fn push_any(marks: &mut Vec<LanguageMark>, mark: Option<LanguageMark>) -> Result<(), AllocError>
     ensures { OnOk result (marks.new.items ≡ marks.old.items ++ option_to_list mark) }
 {
     match mark {
@@ -215,7 +219,11 @@ fn push_any(marks: &mut Vec<Mark>, mark: Option<Mark>) -> Result<(), AllocError>
 }
 
 /// The comments that name a language, in order. An `Err` says that memory ran out.
-pub fn marks_of(alloc: Global, source: &[u8], pieces: &[Piece]) -> Result<Vec<Mark>, AllocError>
+pub fn marks_of(
+    alloc: Global,
+    source: &[u8],
+    pieces: &[PlacedToken],
+) -> Result<Vec<LanguageMark>, AllocError>
     ensures { IfOk result (λ marks. marks.items ≡ spec.marks source.now pieces.now) }
 {
     let mut marks = Vec::new(alloc);
@@ -226,7 +234,7 @@ pub fn marks_of(alloc: Global, source: &[u8], pieces: &[Piece]) -> Result<Vec<Ma
 }
 
 /// The marks from the first one on that ends after this position.
-pub fn still_open(marks: &[Mark], position: usize) -> &[Mark]
+pub fn still_open(marks: &[LanguageMark], position: usize) -> &[LanguageMark]
     ensures { result.now ≡ spec.still_open position marks.now }
 {
     let mut rest = marks;
@@ -240,7 +248,7 @@ pub fn still_open(marks: &[Mark], position: usize) -> &[Mark]
 }
 
 /// The language that the first of these marks names for a position.
-pub fn reported_at(marks: &[Mark], position: usize) -> Option<Dialect>
+pub fn reported_at(marks: &[LanguageMark], position: usize) -> Option<FormatLanguage>
     ensures { result ≡ spec.reported_at marks.now position }
 {
     match marks {

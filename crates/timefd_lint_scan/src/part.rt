@@ -18,18 +18,18 @@ pub enum Stands {
 
 /// What a part of a string denotes, and what follows it.
 #[derive(Clone, Copy)]
-pub struct Part<'a> {
+pub struct StringPart<'a> {
     pub stands: Stands,
     pub rest: &'a [u8],
 }
 
 /// A character, and what follows its escape.
-pub fn char_part(rest: &[u8], c: Option<char>) -> Option<Part<'_>>
+pub fn char_part(rest: &[u8], c: Option<char>) -> Option<StringPart<'_>>
     ensures part { parted_any result ≡ spec.char_part rest.now c }
     ensures within { MatchOption result ⊤ (λ part. length part.rest.now ≤ length rest.now) }
 {
     match c {
-        Some(c) => Some(Part {
+        Some(c) => Some(StringPart {
             stands: Stands::Char(c),
             rest,
         }),
@@ -38,7 +38,7 @@ pub fn char_part(rest: &[u8], c: Option<char>) -> Option<Part<'_>>
 }
 
 /// The character with this number, and what follows its escape.
-pub fn character(rest: &[u8], value: Option<u32>) -> Option<Part<'_>>
+pub fn character(rest: &[u8], value: Option<u32>) -> Option<StringPart<'_>>
     ensures part { parted_any result ≡ spec.character rest.now value }
     ensures within { MatchOption result ⊤ (λ part. length part.rest.now ≤ length rest.now) }
 {

@@ -8,7 +8,7 @@ use std::alloc::{AllocError, Global};
 
 /// A token, and where it is in its source: the bytes `start..end`.
 #[derive(Clone, Copy, Debug, PartialEq, Eq)]
-pub struct Piece {
+pub struct PlacedToken {
     pub token: Token,
     pub start: usize,
     pub end: usize,
@@ -17,14 +17,14 @@ pub struct Piece {
 /// The tokens of a source, in order. Together they are all of its bytes. An `Err` says that memory
 /// ran out.
 #[tactic(auto, using(crate::proofs::PieceLemmas::at_first, crate::proofs::PieceLemmas::one_more, crate::proofs::PieceLemmas::at_last))]
-pub fn pieces_of(alloc: Global, source: &str) -> Result<Vec<Piece>, AllocError>
+pub fn pieces_of(alloc: Global, source: &str) -> Result<Vec<PlacedToken>, AllocError>
     ensures { IfOk result (λ pieces. AreTokens (length source.now) source.now pieces.items) }
 {
     let len = source.len();
     let mut pieces = Vec::new(alloc);
     let mut rest = source.as_bytes();
     'tokens: while let Some(step) = first(rest) {
-        pieces.push(Piece {
+        pieces.push(PlacedToken {
             token: step.token,
             start: len - rest.len(),
             end: len - step.rest.len(),

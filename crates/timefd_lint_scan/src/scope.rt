@@ -3,11 +3,11 @@
 ghost use Rattle.std.specs.Prelude.{◌≡◌};
 ghost use Rattle.timefd_lint_scan.specs.Scopes as spec;
 
-use crate::piece::Piece;
+use crate::piece::PlacedToken;
 use crate::word::{is_closing, is_opening, position_at, text_of, tokens_from};
 
 /// Whether the block that these tokens begin in is still open at a later position.
-pub fn stays_open(source: &[u8], pieces: &[Piece], position: usize) -> bool
+pub fn stays_open(source: &[u8], pieces: &[PlacedToken], position: usize) -> bool
     ensures { result ≡ spec.stays_open source.now position 0 pieces.now }
 {
     let mut depth: usize = 0;
@@ -31,7 +31,7 @@ pub fn stays_open(source: &[u8], pieces: &[Piece], position: usize) -> bool
 }
 
 /// Whether all brackets that open after one position are closed again at another.
-fn is_outside(source: &[u8], pieces: &[Piece], from: usize, position: usize) -> bool
+fn is_outside(source: &[u8], pieces: &[PlacedToken], from: usize, position: usize) -> bool
     ensures { result ≡ spec.is_outside source.now from position 0 pieces.now }
 {
     let mut depth: usize = 0;
@@ -52,7 +52,7 @@ fn is_outside(source: &[u8], pieces: &[Piece], from: usize, position: usize) -> 
 }
 
 /// Whether the block that a token is in also contains a position.
-pub fn reaches(source: &[u8], pieces: &[Piece], declared: usize, position: usize) -> bool
+pub fn reaches(source: &[u8], pieces: &[PlacedToken], declared: usize, position: usize) -> bool
     ensures { result ≡ spec.reaches source.now pieces.now declared position }
 {
     let at = position_at(pieces, declared);

@@ -2,9 +2,10 @@
 
 ghost use Rattle.std.specs.Prelude.{◌≡◌};
 ghost use Rattle.timefd_lint_scan.specs.Declarations as spec;
+ghost use Rattle.timefd_lint_scan.specs.Layouts as layouts;
 
 use crate::dialect::is;
-use crate::piece::Piece;
+use crate::piece::PlacedToken;
 use crate::token::Token;
 use crate::word::{is_closing, is_word_token, text_at, text_of};
 
@@ -31,7 +32,7 @@ fn goes_on(token: Token, text: &[u8]) -> bool
 
 /// Whether a pattern ends before this token whose names are valid immediately: the pattern of a closure, a
 /// loop or an arm.
-fn ends_pattern(source: &[u8], text: &[u8], after: &[Piece]) -> bool
+fn ends_pattern(source: &[u8], text: &[u8], after: &[PlacedToken]) -> bool
     ensures { result ≡ spec.ends_pattern source.now text.now after.now }
 {
     is(text, "|")
@@ -41,7 +42,7 @@ fn ends_pattern(source: &[u8], text: &[u8], after: &[Piece]) -> bool
 }
 
 /// Whether a pattern ends before this token that a value is assigned to.
-fn ends_assigned(source: &[u8], text: &[u8], after: &[Piece]) -> bool
+fn ends_assigned(source: &[u8], text: &[u8], after: &[PlacedToken]) -> bool
     ensures { result ≡ spec.ends_assigned source.now text.now after.now }
 {
     let next = text_at(source, after, 0);
@@ -49,7 +50,7 @@ fn ends_assigned(source: &[u8], text: &[u8], after: &[Piece]) -> bool
 }
 
 /// Whether a name before these tokens may be in a pattern whose names are valid immediately.
-fn is_in_pattern(source: &[u8], pieces: &[Piece]) -> bool
+fn is_in_pattern(source: &[u8], pieces: &[PlacedToken]) -> bool
     ensures { result ≡ spec.is_in_pattern source.now spec.most_tokens pieces.now }
 {
     let mut left = MOST_TOKENS;
@@ -72,7 +73,7 @@ fn is_in_pattern(source: &[u8], pieces: &[Piece]) -> bool
 }
 
 /// Whether a name before these tokens is in a pattern that a value is assigned to.
-fn is_assigned(source: &[u8], pieces: &[Piece]) -> bool
+fn is_assigned(source: &[u8], pieces: &[PlacedToken]) -> bool
     ensures { result ≡ spec.is_assigned source.now spec.most_tokens pieces.now }
 {
     let mut left = MOST_TOKENS;
@@ -96,7 +97,7 @@ fn is_assigned(source: &[u8], pieces: &[Piece]) -> bool
 
 /// Whether a statement ends or a block begins among these tokens before a position. From there on a name is
 /// valid that a value was assigned to before these tokens.
-fn has_begun(source: &[u8], pieces: &[Piece], position: usize) -> bool
+fn has_begun(source: &[u8], pieces: &[PlacedToken], position: usize) -> bool
     ensures { result ≡ spec.has_begun source.now position pieces.now }
 {
     let mut rest = pieces;
@@ -114,7 +115,7 @@ fn has_begun(source: &[u8], pieces: &[Piece], position: usize) -> bool
 }
 
 /// Whether a type follows a name: `name: T`.
-fn has_type(source: &[u8], after: &[Piece]) -> bool
+fn has_type(source: &[u8], after: &[PlacedToken]) -> bool
     ensures { result ≡ spec.has_type source.now after.now }
 {
     is(text_at(source, after, 0), ":") && !is(text_at(source, after, 1), ":")
@@ -122,7 +123,7 @@ fn has_type(source: &[u8], after: &[Piece]) -> bool
 
 /// Whether a name between `before` and `after` may be declared there, so that it is valid at a later
 /// position.
-fn is_declared(source: &[u8], before: &[u8], after: &[Piece], position: usize) -> bool
+fn is_declared(source: &[u8], before: &[u8], after: &[PlacedToken], position: usize) -> bool
     ensures { result ≡ spec.is_declared source.now position before.now after.now }
 {
     if is(before, "let") || is_assigned(source, after) {
@@ -136,12 +137,24 @@ fn is_declared(source: &[u8], before: &[u8], after: &[Piece], position: usize) -
     }
 }
 
+/// Whether a name between `before` and `after` may be declared there, so that it is valid at some later position.
+pub fn may_declare(source: &[u8], before: &[u8], after: &[PlacedToken]) -> bool
+    ensures { result ≡ layouts.may_declare source.now before.now after.now }
+{
+    is_declaring(before)
+        || is(before, "|")
+        || is(before, "ref")
+        || has_type(source, after)
+        || is_in_pattern(source, after)
+        || is_assigned(source, after)
+}
+
 /// Whether one of these tokens may declare a name before a position. The word `before` precedes the tokens.
 pub fn is_declared_before(
     source: &[u8],
     name: &[u8],
     before: &[u8],
-    pieces: &[Piece],
+    pieces: &[PlacedToken],
     position: usize,
 ) -> bool
     ensures { result ≡ spec.is_declared_before source.now name.now position before.now pieces.now }
@@ -168,7 +181,7 @@ pub fn is_named(
     source: &[u8],
     name: &[u8],
     before: &[u8],
-    pieces: &[Piece],
+    pieces: &[PlacedToken],
     position: usize,
 ) -> bool
     ensures { result ≡ spec.is_named source.now name.now position before.now pieces.now }

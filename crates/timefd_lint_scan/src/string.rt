@@ -4,7 +4,7 @@ ghost use Rattle.std.specs.Prelude.{◌≡◌, ◌≤◌, length, MatchOption, �
 ghost use Rattle.timefd_lint_scan.specs.Bytes.{seen};
 ghost use Rattle.timefd_lint_scan.specs.After as spec;
 
-use crate::class::{Class, after_run};
+use crate::class::{ByteSet, after_run};
 
 /// What follows a string. The text begins after its opening quote. `None` if no quote closes it.
 pub fn after_string(text: &[u8]) -> Option<&[u8]>
@@ -31,7 +31,7 @@ pub fn hashes(text: &[u8]) -> usize
     ensures count { result ≡ spec.hashes text.now }
     ensures within { result ≤ length text.now }
 {
-    text.len() - after_run(Class::Hash, text).len()
+    text.len() - after_run(ByteSet::Hash, text).len()
 }
 
 /// What follows a raw string. The text begins after its opening quote. `None` if no quote with this

@@ -6,7 +6,7 @@ ghost use Rattle.timefd_lint_scan.specs.Tokens as spec;
 ghost use Rattle.timefd_lint_scan.specs.Tokens.{begun, begun_any};
 
 use crate::character::after_character;
-use crate::class::{Class, after_run, is_white, is_word};
+use crate::class::{ByteSet, after_run, is_white, is_word};
 use crate::comment::after_comment;
 use crate::string::{after_raw, after_string, hashes};
 
@@ -23,7 +23,7 @@ pub enum Encoding {
 
 /// How a string literal is written.
 #[derive(Clone, Copy, Debug, PartialEq, Eq)]
-pub enum Kind {
+pub enum LiteralKind {
     /// With escapes.
     Escaped(Encoding),
     /// Raw, with this many `#` at either end.
@@ -44,7 +44,7 @@ pub enum Token {
     /// A character or a byte: `'x'`, `b'x'`.
     Character,
     /// A string literal.
-    Literal(Kind),
+    Literal(LiteralKind),
     /// Any other byte.
     Sign,
     /// A literal or a comment that isn't closed: everything up to the end.
@@ -80,7 +80,7 @@ fn opened_comment(text: &[u8]) -> Option<Step<'_>>
     match text {
         [b'/', after @ ..] => Some(Step {
             token: Token::Comment,
-            rest: after_run(Class::Line, after),
+            rest: after_run(ByteSet::Line, after),
         }),
         [b'*', after @ ..] => Some(closed(Token::Comment, after, after_comment(after))),
         _ => None,
@@ -102,7 +102,7 @@ fn string(encoding: Encoding, text: &[u8]) -> Step<'_>
     ensures within { length result.rest.now ≤ length text.now }
 {
     closed(
-        Token::Literal(Kind::Escaped(encoding)),
+        Token::Literal(LiteralKind::Escaped(encoding)),
         text,
         after_string(text),
     )
@@ -114,7 +114,7 @@ fn opened_raw(encoding: Encoding, hash_count: usize, text: &[u8]) -> Option<Step
 {
     match text {
         [b'"', after @ ..] => Some(closed(
-            Token::Literal(Kind::Raw(encoding, hash_count)),
+            Token::Literal(LiteralKind::Raw(encoding, hash_count)),
             after,
             after_raw(hash_count, after),
         )),
@@ -191,17 +191,17 @@ fn plain(byte: u8, after: &[u8]) -> Step<'_>
     if is_white(byte) {
         Step {
             token: Token::White,
-            rest: after_run(Class::White, after),
+            rest: after_run(ByteSet::White, after),
         }
     } else if is_word(byte) {
         Step {
             token: Token::Word,
-            rest: after_run(Class::Word, after),
+            rest: after_run(ByteSet::Word, after),
         }
     } else if byte == b'\'' && begins_word(after) {
         Step {
             token: Token::Lifetime,
-            rest: after_run(Class::Word, after),
+            rest: after_run(ByteSet::Word, after),
         }
     } else {
         Step {

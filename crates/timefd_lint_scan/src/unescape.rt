@@ -5,7 +5,7 @@ ghost use Rattle.timefd_lint_scan.specs.Escapes.{placed_any, unescaped};
 
 use crate::escape::part_of;
 use crate::part::push_part;
-use crate::token::Kind;
+use crate::token::LiteralKind;
 use std::alloc::{AllocError, Global};
 
 /// The text that a literal denotes, and where it is in the source.
@@ -22,7 +22,7 @@ pub struct Unescaped {
 #[tactic(auto, using(crate::proofs::UnescapeLemmas::at_first))]
 pub fn unescape(
     alloc: Global,
-    kind: Kind,
+    kind: LiteralKind,
     body: &[u8],
     end: usize,
 ) -> Result<Option<Unescaped>, AllocError>

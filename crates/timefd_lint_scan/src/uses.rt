@@ -1,16 +1,26 @@
 //! Names that are used instead of descriptions, and what their use says about the text that they denote.
 
-ghost use Rattle.std.specs.Prelude.{◌≡◌, drop};
+ghost use Rattle.std.specs.Prelude.{◌≡◌, drop, false, true};
+ghost use Rattle.timefd_lint_scan.specs.Declarations.{is_declared_before};
+ghost use Rattle.timefd_lint_scan.specs.FoundUses.{IsFound};
+ghost use Rattle.timefd_lint_scan.specs.Kept.{IsLayout};
+ghost use Rattle.timefd_lint_scan.specs.Scopes.{reaches, stays_open};
 ghost use Rattle.timefd_lint_scan.specs.Uses.{AreBefore, AreFurthest};
 ghost use Rattle.timefd_lint_scan.specs.Uses as spec;
+ghost use Rattle.timefd_lint_scan.specs.Words.{text_at, tokens_after};
 
 use crate::alias::after_first;
 use crate::dialect::is;
+use crate::firsts::first_of;
 use crate::known::Known;
-use crate::piece::Piece;
+use crate::layout::{
+    TokenLayout, has_one_item, has_one_variable, is_open_after, is_open_at, is_outside_at,
+};
+use crate::piece::PlacedToken;
 use crate::scope::{reaches, stays_open};
 use crate::shadow::{is_declared_before, is_named};
 use crate::word::{position_at, text_at, text_before, text_of, tokens_after};
+use std::collections::HashMap;
 
 /// How a name is used.
 #[derive(Clone, Copy)]
@@ -25,7 +35,7 @@ pub enum Way {
 #[derive(Clone, Copy)]
 pub struct Use {
     /// The name.
-    pub name: Piece,
+    pub name: PlacedToken,
     /// How it is used.
     pub way: Way,
     /// What is known about the text that it denotes.
@@ -34,7 +44,7 @@ pub struct Use {
 
 /// Whether a position is after the first of these tokens, in the block that they begin in, and the name
 /// isn't declared again before it.
-fn is_seen(source: &[u8], name: &[u8], pieces: &[Piece], position: usize) -> bool
+fn is_seen(source: &[u8], name: &[u8], pieces: &[PlacedToken], position: usize) -> bool
     ensures { result ≡ spec.is_seen source.now name.now pieces.now position }
 {
     match pieces {
@@ -48,9 +58,13 @@ fn is_seen(source: &[u8], name: &[u8], pieces: &[Piece], position: usize) -> boo
 }
 
 /// Whether no other item or variable of a source has the name that this token declares.
-fn is_only(source: &[u8], pieces: &[Piece], declared: usize) -> bool
+fn is_only(source: &[u8], pieces: &[PlacedToken], layout: &TokenLayout, declared: usize) -> bool
+    requires { IsLayout source.now pieces.now layout.now }
     ensures { result ≡ spec.is_only source.now pieces.now declared }
 {
+    if has_one_item(source, pieces, layout, declared) {
+        return true;
+    }
     let name = text_at(source, pieces, declared);
     let after = tokens_after(pieces, declared);
     !is_named(source, name, &[], pieces, position_at(pieces, declared))
@@ -59,18 +73,26 @@ fn is_only(source: &[u8], pieces: &[Piece], declared: usize) -> bool
 
 /// Whether a name used at a position is the one that a token declares: with `let` up to the end of its
 /// block, with `for` in the loop's block, and otherwise in the block of its item.
-fn is_meant(source: &[u8], pieces: &[Piece], declared: usize, position: usize) -> bool
+fn is_meant(
+    source: &[u8],
+    pieces: &[PlacedToken],
+    layout: &TokenLayout,
+    declared: usize,
+    position: usize,
+) -> bool
+    requires { IsLayout source.now pieces.now layout.now }
     ensures { result ≡ spec.is_meant source.now pieces.now declared position }
 {
     let before = text_before(source, pieces, declared, 1);
     let name = text_at(source, pieces, declared);
     let after = tokens_after(pieces, declared);
     if is(before, "let") {
-        is_seen(source, name, after, position)
+        is_variable(source, pieces, layout, declared, position)
     } else if is(before, "for") {
         is_seen(source, name, after_first(source, after, "{"), position)
     } else {
-        reaches(source, pieces, declared, position) && is_only(source, pieces, declared)
+        block_contains(source, pieces, layout, declared, position)
+            && is_only(source, pieces, layout, declared)
     }
 }
 
@@ -85,13 +107,20 @@ fn is_alike(way: Way, is_function: bool) -> bool
 }
 
 /// Whether this is a use of what a token declares.
-fn is_use_of(source: &[u8], pieces: &[Piece], declared: usize, used: Use) -> bool
+fn is_use_of(
+    source: &[u8],
+    pieces: &[PlacedToken],
+    layout: &TokenLayout,
+    declared: usize,
+    used: Use,
+) -> bool
+    requires { IsLayout source.now pieces.now layout.now }
     ensures { result ≡ spec.is_use_of source.now pieces.now declared used }
 {
     let is_function = is(text_before(source, pieces, declared, 1), "fn");
     text_of(source, used.name) == text_at(source, pieces, declared)
         && is_alike(used.way, is_function)
-        && is_meant(source, pieces, declared, used.name.start)
+        && is_meant(source, pieces, layout, declared, used.name.start)
 }
 
 /// Uses of names, and how far the fronts of their list reach.
@@ -101,10 +130,71 @@ pub struct Uses<'a> {
     pub list: &'a [Use],
     /// For each of them a byte index, after which no use up to it in the list is.
     pub furthest: &'a [usize],
+    /// For each name's fingerprint an index in the list before which no use is of that name.
+    pub firsts: &'a HashMap<u64, usize>,
+    /// What is noted about the tokens.
+    pub layout: &'a TokenLayout,
+}
+
+// Whether the block that a token is in also contains a position.
+fn block_contains(
+    source: &[u8],
+    pieces: &[PlacedToken],
+    layout: &TokenLayout,
+    declared: usize,
+    position: usize,
+) -> bool
+    requires { IsLayout source.now pieces.now layout.now }
+    ensures { result ≡ reaches source.now pieces.now declared position }
+{
+    if position_at(pieces, declared) <= position {
+        if is_open_at(source, pieces, layout, declared, position) {
+            return true;
+        }
+    } else if is_outside_at(source, pieces, layout, declared, position) {
+        return true;
+    }
+    reaches(source, pieces, declared, position)
+}
+
+// Whether the variable that a token declares with `let` is what its name means at a position.
+fn is_variable(
+    source: &[u8],
+    pieces: &[PlacedToken],
+    layout: &TokenLayout,
+    declared: usize,
+    position: usize,
+) -> bool
+    requires { IsLayout source.now pieces.now layout.now }
+    ensures { result ≡ spec.is_seen source.now (text_at source.now pieces.now declared) (tokens_after pieces.now declared) position }
+{
+    let after = tokens_after(pieces, declared);
+    if is_surely_variable(source, pieces, layout, declared, position) && !after.is_empty() {
+        return first_start(after) <= position;
+    }
+    is_seen(source, text_at(source, pieces, declared), after, position)
+}
+
+// Whether the block is open at a position that a token is in, and its name isn't declared again; `false` if that
+// isn't certain.
+fn is_surely_variable(
+    source: &[u8],
+    pieces: &[PlacedToken],
+    layout: &TokenLayout,
+    declared: usize,
+    position: usize,
+) -> bool
+    requires { IsLayout source.now pieces.now layout.now }
+    ensures stays { result ≡ true → stays_open source.now position 0 (tokens_after pieces.now declared) ≡ true }
+    ensures only { result ≡ true → is_declared_before source.now (text_at source.now pieces.now declared) position
+        (text_at source.now pieces.now declared) (tokens_after pieces.now declared) ≡ false }
+{
+    has_one_variable(source, pieces, layout, declared)
+        && is_open_after(source, pieces, layout, declared, position)
 }
 
 // The start of the first of these tokens.
-fn first_start(pieces: &[Piece]) -> usize
+fn first_start(pieces: &[PlacedToken]) -> usize
     ensures { result ≡ spec.first_start pieces.now }
 {
     match pieces {
@@ -114,7 +204,7 @@ fn first_start(pieces: &[Piece]) -> usize
 }
 
 // A position before which no use is of the name that a token declares with `let` or `for`.
-fn first_seen(source: &[u8], pieces: &[Piece], declared: usize) -> usize
+fn first_seen(source: &[u8], pieces: &[PlacedToken], declared: usize) -> usize
     ensures { result ≡ spec.first_seen source.now pieces.now declared }
 {
     let before = text_before(source, pieces, declared, 1);
@@ -156,20 +246,23 @@ fn uses_from(uses: &[Use], index: usize) -> &[Use]
 }
 
 /// What the first use says about the name that a token declares.
-#[tactic(auto, using(crate::proofs::UsesLemmas::skipped))]
+#[tactic(auto, using(crate::proofs::FirstsLemmas::absent, crate::proofs::FirstsLemmas::skipped))]
 pub fn known_by_name(
     source: &[u8],
-    pieces: &[Piece],
+    pieces: &[PlacedToken],
     uses: Uses<'_>,
     declared: usize,
 ) -> Option<Known>
-    requires { AreFurthest uses.list.now uses.furthest.now }
+    requires { IsFound source.now pieces.now uses }
     ensures { result ≡ spec.known_by_name source.now pieces.now declared uses.entry.list.now }
 {
+    let Some(first) = first_of(uses.firsts, text_at(source, pieces, declared)) else {
+        return None;
+    };
     let before = count_before(uses, first_seen(source, pieces, declared));
-    let mut rest = uses_from(uses.list, before);
+    let mut rest = uses_from(uses.list, before.max(first));
     'uses: while let [first, after @ ..] = rest {
-        if is_use_of(source, pieces, declared, *first) {
+        if is_use_of(source, pieces, uses.layout, declared, *first) {
             return Some(first.known);
         }
         rest = after;

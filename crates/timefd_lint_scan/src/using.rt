@@ -2,24 +2,28 @@
 
 ghost use Rattle.std.specs.Prelude.{◌≡◌, ◌++◌, [], IfOk, OnOk};
 ghost use Rattle.std.specs.Option.{option_to_list};
-ghost use Rattle.timefd_lint_scan.specs.Uses.{AreFurthest};
+ghost use Rattle.timefd_lint_scan.specs.FoundUses.{IsFound};
+ghost use Rattle.timefd_lint_scan.specs.Kept.{IsLayout};
 ghost use Rattle.timefd_lint_scan.specs.Using as spec;
 
 use crate::alias::Alias;
-use crate::calls::Frame;
+use crate::calls::OpenBracket;
 use crate::dialect::is;
+use crate::firsts::firsts_of;
 use crate::flow::{outermost, pending_of};
 use crate::frames::{innermost, pass};
 use crate::furthest::furthest_of;
 use crate::known::Known;
-use crate::piece::Piece;
+use crate::layout::TokenLayout;
+use crate::piece::PlacedToken;
 use crate::uses::{Use, Uses, Way, known_by_name};
 use crate::value::{ends_value, is_begun};
 use crate::word::{is_word_token, text_after, text_at, text_before};
 use std::alloc::{AllocError, Global};
+use std::collections::HashMap;
 
 /// The index of the token that a path to a name begins with: `Self` in `Self::F`, `self` in `self.f()`.
-fn path_start(source: &[u8], pieces: &[Piece], index: usize) -> Option<usize>
+fn path_start(source: &[u8], pieces: &[PlacedToken], index: usize) -> Option<usize>
     ensures { result ≡ spec.path_start source.now pieces.now index }
 {
     let before = text_before(source, pieces, index, 1);
@@ -42,7 +46,7 @@ fn path_start(source: &[u8], pieces: &[Piece], index: usize) -> Option<usize>
 }
 
 /// How a name is used as a value, if it is.
-fn way_of(source: &[u8], pieces: &[Piece], index: usize) -> Option<Way>
+fn way_of(source: &[u8], pieces: &[PlacedToken], index: usize) -> Option<Way>
     ensures { result ≡ spec.way_of source.now pieces.now index }
 {
     let Some(start) = path_start(source, pieces, index) else {
@@ -59,7 +63,7 @@ fn way_of(source: &[u8], pieces: &[Piece], index: usize) -> Option<Way>
     }
 }
 
-fn use_of(name: Piece, way: Option<Way>, known: Known) -> Option<Use>
+fn use_of(name: PlacedToken, way: Option<Way>, known: Known) -> Option<Use>
     ensures { result ≡ spec.use_of name way known }
 {
     match way {
@@ -78,10 +82,10 @@ fn use_of(name: Piece, way: Option<Way>, known: Known) -> Option<Use>
 /// The use of the name at a token, with this bracket open.
 fn use_at(
     source: &[u8],
-    pieces: &[Piece],
+    pieces: &[PlacedToken],
     index: usize,
-    piece: Piece,
-    frame: Option<Frame>,
+    piece: PlacedToken,
+    frame: Option<OpenBracket>,
 ) -> Option<Use>
     ensures { result ≡ spec.use_at source.now pieces.now index piece frame }
 {
@@ -108,13 +112,21 @@ fn push_any(uses: &mut Vec<Use>, found: Option<Use>) -> Result<(), AllocError>
 }
 
 // No use.
-fn no_uses() -> Uses<'static>
+fn no_uses<'a>(
+    source: &[u8],
+    pieces: &[PlacedToken],
+    layout: &'a TokenLayout,
+    firsts: &'a HashMap<u64, usize>,
+) -> Uses<'a>
+    requires { IsLayout source.now pieces.now layout.now }
     ensures none { result.list.now ≡ [] }
-    ensures furthest { AreFurthest result.list.now result.furthest.now }
+    ensures found { IsFound source.now pieces.now result }
 {
     Uses {
         list: &[],
         furthest: &[],
+        firsts,
+        layout,
     }
 }
 
@@ -122,23 +134,27 @@ fn no_uses() -> Uses<'static>
 fn in_calls(
     alloc: Global,
     source: &[u8],
-    pieces: &[Piece],
+    pieces: &[PlacedToken],
     aliases: &[Alias],
+    layout: &TokenLayout,
 ) -> Result<Vec<Use>, AllocError>
+    requires { IsLayout source.now pieces.now layout.now }
     ensures { IfOk result (λ uses. uses.items ≡ spec.in_calls source.now pieces.now aliases.now) }
 {
     let mut frames = Vec::new(alloc);
     frames.push(outermost())?;
     let mut uses = Vec::new(alloc);
+    let firsts: HashMap<u64, usize> = HashMap::new(alloc);
+    let none = no_uses(source, pieces, layout, &firsts);
     for (index, piece) in pieces.iter().enumerate() {
-        pass(&mut frames, source, pieces, aliases, no_uses(), index)?;
+        pass(&mut frames, source, pieces, aliases, none, index)?;
         let frame = innermost(&frames);
         push_any(&mut uses, use_at(source, pieces, index, *piece, frame))?;
     }
     Ok(uses)
 }
 
-fn piece_after(pieces: &[Piece], index: usize, ahead: usize) -> Option<Piece>
+fn piece_after(pieces: &[PlacedToken], index: usize, ahead: usize) -> Option<PlacedToken>
     ensures { result ≡ spec.piece_after pieces.now index ahead }
 {
     match index.checked_add(ahead) {
@@ -150,11 +166,11 @@ fn piece_after(pieces: &[Piece], index: usize, ahead: usize) -> Option<Piece>
 /// The name that a loop goes over, `ahead` tokens after `in`, if the token `next` after `in` ends it.
 fn looped_over(
     source: &[u8],
-    pieces: &[Piece],
+    pieces: &[PlacedToken],
     index: usize,
     ahead: usize,
     next: usize,
-) -> Option<Piece>
+) -> Option<PlacedToken>
     ensures { result ≡ spec.looped_over source.now pieces.now index ahead next }
 {
     let after = text_after(source, pieces, index, next);
@@ -166,7 +182,7 @@ fn looped_over(
 }
 
 /// The name of the list that a loop goes over, which may be borrowed.
-fn looped(source: &[u8], pieces: &[Piece], index: usize) -> Option<Piece>
+fn looped(source: &[u8], pieces: &[PlacedToken], index: usize) -> Option<PlacedToken>
     ensures { result ≡ spec.looped source.now pieces.now index }
 {
     if is(text_after(source, pieces, index, 1), "&") {
@@ -178,8 +194,8 @@ fn looped(source: &[u8], pieces: &[Piece], index: usize) -> Option<Piece>
 
 /// The list that a loop goes over by name, if this token is the loop's `in` and the loop's variable is used
 /// instead of a description. What is known about the variable is then known about the list.
-fn loop_at(source: &[u8], pieces: &[Piece], uses: Uses<'_>, index: usize) -> Option<Use>
-    requires { AreFurthest uses.list.now uses.furthest.now }
+fn loop_at(source: &[u8], pieces: &[PlacedToken], uses: Uses<'_>, index: usize) -> Option<Use>
+    requires { IsFound source.now pieces.now uses }
     ensures { result ≡ spec.loop_at source.now pieces.now uses.entry.list.now index }
 {
     if is(text_at(source, pieces, index), "in")
@@ -192,7 +208,7 @@ fn loop_at(source: &[u8], pieces: &[Piece], uses: Uses<'_>, index: usize) -> Opt
     }
 }
 
-fn list_of(name: Option<Piece>, known: Option<Known>) -> Option<Use>
+fn list_of(name: Option<PlacedToken>, known: Option<Known>) -> Option<Use>
     ensures { result ≡ spec.list_of name known }
 {
     match (name, known) {
@@ -209,10 +225,10 @@ fn list_of(name: Option<Piece>, known: Option<Known>) -> Option<Use>
 fn in_loops(
     alloc: Global,
     source: &[u8],
-    pieces: &[Piece],
+    pieces: &[PlacedToken],
     uses: Uses<'_>,
 ) -> Result<Vec<Use>, AllocError>
-    requires { AreFurthest uses.list.now uses.furthest.now }
+    requires { IsFound source.now pieces.now uses }
     ensures { IfOk result (λ lists. lists.items ≡ spec.in_loops source.now pieces.now uses.entry.list.now) }
 {
     let mut lists = Vec::new(alloc);
@@ -226,16 +242,21 @@ fn in_loops(
 pub fn uses_of(
     alloc: Global,
     source: &[u8],
-    pieces: &[Piece],
+    pieces: &[PlacedToken],
     aliases: &[Alias],
+    layout: &TokenLayout,
 ) -> Result<Vec<Use>, AllocError>
+    requires { IsLayout source.now pieces.now layout.now }
     ensures { IfOk result (λ uses. uses.items ≡ spec.uses_in source.now pieces.now aliases.now) }
 {
-    let mut uses = in_calls(alloc, source, pieces, aliases)?;
+    let mut uses = in_calls(alloc, source, pieces, aliases, layout)?;
     let furthest = furthest_of(alloc, &uses)?;
+    let firsts = firsts_of(alloc, source, &uses)?;
     let found = Uses {
         list: &uses,
         furthest: &furthest,
+        firsts: &firsts,
+        layout,
     };
     let lists = in_loops(alloc, source, pieces, found)?;
     uses.extend_from_slice(&lists)?;

@@ -4,8 +4,8 @@ ghost use Rattle.std.specs.Prelude.{◌≡◌, IsTrue, Some};
 ghost use Rattle.timefd_lint_scan.specs.Versions.{IsDigitAt, IsSaid};
 ghost use Rattle.timefd_lint_scan.specs.Versions as spec;
 
-use crate::dialect::Dialect;
-use crate::piece::Piece;
+use crate::dialect::FormatLanguage;
+use crate::piece::PlacedToken;
 
 /// Where a source says the version of a description.
 #[derive(Clone, Copy, Debug, PartialEq, Eq)]
@@ -21,27 +21,27 @@ pub enum VersionPosition {
 }
 
 /// The digit of a version; `None` for strftime.
-pub fn digit_of(dialect: Dialect) -> Option<u8>
+pub fn digit_of(dialect: FormatLanguage) -> Option<u8>
     ensures { result ≡ spec.digit_of dialect }
 {
     match dialect {
-        Dialect::One => Some(b'1'),
-        Dialect::Two => Some(b'2'),
-        Dialect::Three => Some(b'3'),
-        Dialect::Strftime
-        | Dialect::Python
-        | Dialect::C
-        | Dialect::Gnu
-        | Dialect::Chrono
-        | Dialect::Jiff
-        | Dialect::Ruby
-        | Dialect::Java
-        | Dialect::Go
-        | Dialect::Moment => None,
+        FormatLanguage::One => Some(b'1'),
+        FormatLanguage::Two => Some(b'2'),
+        FormatLanguage::Three => Some(b'3'),
+        FormatLanguage::Strftime
+        | FormatLanguage::Python
+        | FormatLanguage::C
+        | FormatLanguage::Gnu
+        | FormatLanguage::Chrono
+        | FormatLanguage::Jiff
+        | FormatLanguage::Ruby
+        | FormatLanguage::Java
+        | FormatLanguage::Go
+        | FormatLanguage::Moment => None,
     }
 }
 
-fn is_digit_of(dialect: Dialect, byte: u8) -> bool
+fn is_digit_of(dialect: FormatLanguage, byte: u8) -> bool
     ensures so { IsTrue result → spec.digit_of dialect ≡ Some byte }
     ensures all { spec.digit_of dialect ≡ Some byte → IsTrue result }
 {
@@ -51,7 +51,7 @@ fn is_digit_of(dialect: Dialect, byte: u8) -> bool
     }
 }
 
-fn is_digit_at(source: &str, piece: Piece, dialect: Dialect, at: usize) -> bool
+fn is_digit_at(source: &str, piece: PlacedToken, dialect: FormatLanguage, at: usize) -> bool
     ensures so { IsTrue result → IsDigitAt source.now piece dialect at }
     ensures all { IsDigitAt source.now piece dialect at → IsTrue result }
 {
@@ -59,24 +59,24 @@ fn is_digit_at(source: &str, piece: Piece, dialect: Dialect, at: usize) -> bool
     at < piece.start && at < bytes.len() && is_digit_of(dialect, bytes[at])
 }
 
-fn is_one(dialect: Dialect) -> bool
+fn is_one(dialect: FormatLanguage) -> bool
     ensures so { IsTrue result → dialect ≡ spec.unsaid }
     ensures all { dialect ≡ spec.unsaid → IsTrue result }
 {
     match dialect {
-        Dialect::One => true,
-        Dialect::Two
-        | Dialect::Three
-        | Dialect::Strftime
-        | Dialect::Python
-        | Dialect::C
-        | Dialect::Gnu
-        | Dialect::Chrono
-        | Dialect::Jiff
-        | Dialect::Ruby
-        | Dialect::Java
-        | Dialect::Go
-        | Dialect::Moment => false,
+        FormatLanguage::One => true,
+        FormatLanguage::Two
+        | FormatLanguage::Three
+        | FormatLanguage::Strftime
+        | FormatLanguage::Python
+        | FormatLanguage::C
+        | FormatLanguage::Gnu
+        | FormatLanguage::Chrono
+        | FormatLanguage::Jiff
+        | FormatLanguage::Ruby
+        | FormatLanguage::Java
+        | FormatLanguage::Go
+        | FormatLanguage::Moment => false,
     }
 }
 
@@ -84,8 +84,8 @@ fn is_one(dialect: Dialect) -> bool
 /// that are found pass; the test makes sure.
 pub fn tested(
     source: &str,
-    piece: Piece,
-    dialect: Dialect,
+    piece: PlacedToken,
+    dialect: FormatLanguage,
     position: VersionPosition,
 ) -> VersionPosition
     ensures said { IsSaid source.now piece dialect result }

@@ -5,11 +5,11 @@ ghost use Rattle.timefd_lint_scan.specs.Words as spec;
 
 use crate::dialect::is;
 use crate::literal::cut;
-use crate::piece::Piece;
+use crate::piece::PlacedToken;
 use crate::token::Token;
 
 /// The text of a token.
-pub fn text_of(source: &[u8], piece: Piece) -> &[u8]
+pub fn text_of(source: &[u8], piece: PlacedToken) -> &[u8]
     ensures { result.now ≡ spec.text_of source.now piece }
 {
     match cut(source, piece) {
@@ -19,14 +19,14 @@ pub fn text_of(source: &[u8], piece: Piece) -> &[u8]
 }
 
 /// The tokens from an index on.
-pub fn tokens_from(pieces: &[Piece], index: usize) -> &[Piece]
+pub fn tokens_from(pieces: &[PlacedToken], index: usize) -> &[PlacedToken]
     ensures { result.now ≡ drop index pieces.now }
 {
     pieces.get(index..).unwrap_or(&[])
 }
 
 /// The tokens after the one at an index.
-pub fn tokens_after(pieces: &[Piece], index: usize) -> &[Piece]
+pub fn tokens_after(pieces: &[PlacedToken], index: usize) -> &[PlacedToken]
     ensures { result.now ≡ spec.tokens_after pieces.now index }
 {
     match tokens_from(pieces, index) {
@@ -36,7 +36,7 @@ pub fn tokens_after(pieces: &[Piece], index: usize) -> &[Piece]
 }
 
 /// The text of the token at an index; empty if there is none.
-pub fn text_at<'a>(source: &'a [u8], pieces: &[Piece], index: usize) -> &'a [u8]
+pub fn text_at<'a>(source: &'a [u8], pieces: &[PlacedToken], index: usize) -> &'a [u8]
     ensures { result.now ≡ spec.text_at source.now pieces.now index }
 {
     match pieces.get(index) {
@@ -49,7 +49,12 @@ pub fn text_at<'a>(source: &'a [u8], pieces: &[Piece], index: usize) -> &'a [u8]
 }
 
 /// The text of the token `ahead` tokens after the one at an index.
-pub fn text_after<'a>(source: &'a [u8], pieces: &[Piece], index: usize, ahead: usize) -> &'a [u8]
+pub fn text_after<'a>(
+    source: &'a [u8],
+    pieces: &[PlacedToken],
+    index: usize,
+    ahead: usize,
+) -> &'a [u8]
     ensures { result.now ≡ spec.text_after source.now pieces.now index ahead }
 {
     match index.checked_add(ahead) {
@@ -59,7 +64,12 @@ pub fn text_after<'a>(source: &'a [u8], pieces: &[Piece], index: usize, ahead: u
 }
 
 /// The text of the token `back` tokens before the one at an index.
-pub fn text_before<'a>(source: &'a [u8], pieces: &[Piece], index: usize, back: usize) -> &'a [u8]
+pub fn text_before<'a>(
+    source: &'a [u8],
+    pieces: &[PlacedToken],
+    index: usize,
+    back: usize,
+) -> &'a [u8]
     ensures { result.now ≡ spec.text_before source.now pieces.now index back }
 {
     if back <= index {
@@ -70,7 +80,7 @@ pub fn text_before<'a>(source: &'a [u8], pieces: &[Piece], index: usize, back: u
 }
 
 /// Whether the token at an index is a word.
-pub fn is_word_at(pieces: &[Piece], index: usize) -> bool
+pub fn is_word_at(pieces: &[PlacedToken], index: usize) -> bool
     ensures { result ≡ spec.is_word_at pieces.now index }
 {
     match pieces.get(index) {
@@ -96,7 +106,7 @@ pub fn is_word_token(token: Token) -> bool
 }
 
 /// Where the token at an index begins, as a byte index; 0 if there is none.
-pub fn position_at(pieces: &[Piece], index: usize) -> usize
+pub fn position_at(pieces: &[PlacedToken], index: usize) -> usize
     ensures { result ≡ spec.position_at pieces.now index }
 {
     match pieces.get(index) {

@@ -2,25 +2,29 @@
 
 ghost use Rattle.std.specs.Prelude.{◌≡◌, ◌<◌, ◌&&◌, ◌++◌, IfOk, IfSome, MatchOption, None, OnOk, Some, is_some, true, ⊤};
 ghost use Rattle.std.specs.List.{list_all};
-ghost use Rattle.timefd_lint_scan.specs.declared.token.Kind.TheVariants as kinds;
+ghost use Rattle.timefd_lint_scan.specs.declared.token.LiteralKind.TheVariants as kinds;
 ghost use Rattle.timefd_lint_scan.specs.Escapes.{hex_digit, is_of_bytes, letter};
 ghost use Rattle.timefd_lint_scan.specs.Written as spec;
 ghost use Rattle.timefd_lint_scan.specs.Written.{AddsByte, AddsPiece, IsBodyFor, IsWritten, has_body, is_plain};
 
 use crate::string::hashes;
-use crate::token::{Encoding, Kind};
+use crate::token::{Encoding, LiteralKind};
 use std::alloc::{AllocError, Global};
 
 /// The body of a literal of this kind that denotes a text. `None` if there is none: a C string has no 0,
 /// and a raw literal has no carriage return and nothing that closes it, and only ASCII if it is a byte
 /// string. An `Err` says that memory ran out.
-pub fn body_for(alloc: Global, kind: Kind, text: &[u8]) -> Result<Option<Vec<u8>>, AllocError>
+pub fn body_for(
+    alloc: Global,
+    kind: LiteralKind,
+    text: &[u8],
+) -> Result<Option<Vec<u8>>, AllocError>
     ensures body { IfOk result (λ found. IfSome found (λ body. IsBodyFor kind text.now body.items)) }
     ensures found { IfOk result (λ found. is_some found ≡ has_body kind text.now) }
 {
     match kind {
-        Kind::Escaped(encoding) => escaped(alloc, encoding, text),
-        Kind::Raw(encoding, hash_count) => raw(alloc, encoding, hash_count, text),
+        LiteralKind::Escaped(encoding) => escaped(alloc, encoding, text),
+        LiteralKind::Raw(encoding, hash_count) => raw(alloc, encoding, hash_count, text),
     }
 }
 
@@ -99,12 +103,12 @@ pub fn closes_nowhere(hash_count: usize, text: &[u8]) -> bool
 }
 
 /// Adds a byte as a literal of this kind spells it: with an escape if it needs one and can have one.
-pub fn push_byte(body: &mut Vec<u8>, kind: Kind, byte: u8) -> Result<(), AllocError>
+pub fn push_byte(body: &mut Vec<u8>, kind: LiteralKind, byte: u8) -> Result<(), AllocError>
     ensures { OnOk result (AddsByte kind byte body.old.items body.new.items) }
 {
     match kind {
-        Kind::Escaped(encoding) => push_escaped(body, encoding, byte),
-        Kind::Raw(_, _) => body.extend_from_slice(&[byte]),
+        LiteralKind::Escaped(encoding) => push_escaped(body, encoding, byte),
+        LiteralKind::Raw(_, _) => body.extend_from_slice(&[byte]),
     }
 }
 

@@ -1,7 +1,7 @@
 -- What the comments of a source allow.
 use Rattle.std.proofs.Common.{◌≡◌, ◌∙◌, List, [], ◌∷◌, ◌++◌, ap, inl, inr, refl, sym}
 use Rattle.std.proofs.lemmas.Bool.{cases_Bool}
-use Rattle.timefd_lint_scan.specs.declared.piece.Piece.{Piece}
+use Rattle.timefd_lint_scan.specs.declared.piece.PlacedToken.{PlacedToken}
 use Rattle.timefd_lint_scan.specs.Bytes.{Text}
 use Rattle.timefd_lint_scan.specs.Gathered.{AreComments, comment_kept, comments}
 use Rattle.timefd_lint_scan.specs.Marks.{is_comment}
@@ -9,7 +9,7 @@ use Rattle.timefd_lint_sources.specs.declared.allowances.comment.Allowance.{Allo
 use Rattle.timefd_lint_sources.specs.declared.reported.Finder.TheVariants.{Rust}
 use Rattle.timefd_lint_sources.specs.Allowances.Found.{AreBy, in_token, in_tokens}
 
-in_comments : (source : Text) (ps : List Piece) → in_tokens source (comments ps) ≡ in_tokens source ps
+in_comments : (source : Text) (ps : List PlacedToken) → in_tokens source (comments ps) ≡ in_tokens source ps
 in_comments source [] = refl
 in_comments source (p ∷ ps) = elim (cases_Bool (is_comment p.token)) [
   | inl is ↦
@@ -24,7 +24,7 @@ in_comments source (p ∷ ps) = elim (cases_Bool (is_comment p.token)) [
 ]
 
 -- What all comments allow is what all tokens allow.
-pub by_comments : (source bytes : Text) (notes given : List Piece) (none found : List Allowance)
+pub by_comments : (source bytes : Text) (notes given : List PlacedToken) (none found : List Allowance)
     → AreComments source notes → bytes ≡ source → given ≡ notes → none ≡ []
     → found ≡ none ++ in_tokens bytes given → AreBy Rust source found
 by_comments source bytes notes given none found are here same empty allowed = (

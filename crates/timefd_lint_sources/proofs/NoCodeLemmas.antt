@@ -12,7 +12,7 @@ use Rattle.timefd_lint_sources.specs.declared.allowances.comment.Allowance.{Allo
 use Rattle.timefd_lint_sources.specs.declared.no_code.NoCode.{NoCode}
 use Rattle.timefd_lint_sources.specs.declared.remark.Remark.{Remark}
 use Rattle.timefd_lint_sources.specs.declared.remark.Remark.TheVariants.{Code}
-use Rattle.timefd_lint_sources.specs.declared.reported.Source.{Source}
+use Rattle.timefd_lint_sources.specs.declared.reported.SourceText.{SourceText}
 use Rattle.timefd_lint_sources.specs.AtWord.{message}
 use Rattle.timefd_lint_sources.specs.CodeNames.{description_codes, is_among}
 use Rattle.timefd_lint_sources.specs.Remarks as spec
@@ -76,13 +76,13 @@ at_last source words all left before now none so_far =
     (subst (λ l. IsUpTo source words all l before now) none so_far).others now ([], refl, sym (append-nil now))
 
 -- Without comments there are no remarks on them.
-pub none_allowed : (s : Source) (old : List Remark) → s.allowances.now ≡ [] → AddsCodes s old old
+pub none_allowed : (s : SourceText) (old : List Remark) → s.allowances.now ≡ [] → AddsCodes s old old
 none_allowed s old none =
     subst (λ l. AddsAll s.text.now description_codes l old old) (sym none) ([], refl, sym (append-nil old))
 
 -- The messages on words in comments.
 
-pub noted : {E : Type 0} (style : Style) (s : Source) (word : NoCode) (sentence : Text)
+pub noted : {E : Type 0} (style : Style) (s : SourceText) (word : NoCode) (sentence : Text)
     (done : Result (Vec ℕ Global) E) → sentence ≡ sentence_on s.text.now word
     → IfOk done (λ m. m.items ≡ message style s (record { start = word.start; end = word.end }) spec.no_code sentence)
     → IfOk done (λ m. m.items ≡ code_note style s word)
@@ -90,7 +90,7 @@ noted style s word sentence (Ok m) same is =
     is ∙ ap (λ t. message style s (record { start = word.start; end = word.end }) spec.no_code t) same
 noted style s word sentence (Err e) same is = tt
 
-pub language_noted : {E : Type 0} (style : Style) (s : Source) (at : ℕ) (word : Span)
+pub language_noted : {E : Type 0} (style : Style) (s : SourceText) (at : ℕ) (word : Span)
     (done : Result (Vec ℕ Global) E) → word ≡ word_at s.text.now at
     → IfOk done (λ m. m.items ≡ message style s word language_code language_sentence)
     → IfOk done (λ m. m.items ≡ language_note style s at)

@@ -3,7 +3,7 @@ use Rattle.std.proofs.Common.{ℕ, ◌≡◌, ◌⊎◌, ◌∙◌, ◌+◌, ◌
 use Rattle.std.proofs.lemmas.Bool.{and_cases, and_parts, cases_Bool, false≢true}
 use Rattle.std.proofs.lemmas.Bool.Decides.{nat_tests}
 use Rattle.timefd_lint_scan.specs.Bytes.{Text, line_feed}
-use Rattle.timefd_lint_sources.specs.declared.allowances.comment.Sign.{Sign}
+use Rattle.timefd_lint_sources.specs.declared.allowances.comment.CommentSign.{CommentSign}
 use Rattle.timefd_lint_sources.specs.Allowances.Comments.{IsCovered, IsLaterLine, ReachesFirstOther, covered, is_mark_line}
 
 -- The line after the first byte, or a later line of what follows it.
@@ -30,14 +30,14 @@ is_other true e = absurd (false≢true e)
 is_other false e = refl
 
 -- The line after the first byte has only such a comment, if that byte ends a line and doesn't count.
-first_marked : (sign : Sign) (b : ℕ) (rest line : Text) → ((b == line_feed) && not (is_mark_line sign rest)) ≡ false
+first_marked : (sign : CommentSign) (b : ℕ) (rest line : Text) → ((b == line_feed) && not (is_mark_line sign rest)) ≡ false
     → b ≡ line_feed → line ≡ rest → is_mark_line sign line ≡ true
 first_marked sign b rest line passed ends same = elim (and_cases (b == line_feed) (not (is_mark_line sign rest)) passed) [
   | inl off ↦ absurd (grind (arith, nat_tests, off, ends))
   | inr off ↦ subst (λ l. is_mark_line sign l ≡ true) (sym same) (is_marked (is_mark_line sign rest) off)
 ]
 
-all_marked : (sign : Sign) (b : ℕ) (rest line : Text) → ((b == line_feed) && not (is_mark_line sign rest)) ≡ false
+all_marked : (sign : CommentSign) (b : ℕ) (rest line : Text) → ((b == line_feed) && not (is_mark_line sign rest)) ≡ false
     → IsLaterLine (b ∷ rest) line → (IsLaterLine rest line → is_mark_line sign line ≡ true)
     → is_mark_line sign line ≡ true
 all_marked sign b rest line passed is others = elim (later b rest line is) [
@@ -45,7 +45,7 @@ all_marked sign b rest line passed is others = elim (later b rest line is) [
   | inr there ↦ others there
 ]
 
-passed_on : (sign : Sign) (b : ℕ) (rest line : Text) → ((b == line_feed) && not (is_mark_line sign rest)) ≡ false
+passed_on : (sign : CommentSign) (b : ℕ) (rest line : Text) → ((b == line_feed) && not (is_mark_line sign rest)) ≡ false
     → IsCovered sign rest line → IsCovered sign (b ∷ rest) line
 passed_on sign b rest line passed (inl other) = inl (record {
   is = farther b rest line other.is;
@@ -55,7 +55,7 @@ passed_on sign b rest line passed (inl other) = inl (record {
 passed_on sign b rest line passed (inr (none, all)) =
     inr (none, λ l is. all_marked sign b rest l passed is (all l))
 
-found_here : (sign : Sign) (b : ℕ) (rest : Text) → b ≡ line_feed → is_mark_line sign rest ≡ false
+found_here : (sign : CommentSign) (b : ℕ) (rest : Text) → b ≡ line_feed → is_mark_line sign rest ≡ false
     → IsCovered sign (b ∷ rest) rest
 found_here sign b rest ends other = inl (record {
   is = ([], ap (λ c. c ∷ rest) ends);

@@ -6,7 +6,7 @@ use Rattle.timefd_lint_diagnosis.specs.declared.diagnostic.Diagnostic.{Diagnosti
 use Rattle.timefd_lint_diagnosis.specs.Diagnoses.{IsDiagnosis}
 use Rattle.timefd_lint_diagnosis.specs.Further.{AreDiagnosed, AreFurther, most_further, without}
 use Rattle.timefd_lang_dialect.specs.declared.dialect.Dialect.{Dialect}
-use Rattle.timefd_lang_dialect.specs.declared.error.Refusal.{Refusal}
+use Rattle.timefd_lang_dialect.specs.declared.error.RefusedPart.{RefusedPart}
 use Rattle.timefd_lang_dialect.specs.declared.trapping.Found.{Found}
 use Rattle.timefd_lang_dialect.specs.Traps.{AreTraps}
 use Rattle.timefd_lint_drawing.specs.declared.draw.Style.{Style}
@@ -14,13 +14,13 @@ use Rattle.timefd_lang_fault.specs.Faults.{fault_of}
 use Rattle.timefd_language.specs.Grammar.{nesting_limit}
 use Rattle.timefd_language.specs.declared.language.Language.{Language}
 use Rattle.timefd_parse.specs.Language.{SpellsIn, FaultIn}
-use Rattle.timefd_lint_scan.specs.declared.description.Description.{Description}
+use Rattle.timefd_lint_scan.specs.declared.description.SourceDescription.{SourceDescription}
 use Rattle.timefd_lang_warnings.specs.declared.levels.Levels.{Levels}
 use Rattle.timefd_lint_warnings.specs.Found.{found_by}
-use Rattle.timefd_lint_sources.specs.declared.reported.End.{End}
-use Rattle.timefd_lint_sources.specs.declared.reported.End.TheVariants.{Allowed}
+use Rattle.timefd_lint_sources.specs.declared.reported.ItemEnd.{ItemEnd}
+use Rattle.timefd_lint_sources.specs.declared.reported.ItemEnd.TheVariants.{Allowed}
 use Rattle.timefd_lint_sources.specs.declared.left.Left.{Left}
-use Rattle.timefd_lint_sources.specs.declared.reported.Source.{Source}
+use Rattle.timefd_lint_sources.specs.declared.reported.SourceText.{SourceText}
 use Rattle.timefd_lint_sources.specs.declared.reported.Reporting.{Reporting}
 use Rattle.timefd_lint_sources.specs.declared.reported.Reported.{Reported}
 use Rattle.timefd_lint_sources.specs.Allowed.{left_of_traps, traps_left, unless_trap}
@@ -29,13 +29,13 @@ use Rattle.timefd_lint_sources.specs.Others.{trap_in}
 use Rattle.timefd_lint_sources.specs.Search.{IsRefusedFirst, IsRight, IsSearched}
 use Rattle.timefd_lint_sources.specs.Remainder.{AreTrapsLeft, AreWarningsLeft, IsFaultyLeft, IsLeftAs, IsNoTextLeft, IsOtherLeft, IsOwnLeft, IsRefusalLeft, IsReportedLeft}
 
-pub no_text : {E : Type 0} (reporting : Reporting) (s : Source) (d : Description) (done : Result Reported E)
+pub no_text : {E : Type 0} (reporting : Reporting) (s : SourceText) (d : SourceDescription) (done : Result Reported E)
     → ¬ IsUtf8 (text_of d) → IfOk done (λ t. IsNoTextLeft reporting.style s d t.end t.message.items)
     → IfOk done (λ t. IsReportedLeft reporting s d t.end t.message.items)
 no_text reporting s d (Ok t) not noted = inr (not, noted)
 no_text reporting s d (Err e) not noted = tt
 
-pub as_own : {E : Type 0} (reporting : Reporting) (s : Source) (d : Description) (text : Text)
+pub as_own : {E : Type 0} (reporting : Reporting) (s : SourceText) (d : SourceDescription) (text : Text)
     (done : Result Reported E) → other_of d.dialect ≡ None → IsUtf8 text → text ≡ text_of d
     → IfOk done (λ t. IsOwnLeft reporting s d t.end t.message.items)
     → IfOk done (λ t. IsReportedLeft reporting s d t.end t.message.items)
@@ -45,7 +45,7 @@ as_own reporting s d text (Ok t) own utf8 same left = inl (
 )
 as_own reporting s d text (Err e) own utf8 same left = tt
 
-pub as_other : {E : Type 0} (reporting : Reporting) (s : Source) (d : Description) (dialect : Dialect) (text : Text)
+pub as_other : {E : Type 0} (reporting : Reporting) (s : SourceText) (d : SourceDescription) (dialect : Dialect) (text : Text)
     (done : Result Reported E) → other_of d.dialect ≡ Some dialect → IsUtf8 text → text ≡ text_of d
     → IfOk done (λ t. IsOtherLeft reporting s d dialect t.end t.message.items)
     → IfOk done (λ t. IsReportedLeft reporting s d t.end t.message.items)
@@ -56,7 +56,7 @@ as_other reporting s d dialect text (Ok t) other utf8 same left = inl (
 as_other reporting s d dialect text (Err e) other utf8 same left = tt
 
 -- The warnings are those that the definition gives.
-pub with_found : {E : Type 0} (reporting : Reporting) (s : Source) (d : Description) (found given : Levels)
+pub with_found : {E : Type 0} (reporting : Reporting) (s : SourceText) (d : SourceDescription) (found given : Levels)
     (done : Result Reported E) → found ≡ given
     → IfOk done (λ t. AreWarningsLeft reporting s d found t.end t.message.items)
     → IfOk done (λ t. AreWarningsLeft reporting s d given t.end t.message.items)
@@ -65,7 +65,7 @@ with_found reporting s d found given (Ok t) is left =
 with_found reporting s d found given (Err e) is left = tt
 
 -- The text is the description's, and it spells a list.
-pub with_list : {E : Type 0} (reporting : Reporting) (s : Source) (d : Description) (language : Language)
+pub with_list : {E : Type 0} (reporting : Reporting) (s : SourceText) (d : SourceDescription) (language : Language)
     (text : Text) (list : List Tree) (done : Result Reported E) → language ≡ language_in d → text ≡ text_of d
     → SpellsIn language nesting_limit text list
     → IfOk done (λ t. AreWarningsLeft reporting s d (found_by reporting.levels language list) t.end t.message.items)
@@ -79,7 +79,7 @@ with_list reporting s d language text list (Ok t) named same spelled left = inl 
 with_list reporting s d language text list (Err e) named same spelled left = tt
 
 -- The text is the description's, and it has a fault.
-pub with_faults : {E : Type 0} (reporting : Reporting) (s : Source) (d : Description) (language : Language)
+pub with_faults : {E : Type 0} (reporting : Reporting) (s : SourceText) (d : SourceDescription) (language : Language)
     (text : Text) (found : Option Diagnostic) (g : Diagnostic) (further : List Diagnostic) (done : Result Reported E)
     → language ≡ language_in d → text ≡ text_of d → found ≡ Some g
     → IfSome found (λ x. FaultIn language nesting_limit text (fault_of x.fault))
@@ -111,8 +111,8 @@ with_faults reporting s d language text found g further (Ok t) named same is fau
 with_faults reporting s d language text found g further (Err e) named same is faulty diagnosed others left = tt
 
 -- A format of another language is right.
-pub of_right : {E : Type 0} (reporting : Reporting) (s : Source) (d : Description) (dialect : Dialect) (text : Text)
-    (found : Option Refusal) (done : Result Reported E) → text ≡ text_of d → IsSearched s.finder dialect text found
+pub of_right : {E : Type 0} (reporting : Reporting) (s : SourceText) (d : SourceDescription) (dialect : Dialect) (text : Text)
+    (found : Option RefusedPart) (done : Result Reported E) → text ≡ text_of d → IsSearched s.finder dialect text found
     → found ≡ None
     → IfOk done (λ t. AreTrapsLeft (is_some reporting.levels) reporting.style s d dialect text t.end t.message.items)
     → IfOk done (λ t. IsOtherLeft reporting s d dialect t.end t.message.items)
@@ -123,8 +123,8 @@ of_right reporting s d dialect text found (Ok t) same searched none left = inl (
 of_right reporting s d dialect text found (Err e) same searched none left = tt
 
 -- A part of it is refused.
-pub of_refusal : {E : Type 0} (reporting : Reporting) (s : Source) (d : Description) (dialect : Dialect) (text : Text)
-    (found : Option Refusal) (refusal : Refusal) (done : Result Reported E) → text ≡ text_of d
+pub of_refusal : {E : Type 0} (reporting : Reporting) (s : SourceText) (d : SourceDescription) (dialect : Dialect) (text : Text)
+    (found : Option RefusedPart) (refusal : RefusedPart) (done : Result Reported E) → text ≡ text_of d
     → IsSearched s.finder dialect text found → found ≡ Some refusal
     → IfOk done (λ t. IsRefusalLeft reporting.style s d refusal t.end t.message.items)
     → IfOk done (λ t. IsOtherLeft reporting s d dialect t.end t.message.items)
@@ -136,27 +136,27 @@ of_refusal reporting s d dialect text found refusal (Ok t) same searched is left
 of_refusal reporting s d dialect text found refusal (Err e) same searched is left = tt
 
 -- Traps are reported if they are asked for.
-pub not_asked_for : (reports : Bool) (style : Style) (s : Source) (d : Description) (dialect : Dialect) (text : Text)
-    (end : End) (message : Text) → reports ≡ false → AreTrapsLeft false style s d dialect text end message
+pub not_asked_for : (reports : Bool) (style : Style) (s : SourceText) (d : SourceDescription) (dialect : Dialect) (text : Text)
+    (end : ItemEnd) (message : Text) → reports ≡ false → AreTrapsLeft false style s d dialect text end message
     → AreTrapsLeft reports style s d dialect text end message
 not_asked_for reports style s d dialect text end message off none =
     subst (λ b. AreTrapsLeft b style s d dialect text end message) (sym off) none
 
-pub asked_for : (reports : Bool) (style : Style) (s : Source) (d : Description) (dialect : Dialect) (text : Text)
+pub asked_for : (reports : Bool) (style : Style) (s : SourceText) (d : SourceDescription) (dialect : Dialect) (text : Text)
     (found given left reported : List Found) (n m : ℕ) (l : Left) (start message : Text) → reports ≡ true
     → AreTraps dialect text found → given ≡ found → left ≡ flat_map (unless_trap s d) given → reported ≡ left
     → n ≡ length found → m ≡ length left → l ≡ left_of_traps n m → start ≡ []
     → message ≡ start ++ flat_map (trap_in style s d) reported
     → AreTrapsLeft reports style s d dialect text (Allowed l) message
 asked_for reports style s d dialect text found given left reported n m l start message on are same those all counted
-    few is none told =
+    few is none appended =
     let here : left ≡ traps_left s d found = those ∙ ap (λ x. flat_map (unless_trap s d) x) same in
     subst (λ b. AreTrapsLeft b style s d dialect text (Allowed l) message) (sym on) (
       found,
       are,
       ap (λ x. Allowed x)
           (is ∙ (ap (λ k. left_of_traps k m) counted ∙ ap (λ k. left_of_traps (length found) k) (few ∙ ap length here))),
-      told
+      appended
           ∙ (ap (λ x. x ++ flat_map (trap_in style s d) reported) none
           ∙ ap (λ x. flat_map (trap_in style s d) x) (all ∙ here)),
     )

@@ -2,32 +2,32 @@
 use Rattle.std.proofs.Common.{ℕ, ◌≡◌, ◌<◌, ◌≤◌, ◌+◌, List, [], ◌∷◌, ◌++◌, length, drop, get_or, refl, sym, ap, subst, ◌∙◌}
 use Rattle.std.proofs.lemmas.List.{append_assoc, append-nil, drop_all, drop_more}
 use Rattle.timefd_lang_component.specs.Tree.{Text}
-use Rattle.timefd_lint_scan.specs.declared.description.Description.{Description}
-use Rattle.timefd_lint_sources.specs.declared.reported.End.{End}
-use Rattle.timefd_lint_sources.specs.declared.reported.Source.{Source}
+use Rattle.timefd_lint_scan.specs.declared.description.SourceDescription.{SourceDescription}
+use Rattle.timefd_lint_sources.specs.declared.reported.ItemEnd.{ItemEnd}
+use Rattle.timefd_lint_sources.specs.declared.reported.SourceText.{SourceText}
 use Rattle.timefd_lint_sources.specs.declared.reported.Reporting.{Reporting}
 use Rattle.timefd_lint_sources.specs.Items.{IsJudgedAs}
 use Rattle.timefd_lint_sources.specs.Reported.{AddsReported, AreReported, AreReportedAs, IsReported}
 use Rattle.timefd_lint_sources.proofs.JudgedLemmas as JudgedLemmas
 
-pub adds : (reporting : Reporting) (s : Source) (d : Description) (end : End) (one : Text)
-    (ends ends' : List End) (message message' : Text) → IsReported reporting s d end one
+pub adds : (reporting : Reporting) (s : SourceText) (d : SourceDescription) (end : ItemEnd) (one : Text)
+    (ends ends' : List ItemEnd) (message message' : Text) → IsReported reporting s d end one
     → ends' ≡ ends ++ (end ∷ []) → message' ≡ message ++ one
     → AddsReported reporting s d ends message ends' message'
 adds reporting s d end one ends ends' message message' reported es ms = (end, one, reported, es, ms)
 
 -- What is reported so far, followed by what is reported about the rest, is the whole report.
-pub record IsReportedTo (reporting : Reporting) (s : Source) (all left : List Description) (ends : List End)
+pub record IsReportedTo (reporting : Reporting) (s : SourceText) (all left : List SourceDescription) (ends : List ItemEnd)
     (message : Text) : Type 0 where
-  pub others : (ends' : List End) (message' : Text) → AreReported reporting s left ends' message'
+  pub others : (ends' : List ItemEnd) (message' : Text) → AreReported reporting s left ends' message'
       → AreReported reporting s all (ends ++ ends') (message ++ message')
 
-pub at_first : (reporting : Reporting) (s : Source) (all : List Description)
+pub at_first : (reporting : Reporting) (s : SourceText) (all : List SourceDescription)
     → IsReportedTo reporting s all all [] []
 at_first reporting s all = record { others = λ ends message reported. reported }
 
-pub one_more : (reporting : Reporting) (s : Source) (all : List Description) (i : ℕ)
-    (d other : Description) (ends ends' : List End) (message message' : Text) → i < length all
+pub one_more : (reporting : Reporting) (s : SourceText) (all : List SourceDescription) (i : ℕ)
+    (d other : SourceDescription) (ends ends' : List ItemEnd) (message message' : Text) → i < length all
     → d ≡ get_or all i other → IsReportedTo reporting s all (drop i all) ends message
     → AddsReported reporting s d ends message ends' message'
     → IsReportedTo reporting s all (drop (i + 1) all) ends' message'
@@ -45,7 +45,7 @@ one_more reporting s all i d other ends ends' message message' below is so_far (
           (so_far'.others (end ∷ e) (one ++ m) (one, m, reported, others, refl)));
     }
 
-pub at_last : (reporting : Reporting) (s : Source) (all : List Description) (i : ℕ) (ends : List End)
+pub at_last : (reporting : Reporting) (s : SourceText) (all : List SourceDescription) (i : ℕ) (ends : List ItemEnd)
     (message : Text) → length all ≤ i → IsReportedTo reporting s all (drop i all) ends message
     → AreReported reporting s all ends message
 at_last reporting s all i ends message none so_far =
@@ -56,8 +56,8 @@ at_last reporting s all i ends message none so_far =
     (subst (λ x. AreReported reporting s all (ends ++ []) x) (append-nil message) last)
 
 -- One more description, after those whose report is known.
-reported_more : (reporting : Reporting) (s : Source) (d : Description) (end : End) (one : Text)
-    → IsReported reporting s d end one → (ds : List Description) (ends : List End) (message : Text)
+reported_more : (reporting : Reporting) (s : SourceText) (d : SourceDescription) (end : ItemEnd) (one : Text)
+    → IsReported reporting s d end one → (ds : List SourceDescription) (ends : List ItemEnd) (message : Text)
     → AreReported reporting s ds ends message
     → AreReported reporting s (ds ++ d ∷ []) (ends ++ end ∷ []) (message ++ one)
 reported_more reporting s d end one is [] [] message none =
@@ -72,11 +72,11 @@ reported_more reporting s d end one is (c ∷ ds) (e ∷ ends) message (first, r
   ap (λ m. m ++ one) whole ∙ append_assoc first rest one,
 )
 
-pub none_reported : (reporting : Reporting) (s : Source) → AreReportedAs reporting s [] [] []
+pub none_reported : (reporting : Reporting) (s : SourceText) → AreReportedAs reporting s [] [] []
 none_reported reporting s = record { judged = []; are = refl; reported = refl }
 
-pub one_more_reported : (reporting : Reporting) (s : Source) (ds : List Description) (d one : Description)
-    (ends ends' : List End) (message message' : Text) → IsJudgedAs d one
+pub one_more_reported : (reporting : Reporting) (s : SourceText) (ds : List SourceDescription) (d one : SourceDescription)
+    (ends ends' : List ItemEnd) (message message' : Text) → IsJudgedAs d one
     → AddsReported reporting s one ends message ends' message' → AreReportedAs reporting s ds ends message
     → AreReportedAs reporting s (ds ++ d ∷ []) ends' message'
 one_more_reported reporting s ds d one ends ends' message message' is (end, said, reported, es, ms) so_far = record {

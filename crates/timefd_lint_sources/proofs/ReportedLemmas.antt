@@ -16,17 +16,17 @@ use Rattle.timefd_lint_diagnosis.specs.declared.span.Span.{Span}
 use Rattle.timefd_lint_drawing.specs.Positions.{reported_column, line_number}
 use Rattle.timefd_lint_explain.specs.Lines.{IsExplainedIf}
 use Rattle.timefd_lang_dialect.specs.declared.dialect.Dialect.{Dialect as Other}
-use Rattle.timefd_lint_scan.specs.declared.description.Description.{Description}
-use Rattle.timefd_lint_scan.specs.declared.dialect.Dialect.{Dialect}
-use Rattle.timefd_lint_scan.specs.declared.dialect.Dialect.TheVariants.{One, Two, Three, Strftime, Python, C, Gnu, Chrono, Jiff, Ruby, Java, Go, Moment}
+use Rattle.timefd_lint_scan.specs.declared.description.SourceDescription.{SourceDescription}
+use Rattle.timefd_lint_scan.specs.declared.dialect.FormatLanguage.{FormatLanguage}
+use Rattle.timefd_lint_scan.specs.declared.dialect.FormatLanguage.TheVariants.{One, Two, Three, Strftime, Python, C, Gnu, Chrono, Jiff, Ruby, Java, Go, Moment}
 use Rattle.timefd_lint_scan.specs.declared.known.Items.TheVariants.{Taken, Refused as RefusedItems}
 use Rattle.timefd_lang_warnings.specs.declared.levels.Level.TheVariants.{Allowed}
 use Rattle.timefd_lang_warnings.specs.declared.levels.Levels.{Levels}
 use Rattle.timefd_lang_warnings.specs.Levels.{all_at}
 use Rattle.timefd_lint_warnings.specs.Messages.{messages_at}
-use Rattle.timefd_lint_sources.specs.declared.reported.End.{End}
-use Rattle.timefd_lint_sources.specs.declared.reported.End.TheVariants.{Accepted, Refused, NotText}
-use Rattle.timefd_lint_sources.specs.declared.reported.Source.{Source}
+use Rattle.timefd_lint_sources.specs.declared.reported.ItemEnd.{ItemEnd}
+use Rattle.timefd_lint_sources.specs.declared.reported.ItemEnd.TheVariants.{Accepted, Refused, NotText}
+use Rattle.timefd_lint_sources.specs.declared.reported.SourceText.{SourceText}
 use Rattle.timefd_lint_sources.specs.declared.reported.Reporting.{Reporting}
 use Rattle.timefd_lint_sources.specs.declared.reported.Reported.{Reported}
 use Rattle.timefd_lint_warnings.specs.Found.{found_by}
@@ -35,7 +35,7 @@ use Rattle.timefd_lint_sources.specs.Others.{IsOtherJudged}
 use Rattle.timefd_lint_sources.specs.Whole.{IsTreeAndWarnings, literal_of, IsMessageOn, IsOwnReported, IsReportedAs, drawing_of, note_of, origin_of, IsReportedWhole}
 
 -- A description of `time` isn't passed over.
-is_own : (dialect : Dialect) (text : Text) → other_of dialect ≡ None → is_passed_over dialect text ≡ false
+is_own : (dialect : FormatLanguage) (text : Text) → other_of dialect ≡ None → is_passed_over dialect text ≡ false
 is_own One text is = refl
 is_own Two text is = refl
 is_own Three text is = refl
@@ -51,12 +51,12 @@ is_own Go text is = cc
 is_own Moment text is = cc
 
 -- It is reported as what it is.
-as_own : (reporting : Reporting) (s : Source) (d : Description) (end : End) (message : Text)
+as_own : (reporting : Reporting) (s : SourceText) (d : SourceDescription) (end : ItemEnd) (message : Text)
     → other_of d.dialect ≡ None → IsOwnReported reporting s d end message → IsReportedWhole reporting s d end message
 as_own reporting s d end message own reported =
     subst (λ o. IsReportedAs o reporting s d end message) (sym own) reported
 
-pub as_other : {E : Type 0} (reporting : Reporting) (s : Source) (d : Description) (dialect : Other) (text : Text)
+pub as_other : {E : Type 0} (reporting : Reporting) (s : SourceText) (d : SourceDescription) (dialect : Other) (text : Text)
     (done : Result Reported E) → other_of d.dialect ≡ Some dialect → IsUtf8 text → text ≡ text_of d
     → IfOk done (λ t. IsOtherJudged reporting s d dialect t.end t.message.items)
     → IfOk done (λ t. IsReportedWhole reporting s d t.end t.message.items)
@@ -65,7 +65,7 @@ as_other reporting s d dialect text (Ok t) other utf8 same judged =
     (inl (subst IsUtf8 same utf8, judged))
 as_other reporting s d dialect text (Err e) other utf8 same judged = tt
 
-pub no_text : (reporting : Reporting) (s : Source) (d : Description) (end : End) (message : Text)
+pub no_text : (reporting : Reporting) (s : SourceText) (d : SourceDescription) (end : ItemEnd) (message : Text)
     → ¬ IsUtf8 (text_of d) → end ≡ NotText → message ≡ note_of reporting.style s d
     → IsReportedWhole reporting s d end message
 no_text reporting s d end message not is reported = by (other_of d.dialect) refl
@@ -77,8 +77,8 @@ no_text reporting s d end message not is reported = by (other_of d.dialect) refl
     by (Some dialect) other = inr (not, is, reported)
 
 -- The text is the description's.
-pub with_fault : (reporting : Reporting) (s : Source) (d : Description) (text : Text) (g : Diagnostic)
-    (further : List Diagnostic) (end : End) (message : Text) → other_of d.dialect ≡ None
+pub with_fault : (reporting : Reporting) (s : SourceText) (d : SourceDescription) (text : Text) (g : Diagnostic)
+    (further : List Diagnostic) (end : ItemEnd) (message : Text) → other_of d.dialect ≡ None
     → IsUtf8 text → text ≡ text_of d
     → FaultIn (language_in d) nesting_limit text (fault_of g.fault)
     → IsDiagnosis (language_in d) text g
@@ -115,7 +115,7 @@ with_fault reporting s d text g further end message own utf8 same faulty diagnos
     }))
 
 -- The text is the description's, and finding its further faults may run out of memory.
-pub with_faults : {E : Type 0} (reporting : Reporting) (s : Source) (d : Description) (language : Language)
+pub with_faults : {E : Type 0} (reporting : Reporting) (s : SourceText) (d : SourceDescription) (language : Language)
     (text : Text) (found : Option Diagnostic) (g : Diagnostic) (further : List Diagnostic)
     (reported : Result Reported E) → language ≡ language_in d → other_of d.dialect ≡ None
     → IsUtf8 text → text ≡ text_of d → found ≡ Some g
@@ -136,8 +136,8 @@ with_faults reporting s d language text found g further (Ok t) named own utf8 sa
 with_faults reporting s d language text found g further (Err e) named own utf8 same is faulty diagnosed others ended drawn =
     tt
 
-pub with_list : (reporting : Reporting) (s : Source) (d : Description) (text : Text) (list : List Tree)
-    (end : End) (message : Text) → other_of d.dialect ≡ None → IsUtf8 text
+pub with_list : (reporting : Reporting) (s : SourceText) (d : SourceDescription) (text : Text) (list : List Tree)
+    (end : ItemEnd) (message : Text) → other_of d.dialect ≡ None → IsUtf8 text
     → text ≡ text_of d → SpellsIn (language_in d) nesting_limit text list
     → end ≡ Accepted (found_by reporting.levels (language_in d) list)
     → IsMessageOn reporting s d end message → IsReportedWhole reporting s d end message
@@ -155,7 +155,7 @@ with_list reporting s d text list end message own utf8 same spelled is reported 
     }))
 
 -- The warnings come after the tree, at the literal.
-pub tree_and_warnings : (reporting : Reporting) (s : Source) (d : Description) (found : Levels)
+pub tree_and_warnings : (reporting : Reporting) (s : SourceText) (d : SourceDescription) (found : Levels)
     (language : Language) (text tree reported message : Text) (span : Span) (line col : ℕ)
     → IsExplainedIf reporting.explains language s.file.now line text tree → language ≡ language_in d → text ≡ text_of d
     → span ≡ literal_of d → line ≡ line_number 1 s.text.now d.piece.start → col ≡ reported_column reporting.style.format s.text.now d.piece.start
@@ -177,7 +177,7 @@ tree_and_warnings reporting s d found language text tree reported message span l
 )
 
 -- If neither trees nor warnings are asked for, nothing is reported.
-pub nothing_reported : (reporting : Reporting) (s : Source) (d : Description) → reporting.explains ≡ false
+pub nothing_reported : (reporting : Reporting) (s : SourceText) (d : SourceDescription) → reporting.explains ≡ false
     → IsMessageOn reporting s d (Accepted (all_at Allowed)) []
 nothing_reported reporting s d quiet = (
   [],
@@ -186,7 +186,7 @@ nothing_reported reporting s d quiet = (
 )
 
 -- The further faults that are reported.
-pub further_reported : {E : Type 0} (d : Description) (language : Language) (text : Text) (f : Fault)
+pub further_reported : {E : Type 0} (d : SourceDescription) (language : Language) (text : Text) (f : Fault)
     (found : List Diagnostic) (done : Result (Vec Diagnostic Global) E) → language ≡ language_in d
     → AreFurther most_further language (without language text f) found
     → IfOk done (λ reported. reported.items ≡ reported_further d.items found)
@@ -197,12 +197,12 @@ further_reported d language text f found (Ok reported) named are those =
     (found, subst (λ l. AreFurther most_further l (without l text f) found) named are, those)
 further_reported d language text f found (Err e) named are those = tt
 
-pub items_reported : {E : Type 0} (d : Description) (found : List Diagnostic) (done : Result (Vec Diagnostic Global) E)
+pub items_reported : {E : Type 0} (d : SourceDescription) (found : List Diagnostic) (done : Result (Vec Diagnostic Global) E)
     → d.items ≡ Taken → IfOk done (λ reported. reported.items ≡ flat_map unless_item found)
     → IfOk done (λ reported. reported.items ≡ reported_further d.items found)
 items_reported d found (Ok reported) is those = those ∙ sym (ap (λ i. reported_further i found) is)
 items_reported d found (Err e) is those = tt
 
-pub all_reported : (d : Description) (found : List Diagnostic) → d.items ≡ RefusedItems
+pub all_reported : (d : SourceDescription) (found : List Diagnostic) → d.items ≡ RefusedItems
     → found ≡ reported_further d.items found
 all_reported d found is = sym (ap (λ i. reported_further i found) is)

@@ -3,7 +3,7 @@ use Rattle.std.proofs.Common.{ℕ, ◌≡◌, ◌<◌, ◌≤◌, ◌-◌, cond,
 use Rattle.std.specs.List.{slice_index}
 use Rattle.timefd_lang_component.specs.Tree.{Text}
 use Rattle.timefd_lang_dialect.specs.declared.dialect.Dialect.{Dialect}
-use Rattle.timefd_lang_dialect.specs.declared.error.Refusal.{Refusal}
+use Rattle.timefd_lang_dialect.specs.declared.error.RefusedPart.{RefusedPart}
 use Rattle.timefd_lang_dialect.specs.declared.reading.Converted.{Converted}
 use Rattle.timefd_lang_dialect.specs.Answers.{IsConverted}
 use Rattle.timefd_lang_dialect.specs.Reading.{RefusedAt}
@@ -33,7 +33,7 @@ one_more finder dialect text [] rest index so_far spared =
 one_more finder dialect text (first ∷ passed) rest index so_far spared =
     (so_far.0, one_more finder dialect (after_sign first text) passed rest index so_far.1 spared)
 
-pub has_passed_more : (finder : Finder) (dialect : Dialect) (text rest next : Text) (refusal : Refusal)
+pub has_passed_more : (finder : Finder) (dialect : Dialect) (text rest next : Text) (refusal : RefusedPart)
     → HasPassed finder dialect text rest → RefusedAt dialect rest refusal.reason refusal.index
     → is_refused finder dialect refusal.reason ≡ false → next ≡ after_sign refusal.index rest
     → HasPassed finder dialect text next
@@ -53,7 +53,7 @@ pub nothing_left : (finder : Finder) (dialect : Dialect) (text rest : Text) → 
 nothing_left finder dialect text rest so_far none =
     all_is_right finder dialect text rest so_far ([], none)
 
-pub is_found : (finder : Finder) (dialect : Dialect) (text rest : Text) (refusal found : Refusal)
+pub is_found : (finder : Finder) (dialect : Dialect) (text rest : Text) (refusal found : RefusedPart)
     → HasPassed finder dialect text rest → RefusedAt dialect rest refusal.reason refusal.index
     → is_refused finder dialect refusal.reason ≡ true → found ≡ moved (length text) (length rest) refusal
     → IsSearched finder dialect text (Some found)

@@ -2,19 +2,19 @@
 use Rattle.std.proofs.Common.{ℕ, ◌≡◌, ◌∙◌, List, ◌++◌, ap, refl, sym, subst}
 use denote.Ref.{Bor}
 use Rattle.timefd_lang_component.specs.Tree.{Text}
-use Rattle.timefd_lint_scan.specs.declared.keys.format.Format.{Format}
-use Rattle.timefd_lint_scan.specs.declared.keys.key.Key.{Key}
+use Rattle.timefd_lint_scan.specs.declared.keys.format.FileFormat.{FileFormat}
+use Rattle.timefd_lint_scan.specs.declared.keys.key.DescriptionKey.{DescriptionKey}
 use Rattle.timefd_lint_scan.specs.Keys.Found as keyed
-use Rattle.timefd_lint_scan.specs.declared.description.Description.{Description}
+use Rattle.timefd_lint_scan.specs.declared.description.SourceDescription.{SourceDescription}
 use Rattle.timefd_lint_scan.specs.declared.look.Look.{Look}
 use Rattle.timefd_lint_scan.specs.Found.{AllStandIn, AreDescriptionsOf, AreInOrder}
 use Rattle.timefd_lint_scan.specs.Looks.{IsLook}
 use Rattle.timefd_lint_scan.proofs.LookLemmas.{all_seen, seen_in_order, seen_stand}
 use Rattle.timefd_lint_sources.specs.declared.remark.Remark.{Remark}
 use Rattle.timefd_lint_sources.specs.declared.source.Report.{Report}
-use Rattle.timefd_lint_sources.specs.declared.reported.End.{End}
+use Rattle.timefd_lint_sources.specs.declared.reported.ItemEnd.{ItemEnd}
 use Rattle.timefd_lint_sources.specs.declared.reported.Finder.TheVariants.{Rust, Keys}
-use Rattle.timefd_lint_sources.specs.declared.reported.Source.{Source}
+use Rattle.timefd_lint_sources.specs.declared.reported.SourceText.{SourceText}
 use Rattle.timefd_lint_sources.specs.declared.reported.Reporting.{Reporting}
 use Rattle.timefd_lint_sources.specs.Items.{AreJudgedAs}
 use Rattle.timefd_lint_sources.specs.Remarks.{AddsCodes, AreRemarksBy, AreSeenIn, AreValuesSeen, ends_of, messages_of, on_values, remarks_on}
@@ -31,13 +31,13 @@ of_look source look calls comments remarks is calls_are comments_are remarked = 
   remarked = remarked ∙ (ap (λ l. remarks_on l comments) calls_are ∙ ap (remarks_on look.calls.items) comments_are);
 }
 
-pub of_values : (format : Format) (source : Text) (names : List Key) (ds : List Description)
+pub of_values : (format : FileFormat) (source : Text) (names : List DescriptionKey) (ds : List SourceDescription)
     (unread positions : List ℕ) (remarks : List Remark) → keyed.AreValues format source names ds unread
     → positions ≡ unread → remarks ≡ on_values positions → AreValuesSeen format source names ds remarks
 of_values format source names ds unread positions remarks values same remarked =
     record { unread = unread; values = values; remarked = remarked ∙ ap on_values same }
 
-pub of_rust : (s : Source) (source : Text) (ds : List Description) (remarks : List Remark) → s.finder ≡ Rust
+pub of_rust : (s : SourceText) (source : Text) (ds : List SourceDescription) (remarks : List Remark) → s.finder ≡ Rust
     → source ≡ s.text.now → AreSeenIn source ds remarks → AreSeenFirst s ds remarks
 of_rust s source ds remarks is same seen =
     let here : AreSeenIn s.text.now ds remarks = subst (λ t. AreSeenIn t ds remarks) same seen in record {
@@ -48,7 +48,7 @@ of_rust s source ds remarks is same seen =
       remarked = subst (λ f. AreRemarksBy f s.text.now ds remarks) (sym is) here;
     }
 
-pub of_keys : (s : Source) (format : Format) (keys : Bor (List Key)) (ds : List Description) (remarks : List Remark)
+pub of_keys : (s : SourceText) (format : FileFormat) (keys : Bor (List DescriptionKey)) (ds : List SourceDescription) (remarks : List Remark)
     → s.finder ≡ Keys format keys → AreValuesSeen format s.text.now keys.now ds remarks
     → keyed.AllValues format s.text.now keys.now ds → AreInOrder 0 ds → AreSeenFirst s ds remarks
 of_keys s format keys ds remarks is seen values in_order = record {
@@ -58,7 +58,7 @@ of_keys s format keys ds remarks is seen values in_order = record {
   remarked = subst (λ f. AreRemarksBy f s.text.now ds remarks) (sym is) seen;
 }
 
-pub with_codes : (s : Source) (ds : List Description) (seen remarks : List Remark) → AreSeenFirst s ds seen
+pub with_codes : (s : SourceText) (ds : List SourceDescription) (seen remarks : List Remark) → AreSeenFirst s ds seen
     → AddsCodes s seen remarks → AreSeen s ds remarks
 with_codes s ds seen remarks first more = record {
   all = first.all;
@@ -68,7 +68,7 @@ with_codes s ds seen remarks first more = record {
 }
 
 -- What is seen, with the descriptions as they are checked.
-pub judged_of : (s : Source) (found judged : List Description) (remarks : List Remark) → AreSeen s found remarks
+pub judged_of : (s : SourceText) (found judged : List SourceDescription) (remarks : List Remark) → AreSeen s found remarks
     → AreJudgedAs found judged → AreJudgedIn s judged
 judged_of s found judged remarks seen are = record {
   found = found;
@@ -78,12 +78,12 @@ judged_of s found judged remarks seen are = record {
   judged = are;
 }
 
-pub remarks_of : (s : Source) (found : List Description) (remarks : List Remark) → AreSeen s found remarks
+pub remarks_of : (s : SourceText) (found : List SourceDescription) (remarks : List Remark) → AreSeen s found remarks
     → AreRemarksOn s remarks
 remarks_of s found remarks seen = (found, seen.remarked)
 
-pub source_reported : (reporting : Reporting) (s : Source) (found : List Description) (remarks : List Remark)
-    (ends : List End) (message : Text) (r : Report) → AreSeen s found remarks
+pub source_reported : (reporting : Reporting) (s : SourceText) (found : List SourceDescription) (remarks : List Remark)
+    (ends : List ItemEnd) (message : Text) (r : Report) → AreSeen s found remarks
     → AreReportedAs reporting s found ends message → r.ends.items ≡ ends ++ ends_of remarks
     → r.message.items ≡ message ++ messages_of reporting.style s remarks → IsSourceReported reporting s r
 source_reported reporting s found remarks ends message r seen reported all_ends all_messages = record {

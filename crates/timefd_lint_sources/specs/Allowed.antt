@@ -6,7 +6,7 @@ use Rattle.timefd_lang_dialect.specs.declared.trapping.Found.{Found}
 use Rattle.timefd_lang_dialect.specs.TrapWords as traps
 use Rattle.timefd_lang_fault.specs.Codes as faults
 use Rattle.timefd_lang_fault.specs.Faults.{fault_of}
-use Rattle.timefd_lint_scan.specs.declared.description.Description.{Description}
+use Rattle.timefd_lint_scan.specs.declared.description.SourceDescription.{SourceDescription}
 use Rattle.timefd_lang_warnings.specs.declared.levels.Level.TheVariants.{Allowed, Warned, Denied}
 use Rattle.timefd_lang_warnings.specs.declared.levels.Levels.{Levels}
 use Rattle.timefd_lang_warnings.specs.declared.warning.Warning.{Warning}
@@ -14,45 +14,45 @@ use Rattle.timefd_lang_warnings.specs.Codes.{all, name_of}
 use Rattle.timefd_lang_warnings.specs.Levels.{count, with_level}
 use Rattle.timefd_lint_sources.specs.declared.left.Left.{Left}
 use Rattle.timefd_lint_sources.specs.declared.reported.Reporting.{Reporting}
-use Rattle.timefd_lint_sources.specs.declared.reported.Source.{Source}
+use Rattle.timefd_lint_sources.specs.declared.reported.SourceText.{SourceText}
 use Rattle.timefd_lint_sources.specs.Allowances.Found.{any_allows, any_covers}
 
 -- Comments count, and one is about the description.
-abbrev pub is_covered : Reporting → Source → Description → Bool
+abbrev pub is_covered : Reporting → SourceText → SourceDescription → Bool
 is_covered reporting s d = reporting.allows && any_covers s.allowances.now d.piece.start
 
 -- A comment allows this code of the description.
-abbrev pub is_allowed : Source → Description → Text → Bool
+abbrev pub is_allowed : SourceText → SourceDescription → Text → Bool
 is_allowed s d code = any_allows s.text.now s.allowances.now d.piece.start code
 
 -- the levels without a warning, if a comment allows it
-abbrev pub level_left : Source → Description → Levels → Warning → Levels
+abbrev pub level_left : SourceText → SourceDescription → Levels → Warning → Levels
 level_left s d found w = if is_allowed s d (name_of w) then with_level found w Allowed else found
 
-abbrev pub levels_left_of : Source → Description → Levels → List Warning → Levels
+abbrev pub levels_left_of : SourceText → SourceDescription → Levels → List Warning → Levels
 levels_left_of s d found [] = found
 levels_left_of s d found (w ∷ ws) = levels_left_of s d (level_left s d found w) ws
 
 -- the levels without the warnings that a comment allows
-abbrev pub levels_left : Source → Description → Levels → Levels
+abbrev pub levels_left : SourceText → SourceDescription → Levels → Levels
 levels_left s d found = levels_left_of s d found all
 
 -- the code that is shown for a fault
 abbrev pub code_of : Diagnostic → Text
 code_of g = faults.name_of (faults.code_of (fault_of g.fault).kind)
 
-abbrev pub unless_allowed : Source → Description → Diagnostic → List Diagnostic
+abbrev pub unless_allowed : SourceText → SourceDescription → Diagnostic → List Diagnostic
 unless_allowed s d g = if is_allowed s d (code_of g) then [] else g ∷ []
 
 -- the faults that no comment allows
-abbrev pub faults_left : Source → Description → Diagnostic → List Diagnostic → List Diagnostic
+abbrev pub faults_left : SourceText → SourceDescription → Diagnostic → List Diagnostic → List Diagnostic
 faults_left s d g further = unless_allowed s d g ++ flat_map (unless_allowed s d) further
 
-abbrev pub unless_trap : Source → Description → Found → List Found
+abbrev pub unless_trap : SourceText → SourceDescription → Found → List Found
 unless_trap s d f = if is_allowed s d (traps.name f.trap) then [] else f ∷ []
 
 -- the traps that no comment allows
-abbrev pub traps_left : Source → Description → List Found → List Found
+abbrev pub traps_left : SourceText → SourceDescription → List Found → List Found
 traps_left s d found = flat_map (unless_trap s d) found
 
 -- What is left of the warnings of an accepted description.

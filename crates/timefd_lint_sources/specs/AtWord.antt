@@ -13,17 +13,17 @@ use Rattle.timefd_lint_drawing.specs.Json.{note_object}
 use Rattle.timefd_lint_drawing.specs.Lines.{error_line, position_line, short_line}
 use Rattle.timefd_lint_drawing.specs.Positions.{after_span, before, line_number, reported_column, spanned}
 use Rattle.timefd_lint_drawing.specs.Sarif.{note_result}
-use Rattle.timefd_lint_sources.specs.declared.reported.Source.{Source}
+use Rattle.timefd_lint_sources.specs.declared.reported.SourceText.{SourceText}
 
 -- the sentence, the position, and the line with carets under the word
-abbrev pub human : Bool → Source → ℕ → ℕ → Span → Text → Text → Text
+abbrev pub human : Bool → SourceText → ℕ → ℕ → Span → Text → Text → Text
 human colored s line column span code sentence =
     error_line colored code sentence
     ++ (position_line colored (margin line) s.file.now line column
     ++ (source colored Paint.Red line (before span.start s.text.now) (spanned span s.text.now) (after_span span s.text.now)
     ++ codes "\n"))
 
-abbrev pub message_in : Format → Bool → Source → ℕ → ℕ → Span → Text → Text → Text
+abbrev pub message_in : Format → Bool → SourceText → ℕ → ℕ → Span → Text → Text → Text
 message_in Human colored s line column span code sentence = human colored s line column span code sentence
 message_in Json colored s line column span code sentence =
     note_object code s.file.now line column sentence (codes "error")
@@ -33,7 +33,7 @@ message_in Sarif colored s line column span code sentence =
     note_result code s.file.now line column sentence (codes "error")
 
 -- The message on these bytes of a source is at the position of the first one.
-abbrev pub message : Style → Source → Span → Text → Text → Text
+abbrev pub message : Style → SourceText → Span → Text → Text → Text
 message style s span code sentence =
     message_in style.format style.is_colored s (line_number 1 s.text.now span.start)
     (reported_column style.format s.text.now span.start) span code sentence

@@ -8,8 +8,8 @@ use Rattle.timefd_lint_drawing.specs.declared.github.Command.TheVariants.{Notice
 use Rattle.timefd_lint_drawing.specs.Github.{annotation}
 use Rattle.timefd_lint_drawing.specs.Positions.{column, line_number}
 use Rattle.timefd_lint_drawing.specs.Shown.{safe}
-use Rattle.timefd_lint_scan.specs.declared.description.Description.{Description}
-use Rattle.timefd_lint_sources.specs.declared.reported.Source.{Source}
+use Rattle.timefd_lint_scan.specs.declared.description.SourceDescription.{SourceDescription}
+use Rattle.timefd_lint_sources.specs.declared.reported.SourceText.{SourceText}
 
 abbrev pub code : Text
 code = codes "call"
@@ -36,14 +36,14 @@ note_in Short file line column = short file line column
 note_in Github file line column = annotation Notice code file line column message
 note_in Sarif file line column = []
 
-abbrev pub note_at : Style → Source → ℕ → Text
+abbrev pub note_at : Style → SourceText → ℕ → Text
 note_at style s at =
     note_in style.format s.file.now (line_number 1 s.text.now at) (column s.text.now at)
 
-abbrev pub note_for : Style → Source → Option ℕ → Text
+abbrev pub note_for : Style → SourceText → Option ℕ → Text
 note_for style s None = []
 note_for style s (Some at) = note_at style s at
 
 -- The note is at the name. There is none if the text is in the call itself.
-abbrev pub call_note : Style → Source → Description → Text
+abbrev pub call_note : Style → SourceText → SourceDescription → Text
 call_note style s d = note_for style s d.call

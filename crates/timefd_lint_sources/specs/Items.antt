@@ -15,9 +15,9 @@ use Rattle.timefd_language.specs.declared.description_version.DescriptionVersion
 use Rattle.timefd_parse.specs.BracketParts.{BeginsNamed, BeginsNested}
 use Rattle.timefd_language.specs.declared.language.Language.TheVariants as languages
 use Rattle.timefd_parse.specs.Language.{FaultIn}
-use Rattle.timefd_lint_scan.specs.declared.description.Description.{Description}
-use Rattle.timefd_lint_scan.specs.declared.dialect.Dialect.{Dialect}
-use Rattle.timefd_lint_scan.specs.declared.dialect.Dialect.TheVariants.{One, Two, Three, Strftime, Python, C, Gnu, Chrono, Jiff, Ruby, Java, Go, Moment}
+use Rattle.timefd_lint_scan.specs.declared.description.SourceDescription.{SourceDescription}
+use Rattle.timefd_lint_scan.specs.declared.dialect.FormatLanguage.{FormatLanguage}
+use Rattle.timefd_lint_scan.specs.declared.dialect.FormatLanguage.TheVariants.{One, Two, Three, Strftime, Python, C, Gnu, Chrono, Jiff, Ruby, Java, Go, Moment}
 use Rattle.timefd_lint_scan.specs.declared.known.Items.{Items}
 use Rattle.timefd_lint_scan.specs.declared.known.Items.TheVariants.{Taken, Refused}
 
@@ -103,7 +103,7 @@ IsAllOpened (suc n) v text all =
     ⊎ ((next : Text) × IsOpened v text next × IsAllOpened n v next all)
 
 -- the version in which a place takes items that `parse` refuses
-abbrev pub version_of : Dialect → Option DescriptionVersion
+abbrev pub version_of : FormatLanguage → Option DescriptionVersion
 version_of One = Some versions.One
 version_of Two = Some versions.Two
 version_of Three = None
@@ -118,7 +118,7 @@ version_of Java = None
 version_of Go = None
 version_of Moment = None
 
-abbrev pub taking : Items → Dialect → Option DescriptionVersion
+abbrev pub taking : Items → FormatLanguage → Option DescriptionVersion
 taking Taken dialect = version_of dialect
 taking Refused dialect = None
 
@@ -134,7 +134,7 @@ IsJudgedText (Some v) text judged =
     ((¬ IsUtf8 text) × (judged ≡ text)) ⊎ (IsUtf8 text × IsAllOpened (length text) v text judged)
 
 -- What is judged is the description, but with the text that is checked for it.
-pub record IsJudgedAs (d judged : Description) : Type 0 where
+pub record IsJudgedAs (d judged : SourceDescription) : Type 0 where
   pub piece : judged.piece ≡ d.piece
   pub kind : judged.kind ≡ d.kind
   pub dialect : judged.dialect ≡ d.dialect
@@ -145,7 +145,7 @@ pub record IsJudgedAs (d judged : Description) : Type 0 where
   pub text : IsJudgedText (taking d.items d.dialect) d.unescaped.text.items judged.unescaped.text.items
 
 -- each of these descriptions, in order
-abbrev pub AreJudgedAs : List Description → List Description → Type 0
+abbrev pub AreJudgedAs : List SourceDescription → List SourceDescription → Type 0
 AreJudgedAs [] judged = judged ≡ []
-AreJudgedAs (d ∷ ds) judged = (one : Description) × (others : List Description)
+AreJudgedAs (d ∷ ds) judged = (one : SourceDescription) × (others : List SourceDescription)
     × IsJudgedAs d one × AreJudgedAs ds others × (judged ≡ one ∷ others)

@@ -12,20 +12,20 @@ use Rattle.timefd_language.specs.declared.description_version.DescriptionVersion
 use Rattle.timefd_language.specs.declared.language.Language.{Language}
 use Rattle.timefd_language.specs.declared.language.Language.TheVariants as languages
 use Rattle.timefd_parse.specs.Language.{SpellsIn, FaultIn}
-use Rattle.timefd_lint_scan.specs.declared.description.Description.{Description}
-use Rattle.timefd_lint_scan.specs.declared.dialect.Dialect.{Dialect}
-use Rattle.timefd_lint_scan.specs.declared.dialect.Dialect.TheVariants.{One, Two, Three, Strftime, Python, C, Gnu, Chrono, Jiff, Ruby, Java, Go, Moment}
+use Rattle.timefd_lint_scan.specs.declared.description.SourceDescription.{SourceDescription}
+use Rattle.timefd_lint_scan.specs.declared.dialect.FormatLanguage.{FormatLanguage}
+use Rattle.timefd_lint_scan.specs.declared.dialect.FormatLanguage.TheVariants.{One, Two, Three, Strftime, Python, C, Gnu, Chrono, Jiff, Ruby, Java, Go, Moment}
 use Rattle.timefd_lint_scan.specs.declared.known.Items.{Items}
 use Rattle.timefd_lint_scan.specs.declared.known.Items.TheVariants.{Taken, Refused as RefusedItems}
 use Rattle.timefd_lint_scan.specs.Chrono.{is_of_chrono, is_of_jiff}
 use Rattle.timefd_lang_warnings.specs.declared.levels.Levels.{Levels}
 use Rattle.timefd_lint_warnings.specs.Found.{found_by}
-use Rattle.timefd_lint_sources.specs.declared.reported.End.{End}
+use Rattle.timefd_lint_sources.specs.declared.reported.ItemEnd.{ItemEnd}
 use Rattle.timefd_lint_sources.specs.Items.{is_of_item}
-use Rattle.timefd_lint_sources.specs.declared.reported.End.TheVariants.{PassedOver, Accepted, Converted, Refused, NotText, Allowed, UnreadCall, UnreadValue, WrongComment}
+use Rattle.timefd_lint_sources.specs.declared.reported.ItemEnd.TheVariants.{PassedOver, Accepted, Converted, Refused, NotText, Allowed, UnreadCall, UnreadValue, WrongComment}
 
 -- the other language or library whose formats these are; none if they are of `time`
-abbrev pub other_of : Dialect → Option other.Dialect
+abbrev pub other_of : FormatLanguage → Option other.Dialect
 other_of One = None
 other_of Two = None
 other_of Three = None
@@ -42,7 +42,7 @@ other_of Moment = Some others.Moment
 
 -- The language of `time`. What chrono and jiff have in common with it is strftime; for all other formats that aren't of
 -- `time` it has no meaning.
-abbrev pub language_of : Dialect → Language
+abbrev pub language_of : FormatLanguage → Language
 language_of One = languages.Version versions.One
 language_of Two = languages.Version versions.Two
 language_of Three = languages.Version versions.Three
@@ -59,7 +59,7 @@ language_of Moment = languages.Strftime
 
 -- Whether an editor doesn't explain a text, and whether it isn't mended: one of another language or library, unless it is
 -- of chrono or jiff and has no directive that only these know.
-abbrev pub is_passed_over : Dialect → Text → Bool
+abbrev pub is_passed_over : FormatLanguage → Text → Bool
 is_passed_over One text = false
 is_passed_over Two text = false
 is_passed_over Three text = false
@@ -75,10 +75,10 @@ is_passed_over Go text = true
 is_passed_over Moment text = true
 
 -- what the literal of a description denotes
-abbrev pub text_of : Description → Text
+abbrev pub text_of : SourceDescription → Text
 text_of d = d.unescaped.text.items
 
-abbrev pub language_in : Description → Language
+abbrev pub language_in : SourceDescription → Language
 language_in d = language_of d.dialect
 
 -- If the place takes items, faults that only `parse` finds aren't reported.
@@ -90,14 +90,14 @@ reported_further RefusedItems further = further
 reported_further Taken further = flat_map unless_item further
 
 -- all that is reported about a refused description: its first fault, and its further ones
-pub record AreDiagnosedOf (d : Description) (g : Diagnostic) (further : List Diagnostic) : Type 0 where
+pub record AreDiagnosedOf (d : SourceDescription) (g : Diagnostic) (further : List Diagnostic) : Type 0 where
   pub found : List Diagnostic
   pub are : AreDiagnosed (language_in d) (text_of d) g found
   pub reported : further ≡ reported_further d.items found
 
 -- A text is accepted if it spells a list, with the warnings of that list; refused if it has a fault;
 -- and otherwise it isn't UTF-8.
-abbrev pub IsJudged : Option Levels → Language → Text → End → Type 0
+abbrev pub IsJudged : Option Levels → Language → Text → ItemEnd → Type 0
 IsJudged levels language text PassedOver = ⊥
 IsJudged levels language text (Accepted found) = IsUtf8 text
     × ((list : List Tree) × SpellsIn language nesting_limit text list
@@ -112,7 +112,7 @@ IsJudged levels language text UnreadValue = ⊥
 IsJudged levels language text WrongComment = ⊥
 
 -- The outcome of a description: it is passed over, or else judged by its text.
-abbrev pub IsEndOf : Option Levels → Description → End → Type 0
+abbrev pub IsEndOf : Option Levels → SourceDescription → ItemEnd → Type 0
 IsEndOf levels d PassedOver = IsTrue (is_passed_over d.dialect (text_of d))
 IsEndOf levels d (Accepted found) = IsFalse (is_passed_over d.dialect (text_of d))
     × IsJudged levels (language_in d) (text_of d) (Accepted found)

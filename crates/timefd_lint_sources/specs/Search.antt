@@ -2,7 +2,7 @@
 use Rattle.std.specs.Prelude.{ℕ, ◌≡◌, ◌-◌, List, [], ◌∷◌, length, Option, Some, None, IsFalse, IsTrue}
 use Rattle.timefd_lang_component.specs.Tree.{Text}
 use Rattle.timefd_lang_dialect.specs.declared.dialect.Dialect.{Dialect}
-use Rattle.timefd_lang_dialect.specs.declared.error.Refusal.{Refusal}
+use Rattle.timefd_lang_dialect.specs.declared.error.RefusedPart.{RefusedPart}
 use Rattle.timefd_lang_dialect.specs.declared.reason.Reason.{Reason}
 use Rattle.timefd_lang_dialect.specs.Reading.{Piece, Means, RefusedAt}
 use Rattle.timefd_lint_drawing.specs.Positions.{after}
@@ -33,18 +33,18 @@ IsRight finder dialect text =
     (passed : List ℕ) × (rest : Text) × Passes finder dialect text passed rest × MeansAny dialect rest
 
 -- a refusal in the last `left` bytes of a text of `whole` bytes, with its index in the text
-abbrev pub moved : ℕ → ℕ → Refusal → Refusal
+abbrev pub moved : ℕ → ℕ → RefusedPart → RefusedPart
 moved whole left refusal =
     record { reason = refusal.reason; index = whole - (left - refusal.index) }
 
 -- The first part that is refused after those that are passed over.
-abbrev pub IsRefusedFirst : Finder → Dialect → Text → Refusal → Type 0
+abbrev pub IsRefusedFirst : Finder → Dialect → Text → RefusedPart → Type 0
 IsRefusedFirst finder dialect text found =
-    (passed : List ℕ) × (rest : Text) × (refusal : Refusal) × Passes finder dialect text passed rest
+    (passed : List ℕ) × (rest : Text) × (refusal : RefusedPart) × Passes finder dialect text passed rest
     × RefusedAt dialect rest refusal.reason refusal.index
     × IsTrue (is_refused finder dialect refusal.reason)
     × (found ≡ moved (length text) (length rest) refusal)
 
-abbrev pub IsSearched : Finder → Dialect → Text → Option Refusal → Type 0
+abbrev pub IsSearched : Finder → Dialect → Text → Option RefusedPart → Type 0
 IsSearched finder dialect text None = IsRight finder dialect text
 IsSearched finder dialect text (Some refusal) = IsRefusedFirst finder dialect text refusal

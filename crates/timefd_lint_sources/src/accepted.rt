@@ -5,20 +5,20 @@ ghost use Rattle.timefd_lang_component.specs.Tree.{Tree};
 ghost use Rattle.timefd_lint_drawing.specs.Counted.{IsCounted};
 ghost use Rattle.timefd_language.specs.Grammar.{nesting_limit};
 ghost use Rattle.timefd_parse.specs.Language.{SpellsIn};
-ghost use Rattle.timefd_lint_sources.specs.declared.reported.End.TheVariants as ends;
+ghost use Rattle.timefd_lint_sources.specs.declared.reported.ItemEnd.TheVariants as ends;
 ghost use Rattle.timefd_lint_warnings.specs.Found.{found_by};
 ghost use Rattle.timefd_lint_explain.specs.Lines.{IsExplainedIf};
 ghost use Rattle.timefd_lint_sources.specs.Judged.{language_in, text_of};
 ghost use Rattle.timefd_lint_sources.specs.Whole.{IsMessageOn, IsTreeAndWarnings};
 
 use crate::position::reported_position_of;
-use crate::reported::{End, Reported, Reporting, Source};
+use crate::reported::{ItemEnd, Reported, Reporting, SourceText};
 use std::alloc::{AllocError, Global};
 use timefd_lang_warnings::{Level, Levels};
 use timefd_lint_diagnosis::Span;
 use timefd_lint_drawing::{Counter, Origin};
 use timefd_lint_explain::explained;
-use timefd_lint_scan::Description;
+use timefd_lint_scan::SourceDescription;
 use timefd_lint_warnings::{found_by, messages_at};
 use timefd_parse::Language;
 
@@ -27,9 +27,9 @@ use timefd_parse::Language;
 pub fn accepted(
     alloc: Global,
     reporting: Reporting,
-    source: Source<'_>,
+    source: SourceText<'_>,
     from: Counter,
-    description: &Description,
+    description: &SourceDescription,
     language: Language,
     text: &str,
 ) -> Result<Reported, AllocError>
@@ -45,7 +45,7 @@ pub fn accepted(
         explained_and_warned(alloc, reporting, source, from, description, language, text)
     } else {
         Ok(Reported {
-            end: End::Accepted(Levels::all_at(Level::Allowed)),
+            end: ItemEnd::Accepted(Levels::all_at(Level::Allowed)),
             message: Vec::new(alloc),
         })
     }
@@ -55,9 +55,9 @@ pub fn accepted(
 fn explained_and_warned(
     alloc: Global,
     reporting: Reporting,
-    source: Source<'_>,
+    source: SourceText<'_>,
     from: Counter,
-    description: &Description,
+    description: &SourceDescription,
     language: Language,
     text: &str,
 ) -> Result<Reported, AllocError>
@@ -81,7 +81,7 @@ fn explained_and_warned(
         found,
     )?;
     Ok(Reported {
-        end: End::Accepted(found),
+        end: ItemEnd::Accepted(found),
         message,
     })
 }
@@ -91,9 +91,9 @@ fn explained_and_warned(
 pub fn tree_and_warnings(
     alloc: Global,
     reporting: Reporting,
-    source: Source<'_>,
+    source: SourceText<'_>,
     from: Counter,
-    description: &Description,
+    description: &SourceDescription,
     language: Language,
     text: &str,
     found: Levels,

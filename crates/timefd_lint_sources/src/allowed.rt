@@ -6,12 +6,12 @@ ghost use Rattle.timefd_lint_sources.specs.Allowed as spec;
 
 use crate::allowances::Allowance;
 use crate::cut::between;
-use crate::reported::{Reporting, Source};
+use crate::reported::{Reporting, SourceText};
 use std::alloc::{AllocError, Global};
 use timefd_lang_dialect::Found;
 use timefd_lang_warnings::{Level, Levels, Warning};
 use timefd_lint_diagnosis::{Diagnostic, code_of};
-use timefd_lint_scan::Description;
+use timefd_lint_scan::SourceDescription;
 use timefd_lint_scan::dialect::is;
 
 fn covers(allowance: Allowance, at: usize) -> bool
@@ -55,14 +55,18 @@ fn any_allows(source: &[u8], allowances: &[Allowance], at: usize, code: &str) ->
 }
 
 /// Whether comments count, and one is about a description.
-pub fn is_covered(reporting: Reporting, source: Source<'_>, description: &Description) -> bool
+pub fn is_covered(
+    reporting: Reporting,
+    source: SourceText<'_>,
+    description: &SourceDescription,
+) -> bool
     ensures { result ≡ spec.is_covered reporting source.entry description.now }
 {
     reporting.allows && any_covers(source.allowances, description.piece.start)
 }
 
 /// Whether a comment allows this code of a description.
-pub fn is_allowed(source: Source<'_>, description: &Description, code: &str) -> bool
+pub fn is_allowed(source: SourceText<'_>, description: &SourceDescription, code: &str) -> bool
     ensures { result ≡ spec.is_allowed source.entry description.now code.now }
 {
     any_allows(
@@ -74,8 +78,8 @@ pub fn is_allowed(source: Source<'_>, description: &Description, code: &str) -> 
 }
 
 fn level_left(
-    source: Source<'_>,
-    description: &Description,
+    source: SourceText<'_>,
+    description: &SourceDescription,
     found: Levels,
     warning: Warning,
 ) -> Levels
@@ -89,7 +93,7 @@ fn level_left(
 }
 
 /// The levels of the warnings of a description that no comment allows.
-pub fn levels_left(source: Source<'_>, description: &Description, found: Levels) -> Levels
+pub fn levels_left(source: SourceText<'_>, description: &SourceDescription, found: Levels) -> Levels
     ensures { result ≡ spec.levels_left source.entry description.now found }
 {
     let mut left = found;
@@ -103,8 +107,8 @@ pub fn levels_left(source: Source<'_>, description: &Description, found: Levels)
 
 fn push_diagnostic(
     left: &mut Vec<Diagnostic>,
-    source: Source<'_>,
-    description: &Description,
+    source: SourceText<'_>,
+    description: &SourceDescription,
     diagnostic: Diagnostic,
 ) -> Result<(), AllocError>
     ensures { OnOk result (left.new.items
@@ -119,8 +123,8 @@ fn push_diagnostic(
 /// The faults of a description that no comment allows. An `Err` says that memory ran out.
 pub fn faults_left(
     alloc: Global,
-    source: Source<'_>,
-    description: &Description,
+    source: SourceText<'_>,
+    description: &SourceDescription,
     first: Diagnostic,
     further: Vec<Diagnostic>,
 ) -> Result<Vec<Diagnostic>, AllocError>
@@ -136,8 +140,8 @@ pub fn faults_left(
 
 fn push_trap(
     left: &mut Vec<Found>,
-    source: Source<'_>,
-    description: &Description,
+    source: SourceText<'_>,
+    description: &SourceDescription,
     trap: Found,
 ) -> Result<(), AllocError>
     ensures { OnOk result (left.new.items
@@ -152,8 +156,8 @@ fn push_trap(
 /// The traps of a format that no comment allows. An `Err` says that memory ran out.
 pub fn traps_left(
     alloc: Global,
-    source: Source<'_>,
-    description: &Description,
+    source: SourceText<'_>,
+    description: &SourceDescription,
     found: &[Found],
 ) -> Result<Vec<Found>, AllocError>
     ensures { IfOk result (λ left. left.items

@@ -5,13 +5,13 @@ ghost use Rattle.timefd_lint_drawing.specs.Counted.{IsCounted};
 ghost use Rattle.timefd_lint_sources.specs.Calls as spec;
 
 use crate::position::FIRST_LINE;
-use crate::reported::Source;
+use crate::reported::SourceText;
 use std::alloc::{AllocError, Global};
 use timefd_lint_drawing::github::{Command, annotation};
 use timefd_lint_drawing::json::Entry;
 use timefd_lint_drawing::shown::safe;
 use timefd_lint_drawing::{Counter, Format, Position, Style, position_from};
-use timefd_lint_scan::Description;
+use timefd_lint_scan::SourceDescription;
 
 /// The code of such a note.
 const CODE: &str = "call";
@@ -24,9 +24,9 @@ const MESSAGE: &str = "this call takes the text by its name";
 pub fn call_note(
     alloc: Global,
     style: Style,
-    source: Source<'_>,
+    source: SourceText<'_>,
     from: Counter,
-    description: &Description,
+    description: &SourceDescription,
 ) -> Result<Vec<u8>, AllocError>
     requires { IsCounted 1 source.text.now from }
     ensures { IfOk result (λ note. note.items ≡ spec.call_note style source.entry description.now) }
@@ -40,7 +40,7 @@ pub fn call_note(
 fn note_at(
     alloc: Global,
     style: Style,
-    source: Source<'_>,
+    source: SourceText<'_>,
     from: Counter,
     at: usize,
 ) -> Result<Vec<u8>, AllocError>

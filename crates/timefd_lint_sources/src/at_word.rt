@@ -5,7 +5,7 @@ ghost use Rattle.timefd_lint_drawing.specs.Counted.{IsCounted};
 ghost use Rattle.timefd_lint_sources.specs.AtWord as spec;
 
 use crate::position::reported_position_of;
-use crate::reported::Source;
+use crate::reported::SourceText;
 use std::alloc::{AllocError, Global};
 use timefd_lint_diagnosis::Span;
 use timefd_lint_drawing::github::{Command, annotation};
@@ -20,7 +20,7 @@ use timefd_lint_drawing::{Counter, Format, Position, Style, line_of};
 pub fn message_at(
     alloc: Global,
     style: Style,
-    source: Source<'_>,
+    source: SourceText<'_>,
     from: Counter,
     span: Span,
     code: &str,
@@ -37,7 +37,7 @@ pub fn message_at(
 fn message_in(
     alloc: Global,
     style: Style,
-    source: Source<'_>,
+    source: SourceText<'_>,
     position: Position,
     span: Span,
     code: &str,
@@ -80,7 +80,7 @@ fn message_in(
 fn human(
     alloc: Global,
     is_colored: bool,
-    source: Source<'_>,
+    source: SourceText<'_>,
     position: Position,
     span: Span,
     code: &str,

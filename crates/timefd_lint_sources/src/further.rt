@@ -12,13 +12,13 @@ use crate::language::language_of;
 use crate::opening::is_of_item;
 use std::alloc::{AllocError, Global};
 use timefd_lint_diagnosis::{Diagnostic, MOST_FURTHER, further_faults};
-use timefd_lint_scan::{Description, Items};
+use timefd_lint_scan::{Items, SourceDescription};
 
 /// The faults of a description after this first one of its text. If its place takes `[optional ..]` and
 /// `[first ..]`, faults that only `parse` finds are left out. An `Err` says that memory ran out.
 pub fn further_of(
     alloc: Global,
-    description: &Description,
+    description: &SourceDescription,
     text: &str,
     first: &Diagnostic,
 ) -> Result<Vec<Diagnostic>, AllocError>

@@ -8,7 +8,7 @@ ghost use Rattle.timefd_lint_sources.specs.Items as spec;
 use crate::opening::{opened_all, opened_once};
 use std::alloc::{AllocError, Global};
 use std::str;
-use timefd_lint_scan::{Description, Dialect, Items, Unescaped};
+use timefd_lint_scan::{FormatLanguage, Items, SourceDescription, Unescaped};
 use timefd_parse::DescriptionVersion;
 
 /// These descriptions in order, each with the text that is checked for it. An `Err` says that memory ran
@@ -16,8 +16,8 @@ use timefd_parse::DescriptionVersion;
 #[tactic(auto, using(crate::proofs::JudgedLemmas::one_more))]
 pub fn judged_all(
     alloc: Global,
-    descriptions: Vec<Description>,
-) -> Result<Vec<Description>, AllocError>
+    descriptions: Vec<SourceDescription>,
+) -> Result<Vec<SourceDescription>, AllocError>
     ensures { IfOk result (λ judged. AreJudgedAs descriptions.items judged.items) }
 {
     let mut judged = Vec::with_capacity(alloc, descriptions.len())?;
@@ -29,7 +29,10 @@ pub fn judged_all(
 
 /// A description with the text that is checked for it. An `Err` says that memory ran out.
 #[tactic(auto, using(crate::proofs::JudgedLemmas::as_it_is, crate::proofs::JudgedLemmas::no_text, crate::proofs::JudgedLemmas::is_text))]
-pub fn judged_as(alloc: Global, description: Description) -> Result<Description, AllocError>
+pub fn judged_as(
+    alloc: Global,
+    description: SourceDescription,
+) -> Result<SourceDescription, AllocError>
     ensures { IfOk result (IsJudgedAs description) }
 {
     let Some(version) = taking(description.items, description.dialect) else {
@@ -38,7 +41,7 @@ pub fn judged_as(alloc: Global, description: Description) -> Result<Description,
     let Some(text) = opened_bytes(alloc, version, &description.unescaped.text)? else {
         return Ok(description);
     };
-    Ok(Description {
+    Ok(SourceDescription {
         piece: description.piece,
         kind: description.kind,
         dialect: description.dialect,
@@ -55,7 +58,11 @@ pub fn judged_as(alloc: Global, description: Description) -> Result<Description,
 /// Whether a text has an item that `parse` refuses and that the place of its description takes. An `Err`
 /// says that memory ran out.
 #[tactic(auto, using(crate::proofs::JudgedLemmas::holds_none))]
-pub fn holds_item(alloc: Global, description: &Description, text: &str) -> Result<bool, AllocError>
+pub fn holds_item(
+    alloc: Global,
+    description: &SourceDescription,
+    text: &str,
+) -> Result<bool, AllocError>
     ensures found { IfOk result (λ holds. holds ≡ true
         → HoldsItem (spec.taking description.now.items description.now.dialect) text.now) }
     ensures none { IfOk result (λ holds. holds ≡ false
@@ -100,7 +107,7 @@ fn opened_bytes(
 
 // The version in which a description's place takes items that `parse` refuses; `None` if it doesn't take
 // them.
-fn taking(items: Items, dialect: Dialect) -> Option<DescriptionVersion>
+fn taking(items: Items, dialect: FormatLanguage) -> Option<DescriptionVersion>
     ensures { result ≡ spec.taking items dialect }
 {
     match items {
@@ -109,22 +116,22 @@ fn taking(items: Items, dialect: Dialect) -> Option<DescriptionVersion>
     }
 }
 
-fn version_of(dialect: Dialect) -> Option<DescriptionVersion>
+fn version_of(dialect: FormatLanguage) -> Option<DescriptionVersion>
     ensures { result ≡ spec.version_of dialect }
 {
     match dialect {
-        Dialect::One => Some(DescriptionVersion::One),
-        Dialect::Two => Some(DescriptionVersion::Two),
-        Dialect::Three
-        | Dialect::Strftime
-        | Dialect::Python
-        | Dialect::C
-        | Dialect::Gnu
-        | Dialect::Chrono
-        | Dialect::Jiff
-        | Dialect::Ruby
-        | Dialect::Java
-        | Dialect::Go
-        | Dialect::Moment => None,
+        FormatLanguage::One => Some(DescriptionVersion::One),
+        FormatLanguage::Two => Some(DescriptionVersion::Two),
+        FormatLanguage::Three
+        | FormatLanguage::Strftime
+        | FormatLanguage::Python
+        | FormatLanguage::C
+        | FormatLanguage::Gnu
+        | FormatLanguage::Chrono
+        | FormatLanguage::Jiff
+        | FormatLanguage::Ruby
+        | FormatLanguage::Java
+        | FormatLanguage::Go
+        | FormatLanguage::Moment => None,
     }
 }

@@ -40,8 +40,8 @@ pub use left::Left;
 pub use no_code::{NO_CODE, NoCode, sentence_on};
 pub use opening::is_of_item;
 pub use position::FIRST_LINE;
-pub use remark::{NO_LANGUAGE, NO_LANGUAGE_SENTENCE, Remark, place_of, word_at};
-pub use reported::{End, Finder, Reported, Reporting, Source};
+pub use remark::{NO_LANGUAGE, NO_LANGUAGE_SENTENCE, Remark, index_of_remark, word_at};
+pub use reported::{Finder, ItemEnd, Reported, Reporting, SourceText};
 pub use search::first_refusal;
 pub use source::{
     Judged, Report, descriptions_in, judged_in, judged_with_remarks, lint_source, report_all,

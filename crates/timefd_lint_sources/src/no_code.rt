@@ -10,7 +10,7 @@ use crate::at_word::message_at;
 use crate::codes::{description_codes, is_code};
 use crate::cut::{after_index, before_index};
 use crate::remark::Remark;
-use crate::reported::Source;
+use crate::reported::SourceText;
 use std::alloc::{AllocError, Global};
 use timefd_lint_diagnosis::Span;
 use timefd_lint_diagnosis::nearest::nearest;
@@ -39,7 +39,7 @@ const MOST_OF_A_WORD: usize = 80;
 pub fn code_note(
     alloc: Global,
     style: Style,
-    source: Source<'_>,
+    source: SourceText<'_>,
     from: Counter,
     word: NoCode,
 ) -> Result<Vec<u8>, AllocError>
@@ -132,7 +132,7 @@ fn push_unknown(
 pub fn push_no_codes(
     alloc: Global,
     remarks: &mut Vec<Remark>,
-    source: Source<'_>,
+    source: SourceText<'_>,
 ) -> Result<(), AllocError>
     ensures { OnOk result (spec.AddsCodes source.entry remarks.old.items remarks.new.items) }
 {

@@ -2,18 +2,18 @@
 
 ghost use Rattle.std.specs.Prelude.{◌≡◌, ◌++◌, IfOk, OnOk, flat_map, is_some};
 ghost use Rattle.timefd_lint_drawing.specs.Counted.{IsCounted};
-ghost use Rattle.timefd_lint_sources.specs.declared.reported.End.TheVariants as ends;
+ghost use Rattle.timefd_lint_sources.specs.declared.reported.ItemEnd.TheVariants as ends;
 ghost use Rattle.timefd_lint_sources.specs.Judged.{text_of};
 ghost use Rattle.timefd_lint_sources.specs.Others as spec;
 
 use crate::at_call::call_note;
 use crate::position::FIRST_LINE;
-use crate::reported::{End, Reported, Reporting, Source};
+use crate::reported::{ItemEnd, Reported, Reporting, SourceText};
 use crate::search::first_refusal;
 use std::alloc::{AllocError, Global};
-use timefd_lang_dialect::{Dialect, Found, Refusal, traps};
+use timefd_lang_dialect::{Dialect, Found, RefusedPart, traps};
 use timefd_lint_drawing::{Counter, Origin, Style};
-use timefd_lint_scan::{Description, index_in_source};
+use timefd_lint_scan::{SourceDescription, index_in_source};
 use timefd_lint_warnings::dialects::{refusal_drawn, trap_drawn};
 
 /// Checks a format of another language or library, which is a description of this source, and reports the part that is
@@ -23,9 +23,9 @@ use timefd_lint_warnings::dialects::{refusal_drawn, trap_drawn};
 pub fn report_other(
     alloc: Global,
     reporting: Reporting,
-    source: Source<'_>,
+    source: SourceText<'_>,
     from: Counter,
-    description: &Description,
+    description: &SourceDescription,
     dialect: Dialect,
     text: &str,
 ) -> Result<Reported, AllocError>
@@ -45,10 +45,10 @@ pub fn report_other(
 pub fn refused(
     alloc: Global,
     style: Style,
-    source: Source<'_>,
+    source: SourceText<'_>,
     from: Counter,
-    description: &Description,
-    refusal: Refusal,
+    description: &SourceDescription,
+    refusal: RefusedPart,
 ) -> Result<Reported, AllocError>
     requires { IsCounted 1 source.text.now from }
     ensures end { IfOk result (λ reported. reported.end ≡ ends.Refused) }
@@ -59,7 +59,7 @@ pub fn refused(
         file: source.file,
         line: FIRST_LINE,
     };
-    let placed = Refusal {
+    let placed = RefusedPart {
         reason: refusal.reason,
         index: index_in_source(description, refusal.index),
     };
@@ -67,7 +67,7 @@ pub fn refused(
     let note = call_note(alloc, style, source, from, description)?;
     message.extend_from_slice(&note)?;
     Ok(Reported {
-        end: End::Refused,
+        end: ItemEnd::Refused,
         message,
     })
 }
@@ -77,9 +77,9 @@ pub fn refused(
 fn trapped(
     alloc: Global,
     reporting: Reporting,
-    source: Source<'_>,
+    source: SourceText<'_>,
     from: Counter,
-    description: &Description,
+    description: &SourceDescription,
     dialect: Dialect,
     text: &str,
 ) -> Result<Reported, AllocError>
@@ -89,7 +89,7 @@ fn trapped(
 {
     if reporting.levels.is_none() {
         return Ok(Reported {
-            end: End::Converted(0),
+            end: ItemEnd::Converted(0),
             message: Vec::new(alloc),
         });
     }
@@ -105,7 +105,7 @@ fn trapped(
         &mut message,
     )?;
     Ok(Reported {
-        end: End::Converted(found.len() as u64),
+        end: ItemEnd::Converted(found.len() as u64),
         message,
     })
 }
@@ -114,9 +114,9 @@ fn trapped(
 pub fn push_traps(
     alloc: Global,
     style: Style,
-    source: Source<'_>,
+    source: SourceText<'_>,
     from: Counter,
-    description: &Description,
+    description: &SourceDescription,
     found: &[Found],
     message: &mut Vec<u8>,
 ) -> Result<(), AllocError>
@@ -135,9 +135,9 @@ pub fn push_traps(
 fn trap_in(
     alloc: Global,
     style: Style,
-    source: Source<'_>,
+    source: SourceText<'_>,
     from: Counter,
-    description: &Description,
+    description: &SourceDescription,
     found: Found,
 ) -> Result<Vec<u8>, AllocError>
     requires { IsCounted 1 source.text.now from }

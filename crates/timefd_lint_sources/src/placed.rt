@@ -5,12 +5,12 @@ ghost use Rattle.timefd_lint_sources.specs.Whole as spec;
 
 use std::alloc::{AllocError, Global};
 use timefd_lint_diagnosis::{Diagnostic, Span};
-use timefd_lint_scan::{Description, index_in_source};
+use timefd_lint_scan::{SourceDescription, index_in_source};
 
 /// These diagnostics with their spans in the source. An `Err` says that memory ran out.
 pub fn all_placed_in(
     alloc: Global,
-    description: &Description,
+    description: &SourceDescription,
     diagnostics: Vec<Diagnostic>,
 ) -> Result<Vec<Diagnostic>, AllocError>
     ensures { IfOk result (λ placed. placed.items
@@ -24,7 +24,7 @@ pub fn all_placed_in(
 }
 
 /// A diagnostic of a description, with its span in the source.
-pub fn placed_in(description: &Description, diagnostic: Diagnostic) -> Diagnostic
+pub fn placed_in(description: &SourceDescription, diagnostic: Diagnostic) -> Diagnostic
     ensures { result ≡ spec.placed_in description.now diagnostic }
 {
     let mut placed = diagnostic;

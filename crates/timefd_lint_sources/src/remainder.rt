@@ -13,11 +13,11 @@ use crate::language::other_of;
 use crate::left::all_allowed;
 use crate::remainder::other::other_judged;
 use crate::remainder::own::own_judged;
-use crate::reported::{End, Reported, Reporting, Source, not_text};
+use crate::reported::{ItemEnd, Reported, Reporting, SourceText, not_text};
 use std::alloc::{AllocError, Global};
 use std::str;
 use timefd_lint_drawing::{Counter, Style};
-use timefd_lint_scan::Description;
+use timefd_lint_scan::SourceDescription;
 
 /// Checks a description of a source that a comment is about, and reports what is wrong with it, without what a comment
 /// allows. `from` says how far lines are counted. An `Err` says that memory ran out.
@@ -25,9 +25,9 @@ use timefd_lint_scan::Description;
 pub fn report_left(
     alloc: Global,
     reporting: Reporting,
-    source: Source<'_>,
+    source: SourceText<'_>,
     from: Counter,
-    description: &Description,
+    description: &SourceDescription,
 ) -> Result<Reported, AllocError>
     requires { IsCounted 1 source.text.now from }
     ensures { IfOk result (λ reported. spec.IsReportedLeft reporting source.entry description.now
@@ -44,7 +44,7 @@ pub fn nothing_left(alloc: Global) -> Reported
     ensures { spec.IsNothingLeft result.end result.message.items }
 {
     Reported {
-        end: End::Allowed(all_allowed()),
+        end: ItemEnd::Allowed(all_allowed()),
         message: Vec::new(alloc),
     }
 }
@@ -52,9 +52,9 @@ pub fn nothing_left(alloc: Global) -> Reported
 fn no_text(
     alloc: Global,
     style: Style,
-    source: Source<'_>,
+    source: SourceText<'_>,
     from: Counter,
-    description: &Description,
+    description: &SourceDescription,
 ) -> Result<Reported, AllocError>
     requires { IsCounted 1 source.text.now from }
     ensures { IfOk result (λ reported. spec.IsNoTextLeft style source.entry description.now
@@ -71,9 +71,9 @@ fn no_text(
 fn judged(
     alloc: Global,
     reporting: Reporting,
-    source: Source<'_>,
+    source: SourceText<'_>,
     from: Counter,
-    description: &Description,
+    description: &SourceDescription,
     text: &str,
 ) -> Result<Reported, AllocError>
     requires counted { IsCounted 1 source.text.now from }

@@ -8,11 +8,11 @@ use crate::at_word::message_at;
 use crate::cut::after as rest_from;
 use crate::no_code::{NoCode, code_note};
 use crate::position::FIRST_LINE;
-use crate::reported::{End, Source};
+use crate::reported::{ItemEnd, SourceText};
 use std::alloc::{AllocError, Global};
 use timefd_lint_diagnosis::Span;
 use timefd_lint_drawing::{Counter, Style, counted, none_counted};
-use timefd_lint_scan::class::{Class, after_run};
+use timefd_lint_scan::class::{ByteSet, after_run};
 
 /// What is seen in a source besides its descriptions.
 #[derive(Clone, Copy)]
@@ -35,19 +35,19 @@ pub const NO_LANGUAGE_SENTENCE: &str =
     "this comment names no language: there are 1, 2, 3, strftime, python, c, gnu, chrono, jiff, ruby, java, go and moment";
 
 /// The outcome of a remark.
-pub fn end_of(remark: Remark) -> End
+pub fn end_of(remark: Remark) -> ItemEnd
     ensures { result ≡ spec.end_of remark }
 {
     match remark {
-        Remark::Call(_) => End::UnreadCall,
-        Remark::Value(_) => End::UnreadValue,
-        Remark::Language(_) | Remark::Code(_) => End::WrongComment,
+        Remark::Call(_) => ItemEnd::UnreadCall,
+        Remark::Value(_) => ItemEnd::UnreadValue,
+        Remark::Language(_) | Remark::Code(_) => ItemEnd::WrongComment,
     }
 }
 
 /// Where a remark is, as a byte index.
-pub fn place_of(remark: Remark) -> usize
-    ensures { result ≡ spec.place_of remark }
+pub fn index_of_remark(remark: Remark) -> usize
+    ensures { result ≡ spec.index_of_remark remark }
 {
     match remark {
         Remark::Call(at) | Remark::Value(at) | Remark::Language(at) => at,
@@ -59,7 +59,7 @@ pub fn place_of(remark: Remark) -> usize
 pub fn word_at(source: &str, at: usize) -> Span
     ensures { result ≡ spec.word_at source.now at }
 {
-    let after = after_run(Class::Word, rest_from(source.as_bytes(), at));
+    let after = after_run(ByteSet::Word, rest_from(source.as_bytes(), at));
     Span {
         start: at,
         end: source.len().saturating_sub(after.len()),
@@ -69,7 +69,7 @@ pub fn word_at(source: &str, at: usize) -> Span
 fn message_of(
     alloc: Global,
     style: Style,
-    source: Source<'_>,
+    source: SourceText<'_>,
     from: Counter,
     remark: Remark,
 ) -> Result<Vec<u8>, AllocError>
@@ -87,7 +87,7 @@ fn message_of(
 fn language_note(
     alloc: Global,
     style: Style,
-    source: Source<'_>,
+    source: SourceText<'_>,
     from: Counter,
     at: usize,
 ) -> Result<Vec<u8>, AllocError>
@@ -110,10 +110,10 @@ fn language_note(
 fn push_remark(
     alloc: Global,
     style: Style,
-    source: Source<'_>,
+    source: SourceText<'_>,
     from: Counter,
     remark: Remark,
-    ends: &mut Vec<End>,
+    ends: &mut Vec<ItemEnd>,
     message: &mut Vec<u8>,
 ) -> Result<(), AllocError>
     requires { IsCounted 1 source.text.now from }
@@ -131,9 +131,9 @@ fn push_remark(
 pub fn push_remarks(
     alloc: Global,
     style: Style,
-    source: Source<'_>,
+    source: SourceText<'_>,
     remarks: &[Remark],
-    ends: &mut Vec<End>,
+    ends: &mut Vec<ItemEnd>,
     message: &mut Vec<u8>,
 ) -> Result<(), AllocError>
     ensures ends { OnOk result (ends.new.items ≡ ends.old.items ++ spec.ends_of remarks.now) }
@@ -143,7 +143,7 @@ pub fn push_remarks(
     let mut from = none_counted(FIRST_LINE);
     let mut rest = remarks;
     'remarks: while let [remark, after @ ..] = rest {
-        from = counted(FIRST_LINE, source.text, from, place_of(*remark));
+        from = counted(FIRST_LINE, source.text, from, index_of_remark(*remark));
         push_remark(alloc, style, source, from, *remark, ends, message)?;
         rest = after;
     }

@@ -2,7 +2,7 @@
 
 ghost use Rattle.std.specs.Prelude.{◌≡◌, IfOk, None};
 ghost use Rattle.timefd_lint_drawing.specs.Counted.{IsCounted};
-ghost use Rattle.timefd_lint_sources.specs.declared.reported.End.TheVariants as ends;
+ghost use Rattle.timefd_lint_sources.specs.declared.reported.ItemEnd.TheVariants as ends;
 ghost use Rattle.timefd_lint_sources.specs.Judged.{text_of};
 ghost use Rattle.timefd_lint_sources.specs.Judged as judging;
 ghost use Rattle.timefd_lint_sources.specs.Reported.{IsReported};
@@ -24,8 +24,8 @@ use std::str;
 use timefd_lang_warnings::Levels;
 use timefd_lint_diagnosis::{Diagnostic, diagnose};
 use timefd_lint_drawing::{Counter, Origin, Style, counted, drawn_all_from, note};
-use timefd_lint_scan::Description;
-use timefd_lint_scan::keys::{Format, Key};
+use timefd_lint_scan::SourceDescription;
+use timefd_lint_scan::keys::{DescriptionKey, FileFormat};
 
 /// How to report on descriptions.
 #[derive(Clone, Copy)]
@@ -46,12 +46,12 @@ pub enum Finder<'a> {
     /// As string literals in Rust.
     Rust,
     /// As strings of these keys, in a file of this format.
-    Keys(Format, &'a [Key<'a>]),
+    Keys(FileFormat, &'a [DescriptionKey<'a>]),
 }
 
 /// A source to check: a Rust source, or a file with keys.
 #[derive(Clone, Copy)]
-pub struct Source<'a> {
+pub struct SourceText<'a> {
     /// The name of its file.
     pub file: &'a str,
     /// How its descriptions are found.
@@ -64,7 +64,7 @@ pub struct Source<'a> {
 
 /// The outcome of a description, or of something else that is seen in a source.
 #[derive(Clone, Copy)]
-pub enum End {
+pub enum ItemEnd {
     /// It is of another language or library, and an editor doesn't explain it.
     PassedOver,
     /// It is valid, with the levels of its reported warnings; any other warning is allowed.
@@ -89,7 +89,7 @@ pub enum End {
 #[derive(Drop)]
 pub struct Reported {
     /// The outcome.
-    pub end: End,
+    pub end: ItemEnd,
     /// The messages on it: empty if there is nothing to report.
     pub message: Vec<u8>,
 }
@@ -99,9 +99,9 @@ pub struct Reported {
 pub fn report(
     alloc: Global,
     reporting: Reporting,
-    source: Source<'_>,
+    source: SourceText<'_>,
     from: Counter,
-    description: &Description,
+    description: &SourceDescription,
 ) -> Result<Reported, AllocError>
     requires { IsCounted 1 source.text.now from }
     ensures { IfOk result (λ reported. IsReported reporting source.entry description.now
@@ -119,9 +119,9 @@ pub fn report(
 fn report_whole(
     alloc: Global,
     reporting: Reporting,
-    source: Source<'_>,
+    source: SourceText<'_>,
     from: Counter,
-    description: &Description,
+    description: &SourceDescription,
 ) -> Result<Reported, AllocError>
     requires { IsCounted 1 source.text.now from }
     ensures { IfOk result (λ reported. IsReportedWhole reporting source.entry description.now
@@ -137,9 +137,9 @@ fn report_whole(
 pub fn not_text(
     alloc: Global,
     style: Style,
-    source: Source<'_>,
+    source: SourceText<'_>,
     from: Counter,
-    description: &Description,
+    description: &SourceDescription,
 ) -> Result<Reported, AllocError>
     requires { IsCounted 1 source.text.now from }
     ensures end { IfOk result (λ reported. reported.end ≡ ends.NotText) }
@@ -153,7 +153,7 @@ pub fn not_text(
     };
     let message = note(alloc, style, origin, "not-text", "the bytes aren't UTF-8")?;
     Ok(Reported {
-        end: End::NotText,
+        end: ItemEnd::NotText,
         message,
     })
 }
@@ -163,9 +163,9 @@ pub fn not_text(
 fn judged(
     alloc: Global,
     reporting: Reporting,
-    source: Source<'_>,
+    source: SourceText<'_>,
     from: Counter,
-    description: &Description,
+    description: &SourceDescription,
     text: &str,
 ) -> Result<Reported, AllocError>
     requires counted { IsCounted 1 source.text.now from }
@@ -186,9 +186,9 @@ fn judged(
 fn own_judged(
     alloc: Global,
     reporting: Reporting,
-    source: Source<'_>,
+    source: SourceText<'_>,
     from: Counter,
-    description: &Description,
+    description: &SourceDescription,
     text: &str,
 ) -> Result<Reported, AllocError>
     requires counted { IsCounted 1 source.text.now from }
@@ -220,9 +220,9 @@ fn own_judged(
 fn refused(
     alloc: Global,
     style: Style,
-    source: Source<'_>,
+    source: SourceText<'_>,
     from: Counter,
-    description: &Description,
+    description: &SourceDescription,
     diagnostic: Diagnostic,
     further: Vec<Diagnostic>,
 ) -> Result<Reported, AllocError>
@@ -241,7 +241,7 @@ fn refused(
     let note = call_note(alloc, style, source, from, description)?;
     message.extend_from_slice(&note)?;
     Ok(Reported {
-        end: End::Refused,
+        end: ItemEnd::Refused,
         message,
     })
 }

@@ -8,7 +8,7 @@ use crate::cut::after_index;
 use crate::refusing::is_refused;
 use crate::reported::Finder;
 use std::alloc::{AllocError, Global};
-use timefd_lang_dialect::{Dialect, DialectError, Refusal, to_version_three};
+use timefd_lang_dialect::{Dialect, DialectError, RefusedPart, to_version_three};
 
 /// The first part of a format that is refused. Parts that version 3 doesn't have, but that are right where the format stands,
 /// are passed over: what follows the percent sign of such a part is read on. An `Err` says that memory ran out.
@@ -18,7 +18,7 @@ pub fn first_refusal(
     finder: Finder<'_>,
     dialect: Dialect,
     text: &str,
-) -> Result<Option<Refusal>, AllocError>
+) -> Result<Option<RefusedPart>, AllocError>
     ensures { IfOk result (spec.IsSearched finder.entry dialect text.now) }
 {
     let mut rest = text;
@@ -35,10 +35,10 @@ pub fn first_refusal(
 }
 
 // A refusal in the last bytes of a text, with its index in the whole text.
-fn moved(whole: usize, left: usize, refusal: Refusal) -> Refusal
+fn moved(whole: usize, left: usize, refusal: RefusedPart) -> RefusedPart
     ensures { result ≡ spec.moved whole left refusal }
 {
-    Refusal {
+    RefusedPart {
         reason: refusal.reason,
         index: whole.saturating_sub(left.saturating_sub(refusal.index)),
     }
@@ -46,7 +46,11 @@ fn moved(whole: usize, left: usize, refusal: Refusal) -> Refusal
 
 // The first part of a format for which version 3 has no text.
 #[tactic(auto, using(crate::proofs::SearchLemmas::has_meaning))]
-fn refusal_in(alloc: Global, dialect: Dialect, text: &str) -> Result<Option<Refusal>, AllocError>
+fn refusal_in(
+    alloc: Global,
+    dialect: Dialect,
+    text: &str,
+) -> Result<Option<RefusedPart>, AllocError>
     ensures none { IfOk result (λ found. found ≡ None → spec.MeansAny dialect text.now) }
     ensures found { IfOk result (λ found. IfSome found
         (λ refusal. RefusedAt dialect text.now refusal.reason refusal.index)) }

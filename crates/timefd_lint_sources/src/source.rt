@@ -11,17 +11,17 @@ use crate::judged::{judged_all, judged_as};
 use crate::no_code::push_no_codes;
 use crate::position::FIRST_LINE;
 use crate::remark::{Remark, push_remarks, remarks_on, remarks_on_values};
-use crate::reported::{End, Finder, Reported, Reporting, Source, report};
+use crate::reported::{Finder, ItemEnd, Reported, Reporting, SourceText, report};
 use std::alloc::{AllocError, Global};
 use timefd_lint_drawing::{Counter, counted, none_counted};
-use timefd_lint_scan::keys::{Format, Key, Values, descriptions_by, values_by};
-use timefd_lint_scan::{Description, Look, descriptions_of, looked_at};
+use timefd_lint_scan::keys::{DescriptionKey, FileFormat, Values, descriptions_by, values_by};
+use timefd_lint_scan::{Look, SourceDescription, descriptions_of, looked_at};
 
 /// What the linter reports about the descriptions of a source.
 #[derive(Drop)]
 pub struct Report {
     /// The outcome of each description in order, followed by the outcomes of the remarks.
-    pub ends: Vec<End>,
+    pub ends: Vec<ItemEnd>,
     /// The messages on all of them, in the same order.
     pub message: Vec<u8>,
 }
@@ -32,7 +32,7 @@ pub struct Report {
 pub fn lint_source(
     alloc: Global,
     reporting: Reporting,
-    source: Source<'_>,
+    source: SourceText<'_>,
 ) -> Result<Report, AllocError>
     ensures { IfOk result (IsSourceReported reporting source.entry) }
 {
@@ -58,13 +58,13 @@ pub fn lint_source(
 /// What is seen in a source.
 #[derive(Drop)]
 struct Seen {
-    descriptions: Vec<Description>,
+    descriptions: Vec<SourceDescription>,
     remarks: Vec<Remark>,
 }
 
 // What is seen in a source.
 #[tactic(auto, using(crate::proofs::SeenLemmas::with_codes))]
-fn seen_in(alloc: Global, source: Source<'_>) -> Result<Seen, AllocError>
+fn seen_in(alloc: Global, source: SourceText<'_>) -> Result<Seen, AllocError>
     ensures { IfOk result (λ seen. AreSeen source.entry seen.descriptions.items seen.remarks.items) }
 {
     let Seen {
@@ -80,7 +80,7 @@ fn seen_in(alloc: Global, source: Source<'_>) -> Result<Seen, AllocError>
 
 // What is seen in a source, but for the words that comments allow.
 #[tactic(auto, using(crate::proofs::SeenLemmas::of_rust, crate::proofs::SeenLemmas::of_keys))]
-fn seen_first(alloc: Global, source: Source<'_>) -> Result<Seen, AllocError>
+fn seen_first(alloc: Global, source: SourceText<'_>) -> Result<Seen, AllocError>
     ensures { IfOk result (λ seen. AreSeenFirst source.entry seen.descriptions.items seen.remarks.items) }
 {
     match source.finder {
@@ -106,9 +106,9 @@ fn seen_in_rust(alloc: Global, source: &str) -> Result<Seen, AllocError>
 
 fn seen_by_keys(
     alloc: Global,
-    format: Format,
+    format: FileFormat,
     source: &str,
-    keys: &[Key<'_>],
+    keys: &[DescriptionKey<'_>],
 ) -> Result<Seen, AllocError>
     ensures seen { IfOk result (λ seen. AreValuesSeen format source.now keys.now seen.descriptions.items
         seen.remarks.items) }
@@ -128,7 +128,10 @@ fn seen_by_keys(
 
 /// The descriptions in a source, in order, each with the text that is checked for it. An `Err` says that
 /// memory ran out.
-pub fn judged_in(alloc: Global, source: Source<'_>) -> Result<Vec<Description>, AllocError>
+pub fn judged_in(
+    alloc: Global,
+    source: SourceText<'_>,
+) -> Result<Vec<SourceDescription>, AllocError>
     ensures { IfOk result (λ judged. AreJudgedIn source.entry judged.items) }
 {
     let found = descriptions_in(alloc, source)?;
@@ -139,7 +142,7 @@ pub fn judged_in(alloc: Global, source: Source<'_>) -> Result<Vec<Description>, 
 #[derive(Drop)]
 pub struct Judged {
     /// The descriptions in order, each with the text that is checked for it.
-    pub descriptions: Vec<Description>,
+    pub descriptions: Vec<SourceDescription>,
     /// What else is seen: calls and values that aren't looked at, and errors in comments.
     pub remarks: Vec<Remark>,
 }
@@ -147,7 +150,7 @@ pub struct Judged {
 /// The descriptions in a source, in order, each with the text that is checked for it, and what else is seen. An `Err`
 /// says that memory ran out.
 #[tactic(auto, using(crate::proofs::SeenLemmas::judged_of, crate::proofs::SeenLemmas::remarks_of))]
-pub fn judged_with_remarks(alloc: Global, source: Source<'_>) -> Result<Judged, AllocError>
+pub fn judged_with_remarks(alloc: Global, source: SourceText<'_>) -> Result<Judged, AllocError>
     ensures judged { IfOk result (λ judged. AreJudgedIn source.entry judged.descriptions.items) }
     ensures remarks { IfOk result (λ judged. AreRemarksOn source.entry judged.remarks.items) }
 {
@@ -164,7 +167,10 @@ pub fn judged_with_remarks(alloc: Global, source: Source<'_>) -> Result<Judged, 
 
 /// The descriptions in a source, in order; they don't overlap. An `Err` says that memory ran out.
 #[tactic(auto, using(crate::proofs::FinderLemmas::by_rust, crate::proofs::FinderLemmas::all_by_rust, crate::proofs::FinderLemmas::all_by_keys))]
-pub fn descriptions_in(alloc: Global, source: Source<'_>) -> Result<Vec<Description>, AllocError>
+pub fn descriptions_in(
+    alloc: Global,
+    source: SourceText<'_>,
+) -> Result<Vec<SourceDescription>, AllocError>
     ensures all { IfOk result (λ found. AreAllOf source.entry found.items) }
     ensures stand { IfOk result (λ found. AllFound source.entry found.items) }
     ensures in_order { IfOk result (λ found. AreInOrder 0 found.items) }
@@ -181,8 +187,8 @@ pub fn descriptions_in(alloc: Global, source: Source<'_>) -> Result<Vec<Descript
 pub fn report_all(
     alloc: Global,
     reporting: Reporting,
-    source: Source<'_>,
-    descriptions: &[Description],
+    source: SourceText<'_>,
+    descriptions: &[SourceDescription],
 ) -> Result<Report, AllocError>
     ensures { IfOk result (λ report. AreReported reporting source.entry descriptions.now
         report.ends.items report.message.items) }
@@ -211,8 +217,8 @@ pub fn report_all(
 fn report_each(
     alloc: Global,
     reporting: Reporting,
-    source: Source<'_>,
-    descriptions: Vec<Description>,
+    source: SourceText<'_>,
+    descriptions: Vec<SourceDescription>,
 ) -> Result<Report, AllocError>
     ensures { IfOk result (λ report. AreReportedAs reporting source.entry descriptions.items
         report.ends.items report.message.items) }
@@ -241,10 +247,10 @@ fn report_each(
 fn push_reported(
     alloc: Global,
     reporting: Reporting,
-    source: Source<'_>,
+    source: SourceText<'_>,
     from: Counter,
-    description: &Description,
-    ends: &mut Vec<End>,
+    description: &SourceDescription,
+    ends: &mut Vec<ItemEnd>,
     message: &mut Vec<u8>,
 ) -> Result<(), AllocError>
     requires { IsCounted 1 source.text.now from }

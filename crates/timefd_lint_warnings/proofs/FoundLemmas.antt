@@ -11,7 +11,7 @@ use Rattle.timefd_lang_node_list.specs.declared.item.borrowed_format_item.Borrow
 use Rattle.timefd_lang_node_list.specs.Item.Meaning.{item_trees}
 use Rattle.timefd_lang_node_list.proofs.LeafLemmas.{leaves_packed}
 use Rattle.timefd_lang_warnings.specs.declared.levels.Levels.{Levels}
-use Rattle.timefd_lang_warnings.specs.declared.warned.Style.{Style}
+use Rattle.timefd_lang_warnings.specs.declared.warned.LanguageStyle.{LanguageStyle}
 use Rattle.timefd_lang_warnings.specs.Levels.{found}
 use Rattle.timefd_lint_warnings.specs.Found.{output_parts}
 
@@ -25,13 +25,13 @@ parts_of_output Two list (Description d) is = absurd is
 parts_of_output Three list (Description d) is = ap leaves is ∙ leaves_packed list
 
 pub found_as_spelled : (version : DescriptionVersion) (list : List Tree) (output : BorrowedOutput)
-    (levels reported : Levels) → reported ≡ found levels Style.Brackets (output_parts output)
-    → IsOutput version list output → reported ≡ found levels Style.Brackets (leaves_in list)
+    (levels reported : Levels) → reported ≡ found levels LanguageStyle.Brackets (output_parts output)
+    → IsOutput version list output → reported ≡ found levels LanguageStyle.Brackets (leaves_in list)
 found_as_spelled version list output levels reported are is =
-    are ∙ ap (found levels Style.Brackets) (parts_of_output version list output is)
+    are ∙ ap (found levels LanguageStyle.Brackets) (parts_of_output version list output is)
 
 pub items_as_spelled : (items : List BorrowedFormatItem) (list : List Tree) (levels reported : Levels)
-    → reported ≡ found levels Style.Percents (leaves_all (trees (item_trees items)))
-    → item_trees items ≡ list → reported ≡ found levels Style.Percents (leaves_in list)
+    → reported ≡ found levels LanguageStyle.Percents (leaves_all (trees (item_trees items)))
+    → item_trees items ≡ list → reported ≡ found levels LanguageStyle.Percents (leaves_in list)
 items_as_spelled items list levels reported are is =
-    are ∙ ap (λ ts. found levels Style.Percents (leaves_in ts)) is
+    are ∙ ap (λ ts. found levels LanguageStyle.Percents (leaves_in ts)) is

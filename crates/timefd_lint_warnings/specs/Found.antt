@@ -10,13 +10,13 @@ use Rattle.timefd_parse.specs.declared.parsing.BorrowedOutput.{BorrowedOutput}
 use Rattle.timefd_parse.specs.declared.parsing.BorrowedOutput.TheVariants.{Items, Description}
 use Rattle.timefd_lang_warnings.specs.declared.levels.Level.TheVariants.{Allowed}
 use Rattle.timefd_lang_warnings.specs.declared.levels.Levels.{Levels}
-use Rattle.timefd_lang_warnings.specs.declared.warned.Style.{Style}
+use Rattle.timefd_lang_warnings.specs.declared.warned.LanguageStyle.{LanguageStyle}
 use Rattle.timefd_lang_warnings.specs.Levels.{all_at, found}
 
 -- how components are written in the language
-abbrev pub style_of : Language → Style
-style_of (Version version) = Style.Brackets
-style_of Strftime = Style.Percents
+abbrev pub style_of : Language → LanguageStyle
+style_of (Version version) = LanguageStyle.Brackets
+style_of Strftime = LanguageStyle.Percents
 
 -- the levels of the warnings about the parts of what a text spells
 abbrev pub found_in : Language → Levels → List Tree → Levels

@@ -1,5 +1,6 @@
 -- What the linter reports about the warnings of a text.
-use Rattle.std.specs.Prelude.{ℕ, Bool, List, [], ◌++◌, codes, decimal, flat_map, length}
+use Rattle.std.specs.Prelude.{ℕ, ◌+◌, ◌-◌, ◌^◌, Bool, List, false, [], ◌++◌, chars, codes, decimal, flat_map, length, min}
+use Rattle.unicode_width.specs.Width.{str_width}
 use Rattle.timefd_lang_component.specs.Tree.{Text}
 use Rattle.timefd_lint_diagnosis.specs.declared.span.Span.{Span}
 use Rattle.timefd_lint_drawing.specs.declared.draw.Format.{Format}
@@ -9,7 +10,7 @@ use Rattle.timefd_lint_drawing.specs.declared.github.Command.{Command}
 use Rattle.timefd_lint_drawing.specs.declared.github.Command.TheVariants as commands
 use Rattle.timefd_lint_drawing.specs.declared.position.Origin.{Origin}
 use Rattle.timefd_lint_drawing.specs.Drawing.{margin, source}
-use Rattle.timefd_lint_drawing.specs.Github.{annotation}
+use Rattle.timefd_lint_drawing.specs.Github.{span_annotation}
 use Rattle.timefd_lint_drawing.specs.Json.{text_field, number_field}
 use Rattle.timefd_lint_drawing.specs.Lines.{begin, plain, position_line, help_line}
 use Rattle.timefd_lint_drawing.specs.declared.lines.Paint.{Paint}
@@ -83,9 +84,16 @@ command Allowed = commands.Notice
 command Warned = commands.Warning
 command Denied = commands.Error
 
-abbrev pub github : Origin → ℕ → Level → Warning → Text
-github origin column level w =
-    annotation (command level) (name_of w) origin.file.now origin.line column (sentence_of w)
+-- The column that follows a text which begins at this one: as many more as the text takes in a terminal. A number that is
+-- too large becomes the largest.
+abbrev pub column_after : ℕ → Text → ℕ
+column_after column text = min (column + str_width false (chars (safe text))) (2 ^ 64 - 1)
+
+-- The sentence and the help, and the text as far as it is in its first line.
+abbrev pub github : Origin → Text → Span → Text → ℕ → Level → Warning → Text
+github origin whole span text column level w =
+    span_annotation (command level) (name_of w) origin.file.now origin.line column
+    origin.line (column_after column (spanned span whole)) (with_help (sentence_of w) (help_on w text))
 
 -- a result of SARIF
 abbrev pub sarif : Origin → Text → ℕ → Level → Warning → Text
@@ -97,7 +105,7 @@ abbrev pub message_in : Format → Bool → Origin → Text → Span → Text �
 message_in Human colored origin whole span text column level w = human colored origin whole span text column level w
 message_in Json colored origin whole span text column level w = json origin text column level w
 message_in Short colored origin whole span text column level w = short origin column level w
-message_in Github colored origin whole span text column level w = github origin column level w
+message_in Github colored origin whole span text column level w = github origin whole span text column level w
 message_in Sarif colored origin whole span text column level w = sarif origin text column level w
 
 -- the message about a warning on a text, which is this part of the whole

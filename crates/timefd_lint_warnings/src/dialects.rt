@@ -7,5 +7,5 @@ mod human;
 mod judging;
 
 pub use codes::{all_reasons, all_traps, names_are_read, reason_named, trap_named};
-pub use finding::{Finding, drawn};
-pub use judging::{Judged, Judgement, judge, refusal_drawn, trap_drawn};
+pub use finding::{PartFinding, drawn};
+pub use judging::{JudgedFormat, Judgement, judge, refusal_drawn, trap_drawn};

@@ -5,13 +5,13 @@ ghost use Rattle.timefd_lang_component.specs.Tree.{Tree};
 ghost use Rattle.timefd_language.specs.Grammar.{Spells, nesting_limit};
 ghost use Rattle.timefd_language.specs.Strftime.{SpellsStrftime};
 ghost use Rattle.timefd_parse.specs.Language.{SpellsIn};
-ghost use Rattle.timefd_lang_warnings.specs.declared.warned.Style.TheVariants as styles;
+ghost use Rattle.timefd_lang_warnings.specs.declared.warned.LanguageStyle.TheVariants as styles;
 ghost use Rattle.timefd_lang_warnings.specs.Levels.{found};
 ghost use Rattle.timefd_lang_node_list.specs.Leaves.{leaves_in};
 ghost use Rattle.timefd_lint_warnings.specs.Found as spec;
 
 use std::alloc::{AllocError, Global};
-use timefd_lang_warnings::{Description, Level, Levels, Style};
+use timefd_lang_warnings::{LanguageStyle, Level, Levels, ReadDescription};
 use timefd_parse::{
     BorrowedOutput, DescriptionVersion, Language, NESTING_LIMIT, StrftimeTables,
     parse_all_borrowed, parse_strftime_all_borrowed,
@@ -71,9 +71,15 @@ fn found_of(output: &BorrowedOutput<'_>, levels: Levels) -> Levels
 {
     match output {
         BorrowedOutput::Description(description) => {
-            levels.found(Style::Brackets, Description::Version3(description.view()))
+            levels.found(
+                LanguageStyle::Brackets,
+                ReadDescription::Version3(description.view()),
+            )
         }
-        BorrowedOutput::Items(items) => levels.found(Style::Brackets, Description::Items(items)),
+        BorrowedOutput::Items(items) => levels.found(
+            LanguageStyle::Brackets,
+            ReadDescription::Items(items),
+        ),
     }
 }
 
@@ -83,7 +89,7 @@ fn found_in_strftime(alloc: Global, text: &str, levels: Levels) -> Result<Levels
 {
     let tables = StrftimeTables::new();
     match parse_strftime_all_borrowed(alloc, &tables, text) {
-        Ok(items) => Ok(levels.found(Style::Percents, Description::Items(&items))),
+        Ok(items) => Ok(levels.found(LanguageStyle::Percents, ReadDescription::Items(&items))),
         Err(_) => Err(AllocError),
     }
 }

@@ -7,11 +7,11 @@ use crate::hint::help_on;
 use std::alloc::{AllocError, Global};
 use timefd_lang_warnings::{Level, Warning};
 use timefd_lint_diagnosis::Span;
-use timefd_lint_drawing::github::{Command, annotation};
+use timefd_lint_drawing::github::{Command, span_annotation};
 use timefd_lint_drawing::json::{Entry, push_number, push_text};
 use timefd_lint_drawing::lines::{Paint, begin, plain, push_help_line, push_position_line};
 use timefd_lint_drawing::sarif::{note_result, with_help};
-use timefd_lint_drawing::shown::safe;
+use timefd_lint_drawing::shown::{columns, safe};
 use timefd_lint_drawing::source_line::{margin, push_source};
 use timefd_lint_drawing::{Format, Origin, Position, Style, line_of};
 
@@ -51,7 +51,7 @@ pub fn message(
             Ok(line.into_bytes())
         }
         Format::Json => json(alloc, origin, text, column, level, warning),
-        Format::Github => github(alloc, origin, column, level, warning),
+        Format::Github => github(alloc, origin, whole, span, text, column, level, warning),
         Format::Sarif => sarif(alloc, origin, text, column, level, warning),
     }
 }
@@ -172,23 +172,34 @@ fn command(level: Level) -> Command
     }
 }
 
+// The annotation of the text, as far as it is in its first line, with the help.
 fn github(
     alloc: Global,
     origin: Origin<'_>,
+    whole: &str,
+    span: Span,
+    text: &str,
     column: usize,
     level: Level,
     warning: Warning,
 ) -> Result<Vec<u8>, AllocError>
-    ensures { IfOk result (λ line. line.items ≡ spec.github origin.entry column level warning) }
+    ensures { IfOk result (λ line. line.items
+        ≡ spec.github origin.entry whole.now span text.now column level warning) }
 {
+    let end = Position {
+        line: origin.line,
+        column: column.saturating_add(columns(alloc, line_of(whole, span).at)?),
+    };
+    let help = help_on(alloc, warning, text)?;
+    let described = with_help(alloc, warning.sentence(), &help)?;
     let entry = Entry {
         code: warning.name(),
         file: origin.file,
         line: origin.line,
         column: column as u64,
-        message: warning.sentence(),
+        message: &described,
     };
-    annotation(alloc, command(level), entry)
+    span_annotation(alloc, command(level), entry, end)
 }
 
 fn sarif(

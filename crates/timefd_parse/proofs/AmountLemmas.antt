@@ -19,17 +19,12 @@ use Rattle.timefd_language.proofs.ShortWords.{short_fault, short_strftime_fault}
 use Rattle.timefd_lang_fault.specs.Faults.{Fault}
 use Rattle.timefd_lang_fault.proofs.OwnedLemmas.{owned_of}
 use Rattle.timefd_language.specs.declared.language.Language.{Language}
-use Rattle.timefd_parse.specs.Language.{amount, takes_memory, FaultIn, IsAssignedIn}
+use Rattle.timefd_parse.specs.Language.{amount, FaultIn, IsAssignedIn}
 
 pub borrowed-in-version : (v : DescriptionVersion) (limit : ℕ) (text : Text) (e : BorrowedParseError)
     → IsBorrowedOf (FaultOf v limit text) e → IsBorrowedOf (FaultIn (Version v) limit text) e
 borrowed-in-version v limit text (Invalid f) is = is
 borrowed-in-version v limit text (Memory m) is = tt
-
-pub borrowed-in-strftime : (limit : ℕ) (text : Text) (e : BorrowedParseError)
-    → IsBorrowedOf (StrftimeFaultOf text) e → IsBorrowedOf (FaultIn Strftime limit text) e
-borrowed-in-strftime limit text (Invalid f) is = is
-borrowed-in-strftime limit text (Memory m) is = tt
 
 pub owned-assigned-in : (language : Language) (limit : ℕ) (text : Text) (e : BorrowedParseError)
     (r : ParseError) → IsBorrowedOf (FaultIn language limit text) e → IsOwned e r
@@ -59,9 +54,3 @@ pub lax-amount : (v : DescriptionVersion) (list : List Tree) → IsFalse (is_ver
 lax-amount One list lax = refl
 lax-amount Two list lax = refl
 lax-amount Three list lax = absurd (true≢false lax)
-
-pub builds_nothing : (v : DescriptionVersion) → IsFalse (takes_memory (Version v))
-    → IsFalse (is_version_three v)
-builds_nothing One lax = lax
-builds_nothing Two lax = lax
-builds_nothing Three lax = lax

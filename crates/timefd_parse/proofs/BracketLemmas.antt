@@ -24,7 +24,7 @@ use Rattle.timefd_language.proofs.HeadExact.{word_of-fits, word_of-misfits}
 use Rattle.timefd_language.proofs.LawLemmas.{one_read}
 use Rattle.timefd_language.proofs.Reader.{cut, span, reading, WordRead, fits, misfits, word_of}
 use Rattle.timefd_language.proofs.Spans.{span-exact, stops_one, zero_from_one, all-append, all-implied, key-word, word-not_white, white-not_word}
-use Rattle.timefd_parse.specs.declared.modifier.Modifier as code
+use Rattle.timefd_parse.specs.declared.head.modifier.Modifier as code
 use Rattle.timefd_parse.specs.BracketParts.{BeginsModified, BeginsNested}
 use Rattle.timefd_parse.specs.ReadModifiers.{BeginsWithWord, IsWord, IsNoWord, ReadsWord}
 use Rattle.timefd_parse.specs.Read.{PiecesToEnd, IsEnd, IsFaultIn}

@@ -4,16 +4,17 @@ use Rattle.std.specs.Borrow.{Bor}
 use Rattle.std.specs.Bool.{⊤}
 use Rattle.std.proofs.lemmas.Bool.{true≢false}
 use Rattle.timefd_lang_component.specs.Tree.{Text}
-use Rattle.timefd_lang_fault.specs.declared.slot.Slot.{Slot}
+use Rattle.timefd_lang_fault.specs.RuleKinds.{rule_kind}
+use Rattle.timefd_lang_fault.specs.declared.rule.Rule.{Rule}
 use Rattle.timefd_lang_fault.specs.Faults.{Fault, fault, invalid_modifier, duplicate_modifier}
 use Rattle.timefd_lang_fault.specs.declared.read_error.Fault as code_fault
 use Rattle.timefd_lang_fault.specs.declared.rule.Rule.TheVariants as broken
 use Rattle.timefd_lang_fault.specs.declared.key.Key as code_key
 use Rattle.timefd_lang_fault.specs.declared.key.Key.TheVariants.{Padding, TrailingInput, HourRepr, Count, MonthRepr, CaseSensitive, Sign, Case, Digits, Precision, WeekdayRepr, OneIndexed, WeekNumberRepr, YearRepr, Range, Base, Format}
-use Rattle.timefd_parse.specs.declared.modifier.Modifier as code
-use Rattle.timefd_parse.specs.declared.modifiers.Modifiers.{Modifiers}
+use Rattle.timefd_parse.specs.declared.head.modifier.Modifier as code
+use Rattle.timefd_parse.specs.declared.head.modifiers.Modifiers.{Modifiers}
 use Rattle.timefd_lang_fault.specs.declared.name.Name.{Name}
-use Rattle.timefd_parse.specs.declared.positions.Positions.{Positions}
+use Rattle.timefd_parse.specs.declared.head.positions.Positions.{Positions}
 use Rattle.timefd_language.specs.declared.setting.Setting.{Setting}
 use Rattle.timefd_language.specs.declared.setting.Settings.{Settings}
 use Rattle.timefd_language.specs.Bytes.{equal}
@@ -165,16 +166,17 @@ module _ (strict : Bool) (name : Option Name) (total : ℕ) (m : code.Modifier) 
   looked_up o e = ap (λ t. key_in strict t (keys_of name)) is.key ∙ e
 
   -- a key that isn't known
-  pub at_unknown : (len : ℕ) (wanted : Option Slot) (o : Option code_key.Key)
+  pub at_unknown : (len : ℕ) (r : Rule) (o : Option code_key.Key)
+      → rule_kind r ≡ invalid_modifier m.key.now
       → option_map key_for o ≡ key_in strict m.key.now (keys_of name) → o ≡ None
-      → Refused (record { rule = broken.InvalidModifier m.key wanted; remaining = m.key_remaining; len = len })
-  at_unknown len wanted o known e =
+      → Refused (record { rule = r; remaining = m.key_remaining; len = len })
+  at_unknown len r o kind known e =
       let none : key_in strict p.key (keys_of name) ≡ None =
       looked_up None (sym known ∙ ap (option_map key_for) e) in (
         fault (invalid_modifier p.key) p.key_index,
         subst (λ k. bad_modifier strict k ps p ≡ Some (fault (invalid_modifier p.key) p.key_index))
             (sym none) refl,
-        record { kind = ap invalid_modifier is.key; position = is.key_position },
+        record { kind = ap invalid_modifier is.key ∙ sym kind; position = is.key_position },
       )
 
   found : (o : Option code_key.Key) (key : code_key.Key)
@@ -219,12 +221,12 @@ module _ (strict : Bool) (name : Option Name) (total : ℕ) (m : code.Modifier) 
       (ap (setting_in strict (key_for key).values) is.value ∙ sym valued)))
 
   -- a bad value
-  pub at_bad_value : (len : ℕ) (wanted : Option Slot) (o : Option code_key.Key) (key : code_key.Key) (v : Option Setting)
+  pub at_bad_value : (len : ℕ) (o : Option code_key.Key) (key : code_key.Key) (v : Option Setting)
       → option_map key_for o ≡ key_in strict m.key.now (keys_of name) → o ≡ Some key
       → (strict ≡ true → is_some (first_position (key_for key).key ps) ≡ false)
       → v ≡ setting_in strict (key_for key).values m.value.now → v ≡ None
-      → Refused (record { rule = broken.InvalidModifier m.value wanted; remaining = m.value_remaining; len = len })
-  at_bad_value len wanted o key v known e new valued none = (
+      → Refused (record { rule = broken.UnknownValue m.value key; remaining = m.value_remaining; len = len })
+  at_bad_value len o key v known e new valued none = (
     fault (invalid_modifier p.value) p.value_index,
     checked o key v known e new valued ∙
         ap (λ w. refuse (not (is_some w)) (invalid_modifier p.value) p.value_index) none,

@@ -4,8 +4,8 @@ use Rattle.std.specs.List.{list_all}
 use Rattle.std.proofs.lemmas.Bool.{and_parts, true≢false}
 use Rattle.timefd_lang_component.specs.Tree.{Text}
 use Rattle.timefd_language.specs.declared.description_version.DescriptionVersion.{DescriptionVersion}
-use Rattle.timefd_parse.specs.declared.modifier.Modifier as code
-use Rattle.timefd_parse.specs.declared.modifiers.Modifiers as code_modifiers
+use Rattle.timefd_parse.specs.declared.head.modifier.Modifier as code
+use Rattle.timefd_parse.specs.declared.head.modifiers.Modifiers as code_modifiers
 use Rattle.timefd_parse.specs.declared.head.Head as code_head
 use Rattle.timefd_lang_fault.specs.declared.name.Name.{Name}
 use Rattle.timefd_lang_fault.specs.declared.read_error.Fault as code_fault

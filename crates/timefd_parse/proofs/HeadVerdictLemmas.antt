@@ -9,13 +9,13 @@ use Rattle.timefd_lang_component.specs.Tree.{Text, Tree, component, optional, fi
 use Rattle.timefd_lang_fault.specs.declared.read_error.Fault as code_fault
 use Rattle.timefd_lang_fault.specs.declared.rule.Rule.TheVariants as broken
 use Rattle.timefd_parse.specs.declared.head.Head as code_head
-use Rattle.timefd_parse.specs.declared.head_verdict.HeadVerdict.{HeadVerdict}
-use Rattle.timefd_parse.specs.declared.head_verdict.HeadVerdict.TheVariants as verdicts
-use Rattle.timefd_parse.specs.declared.modifiers.Modifiers as code_modifiers
+use Rattle.timefd_parse.specs.declared.head.verdict.HeadVerdict.{HeadVerdict}
+use Rattle.timefd_parse.specs.declared.head.verdict.HeadVerdict.TheVariants as verdicts
+use Rattle.timefd_parse.specs.declared.head.modifiers.Modifiers as code_modifiers
 use Rattle.timefd_lang_fault.specs.declared.name.ComponentName.{ComponentName}
 use Rattle.timefd_lang_fault.specs.declared.name.Name.{Name}
 use Rattle.timefd_lang_fault.specs.declared.name.Name.TheVariants as names
-use Rattle.timefd_parse.specs.declared.positions.Positions.{Positions}
+use Rattle.timefd_parse.specs.declared.head.positions.Positions.{Positions}
 use Rattle.timefd_language.specs.declared.combination.Refusal as code_refusal
 use Rattle.timefd_lang_fault.specs.declared.key.Key as code_key
 use Rattle.timefd_language.specs.Bytes.{equal, same, left, is_white, is_word_byte, OneOrMore, StopsBefore}

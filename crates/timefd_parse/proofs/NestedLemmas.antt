@@ -11,9 +11,9 @@ use Rattle.timefd_language.specs.declared.description_version.DescriptionVersion
 use Rattle.timefd_lang_fault.specs.declared.read_error.Fault as code_fault
 use Rattle.timefd_lang_fault.specs.declared.read_error.ReadError.{ReadError}
 use Rattle.timefd_lang_fault.specs.declared.read_error.ReadError.TheVariants as errors
-use Rattle.timefd_parse.specs.declared.head_verdict.JudgedHead.{JudgedHead}
+use Rattle.timefd_parse.specs.declared.head.verdict.JudgedHead.{JudgedHead}
 use Rattle.timefd_parse.specs.declared.piece.Piece.{Piece}
-use Rattle.timefd_parse.specs.declared.verdict.Nested as code_nested
+use Rattle.timefd_parse.specs.declared.bracket.verdict.Nested as code_nested
 use Rattle.timefd_lang_component.specs.Tree.{Text, Tree, pack}
 use Rattle.timefd_lang_fault.specs.Faults.{Fault, fault, unclosed_bracket}
 use Rattle.timefd_language.specs.Bytes.{left, right, backslash, is_run_byte, is_version_three, is_white, ZeroOrMore, StopsBefore}

@@ -11,7 +11,7 @@ use Rattle.timefd_language.specs.declared.description_version.DescriptionVersion
 use Rattle.timefd_language.specs.Slots.{WantsIn}
 use Rattle.timefd_language.proofs.SlotLemmas.{wants_after}
 use Rattle.timefd_language.proofs.SpanLemmas.{spans_after}
-use Rattle.timefd_parse.specs.declared.head_verdict.JudgedHead.{JudgedHead}
+use Rattle.timefd_parse.specs.declared.head.verdict.JudgedHead.{JudgedHead}
 use Rattle.timefd_parse.specs.FirstPiece.{EndsWith}
 use Rattle.timefd_parse.specs.Judged.{ShowsDescriptions}
 use Rattle.timefd_parse.specs.Spans.{HasByteAt}

@@ -74,15 +74,17 @@ no_fault_in v limit text read rest f are h =
 -- how much a text holds that was read to its end
 pub is_amount : (v : DescriptionVersion) (limit : ℕ) (text : Text) (read : List Tree) (rest : Text)
     (n : ℕ) → PiecesToEnd v limit 0 text read rest → n ≡ amount (Version v) read
-    → IsAmount v limit text (Ok n)
+    → IsAmount (Version v) limit text (Ok n)
 is_amount v limit text read rest n are e = record {
-  found = (read, items_spelled v limit text read rest are, e);
-  fault = tt;
-  spelled = λ list s. e ∙ ap (amount (Version v)) (same_list v limit text read rest list are s);
-  refused = λ f h. no_fault_in v limit text read rest f are h;
+  read = record {
+    found = (read, items_spelled v limit text read rest are, e);
+    fault = tt;
+    spelled = λ list s. e ∙ ap (amount (Version v)) (same_list v limit text read rest list are s);
+    refused = λ f h. no_fault_in v limit text read rest f are h;
+    span = tt;
+    empty = λ none. refl;
+  };
   memory = λ lax. tt;
-  empty = λ none. refl;
-  span = tt;
 }
 
 -- Faults.

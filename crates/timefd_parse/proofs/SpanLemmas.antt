@@ -20,13 +20,14 @@ use Rattle.timefd_language.specs.Values.{key_in}
 use Rattle.timefd_language.specs.Spans.{one_character, whole_word, whole_key, modifier_extent, version_extent, SpansVersion}
 use Rattle.timefd_language.proofs.Lookup.{equal-true}
 use Rattle.timefd_language.proofs.Spans.{zero_from_one, white-not_word}
+use Rattle.timefd_language.proofs.SlotLemmas.{one_colon, some_bytes}
 use Rattle.timefd_language.proofs.SpanLemmas.{some_extent, spans_byte, spans_bytes, spans_key, spans_word}
 use Rattle.timefd_parse.specs.declared.head.Head as code_head
-use Rattle.timefd_parse.specs.declared.head_verdict.HeadVerdict.{HeadVerdict}
-use Rattle.timefd_parse.specs.declared.head_verdict.HeadVerdict.TheVariants as verdicts
-use Rattle.timefd_parse.specs.declared.modifier.Modifier as code_modifier
-use Rattle.timefd_parse.specs.declared.modifiers.Modifiers as code_modifiers
-use Rattle.timefd_parse.specs.declared.positions.Positions.{Positions}
+use Rattle.timefd_parse.specs.declared.head.verdict.HeadVerdict.{HeadVerdict}
+use Rattle.timefd_parse.specs.declared.head.verdict.HeadVerdict.TheVariants as verdicts
+use Rattle.timefd_parse.specs.declared.head.modifier.Modifier as code_modifier
+use Rattle.timefd_parse.specs.declared.head.modifiers.Modifiers as code_modifiers
+use Rattle.timefd_parse.specs.declared.head.positions.Positions.{Positions}
 use Rattle.timefd_language.specs.Head.{Placed}
 use Rattle.timefd_parse.specs.Checked.{first_position, ShowsFault, ShowsPosition}
 use Rattle.timefd_parse.specs.HeadVerdicts.{IsPlain}
@@ -36,10 +37,6 @@ use Rattle.timefd_parse.specs.Positions.{position}
 use Rattle.timefd_parse.proofs.ModifierLemmas.{one_or_more}
 use Rattle.timefd_parse.specs.ReadModifiers.{BeginsWithWord, IsWord, StandsIn}
 use Rattle.timefd_parse.specs.Spans.{HasByteAt, HasKeyAt, HaveKeys, SpansRefusal}
-
-some_bytes : (test : ℕ → Bool) (text : Text) → OneOrMore test text → 0 < length text
-some_bytes test [] some = absurd some
-some_bytes test (b ∷ text) some = omega arith
 
 -- one byte
 
@@ -99,21 +96,7 @@ module _ (strict : Bool) (text : Text) (name : Option Name) (m : code_modifier.M
       (stands.whole ∙ simp append_assoc) (at ∙ stands.value_position) len wanted
       (is ∙ some_extent m.value.now (some_bytes is_word_byte m.value.now stands.value))
 
--- what should have been there in place of a modifier's key or value
-
-pub key_wanted : (strict : Bool) (text : Text) (name : Option Name) (m : code_modifier.Modifier)
-    (stands : StandsIn strict text name m) (wanted : Option Slot)
-    → wanted ≡ option_map slots.Key name → WantsKey strict stands.before m.key.now wanted
-key_wanted strict text name m stands wanted is = record {
-  name = name;
-  after = stands.after;
-  some = some_bytes is_key_byte m.key.now stands.key;
-  slot = is;
-}
-
-one_colon : (value : Text) → OneOrMore is_word_byte value → colon_before value ≡ colon ∷ []
-one_colon [] some = absurd some
-one_colon (b ∷ value) some = refl
+-- what should have been there in place of a modifier's value
 
 pub value_wanted : (strict : Bool) (text : Text) (name : Option Name) (m : code_modifier.Modifier)
     (stands : StandsIn strict text name m) (key : code_key.Key)

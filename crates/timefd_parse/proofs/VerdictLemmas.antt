@@ -6,7 +6,7 @@ use Rattle.timefd_lang_component.specs.Tree.{Tree, optional, first, trees, pack}
 use Rattle.timefd_lang_node_list.specs.Nodes.{before, ending}
 use Rattle.timefd_lang_node_list.proofs.NodeLemmas.{before-append, ending-append}
 use Rattle.timefd_parse.specs.declared.piece.Piece.TheVariants.{Compound}
-use Rattle.timefd_parse.specs.declared.verdict.Nested as code_nested
+use Rattle.timefd_parse.specs.declared.bracket.verdict.Nested as code_nested
 use Rattle.timefd_language.specs.Bytes.{same}
 use Rattle.timefd_lang_fault.specs.Words.{expected_nested, expected_alternative, many_nested, optional_item, first_item}
 use Rattle.timefd_language.specs.Head.{Head, Placed, placed}

@@ -6,7 +6,7 @@ use Rattle.timefd_language.specs.declared.description_version.DescriptionVersion
 use Rattle.timefd_language.specs.Bytes.{left, right, is_white, is_word_byte, ZeroOrMore, OneOrMore, StopsBefore}
 use Rattle.timefd_language.specs.Grammar.{Spells, nesting_limit}
 use Rattle.timefd_language.specs.Head.{Head, IsHead, Modifier, IsModifier, head_text, modifiers_text, modifier_text}
-use Rattle.timefd_parse.specs.declared.modifier.Modifier as code
+use Rattle.timefd_parse.specs.declared.head.modifier.Modifier as code
 
 -- `[`, white bytes and this name, and the rest
 pub record BeginsNamed (text name rest : Text) : Type 0 where

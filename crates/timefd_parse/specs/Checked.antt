@@ -6,7 +6,7 @@ use Rattle.timefd_lang_fault.specs.declared.read_error.Fault as code_fault
 use Rattle.timefd_lang_fault.specs.declared.key.Key as code_key
 use Rattle.timefd_lang_fault.specs.declared.name.Name.{Name}
 use Rattle.timefd_language.specs.declared.setting.Setting.{Setting}
-use Rattle.timefd_parse.specs.declared.modifiers.Modifiers.{Modifiers}
+use Rattle.timefd_parse.specs.declared.head.modifiers.Modifiers.{Modifiers}
 use Rattle.timefd_language.specs.Bytes.{equal}
 use Rattle.timefd_language.specs.Head.{Placed}
 use Rattle.timefd_language.specs.Values.{Key, key_in, setting_in}

@@ -9,9 +9,9 @@ use Rattle.timefd_language.specs.declared.description_version.DescriptionVersion
 use Rattle.timefd_lang_fault.specs.declared.read_error.Fault as code_fault
 use Rattle.timefd_lang_fault.specs.declared.name.Name.{Name}
 use Rattle.timefd_lang_fault.specs.declared.name.Name.TheVariants as names
-use Rattle.timefd_parse.specs.declared.head_verdict.HeadVerdict.{HeadVerdict}
-use Rattle.timefd_parse.specs.declared.head_verdict.HeadVerdict.TheVariants as verdicts
-use Rattle.timefd_parse.specs.declared.head_verdict.JudgedHead.{JudgedHead}
+use Rattle.timefd_parse.specs.declared.head.verdict.HeadVerdict.{HeadVerdict}
+use Rattle.timefd_parse.specs.declared.head.verdict.HeadVerdict.TheVariants as verdicts
+use Rattle.timefd_parse.specs.declared.head.verdict.JudgedHead.{JudgedHead}
 use Rattle.timefd_language.specs.Broken.{BeginsNoEscape}
 use Rattle.timefd_language.specs.Bytes.{left, is_white, is_word_byte, ZeroOrMore, StopsBefore}
 use Rattle.timefd_lang_fault.specs.ReadErrors.{IsFault}

@@ -6,7 +6,7 @@ use Rattle.timefd_lang_component.specs.Tree.{Text}
 use Rattle.timefd_language.specs.declared.description_version.DescriptionVersion.{DescriptionVersion}
 use Rattle.timefd_lang_fault.specs.declared.read_error.Fault as code_fault
 use Rattle.timefd_parse.specs.declared.head.Head as code_head
-use Rattle.timefd_parse.specs.declared.modifiers.Modifiers as code_modifiers
+use Rattle.timefd_parse.specs.declared.head.modifiers.Modifiers as code_modifiers
 use Rattle.timefd_language.specs.Bytes.{left, is_white, is_word_byte, ZeroOrMore, StopsBefore}
 use Rattle.timefd_language.specs.Head.{Head, IsHead, head_text, name_index, placed}
 use Rattle.timefd_language.specs.Lookup.{IsNameOf}

@@ -7,8 +7,8 @@ use Rattle.timefd_lang_fault.specs.declared.read_error.Fault as code_fault
 use Rattle.timefd_lang_fault.specs.declared.read_error.ReadError as code_error
 use Rattle.timefd_lang_fault.specs.declared.key.Key as code_key
 use Rattle.timefd_parse.specs.declared.piece.Piece.{Piece}
-use Rattle.timefd_parse.specs.declared.positions.Positions.{Positions}
-use Rattle.timefd_parse.specs.declared.verdict.Nested as code_nested
+use Rattle.timefd_parse.specs.declared.head.positions.Positions.{Positions}
+use Rattle.timefd_parse.specs.declared.bracket.verdict.Nested as code_nested
 use Rattle.timefd_language.specs.Head.{Placed}
 use Rattle.timefd_language.specs.Verdict.{PlacedDescription}
 use Rattle.timefd_language.specs.Lookup.{key_for}

@@ -43,21 +43,26 @@ takes_memory (Version Two) = false
 takes_memory (Version Three) = true
 takes_memory Strftime = false
 
--- The answer is how much a text of the version holds, or its fault, or that memory ran out. Only a
--- text without a fault gets the last answer.
-pub record IsAmount (version : DescriptionVersion) (limit : ℕ) (text : Text)
-    (r : Result ℕ BorrowedParseError) : Type 0 where
-  pub found : IfOk r (λ n. (list : List Tree) × SpellsIn (Version version) limit text list
-      × (n ≡ amount (Version version) list))
-  pub fault : IfErr r (IsBorrowedOf (FaultIn (Version version) limit text))
-  pub spelled : (list : List Tree) → SpellsIn (Version version) limit text list
-      → MatchResult r (λ n. n ≡ amount (Version version) list) IsMemory
-  pub refused : (f : Fault) → FaultIn (Version version) limit text f
+-- A text of the language was read: the answer is what the list that it spells is to the reader, or its
+-- fault, or that memory ran out. Only a text without a fault gets the last answer, and the empty text
+-- never.
+pub record IsRead {A : Type 0} (language : Language) (limit : ℕ) (text : Text)
+    (is : List Tree → A → Type 0) (r : Result A BorrowedParseError) : Type 0 where
+  pub found : IfOk r (λ x. (list : List Tree) × SpellsIn language limit text list × is list x)
+  pub fault : IfErr r (IsBorrowedOf (λ f. FaultIn language limit text f))
+  pub spelled : (list : List Tree) → SpellsIn language limit text list
+      → MatchResult r (is list) IsMemory
+  pub refused : (f : Fault) → FaultIn language limit text f
       → MatchResult r (λ _. ⊥) (IsBorrowed f)
-  -- Versions 1 and 2 take no memory, and the empty text takes none.
-  pub memory : IsFalse (is_version_three version) → IfErr r IsRefusal
+  pub span : IfErr r (HasSpan language text)
   pub empty : text ≡ [] → IsOk r
-  pub span : IfErr r (HasSpan (Version version) text)
+
+-- The answer is how much the text holds.
+pub record IsAmount (language : Language) (limit : ℕ) (text : Text) (r : Result ℕ BorrowedParseError)
+    : Type 0 where
+  pub read : IsRead language limit text (λ list n. n ≡ amount language list) r
+  -- Versions 1 and 2 and strftime take no memory.
+  pub memory : IsFalse (takes_memory language) → IfErr r IsRefusal
 
 -- a fault that the rules of the language assign to the text, or out of memory
 abbrev pub IsAssignedIn : Language → ℕ → Text → ParseError → Type 0

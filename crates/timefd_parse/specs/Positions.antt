@@ -1,6 +1,6 @@
 -- The positions of the keys of a head.
 use Rattle.std.specs.Prelude.{ℕ, Option, Some, None}
-use Rattle.timefd_parse.specs.declared.positions.Positions.{Positions}
+use Rattle.timefd_parse.specs.declared.head.positions.Positions.{Positions}
 use Rattle.timefd_lang_fault.specs.declared.key.Key.{Key}
 use Rattle.timefd_lang_fault.specs.declared.key.Key.TheVariants.{Padding, TrailingInput, HourRepr, Count, MonthRepr, CaseSensitive, Sign, Case, Digits, Precision, WeekdayRepr, OneIndexed, WeekNumberRepr, YearRepr, Range, Base, Format}
 

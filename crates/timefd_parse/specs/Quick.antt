@@ -1,5 +1,5 @@
--- Brackets with the name of a component and modifiers, with one space before each.
-use Rattle.std.specs.Prelude.{ℕ, ◌≡◌, ◌+◌, Bool, true, false, List, ◌∷◌, ◌++◌, length, Some, None, is_some}
+-- Brackets with the name of a component and modifiers.
+use Rattle.std.specs.Prelude.{ℕ, ◌≡◌, ◌+◌, Bool, true, false, List, ◌∷◌, ◌++◌, length, Some, None, IsTrue, is_some}
 use Rattle.std.specs.Str.{IsUtf8}
 use Rattle.timefd_lang_component.specs.Tree.{Text}
 use Rattle.timefd_lang_fault.specs.declared.key.Key as code_key
@@ -7,8 +7,8 @@ use Rattle.timefd_lang_fault.specs.declared.name.ComponentName.{ComponentName}
 use Rattle.timefd_lang_fault.specs.declared.name.Name.{Name}
 use Rattle.timefd_language.specs.declared.setting.Setting.{Setting}
 use Rattle.timefd_language.specs.declared.setting.Settings.{Settings}
-use Rattle.timefd_parse.specs.declared.positions.Positions.{Positions}
-use Rattle.timefd_language.specs.Bytes.{right, colon, is_word_byte, OneOrMore}
+use Rattle.timefd_parse.specs.declared.head.positions.Positions.{Positions}
+use Rattle.timefd_language.specs.Bytes.{right, colon, is_white, is_word_byte, ZeroOrMore, OneOrMore}
 use Rattle.timefd_language.specs.Head.{Modifier, AreModifiers, modifiers_text, placed_from}
 use Rattle.timefd_language.specs.Lookup.{key_for}
 use Rattle.timefd_language.specs.Names.{row_for}
@@ -62,7 +62,22 @@ abbrev pub IsNoted : Positions → code_key.Key → ℕ → Positions → Type 0
 IsNoted positions key remaining noted =
     (is_some (position positions key) ≡ false) × (noted ≡ with_position positions key remaining)
 
--- modifiers up to a `]`, and the rest after that
+-- the modifiers that were taken from a text, then any white bytes, and the rest of it
+abbrev pub TakenAndWhite : Bool → ComponentName → Text → Settings → Positions → Text → Type 0
+TakenAndWhite strict name text settings positions rest =
+    (white : Text) × ZeroOrMore is_white white
+    × TakenBefore strict name text settings positions (white ++ rest)
+
+-- modifiers up to a `]`, which may stand after white bytes, and the rest after that
 abbrev pub TakesModifiers : Bool → ComponentName → Text → Settings → Positions → Text → Type 0
 TakesModifiers strict name text settings positions rest =
-    TakenBefore strict name text settings positions (right ∷ rest) × IsUtf8 rest
+    TakenAndWhite strict name text settings positions (right ∷ rest) × IsUtf8 rest
+
+-- this follows the white bytes that the text begins with, if there are any
+abbrev pub FollowsWhite : Text → Text → Type 0
+FollowsWhite text rest = (white : Text) × ZeroOrMore is_white white × (text ≡ white ++ rest)
+
+-- this follows the white byte that the text begins with
+abbrev pub FollowsWhiteByte : Text → Text → Type 0
+FollowsWhiteByte text rest =
+    (b : ℕ) × IsTrue (is_white b) × (text ≡ b ∷ rest) × IsUtf8 rest

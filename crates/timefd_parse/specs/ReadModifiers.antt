@@ -7,7 +7,7 @@ use Rattle.std.specs.Borrow.{Bor}
 use Rattle.std.specs.Str.{IsUtf8}
 use Rattle.timefd_lang_component.specs.Tree.{Text}
 use Rattle.timefd_lang_fault.specs.declared.read_error.Fault as code_fault
-use Rattle.timefd_parse.specs.declared.modifier.Modifier as code_modifier
+use Rattle.timefd_parse.specs.declared.head.modifier.Modifier as code_modifier
 use Rattle.timefd_lang_fault.specs.declared.name.Name.{Name}
 use Rattle.timefd_language.specs.Head.{Placed}
 use Rattle.timefd_language.specs.Slots.{EndsAfterHead}

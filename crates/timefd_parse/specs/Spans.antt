@@ -5,10 +5,10 @@ use Rattle.timefd_language.specs.Bytes.{colon, is_key_byte, OneOrMore}
 use Rattle.timefd_language.specs.Head.{Placed}
 use Rattle.timefd_language.specs.Spans.{SpansVersion}
 use Rattle.timefd_parse.specs.Checked.{first_position}
-use Rattle.timefd_parse.specs.declared.head_verdict.HeadVerdict.{HeadVerdict}
-use Rattle.timefd_parse.specs.declared.head_verdict.HeadVerdict.TheVariants as verdicts
-use Rattle.timefd_parse.specs.declared.verdict.Nested.{Nested}
-use Rattle.timefd_parse.specs.declared.verdict.Span.{Span}
+use Rattle.timefd_parse.specs.declared.head.verdict.HeadVerdict.{HeadVerdict}
+use Rattle.timefd_parse.specs.declared.head.verdict.HeadVerdict.TheVariants as verdicts
+use Rattle.timefd_parse.specs.declared.bracket.verdict.Nested.{Nested}
+use Rattle.timefd_parse.specs.declared.bracket.verdict.BracketExtent.{BracketExtent}
 
 -- This many bytes before the end of the text a byte of ASCII stands.
 pub record HasByteAt (text : Text) (remaining : ℕ) : Type 0 where
@@ -33,7 +33,7 @@ HaveKeys text ps = (key : Text) (index : ℕ) → first_position key ps ≡ Some
     → HasKeyAt text index key
 
 -- The bracket begins and ends where this says, and so does its first nested description.
-pub record BracketStands (text : Text) (nested : Nested) (span : Span) : Type 0 where
+pub record BracketStands (text : Text) (nested : Nested) (span : BracketExtent) : Type 0 where
   pub start : HasByteAt text span.start
   pub end : HasByteAt text span.end
   pub first : 0 < nested.count → HasByteAt text nested.remaining

@@ -16,6 +16,7 @@ ghost use Rattle.timefd_language.specs.Strings.{AreItems};
 ghost use Rattle.timefd_lang_fault.specs.BorrowedFaults.{HasShortFault, IsBorrowed, IsBorrowedOf, IsMemory};
 ghost use Rattle.timefd_lang_fault.specs.Placed.{IsPlaced};
 ghost use Rattle.timefd_parse.specs.Answers.{IsOutput, ReservesAtMost, HasStrings};
+ghost use Rattle.timefd_parse.specs.Language.{IsRead};
 
 use crate::counting::error_of;
 use crate::parsing::BorrowedOutput;
@@ -87,15 +88,8 @@ pub fn parse_items<'a>(
     s: &'a str,
 ) -> Result<Vec<BorrowedFormatItem<'a>>, BorrowedParseError<'a>>
     requires { IsFalse (is_version_three version) }
-    ensures found { IfOk result (λ items. (list : List Tree)
-        × Spells version limit 0 s.now list × AreItems items.items list) }
-    ensures fault { IfErr result (IsBorrowedOf (FaultOf version limit s.now)) }
-    ensures spelled { (list : List Tree) → Spells version limit 0 s.now list
-        → MatchResult result (λ items. AreItems items.items list) IsMemory }
-    ensures refused { (f : spec.Fault) → FaultOf version limit s.now f
-        → MatchResult result (λ _. ⊥) (IsBorrowed f) }
-    ensures span { IfErr result (HasSpan (spec_language.Language.Version version) s.now) }
-    ensures empty { s.now ≡ [] → IsOk result }
+    ensures { IsRead (spec_language.Language.Version version) limit s.now
+        (λ list items. AreItems items.items list) result }
 {
     match items(alloc, version, s, limit) {
         Ok(items) => Ok(items),
@@ -109,16 +103,9 @@ pub fn parse_description<'a>(
     limit: u8,
     s: &'a str,
 ) -> Result<FormatDescriptionV3<'a>, BorrowedParseError<'a>>
-    ensures found { IfOk result (λ d. (list : List Tree)
-        × Spells Three limit 0 s.now list × (description_tree d ≡ pack list)) }
-    ensures fault { IfErr result (IsBorrowedOf (FaultOf Three limit s.now)) }
-    ensures spelled { (list : List Tree) → Spells Three limit 0 s.now list
-        → MatchResult result (λ d. description_tree d ≡ pack list) IsMemory }
-    ensures refused { (f : spec.Fault) → FaultOf Three limit s.now f
-        → MatchResult result (λ _. ⊥) (IsBorrowed f) }
-    ensures span { IfErr result (HasSpan (spec_language.Language.Version Three) s.now) }
+    ensures read { IsRead (spec_language.Language.Version Three) limit s.now
+        (λ list d. description_tree d ≡ pack list) result }
     ensures reserved { IfOk result (λ d. reserve (description_tree d) ≤ length s.now) }
-    ensures empty { s.now ≡ [] → IsOk result }
 {
     let version = DescriptionVersion::Three;
     let mut builder = match DescriptionBuilder::with_capacity(alloc, node_room(s)) {

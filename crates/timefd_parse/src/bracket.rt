@@ -7,8 +7,10 @@ ghost use Rattle.timefd_language.specs.Grammar.{Spells, nesting_limit};
 ghost use Rattle.timefd_parse.specs.BracketParts.{BeginsModified, BeginsNamed, BeginsNested, FindsModifiers, FindsNested, NamesHeads};
 ghost use Rattle.timefd_parse.specs.FirstPiece.{EndsWith};
 
+pub mod verdict;
+
+use crate::head::modifier::{Modifier, read_modifier};
 use crate::leading::in_front;
-use crate::modifier::{Modifier, read_modifier};
 use crate::parsing::NESTING_LIMIT;
 use crate::read::members;
 use std::alloc::Global;

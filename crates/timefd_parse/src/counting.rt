@@ -36,7 +36,7 @@ pub fn count_items<'a>(
     text: &'a str,
 ) -> Result<usize, BorrowedParseError<'a>>
     requires { IsFalse (is_version_three version) }
-    ensures { IsAmount version limit text.now result }
+    ensures { IsAmount (spec_language.Language.Version version) limit text.now result }
 {
     let mut builder = DescriptionBuilder::new(alloc);
     match count_pieces(&mut builder, version, text, limit) {
@@ -51,7 +51,7 @@ pub fn count_bytes<'a>(
     limit: u8,
     text: &'a str,
 ) -> Result<usize, BorrowedParseError<'a>>
-    ensures { IsAmount Three limit text.now result }
+    ensures { IsAmount (spec_language.Language.Version Three) limit text.now result }
 {
     let mut builder = DescriptionBuilder::new(alloc);
     match bytes_beside(&mut builder, text, limit) {

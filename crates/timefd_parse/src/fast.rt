@@ -1,5 +1,5 @@
 //! Quick readers for what most texts have, tried before the exact ones: brackets with only a name, and
-//! brackets with modifiers that are spelled as in the tables, each after one space.
+//! brackets with white bytes or modifiers, spelled as in the tables.
 //!
 //! Each returns an `Option`. A `Some` is what the exact reader returns. A `None` says nothing about
 //! the text and changes nothing: the exact reader looks at the same bytes again.

@@ -8,8 +8,13 @@ ghost use Rattle.timefd_language.specs.Spans.{SpansVersion};
 ghost use Rattle.timefd_parse.specs.Checked.{Checks};
 ghost use Rattle.timefd_parse.specs.Heads.{ReadsHead};
 
-use crate::modifier::read_modifier;
-use crate::modifiers::Modifiers;
+pub mod modifier;
+pub mod modifiers;
+pub mod positions;
+pub mod verdict;
+
+use crate::head::modifier::read_modifier;
+use crate::head::modifiers::Modifiers;
 use timefd_lang_fault::{Fault, Name, Rule};
 use timefd_language::description_version::DescriptionVersion;
 use timefd_language::name::name_of;

@@ -1,68 +1,24 @@
 //! How much a text of each language holds.
 
-ghost use Rattle.std.specs.Prelude.{◌≡◌, ◌≤◌, [], List, IfOk, IsFalse, IsOk, MatchResult};
+ghost use Rattle.std.specs.Prelude.{ℕ, ◌≡◌, ◌≤◌, [], List, IfOk, IsFalse, IsOk, MatchResult};
 ghost use Rattle.std.specs.Result.{IfErr};
 ghost use Rattle.timefd_lang_component.specs.Tree.{Tree};
 ghost use Rattle.timefd_lang_fault.specs.Faults as spec;
 ghost use Rattle.timefd_lang_fault.specs.BorrowedFaults.{HasShortFault, IsBorrowed, IsBorrowedOf, IsMemory, IsRefusal};
-ghost use Rattle.timefd_lang_fault.specs.Placed.{HasPlacedFault, IsPlaced};
-ghost use Rattle.timefd_lang_fault.specs.Reported.{IsFaultOrMemory, MemoryAlone};
-ghost use Rattle.timefd_language.specs.Bytes.{is_version_three};
+ghost use Rattle.timefd_lang_fault.specs.Placed.{IsPlaced};
 ghost use Rattle.timefd_language.specs.Grammar.{nesting_limit};
-ghost use Rattle.timefd_language.specs.Spans.{HasSpan, HasSpanWithin};
-ghost use Rattle.timefd_parse.specs.Language.{SpellsIn, FaultIn, amount, takes_memory, IsAmount, IsAssignedIn};
+ghost use Rattle.timefd_language.specs.Spans.{HasSpan};
+ghost use Rattle.timefd_parse.specs.Language.{SpellsIn, FaultIn, amount, takes_memory, IsAmount};
 
 use crate::counting::{count_bytes, count_items};
 use std::alloc::Global;
 use timefd_lang_fault::BorrowedParseError;
-use timefd_lang_fault::parse_error::ParseError;
 use timefd_language::Language;
 use timefd_language::description_version::DescriptionVersion;
 use timefd_language::strftime::count_strftime;
 
 /// How much a text holds: how many items, or in version 3 how many bytes its description reserves.
 /// Descriptions may be nested at most `limit` deep; strftime nests none.
-///
-/// The error is `Invalid` with the fault of the text, or `Memory` if memory ran out. A fault that
-/// quotes nothing of the text is reported even then.
-#[inline(always)]
-pub fn amount_within(
-    alloc: Global,
-    language: Language,
-    limit: u8,
-    text: &str,
-) -> Result<usize, ParseError>
-    requires { limit ≤ nesting_limit }
-
-    // An accepted text spells the result. A refused one is refused for the fault that the rules
-    // assign.
-    ensures found { IfOk result (λ n.
-        (list : List Tree) × SpellsIn language limit text.now list × (n ≡ amount language list)) }
-    ensures fault { IfErr result (IsAssignedIn language limit text.now) }
-
-    // A text that spells something is accepted unless memory runs out. A text with a fault is refused
-    // for it, unless the fault quotes the text and there is no memory for the quote.
-    ensures spelled { (list : List Tree) → SpellsIn language limit text.now list
-        → MatchResult result (λ n. n ≡ amount language list) MemoryAlone }
-    ensures refused { (f : spec.Fault) → FaultIn language limit text.now f
-        → MatchResult result (λ _. ⊥) (IsFaultOrMemory f) }
-
-    // The fault's index lies in the text or at its end, between two characters.
-    ensures position { IfErr result (HasPlacedFault text.now) }
-
-    // The bytes at fault, from that index on, lie in the text.
-    ensures span { IfErr result (HasSpanWithin language text.now) }
-
-    // The empty text takes no memory.
-    ensures empty { text.now ≡ [] → IsOk result }
-{
-    match amount_all_borrowed(alloc, language, limit, text) {
-        Ok(amount) => Ok(amount),
-        Err(error) => Err(error.into_owned(alloc)),
-    }
-}
-
-/// How much a text holds, as `amount_within` counts it, with a fault that borrows what it quotes.
 ///
 /// The error is `Invalid` with the fault of the text, or `Memory` if memory ran out. A text that has
 /// a fault is refused for it even then.
@@ -115,7 +71,7 @@ fn version_amount(
     text: &str,
 ) -> Result<usize, BorrowedParseError<'_>>
     requires { limit ≤ nesting_limit }
-    ensures { IsAmount version limit text.now result }
+    ensures { IsAmount (Language.Version version) limit text.now result }
 {
     // Each version is a constant in its own loop over the pieces.
     match version {
@@ -128,16 +84,7 @@ fn version_amount(
 /// How many items a text of strftime has.
 #[inline(never)]
 fn strftime_amount(text: &str) -> Result<usize, BorrowedParseError<'_>>
-    ensures found { IfOk result (λ n. (list : List Tree)
-        × SpellsIn Language.Strftime 0 text.now list × (n ≡ amount Language.Strftime list)) }
-    ensures fault { IfErr result (IsBorrowedOf (FaultIn Language.Strftime 0 text.now)) }
-    ensures spelled { (list : List Tree) → SpellsIn Language.Strftime 0 text.now list
-        → MatchResult result (λ n. n ≡ amount Language.Strftime list) IsMemory }
-    ensures refused { (f : spec.Fault) → FaultIn Language.Strftime 0 text.now f
-        → MatchResult result (λ _. ⊥) (IsBorrowed f) }
-    ensures no_memory { IfErr result IsRefusal }
-    ensures span { IfErr result (HasSpan Language.Strftime text.now) }
-    ensures empty { text.now ≡ [] → IsOk result }
+    ensures { (limit : ℕ) → IsAmount Language.Strftime limit text.now result }
 {
     match count_strftime(text) {
         Ok(count) => Ok(count),

@@ -15,14 +15,9 @@ mod fast;
 // A bracket's head: its name, its modifiers and the positions of their keys, or its fault; what a head is by
 // itself.
 mod head;
-mod head_verdict;
-mod modifier;
-mod modifiers;
-mod positions;
 
 // A bracket: its parts, and what it is once it is closed.
 mod bracket;
-mod verdict;
 
 // Pieces one after another, and the trees that version 3 builds from them.
 mod building;
@@ -32,9 +27,9 @@ mod read;
 pub use borrowing::parse_all_borrowed;
 pub use bracket::{bracket_name, first_modifier, first_nested};
 pub use counting::error_of;
-pub use language::{amount_all_borrowed, amount_within};
+pub use head::modifier::Modifier;
+pub use language::amount_all_borrowed;
 pub use leading::first_piece;
-pub use modifier::Modifier;
 pub use parsing::{BorrowedOutput, NESTING_LIMIT, parse, parse_borrowed, parse_borrowed_within};
 pub use piece::Piece;
 pub use read::next_piece;

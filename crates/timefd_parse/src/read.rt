@@ -17,12 +17,12 @@ ghost use Rattle.timefd_language.specs.Spans.{SpansVersion};
 ghost use Rattle.timefd_parse.specs.FirstPiece.{EndsWith};
 ghost use Rattle.timefd_parse.specs.Spans.{HasByteAt};
 
+use crate::bracket::verdict::{BracketExtent, Nested, verdict};
 use crate::building::{add, pack};
 use crate::fast::bare::bare;
 use crate::fast::modified::with_modifiers;
-use crate::head_verdict::judged_head;
+use crate::head::verdict::judged_head;
 use crate::piece::{Piece, component_piece};
-use crate::verdict::{Nested, Span, verdict};
 use std::alloc::Global;
 use timefd_items::{BorrowedFormatItem, DescriptionBuilder};
 use timefd_lang_fault::{Fault, ReadError, Rule};
@@ -290,7 +290,7 @@ fn bracket<'a, const BUILDS: bool>(
             }
             Start::Closing(following) => {
                 let end = rest.len();
-                let span = Span { start, end };
+                let span = BracketExtent { start, end };
                 let nested = Nested {
                     spaced: head.spaced,
                     remaining,

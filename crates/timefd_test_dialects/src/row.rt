@@ -2,8 +2,8 @@
 
 use std::alloc::{AllocError, Global};
 use timefd_lang_dialect::{
-    Converted, Dialect, DialectError, FormatError, Refusal, from_version_three, to_version_three,
-    to_version_three_for_reading, traps,
+    Converted, Dialect, DialectError, NoFormatError, RefusedPart, from_version_three,
+    to_version_three, to_version_three_for_reading, traps,
 };
 
 /// What a row asks of a format, or of a text of version 3.
@@ -69,20 +69,20 @@ fn converted_line(alloc: Global, converted: &Converted) -> Result<String, AllocE
     }
 }
 
-fn refused(alloc: Global, refusal: Refusal) -> Result<String, AllocError> {
+fn refused(alloc: Global, refusal: RefusedPart) -> Result<String, AllocError> {
     format!(in alloc; "{} at byte {}", refusal.reason.name(), refusal.index)
 }
 
 /// The format, or the bracket that the dialect has no directive for.
 fn format_line(
     alloc: Global,
-    answer: Result<Converted, FormatError>,
+    answer: Result<Converted, NoFormatError>,
 ) -> Result<String, AllocError> {
     match answer {
         Ok(converted) => converted_line(alloc, &converted),
-        Err(FormatError::Lacking(index)) => format!(in alloc; "lacking at byte {index}"),
-        Err(FormatError::Merged) => String::from_str(alloc, "merged"),
-        Err(FormatError::Memory(error)) => Err(error),
+        Err(NoFormatError::Lacking(index)) => format!(in alloc; "lacking at byte {index}"),
+        Err(NoFormatError::Merged) => String::from_str(alloc, "merged"),
+        Err(NoFormatError::Memory(error)) => Err(error),
     }
 }
 

@@ -4,13 +4,17 @@ use std::alloc::Global;
 use std::process::Abort;
 use timefd_lang_component::Component;
 use timefd_lang_node_list::item::BorrowedFormatItem;
-use timefd_lang_warnings::{Description, Style, Warning, warns};
+use timefd_lang_warnings::{LanguageStyle, ReadDescription, Warning, warns};
 use timefd_modifier::{Hour, Hour24};
 
 fn is_deprecated(rt: &impl Abort, alloc: Global, component: Component) -> bool {
     let warning = Warning::named("deprecated-component").expect(rt, "a warning");
     let items = vec![in alloc; BorrowedFormatItem::Component(component)].expect(rt, "memory");
-    warns(Style::Brackets, Description::Items(&items), warning)
+    warns(
+        LanguageStyle::Brackets,
+        ReadDescription::Items(&items),
+        warning,
+    )
 }
 
 #[test]

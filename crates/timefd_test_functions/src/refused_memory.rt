@@ -26,7 +26,10 @@ fn answer_of(rt: &impl Abort, alloc: Global, call: Call, text: &str) -> String {
         Call::Parse => answer_of_parse(rt, alloc, text),
         Call::Strftime => strftime_answer(rt, alloc, text),
         Call::OneToTwo => text_or_fault(rt, alloc, v1_to_v2(alloc, text)),
-        Call::TwoToThree => text_or_fault(rt, alloc, v2_to_v3(alloc, text)),
+        Call::TwoToThree => match v2_to_v3(alloc, text) {
+            Ok(text) => text,
+            Err(error) => print_error(rt, alloc, error.into_owned(alloc)),
+        },
     }
 }
 

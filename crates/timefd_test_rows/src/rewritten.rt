@@ -11,7 +11,7 @@ use std::alloc::Global;
 use timefd_lang_convert::printing::{PrintError, print_v3};
 use timefd_lang_convert::{ConvertError, convert, strftime_to_v3};
 use timefd_lift::{v1_to_v2, v2_to_v3};
-use timefd_parse::ParseError;
+use timefd_parse::{BorrowedParseError, ParseError};
 
 /// What is asked about a text. If the text is refused, the answer is the fault's sentence.
 #[derive(Clone, Copy)]
@@ -51,9 +51,15 @@ pub fn answer(alloc: Global, ask: RewriteAsk, fields: &[&str]) -> Result<String,
     match ask {
         RewriteAsk::Normal => normal(alloc, one(fields, "TEXT")?),
         RewriteAsk::OneToTwo => text_or_fault(alloc, v1_to_v2(alloc, one(fields, "TEXT")?)),
-        RewriteAsk::TwoToThree => text_or_fault(alloc, v2_to_v3(alloc, one(fields, "TEXT")?)),
+        RewriteAsk::TwoToThree => text_or_fault(
+            alloc,
+            owned(alloc, v2_to_v3(alloc, one(fields, "TEXT")?)),
+        ),
         RewriteAsk::StrftimeToThree => {
-            text_or_fault(alloc, strftime_to_v3(alloc, one(fields, "TEXT")?))
+            text_or_fault(
+                alloc,
+                owned(alloc, strftime_to_v3(alloc, one(fields, "TEXT")?)),
+            )
         }
         RewriteAsk::Convert => {
             let (from, to, text) = three(fields, "FROM TO TEXT")?;
@@ -63,6 +69,17 @@ pub fn answer(alloc: Global, ask: RewriteAsk, fields: &[&str]) -> Result<String,
             let (from, text) = two(fields, "FROM TEXT")?;
             alike::reads_alike(alloc, from, text)
         }
+    }
+}
+
+/// The text, or the error with a copy of what its fault quotes.
+pub fn owned(
+    alloc: Global,
+    text: Result<String, BorrowedParseError<'_>>,
+) -> Result<String, ParseError> {
+    match text {
+        Ok(text) => Ok(text),
+        Err(error) => Err(error.into_owned(alloc)),
     }
 }
 

@@ -1,14 +1,18 @@
 //! What `main` prints about each use.
 
+ghost use Rattle.std.specs.Prelude.{◌≤◌};
+ghost use Rattle.timefd_language.specs.Grammar.{nesting_limit};
+
 use crate::date::Date;
 use crate::lint::lint;
 use crate::read::{ReadError, read_date};
 use crate::upgrade::upgrade;
-use crate::write::{day_alone, write_date, write_date_in};
+use crate::write::{day_alone, write_date, write_date_in, write_date_over};
 use std::alloc::Global;
 use std::io;
 use timefd_description::{
-    DescriptionVersion, FormatTextError, Language, Moment, TextError, format_text,
+    BorrowedParseError, Description, DescriptionVersion, FormatTextError, Language, Moment,
+    TextError, format_text, format_text_within,
 };
 use timefd_parse::{BorrowedOutput, FormatDescriptionV3, ParseError, parse, parse_borrowed};
 
@@ -31,7 +35,19 @@ pub fn written(rt: &impl Print, alloc: Global) -> io::Result<()> {
     for text in ["%d/%m/%Y", "%F%n", "%A"] {
         print_written(rt, alloc, Language::Strftime, text, day_alone(date))?;
     }
-    described(rt, alloc, date, "[weekday repr:short] [day padding:none]")
+    print_within(rt, alloc, 1, "[optional [[day]]]", day_alone(date))?;
+    print_within(rt, alloc, 0, "[optional [[day]]]", day_alone(date))?;
+    described(rt, alloc, date, "[weekday repr:short] [day padding:none]")?;
+    for text in [
+        "%d/%m/%Y",
+        "%u%u%u%u%u%u%u%u%u%u%u%u%u%u%u%u%u%u%u%u%u%u%u%u%u%u",
+        "%A, %d %B %Y, %F",
+        "%d/%m, %H",
+        "%A%",
+    ] {
+        opened(rt, alloc, date, text)?;
+    }
+    Ok(())
 }
 
 fn print_written(
@@ -47,6 +63,28 @@ fn print_written(
             str::from_utf8(&shown).unwrap_or("no text")
         ),
         Err(FormatTextError::Fault(_)) => println!(rt; "{text} is no description"),
+        Err(FormatTextError::Unshown(unshown)) => println!(rt; "{text}: {unshown}"),
+        Err(FormatTextError::Memory(error)) => Err(io::Error::from(error)),
+    }
+}
+
+/// Writes by a text that may nest so many descriptions around one another.
+fn print_within(
+    rt: &impl Print,
+    alloc: Global,
+    limit: u8,
+    text: &str,
+    moment: Moment,
+) -> io::Result<()>
+    requires { limit ≤ nesting_limit }
+{
+    let language = Language::Version(DescriptionVersion::Three);
+    match format_text_within(alloc, language, limit, text, moment) {
+        Ok(shown) => println!(rt;
+            "{text} within {limit} writes {:?}",
+            str::from_utf8(&shown).unwrap_or("no text")
+        ),
+        Err(FormatTextError::Fault(_)) => println!(rt; "{text} within {limit} is no description"),
         Err(FormatTextError::Unshown(unshown)) => println!(rt; "{text}: {unshown}"),
         Err(FormatTextError::Memory(error)) => Err(io::Error::from(error)),
     }
@@ -88,6 +126,39 @@ fn print_description(
             str::from_utf8(&buffer).unwrap_or("no text")
         ),
         Err(error) => println!(rt; "{error}"),
+    }
+}
+
+/// Writes the date over the front of a buffer, by a text of strftime that is opened once.
+fn opened(
+    rt: &impl Print,
+    alloc: Global,
+    date: timefd_date_moment::Date,
+    text: &str,
+) -> io::Result<()> {
+    match Description::parse(alloc, Language::Strftime, text) {
+        Ok(description) => print_opened(rt, date, text, &description),
+        Err(BorrowedParseError::Invalid(_)) => println!(rt; "{text} can't be opened"),
+        Err(BorrowedParseError::Memory(error)) => Err(io::Error::from(error)),
+    }
+}
+
+fn print_opened(
+    rt: &impl Print,
+    date: timefd_date_moment::Date,
+    text: &str,
+    description: &Description<'_>,
+) -> io::Result<()> {
+    let mut buffer = [b'.'; 32];
+    match write_date_over(date, description, &mut buffer) {
+        Ok(len) => println!(rt;
+            "{text} over a buffer, {len} bytes: {:?}",
+            str::from_utf8(&buffer).unwrap_or("no text")
+        ),
+        Err(error) => println!(rt;
+            "{text} over a buffer: {error}: {:?}",
+            str::from_utf8(&buffer).unwrap_or("no text")
+        ),
     }
 }
 

@@ -3,13 +3,13 @@ use Rattle.std.proofs.Common.{ℕ, ◌≡◌, Some, subst}
 use Rattle.timefd_lang_component.specs.Tree.{Text}
 use Rattle.timefd_date_moment.specs.declared.moment.Moment.{Moment}
 use Rattle.timefd_language.specs.declared.language.Language.{Language}
-use Rattle.timefd_web.specs.declared.fields.MomentFields.{MomentFields}
+use Rattle.timefd_web.specs.declared.fields.MomentParts.{MomentParts}
 use Rattle.timefd_web.specs.Answers.{ReadsOf, ReportsOf, language_of}
 use Rattle.timefd_web.specs.Moments.{IsMoment}
 use Rattle.timefd_web.specs.Readings.{Reads}
 use Rattle.timefd_web.specs.Reports.{Reports}
 
-module _ (number : ℕ) (bytes : Text) (fields : MomentFields) where
+module _ (number : ℕ) (bytes : Text) (fields : MomentParts) where
   pub reported : (language : Language) (moment : Moment) (text object : Text)
       → language_of number ≡ Some language → IsMoment fields moment → text ≡ bytes
       → Reports language moment text object → ReportsOf number bytes fields object

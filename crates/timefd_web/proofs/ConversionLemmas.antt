@@ -10,10 +10,10 @@ use Rattle.timefd_lang_dialect.specs.Back.{IsFormatOf, IsMerged, LacksAt}
 use Rattle.timefd_lang_dialect.specs.Items.{IsSpelledBy}
 use Rattle.timefd_lang_dialect.specs.Reading.{RefusedAt}
 use Rattle.timefd_lang_dialect.specs.Traps.{AreTraps}
-use Rattle.timefd_lang_dialect.specs.declared.back.FormatError.TheVariants as lacks
+use Rattle.timefd_lang_dialect.specs.declared.back.NoFormatError.TheVariants as lacks
 use Rattle.timefd_lang_dialect.specs.declared.dialect.Dialect.{Dialect}
 use Rattle.timefd_lang_dialect.specs.declared.error.DialectError.TheVariants as fails
-use Rattle.timefd_lang_dialect.specs.declared.error.Refusal.{Refusal}
+use Rattle.timefd_lang_dialect.specs.declared.error.RefusedPart.{RefusedPart}
 use Rattle.timefd_lang_dialect.specs.declared.reading.Converted.{Converted}
 use Rattle.timefd_lang_dialect.specs.declared.trapping.Found.{Found}
 use Rattle.timefd_web.specs.Conversions.{Converts, Formats, converted_object, format_object, lacking_object, merged_object, refused_object}
@@ -32,7 +32,7 @@ module _ (dialect : Dialect) (text : Text) (r : Result (Vec ℕ Global) AllocErr
         said = said;
       }) is
 
-  pub refused_said : (refusal : Refusal) (found traps : List Found)
+  pub refused_said : (refusal : RefusedPart) (found traps : List Found)
       → RefusedAt dialect text refusal.reason refusal.index → AreTraps dialect text traps
       → found ≡ traps → IfOk r (λ object. object.items ≡ refused_object refusal found)
       → IfOk r (λ object. Converts dialect text object.items)

@@ -5,7 +5,7 @@ use Rattle.std.specs.declared.string.String.{String}
 use Rattle.timefd_lang_component.specs.Tree.{Text}
 use Rattle.timefd_lint_drawing.specs.Json.{number_field, text_field}
 use Rattle.timefd_lint_explain.specs.declared.explain.Explanation.{Explanation}
-use Rattle.timefd_lint_explain.specs.declared.node.Node.{Node}
+use Rattle.timefd_lint_explain.specs.declared.node.ShownNode.{ShownNode}
 use Rattle.timefd_web.specs.declared.later.Later.{Later}
 use Rattle.timefd_web.specs.Objects.{accepted_object, node, optional}
 use Rattle.timefd_web.specs.Records.{listed}
@@ -18,7 +18,7 @@ fields a b c d e f o0 o1 o2 o3 o4 o5 o6 e0 e1 e2 e3 e4 e5 e6 =
     (e3 ∙ ap (λ t. t ++ c) (e2 ∙ ap (λ t. t ++ b) (e1 ∙ ap (λ t. t ++ a) e0)))))
 
 pub object_by : (x : Explanation) (w : Option (String Global)) (l : Later)
-    (o0 o1 o2 o3 o4 o5 o6 : Text) (ns : List Node) (three : Text) → o0 ≡ []
+    (o0 o1 o2 o3 o4 o5 o6 : Text) (ns : List ShownNode) (three : Text) → o0 ≡ []
     → o1 ≡ o0 ++ number_field (codes "{\"accepted\":true,\"bytes\":") x.bytes
     → o2 ≡ o1 ++ (codes ",\"nodes\":" ++ listed node ns) → ns ≡ x.nodes.items
     → o3 ≡ o2 ++ (codes ",\"written\":" ++ optional w)

@@ -12,17 +12,17 @@ use Rattle.timefd_language.specs.declared.language.Language.{Language}
 use Rattle.timefd_parse.specs.Language.{SpellsIn, FaultIn}
 use Rattle.timefd_description.specs.ReadAnswers.{IsReadAs, IsRefusedFor, fields_in}
 use Rattle.timefd_description.specs.declared.read_error.ReadTextError.{ReadTextError}
-use Rattle.timefd_web.specs.Readings.{Reads, Tells}
+use Rattle.timefd_web.specs.Readings.{Reads, Shows}
 
 pub reading : (language : Language) (description text : Text)
     (answer : Result Moment ReadTextError) (r : Result (Vec ℕ Global) AllocError)
     → ((list : List Tree) → SpellsIn language nesting_limit description list
     → IsReadAs (fields_in list text) answer)
     → ((f : Fault) → FaultIn language nesting_limit description f → IsRefusedFor f answer)
-    → IfOk r (λ object. Tells answer object.items)
+    → IfOk r (λ object. Shows answer object.items)
     → IfOk r (λ object. Reads language description text object.items)
-reading language description text answer r spelled refused tells =
+reading language description text answer r spelled refused shows =
     IfOk-weaker r _ _ (λ object reported. record {
       spelled = λ list s. (answer, spelled list s, reported);
       refused = λ f is. (answer, refused f is, reported);
-    }) tells
+    }) shows

@@ -10,7 +10,7 @@ use Rattle.json.specs.Tree.{depth, json_tokens, items_tokens, members_tokens}
 use Rattle.json.specs.Value.{items_of}
 use Rattle.timefd_lang_component.specs.Tree.{Text}
 use Rattle.timefd_lint_explain.specs.declared.explain.Explanation.{Explanation}
-use Rattle.timefd_lint_explain.specs.declared.node.Node.{Node}
+use Rattle.timefd_lint_explain.specs.declared.node.ShownNode.{ShownNode}
 use Rattle.timefd_web.specs.JsonLaws.Logs.{All}
 use Rattle.timefd_web.specs.JsonLaws.Meaning.{IsJson}
 use Rattle.timefd_web.specs.JsonLaws.Objects.{IsNumber64, text_member}
@@ -38,7 +38,7 @@ use Rattle.timefd_web.proofs.ValueFronts.{closing}
 
 -- A node after a comma.
 
-abbrev node_lexemes : Node → List Lexeme
+abbrev node_lexemes : ShownNode → List Lexeme
 node_lexemes n =
     ((((((first_key (codes "depth") ++ numbers n.depth) ++ (next_key (codes "start") ++ numbers n.start))
     ++ (next_key (codes "end") ++ numbers n.end)) ++ (next_key (codes "bytes") ++ numbers n.bytes))
@@ -46,7 +46,7 @@ node_lexemes n =
     ++ (next_key (codes "words") ++ strings (string_bytes n.words)))
     ++ (next_key (codes "example") ++ strings (string_bytes n.example)) ++ token end_object ∷ []
 
-node_next : (n : Node) → IsProperNode n → IsNext (node n) (node_value n)
+node_next : (n : ShownNode) → IsProperNode n → IsNext (node n) (node_value n)
 unfolding punctuate
 node_next n (d, a, b, r, k, w, e) = record {
   ls = node_lexemes n;

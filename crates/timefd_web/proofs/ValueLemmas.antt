@@ -8,7 +8,7 @@ use Rattle.json.specs.Value.{items_of}
 use Rattle.timefd_lang_component.specs.Tree.{Text}
 use Rattle.timefd_lang_dialect.specs.Reasons as reasons
 use Rattle.timefd_lang_dialect.specs.TrapWords as words
-use Rattle.timefd_lang_dialect.specs.declared.error.Refusal.{Refusal}
+use Rattle.timefd_lang_dialect.specs.declared.error.RefusedPart.{RefusedPart}
 use Rattle.timefd_lang_dialect.specs.declared.limits.Limits.{Limits}
 use Rattle.timefd_lang_dialect.specs.declared.reading.Converted.{Converted}
 use Rattle.timefd_lang_dialect.specs.declared.reason.Reason.{Reason}
@@ -126,19 +126,19 @@ module _ (text : Text) (js : List Json) (a : IsArray text js) where
   unfolding punctuate
   converted_tokens c = ap (λ t. converted_front c ++ t) last_tokens
 
-  abbrev refused_lexemes : Refusal → List Lexeme
+  abbrev refused_lexemes : RefusedPart → List Lexeme
   refused_lexemes r =
       [] ++ reason_lexemes r.reason ++ (next_key (codes "start") ++ numbers r.index)
       ++ (next_key (codes "traps") ++ token begin_array ∷ a.ls) ++ ends
 
-  abbrev refused_front : Refusal → List Token
+  abbrev refused_front : RefusedPart → List Token
   refused_front r =
       begin_object ∷ Token.key (codes "converted") ∷ boolean false ∷ Token.key (codes "reason")
       ∷ string (reasons.name r.reason) ∷ Token.key (codes "message") ∷ string (reasons.sentence r.reason)
       ∷ Token.key (codes "help") ∷ string (reasons.cure r.reason) ∷ Token.key (codes "start")
       ∷ number (decimal r.index) ∷ Token.key (codes "traps") ∷ begin_array ∷ []
 
-  refused_tokens : (r : Refusal)
+  refused_tokens : (r : RefusedPart)
       → punctuate fresh (refused_lexemes r ++ []) ≡ json_tokens (refused_value r js)
   unfolding punctuate
   refused_tokens r = ap (λ t. refused_front r ++ t) last_tokens
@@ -177,7 +177,7 @@ converted_json c found (u, y) are =
       );
     }
 
-refused_json : (r : Refusal) (found : List Found) → IsProperRefusal r → All IsProperTrap found
+refused_json : (r : RefusedPart) (found : List Found) → IsProperRefusal r → All IsProperTrap found
     → IsJson (refused_object r found) (refused_value r (traps found))
 refused_json r found (n, s, c, i) are =
     let a = array_of trap_object trap_value IsProperTrap trap_next found are in

@@ -9,7 +9,7 @@ use Rattle.timefd_language.specs.declared.language.Language.{Language}
 use Rattle.timefd_language.specs.declared.language.Language.TheVariants.{Version, Strftime}
 use Rattle.timefd_web.specs.declared.answer.ReportAnswer.{ReportAnswer}
 use Rattle.timefd_web.specs.declared.answer.TheConstants.{REPORTED, NOT_UTF8, NO_MEMORY, NO_LANGUAGE, OUT_OF_RANGE}
-use Rattle.timefd_web.specs.declared.fields.MomentFields.{MomentFields}
+use Rattle.timefd_web.specs.declared.fields.MomentParts.{MomentParts}
 use Rattle.timefd_web.specs.declared.silence.Silence.{Silence}
 use Rattle.timefd_web.specs.declared.silence.Silence.TheVariants.{NotUtf8, NoMemory, NoLanguage, OutOfRange}
 use Rattle.timefd_web.specs.Moments.{IsMoment, range_fault}
@@ -27,7 +27,7 @@ language_of number =
 
 -- The object says what the bytes are as a text of the language with this number, and what they write of the
 -- moment with these numbers.
-pub record ReportsOf (number : ℕ) (bytes : Text) (fields : MomentFields) (object : Text) : Type 0 where
+pub record ReportsOf (number : ℕ) (bytes : Text) (fields : MomentParts) (object : Text) : Type 0 where
   pub language : Language
   pub moment : Moment
   pub is_language : language_of number ≡ Some language
@@ -35,14 +35,14 @@ pub record ReportsOf (number : ℕ) (bytes : Text) (fields : MomentFields) (obje
   pub reports : Reports language moment bytes object
 
 -- why there is no report
-abbrev pub IsSilence : ℕ → Text → MomentFields → Silence → Type 0
+abbrev pub IsSilence : ℕ → Text → MomentParts → Silence → Type 0
 IsSilence number bytes fields NotUtf8 = ¬ (IsUtf8 bytes)
 IsSilence number bytes fields NoMemory = ⊤
 IsSilence number bytes fields NoLanguage = language_of number ≡ None
 IsSilence number bytes fields OutOfRange = range_fault fields ≢ None
 
 -- the report, or why there is none
-abbrev pub IsSaid : ℕ → Text → MomentFields → Result (Vec ℕ Global) Silence → Type 0
+abbrev pub IsSaid : ℕ → Text → MomentParts → Result (Vec ℕ Global) Silence → Type 0
 IsSaid number bytes fields (Ok object) = ReportsOf number bytes fields object.items
 IsSaid number bytes fields (Err silence) = IsSilence number bytes fields silence
 
@@ -71,7 +71,7 @@ IsAnswer (Ok object) before after answer = IsGiven object.items before after ans
 IsAnswer (Err silence) before after answer = IsSilent silence before after answer
 
 -- The answer about the bytes: the report, or why there is none.
-abbrev pub Answers : ℕ → Text → MomentFields → Text → Text → ReportAnswer → Type 0
+abbrev pub Answers : ℕ → Text → MomentParts → Text → Text → ReportAnswer → Type 0
 Answers number bytes fields before after answer =
     (said : Result (Vec ℕ Global) Silence) × IsSaid number bytes fields said
     × IsAnswer said before after answer

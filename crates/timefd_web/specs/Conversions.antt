@@ -7,12 +7,12 @@ use Rattle.timefd_lang_dialect.specs.Items.{IsSpelledBy}
 use Rattle.timefd_lang_dialect.specs.Reasons as reasons
 use Rattle.timefd_lang_dialect.specs.Traps.{AreTraps}
 use Rattle.timefd_lang_dialect.specs.TrapWords as words
-use Rattle.timefd_lang_dialect.specs.declared.back.FormatError.{FormatError}
-use Rattle.timefd_lang_dialect.specs.declared.back.FormatError.TheVariants as lacks
+use Rattle.timefd_lang_dialect.specs.declared.back.NoFormatError.{NoFormatError}
+use Rattle.timefd_lang_dialect.specs.declared.back.NoFormatError.TheVariants as lacks
 use Rattle.timefd_lang_dialect.specs.declared.dialect.Dialect.{Dialect}
 use Rattle.timefd_lang_dialect.specs.declared.error.DialectError.{DialectError}
 use Rattle.timefd_lang_dialect.specs.declared.error.DialectError.TheVariants as fails
-use Rattle.timefd_lang_dialect.specs.declared.error.Refusal.{Refusal}
+use Rattle.timefd_lang_dialect.specs.declared.error.RefusedPart.{RefusedPart}
 use Rattle.timefd_lang_dialect.specs.declared.limits.Limits.{Limits}
 use Rattle.timefd_lang_dialect.specs.declared.reading.Converted.{Converted}
 use Rattle.timefd_lang_dialect.specs.declared.reason.Reason.{Reason}
@@ -50,7 +50,7 @@ reason_fields reason =
     ++ text_field (codes ",\"message\":") (reasons.sentence reason)
     ++ text_field (codes ",\"help\":") (reasons.cure reason)
 
-abbrev pub refused_object : Refusal → List Found → Text
+abbrev pub refused_object : RefusedPart → List Found → Text
 refused_object r found =
     [] ++ reason_fields r.reason ++ number_field (codes ",\"start\":") r.index
     ++ (codes ",\"traps\":" ++ listed trap_object found) ++ codes "}"
@@ -96,20 +96,20 @@ merged_object =
     (codes "parts side by side would mean something else") ++ codes "}"
 
 -- The object reports the format, or why there is none. No object reports that memory ran out.
-abbrev pub IsFormatObject : Result Converted FormatError → Text → Type 0
+abbrev pub IsFormatObject : Result Converted NoFormatError → Text → Type 0
 IsFormatObject (Ok c) object = object ≡ format_object c
 IsFormatObject (Err (lacks.Lacking index)) object = object ≡ lacking_object index
 IsFormatObject (Err lacks.Merged) object = object ≡ merged_object
 IsFormatObject (Err (lacks.Memory e)) object = ⊥
 
 -- The format means just the description, with its items, or a component has no directive.
-abbrev pub IsFormat : Dialect → Text → Result Converted FormatError → Type 0
+abbrev pub IsFormat : Dialect → Text → Result Converted NoFormatError → Type 0
 IsFormat dialect description (Ok c) =
     IsFormatOf dialect description c × IsSpelledBy dialect (string_bytes c.text) description
 IsFormat dialect description (Err e) = IsLackIn dialect description e
 
 -- The object reports what the description is as a format, or why it is none.
 pub record Formats (dialect : Dialect) (description object : Text) : Type 0 where
-  pub answer : Result Converted FormatError
+  pub answer : Result Converted NoFormatError
   pub is_format : IsFormat dialect description answer
   pub said : IsFormatObject answer object

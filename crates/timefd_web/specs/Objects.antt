@@ -10,12 +10,12 @@ use Rattle.timefd_lint_drawing.specs.Drawing.{code}
 use Rattle.timefd_lint_drawing.specs.HelpText.{help_text}
 use Rattle.timefd_lint_drawing.specs.Json.{quoted, text_field, number_field}
 use Rattle.timefd_lint_explain.specs.declared.explain.Explanation.{Explanation}
-use Rattle.timefd_lint_explain.specs.declared.node.Node.{Node}
+use Rattle.timefd_lint_explain.specs.declared.node.ShownNode.{ShownNode}
 use Rattle.timefd_lint_explain.specs.declared.node.NodeKind.{NodeKind}
 use Rattle.timefd_lint_explain.specs.declared.node.NodeKind.TheVariants as kinds
 use Rattle.timefd_lang_fault.specs.Sentences.{error_sentence}
 use Rattle.timefd_web.specs.declared.later.Later.{Later}
-use Rattle.timefd_web.specs.declared.refused.Refusal.{Refusal}
+use Rattle.timefd_web.specs.declared.refused.RefusedObject.{RefusedObject}
 use Rattle.timefd_web.specs.Records.{listed}
 
 -- the nearest allowed word, or nothing
@@ -33,7 +33,7 @@ refusal code message help nearest start end =
     ++ text_field (codes ",\"nearest\":") nearest ++ number_field (codes ",\"start\":") start
     ++ number_field (codes ",\"end\":") end ++ codes "}"
 
-abbrev pub refusal_of : Refusal → Text
+abbrev pub refusal_of : RefusedObject → Text
 refusal_of r = refusal r.code.now r.message.now r.help.now r.nearest.now r.start r.end
 
 abbrev pub refused_object : Diagnostic → Text
@@ -50,7 +50,7 @@ kind_name kinds.Several = codes "several"
 kind_name kinds.Description = codes "description"
 
 -- a node as an object
-abbrev pub node : Node → Text
+abbrev pub node : ShownNode → Text
 node n =
     [] ++ number_field (codes "{\"depth\":") n.depth ++ number_field (codes ",\"start\":") n.start
     ++ number_field (codes ",\"end\":") n.end ++ number_field (codes ",\"bytes\":") n.bytes

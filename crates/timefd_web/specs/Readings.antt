@@ -10,8 +10,8 @@ use Rattle.timefd_date_moment.specs.declared.moment.Moment.{Moment}
 use Rattle.timefd_language.specs.declared.language.Language.{Language}
 use Rattle.timefd_parse.specs.Language.{SpellsIn, FaultIn}
 use Rattle.timefd_date_moment.specs.declared.fields.fault.ReadError.{ReadError}
-use Rattle.timefd_date_moment.specs.declared.fields.fault.Reason.{Reason}
-use Rattle.timefd_date_moment.specs.declared.fields.fault.Reason.TheVariants as for
+use Rattle.timefd_date_moment.specs.declared.fields.fault.UnreadReason.{UnreadReason}
+use Rattle.timefd_date_moment.specs.declared.fields.fault.UnreadReason.TheVariants as for
 use Rattle.timefd_date_moment.specs.Reading.Sentences.{sentence}
 use Rattle.timefd_date_moment.specs.declared.reading.error.ValueError.{ValueError}
 use Rattle.timefd_description.specs.ReadAnswers.{IsReadAs, IsRefusedFor, fields_in}
@@ -20,11 +20,11 @@ use Rattle.timefd_description.specs.declared.read_error.ReadTextError.{ReadTextE
 use Rattle.timefd_description.specs.declared.read_error.ReadTextError.TheVariants as fails
 
 -- why a part of the text doesn't match
-abbrev pub sentence_here : Reason → Text
+abbrev pub sentence_here : UnreadReason → Text
 sentence_here reason = reason_sentence reason ++ codes " here"
 
 -- the component that doesn't match, or nothing
-abbrev pub component_in : Reason → Text
+abbrev pub component_in : UnreadReason → Text
 component_in (for.Unread c) = name c
 component_in (for.Contradiction c) = name c
 component_in for.Literal = []
@@ -51,24 +51,24 @@ abbrev pub no_description : Text
 no_description = [] ++ codes "{\"read\":false}"
 
 -- The object reports the result. No object reports that memory ran out.
-abbrev pub Tells : Result Moment ReadTextError → Text → Type 0
-Tells (Ok m) object = object ≡ moment_object m
-Tells (Err (fails.Unread u)) object = object ≡ unread_object u
-Tells (Err (fails.Value v)) object = object ≡ value_object v
-Tells (Err (fails.Fault f)) object = object ≡ no_description
-Tells (Err (fails.Memory e)) object = ⊥
+abbrev pub Shows : Result Moment ReadTextError → Text → Type 0
+Shows (Ok m) object = object ≡ moment_object m
+Shows (Err (fails.Unread u)) object = object ≡ unread_object u
+Shows (Err (fails.Value v)) object = object ≡ value_object v
+Shows (Err (fails.Fault f)) object = object ≡ no_description
+Shows (Err (fails.Memory e)) object = ⊥
 
 -- By a description of these items the text is read, and the object reports what was read, or why nothing
 -- was.
 abbrev pub IsReading : List Tree → Text → Text → Type 0
 IsReading list text object =
     (answer : Result Moment ReadTextError) × IsReadAs (fields_in list text) answer
-    × Tells answer object
+    × Shows answer object
 
 -- The object says that there is no description, because of this fault.
 abbrev pub IsNoReading : Fault → Text → Type 0
 IsNoReading f object =
-    (answer : Result Moment ReadTextError) × IsRefusedFor f answer × Tells answer object
+    (answer : Result Moment ReadTextError) × IsRefusedFor f answer × Shows answer object
 
 -- What the object says of the text by a description.
 pub record Reads (language : Language) (description text object : Text) : Type 0 where

@@ -5,7 +5,7 @@ use Rattle.std.specs.declared.string.String.{String}
 use Rattle.json.specs.Json.{Json, null, object, no_members, member}
 use Rattle.timefd_lang_component.specs.Tree.{Text}
 use Rattle.timefd_lint_explain.specs.declared.explain.Explanation.{Explanation}
-use Rattle.timefd_lint_explain.specs.declared.node.Node.{Node}
+use Rattle.timefd_lint_explain.specs.declared.node.ShownNode.{ShownNode}
 use Rattle.timefd_web.specs.JsonLaws.Logs.{All}
 use Rattle.timefd_web.specs.JsonLaws.Meaning.{IsJson}
 use Rattle.timefd_web.specs.JsonLaws.Objects.{text_member, number_member, IsNumber64}
@@ -26,7 +26,7 @@ refusal_value code message help nearest start end =
     (text_member (codes "nearest") nearest (number_member (codes "start") start
     (number_member (codes "end") end no_members)))))))
 
-abbrev pub node_value : Node → Json
+abbrev pub node_value : ShownNode → Json
 node_value n =
     object (number_member (codes "depth") n.depth (number_member (codes "start") n.start
     (number_member (codes "end") n.end (number_member (codes "bytes") n.bytes
@@ -65,7 +65,7 @@ nothing_value = object (truth_member (codes "read") false no_members)
 
 -- What is written of these is UTF-8, and each number is one of 64 bits.
 
-abbrev pub IsProperNode : Node → Type 0
+abbrev pub IsProperNode : ShownNode → Type 0
 IsProperNode n =
     IsNumber64 n.depth × IsNumber64 n.start × IsNumber64 n.end × IsNumber64 n.bytes
     × IsUtf8 (kind_name n.kind) × IsUtf8 (string_bytes n.words) × IsUtf8 (string_bytes n.example)

@@ -5,7 +5,7 @@ use Rattle.json.specs.Value.{items_of}
 use Rattle.timefd_lang_component.specs.Tree.{Text}
 use Rattle.timefd_lang_dialect.specs.Reasons as reasons
 use Rattle.timefd_lang_dialect.specs.TrapWords as words
-use Rattle.timefd_lang_dialect.specs.declared.error.Refusal.{Refusal}
+use Rattle.timefd_lang_dialect.specs.declared.error.RefusedPart.{RefusedPart}
 use Rattle.timefd_lang_dialect.specs.declared.limits.Limits.{Limits}
 use Rattle.timefd_lang_dialect.specs.declared.reading.Converted.{Converted}
 use Rattle.timefd_lang_dialect.specs.declared.trapping.Found.{Found}
@@ -40,7 +40,7 @@ converted_value c traps =
     (text_member (codes "version_3") (string_bytes c.text) (limit_members c.limits
     (list_member (codes "traps") traps no_members))))
 
-abbrev pub refused_value : Refusal → List Json → Json
+abbrev pub refused_value : RefusedPart → List Json → Json
 refused_value r traps =
     object (truth_member (codes "converted") false
     (text_member (codes "reason") (reasons.name r.reason)
@@ -83,7 +83,7 @@ IsProperTrap f =
 abbrev pub IsProperText : Converted → Type 0
 IsProperText c = IsUtf8 (string_bytes c.text) × IsNumber64 c.limits.first_year
 
-abbrev pub IsProperRefusal : Refusal → Type 0
+abbrev pub IsProperRefusal : RefusedPart → Type 0
 IsProperRefusal r =
     IsUtf8 (reasons.name r.reason) × IsUtf8 (reasons.sentence r.reason)
     × IsUtf8 (reasons.cure r.reason) × IsNumber64 r.index
@@ -95,7 +95,7 @@ IsProperGuess g = IsUtf8 g.description.now × IsNumber64 g.undecided
 pub record ObjectsAreJson : Type 0 where
   pub converted : (c : Converted) (found : List Found) → IsProperText c → All IsProperTrap found
       → IsJson (converted_object c found) (converted_value c (map trap_value found))
-  pub refused : (r : Refusal) (found : List Found) → IsProperRefusal r → All IsProperTrap found
+  pub refused : (r : RefusedPart) (found : List Found) → IsProperRefusal r → All IsProperTrap found
       → IsJson (refused_object r found) (refused_value r (map trap_value found))
   pub format : (c : Converted) → IsProperText c → IsJson (format_object c) (format_value c)
   pub lacking : (index : ℕ) → IsNumber64 index → IsJson (lacking_object index) (lacking_value index)

@@ -6,7 +6,7 @@ ghost use Rattle.timefd_web.specs.Conversions as spec;
 use crate::records::{Record, push_list, push_truth};
 use std::alloc::{AllocError, Global};
 use timefd_lang_dialect::{
-    Converted, Dialect, DialectError, Found, Limits, Reason, Refusal, to_version_three, traps,
+    Converted, Dialect, DialectError, Found, Limits, Reason, RefusedPart, to_version_three, traps,
 };
 use timefd_lint_drawing::json::{push_number, push_text};
 
@@ -45,7 +45,11 @@ fn converted_object(
     Ok(out)
 }
 
-fn refused_object(alloc: Global, refusal: Refusal, found: &[Found]) -> Result<Vec<u8>, AllocError>
+fn refused_object(
+    alloc: Global,
+    refusal: RefusedPart,
+    found: &[Found],
+) -> Result<Vec<u8>, AllocError>
     ensures { IfOk result (λ object. object.items ≡ spec.refused_object refusal found.now) }
 {
     let mut out = Vec::new(alloc);

@@ -4,7 +4,7 @@ ghost use Rattle.std.specs.Prelude.{◌≡◌, ◌⊎◌, ◌<◌, ◌≤◌, �
 ghost use Rattle.timefd_web.specs.Answers.{Answers, IsAnswer, IsReadSaid, IsSaid, ReadAnswers, language_of};
 
 use crate::answer::{REPORTED, ReportAnswer};
-use crate::fields::MomentFields;
+use crate::fields::MomentParts;
 use crate::reading::reading_of;
 use crate::report::report_of;
 use crate::silence::Silence;
@@ -19,7 +19,7 @@ pub extern "C" fn timefd_web_report(
     alloc: Global,
     number: u32,
     text: &[u8],
-    fields: &MomentFields,
+    fields: &MomentParts,
     buffer: &mut [u8],
     answer: &mut ReportAnswer,
 )
@@ -66,7 +66,7 @@ pub fn given(said: &Result<Vec<u8>, Silence>, buffer: &mut [u8]) -> ReportAnswer
 }
 
 #[tactic(auto, using(crate::proofs::AnswerLemmas::reported))]
-fn said(alloc: Global, number: u32, bytes: &[u8], fields: &MomentFields) -> Result<Vec<u8>, Silence>
+fn said(alloc: Global, number: u32, bytes: &[u8], fields: &MomentParts) -> Result<Vec<u8>, Silence>
     ensures { IsSaid number bytes.now fields.now result }
 {
     let Some(language) = from_number(number) else {

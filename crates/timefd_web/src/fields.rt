@@ -7,7 +7,7 @@ use timefd_date_moment::{ComponentRange, Date, Moment, Time, UtcOffset};
 /// A date, a time of day and an offset from UTC, in plain numbers.
 #[repr(C)]
 #[derive(Debug, Clone, Copy, PartialEq, Eq)]
-pub struct MomentFields {
+pub struct MomentParts {
     /// The year, from -999,999 to 999,999.
     pub year: i32,
     /// The nanosecond of the second, below 1,000,000,000.
@@ -28,9 +28,9 @@ pub struct MomentFields {
 }
 
 // `web/timefd.mjs` expects this size.
-const _: () = prove!(size_of::<MomentFields>() == 20);
+const _: () = prove!(size_of::<MomentParts>() == 20);
 
-impl MomentFields {
+impl MomentParts {
     /// The moment with these numbers. An `Err` names the first number that is out of its range.
     pub fn moment(&self) -> Result<Moment, ComponentRange>
         ensures moment { IsMomentOf self.now result }

@@ -5,7 +5,7 @@ ghost use Rattle.timefd_web.specs.Conversions as spec;
 
 use crate::converting::push_limits;
 use std::alloc::{AllocError, Global};
-use timefd_lang_dialect::{Converted, Dialect, FormatError, from_version_three};
+use timefd_lang_dialect::{Converted, Dialect, NoFormatError, from_version_three};
 use timefd_lint_drawing::json::{push_number, push_text};
 
 /// The format by which a dialect writes what a description of version 3 writes, as a JSON object, or
@@ -16,9 +16,9 @@ pub fn format_for(alloc: Global, dialect: Dialect, description: &str) -> Result<
 {
     match from_version_three(alloc, dialect, description) {
         Ok(converted) => format_object(alloc, &converted),
-        Err(FormatError::Lacking(index)) => lacking_object(alloc, index),
-        Err(FormatError::Merged) => merged_object(alloc),
-        Err(FormatError::Memory(error)) => Err(error),
+        Err(NoFormatError::Lacking(index)) => lacking_object(alloc, index),
+        Err(NoFormatError::Merged) => merged_object(alloc),
+        Err(NoFormatError::Memory(error)) => Err(error),
     }
 }
 

@@ -5,7 +5,7 @@ ghost use Rattle.timefd_lang_component.specs.Tree.{Tree};
 ghost use Rattle.timefd_lang_convert.specs.Answers.{IsNormalOf, IsPrintedOf};
 ghost use Rattle.timefd_language.specs.Grammar.{Spells, nesting_limit};
 ghost use Rattle.timefd_language.specs.Strftime.{SpellsStrftime};
-ghost use Rattle.timefd_lang_fault.specs.Reported.{MemoryAlone};
+ghost use Rattle.timefd_lang_fault.specs.BorrowedFaults.{IsMemory};
 ghost use Rattle.timefd_language.specs.declared.description_version.DescriptionVersion.TheVariants.{One, Two, Three};
 ghost use Rattle.timefd_lift.specs.Modernized.{IsWrittenOf};
 ghost use Rattle.timefd_parse.specs.Language.{SpellsIn};
@@ -13,8 +13,8 @@ ghost use Rattle.timefd_web.specs.Reports.{IsLater};
 
 use std::alloc::{AllocError, Global};
 use timefd_lang_convert::{normalize_v3, strftime_to_v3};
-use timefd_lift::{v1_to_v2, v2_to_v3};
-use timefd_parse::{DescriptionVersion, Language, ParseError};
+use timefd_lift::{v1_to_v2_borrowed, v2_to_v3};
+use timefd_parse::{BorrowedParseError, DescriptionVersion, Language};
 
 /// The texts of later versions with the same items.
 #[derive(Drop)]
@@ -51,7 +51,7 @@ fn from_one(alloc: Global, text: &str) -> Result<Later, AllocError>
     requires { (list : List Tree) × Spells One nesting_limit 0 text.now list }
     ensures { IfOk result (IsLater (Language.Version One) text.now) }
 {
-    let version_2 = match v1_to_v2(alloc, text) {
+    let version_2 = match v1_to_v2_borrowed(alloc, text) {
         Ok(answer) => answer,
         Err(error) => return Err(want_of(error)),
     };
@@ -93,11 +93,11 @@ fn from_three(alloc: Global, text: &str) -> Result<String, AllocError>
 }
 
 // Memory ran out: there is no other error here.
-fn want_of(error: ParseError) -> AllocError
-    requires { MemoryAlone error }
+fn want_of(error: BorrowedParseError<'_>) -> AllocError
+    requires { IsMemory error }
 {
     match error {
-        ParseError::Memory(error) => error,
-        ParseError::Invalid(_) => unreachable!(),
+        BorrowedParseError::Memory(error) => error,
+        BorrowedParseError::Invalid(_) => unreachable!(),
     }
 }

@@ -25,7 +25,7 @@ pub mod json_laws;
 pub use answer::{NO_LANGUAGE, NO_MEMORY, NOT_UTF8, OUT_OF_RANGE, REPORTED, ReportAnswer};
 pub use converting::conversion_of;
 pub use exports::{timefd_web_read, timefd_web_report};
-pub use fields::MomentFields;
+pub use fields::MomentParts;
 pub use formats::format_for;
 pub use guessing::guesses_of;
 pub use other_exports::{timefd_web_convert, timefd_web_format_for, timefd_web_guess};

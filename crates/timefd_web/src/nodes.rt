@@ -6,9 +6,9 @@ ghost use Rattle.timefd_web.specs.Objects as spec;
 use crate::records::Record;
 use std::alloc::{AllocError, Global};
 use timefd_lint_drawing::json::{push_number, push_text};
-use timefd_lint_explain::{Node, NodeKind};
+use timefd_lint_explain::{NodeKind, ShownNode};
 
-impl Record for Node {
+impl Record for ShownNode {
     ghost object_text = { spec.node };
 
     fn object(&self, alloc: Global) -> Result<Vec<u8>, AllocError> {
@@ -16,7 +16,7 @@ impl Record for Node {
     }
 }
 
-fn node_object(alloc: Global, node: &Node) -> Result<Vec<u8>, AllocError>
+fn node_object(alloc: Global, node: &ShownNode) -> Result<Vec<u8>, AllocError>
     ensures { IfOk result (λ object. object.items ≡ spec.node node.now) }
 {
     let mut out = Vec::new(alloc);

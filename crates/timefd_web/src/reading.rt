@@ -2,12 +2,12 @@
 
 ghost use Rattle.std.specs.Prelude.{◌≡◌, IfOk, string_bytes};
 ghost use Rattle.timefd_web.specs.Readings as spec;
-ghost use Rattle.timefd_web.specs.Readings.{Reads, Tells};
+ghost use Rattle.timefd_web.specs.Readings.{Reads, Shows};
 
 use std::alloc::{AllocError, Global};
 use timefd_date_format::component_name;
 use timefd_date_moment::Moment;
-use timefd_date_moment::fields::{ReadError, Reason};
+use timefd_date_moment::fields::{ReadError, UnreadReason};
 use timefd_date_moment::reading::ValueError;
 use timefd_description::{ReadTextError, read_text, reason_sentence};
 use timefd_lint_drawing::json::{push_number, push_text};
@@ -32,7 +32,7 @@ fn reported(
     alloc: Global,
     answer: &Result<Moment, ReadTextError<'_>>,
 ) -> Result<Vec<u8>, AllocError>
-    ensures { IfOk result (λ object. Tells answer.now object.items) }
+    ensures { IfOk result (λ object. Shows answer.now object.items) }
 {
     match answer {
         Ok(moment) => moment_object(alloc, *moment),
@@ -84,7 +84,7 @@ fn no_description(alloc: Global) -> Result<Vec<u8>, AllocError>
 }
 
 // Why a part of a text doesn't match. The page adds the position.
-fn sentence_of(alloc: Global, reason: Reason) -> Result<String, AllocError>
+fn sentence_of(alloc: Global, reason: UnreadReason) -> Result<String, AllocError>
     ensures { IfOk result (λ text. string_bytes text ≡ spec.sentence_here reason) }
 {
     let sentence = reason_sentence(alloc, reason)?;
@@ -92,11 +92,13 @@ fn sentence_of(alloc: Global, reason: Reason) -> Result<String, AllocError>
 }
 
 // The name of the component that doesn't match, or an empty text if it is no component.
-fn component_in(reason: Reason) -> &'static str
+fn component_in(reason: UnreadReason) -> &'static str
     ensures { result.now ≡ spec.component_in reason }
 {
     match reason {
-        Reason::Unread(component) | Reason::Contradiction(component) => component_name(component),
-        Reason::Literal | Reason::Trailing => "",
+        UnreadReason::Unread(component) | UnreadReason::Contradiction(component) => component_name(
+            component,
+        ),
+        UnreadReason::Literal | UnreadReason::Trailing => "",
     }
 }

@@ -10,7 +10,7 @@ use timefd_lint_drawing::json::{push_number, push_text};
 
 /// What the object of a refused text contains.
 #[derive(Clone, Copy)]
-pub struct Refusal<'a> {
+pub struct RefusedObject<'a> {
     /// The stable name of the fault.
     pub code: &'a str,
     /// The sentence of the fault.
@@ -31,7 +31,7 @@ pub fn refused(alloc: Global, diagnostic: &Diagnostic) -> Result<Vec<u8>, AllocE
 {
     let message = format!(in alloc; "{}", diagnostic.fault)?;
     let help = help_text(alloc, diagnostic.help)?;
-    let refusal = Refusal {
+    let refusal = RefusedObject {
         code: code_of(diagnostic),
         message: &message,
         help: &help,
@@ -42,7 +42,7 @@ pub fn refused(alloc: Global, diagnostic: &Diagnostic) -> Result<Vec<u8>, AllocE
     object_of(alloc, refusal)
 }
 
-fn object_of(alloc: Global, refusal: Refusal<'_>) -> Result<Vec<u8>, AllocError>
+fn object_of(alloc: Global, refusal: RefusedObject<'_>) -> Result<Vec<u8>, AllocError>
     ensures { IfOk result (λ object. object.items ≡ spec.refusal_of refusal.entry) }
 {
     let mut out = Vec::new(alloc);

@@ -40,7 +40,7 @@ const ASKED: &[(&[&str], Option<(Kind, u8)>)] = &[
 ];
 
 /// The words, owned.
-pub fn owned(rt: &impl Abort, alloc: Global, given: &[&'static str]) -> Vec<String> {
+pub(super) fn owned(rt: &impl Abort, alloc: Global, given: &[&'static str]) -> Vec<String> {
     let mut words = Vec::new(alloc);
     for word in given {
         let word = String::from_str(alloc, word).expect(rt, AMPLE);

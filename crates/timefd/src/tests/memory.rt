@@ -34,7 +34,7 @@ pub struct Feed<'a> {
 
 impl<'a> Feed<'a> {
     /// A reader none of whose calls fails.
-    pub fn new(bytes: &'a [u8]) -> Self {
+    pub(super) fn new(bytes: &'a [u8]) -> Self {
         Feed {
             left: bytes,
             most: usize::MAX,
@@ -68,7 +68,7 @@ pub struct Log {
 
 impl Log {
     /// A writer none of whose calls fails.
-    pub fn new(alloc: Global) -> Self {
+    pub(super) fn new(alloc: Global) -> Self {
         Log {
             written: Vec::new(alloc),
             is_flushed: false,
@@ -103,7 +103,7 @@ impl Write for Log {
 }
 
 /// How a run from the reader to the writer ends.
-pub fn run_over(alloc: Global, kind: Kind, from: &mut Feed<'_>, to: &mut Log) -> RunEnd {
+pub(super) fn run_over(alloc: Global, kind: Kind, from: &mut Feed<'_>, to: &mut Log) -> RunEnd {
     let mut reader = FromReader::new(from);
     let mut writer = ToWriter::new(to);
     run(alloc, kind, &mut reader, &mut writer)

@@ -7,7 +7,7 @@ use Rattle.timefd_c.specs.Fast.{IsLeaf, IsLeafAppended, IsWhole, written_answer}
 use Rattle.timefd_c.specs.Formats.{silent}
 use Rattle.timefd_c.specs.Moments.{IsMoment, range_fault}
 use Rattle.timefd_c.specs.NodeFormats.{FormatsNodes, FormatsNodesBy, IsReportedOf, ShowsBy}
-use Rattle.timefd_c_nodes.specs.declared.node.Node.{Node}
+use Rattle.timefd_c_nodes.specs.declared.node.RawNode.{RawNode}
 use Rattle.timefd_c_nodes.specs.Decoding.{format_of}
 use Rattle.timefd_c_nodes.specs.Formatting.Forward.{IsAfter, role_text}
 use Rattle.timefd_c_nodes.specs.Formatting.Parts.{by_kind, component_role, kind_of, literal_role, perhaps_role, role_in}
@@ -19,38 +19,38 @@ use Rattle.timefd_date_moment.specs.declared.moment.Moment.{Moment}
 use Rattle.timefd_lang_component.specs.Tree.{Text}
 use Rattle.timefd_lang_node_list.specs.Nodes.{Role, text, shown, together, perhaps, either, arity, kept_bytes}
 
-members_in : (l : Text) (n : Node) → n.what ≡ 3 → role_in l n ≡ Some (together n.count)
+members_in : (l : Text) (n : RawNode) → n.what ≡ 3 → role_in l n ≡ Some (together n.count)
 members_in l n what =
     ap (λ w. by_kind (kind_of w) (literal_role n.start n.count l) (component_role n) n.count (perhaps_role (format_of n))) what
 
 -- Nodes up to those that are left have no members, and what they show stands in the room.
-pub record IsWritten (m : Moment) (l : Text) (nodes left : List Node) (old room : Text) (at : ℕ) : Type 0 where
+pub record IsWritten (m : Moment) (l : Text) (nodes left : List RawNode) (old room : Text) (at : ℕ) : Type 0 where
   pub i : ℕ
   pub left_is : left ≡ drop i nodes
   pub read : IsRead m l nodes i i old room at
 
-pub none_written : (m : Moment) (l : Text) (nodes : List Node) (old : Text) → IsWritten m l nodes nodes old old 0
+pub none_written : (m : Moment) (l : Text) (nodes : List RawNode) (old : Text) → IsWritten m l nodes nodes old old 0
 none_written m l nodes old = record { i = 0; left_is = refl; read = forward.none_read m l nodes old }
 
 -- an index below which something is left
-below : (nodes : List Node) (i : ℕ) (n : Node) (rest : List Node) → n ∷ rest ≡ drop i nodes → i < length nodes
+below : (nodes : List RawNode) (i : ℕ) (n : RawNode) (rest : List RawNode) → n ∷ rest ≡ drop i nodes → i < length nodes
 below nodes i n rest is = omega (arith, ap length is, length-drop i nodes)
 
-first_left : (nodes : List Node) (i : ℕ) (n : Node) (rest : List Node) → n ∷ rest ≡ drop i nodes
+first_left : (nodes : List RawNode) (i : ℕ) (n : RawNode) (rest : List RawNode) → n ∷ rest ≡ drop i nodes
     → (n ≡ get_or nodes i n) × (rest ≡ drop (i + 1) nodes)
 first_left nodes i n rest is =
     let cut : n ∷ rest ≡ get_or nodes i n ∷ drop (i + 1) nodes =
     is ∙ (rw add-one (drop-cons nodes i n (below nodes i n rest is))) in
     (head_is cut, tail_is cut)
   where
-    head_is : {a b : Node} {xs ys : List Node} → a ∷ xs ≡ b ∷ ys → a ≡ b
+    head_is : {a b : RawNode} {xs ys : List RawNode} → a ∷ xs ≡ b ∷ ys → a ≡ b
     head_is e = cc
 
-    tail_is : {a b : Node} {xs ys : List Node} → a ∷ xs ≡ b ∷ ys → xs ≡ ys
+    tail_is : {a b : RawNode} {xs ys : List RawNode} → a ∷ xs ≡ b ∷ ys → xs ≡ ys
     tail_is e = cc
 
 -- a list by its first element and the others
-first_of : (left : List Node) (n d : Node) (rest : List Node) → 0 < length left → n ≡ get_or left 0 d → rest ≡ drop 1 left
+first_of : (left : List RawNode) (n d : RawNode) (rest : List RawNode) → 0 < length left → n ≡ get_or left 0 d → rest ≡ drop 1 left
     → n ∷ rest ≡ left
 first_of [] n d rest some is others = absurd (omega (arith, some))
 first_of (x ∷ xs) n d rest some is others = cc
@@ -63,7 +63,7 @@ no_members (together count) is = absurd is
 no_members (perhaps format) is = absurd is
 no_members (either count) is = absurd is
 
-after_leaf : (m : Moment) (l : Text) (n : Node) (i at len : ℕ) (old new : Text) → IsLeafAppended m l n old at new len
+after_leaf : (m : Moment) (l : Text) (n : RawNode) (i at len : ℕ) (old new : Text) → IsLeafAppended m l n old at new len
     → IsAfter m l n i old at new (record { at = at + len; count = i + 1 })
 after_leaf m l n i at len old new one = by one.role one.is one.leaf one.puts
   where
@@ -77,7 +77,7 @@ after_leaf m l n i at len old new one = by one.role one.is one.leaf one.puts
     by (perhaps format) is leaf puts = absurd leaf
     by (either count) is leaf puts = absurd leaf
 
-pub one_written : (m : Moment) (l : Text) (nodes left rest : List Node) (n d : Node) (start old new : Text) (at len : ℕ)
+pub one_written : (m : Moment) (l : Text) (nodes left rest : List RawNode) (n d : RawNode) (start old new : Text) (at len : ℕ)
     → 0 < length left → n ≡ get_or left 0 d → rest ≡ drop 1 left → IsWritten m l nodes left start old at
     → IsLeafAppended m l n old at new len → IsWritten m l nodes rest start new (at + len)
 one_written m l nodes left rest n d start old new at len some first others so one =
@@ -90,7 +90,7 @@ one_written m l nodes left rest n d start old new at len some first others so on
           (below nodes so.i n rest cut) here.0 so.read (after_leaf m l n so.i at len old new one);
     }
 
-pub all_written : (m : Moment) (l : Text) (nodes left : List Node) (old room : Text) (at : ℕ) → length left ≤ 0
+pub all_written : (m : Moment) (l : Text) (nodes left : List RawNode) (old room : Text) (at : ℕ) → length left ≤ 0
     → IsWritten m l nodes left old room at → IsWhole m l nodes room at
 all_written m l nodes left old room at none so =
     let end : length nodes ≤ so.i = omega (arith, none, ap length so.left_is, length-drop so.i nodes) in
@@ -101,7 +101,7 @@ all_written m l nodes left old room at none so =
     }
 
 -- The last node has no more members than there are nodes in front of it.
-pub together_written : (m : Moment) (l : Text) (nodes left : List Node) (n d : Node) (old room : Text) (at : ℕ)
+pub together_written : (m : Moment) (l : Text) (nodes left : List RawNode) (n d : RawNode) (old room : Text) (at : ℕ)
     → length left ≡ 1 → n ≡ get_or left 0 d → n.what ≡ 3 → n.count < length nodes
     → IsWritten m l nodes left old room at → IsWhole m l nodes room at
 together_written m l nodes left n d old room at one is what few so =
@@ -128,7 +128,7 @@ together_written m l nodes left n d old room at one is what few so =
       within = read.inside;
     }
 
-pub ended : (m : Moment) (l : Text) (nodes left : List Node) (n d : Node) (old room : Text) (at : ℕ) (r : Option ℕ)
+pub ended : (m : Moment) (l : Text) (nodes left : List RawNode) (n d : RawNode) (old room : Text) (at : ℕ) (r : Option ℕ)
     → n ≡ get_or left 0 d → n.what ≡ 3 → IfSome r (λ e. e ≡ at) → IfSome r (λ e. length left ≡ 1)
     → IfSome r (λ e. n.count < length nodes) → IsWritten m l nodes left old room at
     → IfSome r (IsWhole m l nodes room)
@@ -137,7 +137,7 @@ ended m l nodes left n d old room at (Some e) is what same one few so =
     subst (λ k. IsWhole m l nodes room k) (sym same)
     (together_written m l nodes left n d old room at one is what few so)
 
-pub copied : (m : Moment) (l : Text) (nodes : List Node) (f : MomentFields) (room old new : Text) (len : ℕ)
+pub copied : (m : Moment) (l : Text) (nodes : List RawNode) (f : MomentFields) (room old new : Text) (len : ℕ)
     → IsMoment f m → range_fault f ≡ None → IsWhole m l nodes room len → len < 2 ^ 64 → len ≤ length old
     → new ≡ take len room ++ drop (length (take len room)) old → FormatsNodes nodes l f old new (written_answer len)
 copied m l nodes f room old new len is range whole small fits copy = record {

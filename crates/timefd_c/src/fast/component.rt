@@ -4,12 +4,10 @@ ghost use Rattle.std.specs.Prelude.{◌≡◌, ◌+◌, ◌≤◌, IfSome, None,
 ghost use Rattle.timefd_c.specs.Fast.{IsLeafAppended};
 ghost use Rattle.timefd_c.specs.Moments.{IsMoment, has_date, range_fault};
 
-use crate::fast::flag::{case_of, digits_of, set_of, unset_of, zeros_of};
-use crate::fast::shown::{
-    append_hours, append_of_offset, append_of_time, append_shown, append_year,
-};
+use crate::fast::flag::{case_of, digits_of, known, set_of, unset_of, zeros_of};
+use crate::fast::shown::{append_hours, append_shown, append_year};
 use crate::moment::MomentFields;
-use timefd_c_nodes::Node;
+use timefd_c_nodes::RawNode;
 use timefd_date_moment::Moment;
 use timefd_lang_component::Component;
 use timefd_modifier::{
@@ -25,7 +23,7 @@ use timefd_modifier::{
 pub(crate) fn append_component(
     moment: &Moment,
     fields: &MomentFields,
-    node: &Node,
+    node: &RawNode,
     literals: &[u8],
     room: &mut [u8],
     at: usize,
@@ -95,38 +93,44 @@ pub(crate) fn append_component(
             let component = Component::Hour24(Hour24 {
                 padding: zeros_of(node)?,
             });
-            append_of_time(moment, fields, node, &component, literals, room, at)
+            known(fields.has_time())?;
+            append_shown(moment, fields, node, &component, literals, room, at)
         }
         25 => {
             let component = Component::Minute(Minute {
                 padding: zeros_of(node)?,
             });
-            append_of_time(moment, fields, node, &component, literals, room, at)
+            known(fields.has_time())?;
+            append_shown(moment, fields, node, &component, literals, room, at)
         }
         27 => {
             let component = Component::Second(Second {
                 padding: zeros_of(node)?,
             });
-            append_of_time(moment, fields, node, &component, literals, room, at)
+            known(fields.has_time())?;
+            append_shown(moment, fields, node, &component, literals, room, at)
         }
         28 => {
             let component = Component::Subsecond(Subsecond {
                 digits: digits_of(node)?,
             });
-            append_of_time(moment, fields, node, &component, literals, room, at)
+            known(fields.has_time())?;
+            append_shown(moment, fields, node, &component, literals, room, at)
         }
         29 => {
             let component = Component::OffsetHour(OffsetHour {
                 padding: zeros_of(node)?,
                 sign_is_mandatory: set_of(node)?,
             });
+            known(fields.has_offset())?;
             append_hours(moment, fields, node, &component, literals, room, at)
         }
         30 => {
             let component = Component::OffsetMinute(OffsetMinute {
                 padding: zeros_of(node)?,
             });
-            append_of_offset(moment, fields, node, &component, literals, room, at)
+            known(fields.has_offset())?;
+            append_shown(moment, fields, node, &component, literals, room, at)
         }
         _ => None,
     }

@@ -1,9 +1,9 @@
-//! The modifiers of components that are appended at once, by the numbers of their nodes.
+//! What has to be so for a component to be appended at once: its modifiers, by the numbers of its node, and what is known.
 
-ghost use Rattle.std.specs.Prelude.{◌≡◌, IfSome, Some};
+ghost use Rattle.std.specs.Prelude.{◌≡◌, IfSome, IsTrue, Some};
 ghost use Rattle.timefd_c_nodes.specs.Decoding.{digits_of as digits_by, flag_of, padding_of};
 
-use timefd_c_nodes::Node;
+use timefd_c_nodes::RawNode;
 use timefd_modifier::{Padding, SubsecondDigits};
 
 // The number of a flag that isn't set.
@@ -20,7 +20,7 @@ const ZEROS: u8 = 2;
 
 /// The padding of a component, if it is filled with zeros.
 #[inline(always)]
-pub(crate) fn zeros_of(node: &Node) -> Option<Padding>
+pub(crate) fn zeros_of(node: &RawNode) -> Option<Padding>
     ensures what { IfSome result (λ padding. node.now.what ≡ 2) }
     ensures padding { IfSome result (λ padding. padding_of node.now.padding ≡ Some padding) }
 {
@@ -32,7 +32,7 @@ pub(crate) fn zeros_of(node: &Node) -> Option<Padding>
 
 /// The sign of a component, if it is shown only where it has to be.
 #[inline(always)]
-pub(crate) fn unset_of(node: &Node) -> Option<bool>
+pub(crate) fn unset_of(node: &RawNode) -> Option<bool>
     ensures { IfSome result (λ flag. flag_of node.now.sign_is_mandatory ≡ Some flag) }
 {
     if node.sign_is_mandatory != UNSET {
@@ -43,7 +43,7 @@ pub(crate) fn unset_of(node: &Node) -> Option<bool>
 
 /// The sign of a component, if it is always shown.
 #[inline(always)]
-pub(crate) fn set_of(node: &Node) -> Option<bool>
+pub(crate) fn set_of(node: &RawNode) -> Option<bool>
     ensures { IfSome result (λ flag. flag_of node.now.sign_is_mandatory ≡ Some flag) }
 {
     if node.sign_is_mandatory != SET {
@@ -54,7 +54,7 @@ pub(crate) fn set_of(node: &Node) -> Option<bool>
 
 /// Whether a name is read in its own case only, if the node is a component.
 #[inline(always)]
-pub(crate) fn case_of(node: &Node) -> Option<bool>
+pub(crate) fn case_of(node: &RawNode) -> Option<bool>
     ensures what { IfSome result (λ flag. node.now.what ≡ 2) }
     ensures flag { IfSome result (λ flag. flag_of node.now.case_sensitive ≡ Some flag) }
 {
@@ -71,7 +71,7 @@ pub(crate) fn case_of(node: &Node) -> Option<bool>
 /// The digits of a fraction, if the node is a component, and they are as few as it takes, or thousandths, millionths
 /// or billionths.
 #[inline(always)]
-pub(crate) fn digits_of(node: &Node) -> Option<SubsecondDigits>
+pub(crate) fn digits_of(node: &RawNode) -> Option<SubsecondDigits>
     ensures what { IfSome result (λ digits. node.now.what ≡ 2) }
     ensures digits { IfSome result (λ digits. digits_by node.now.digits ≡ Some digits) }
 {
@@ -85,4 +85,12 @@ pub(crate) fn digits_of(node: &Node) -> Option<SubsecondDigits>
         10 => Some(SubsecondDigits::OneOrMore),
         _ => None,
     }
+}
+
+/// Something if a part of the moment is known, of which a component shows a part.
+#[inline(always)]
+pub(crate) fn known(is_known: bool) -> Option<()>
+    ensures { IfSome result (λ _. IsTrue is_known) }
+{
+    if is_known { Some(()) } else { None }
 }

@@ -6,7 +6,7 @@ ghost use Rattle.timefd_c.specs.Moments.{IsMoment, has_date, range_fault};
 
 use crate::fast::component::append_component;
 use crate::moment::MomentFields;
-use timefd_c_nodes::Node;
+use timefd_c_nodes::RawNode;
 use timefd_date_format::append_literal;
 use timefd_date_moment::Moment;
 
@@ -19,7 +19,7 @@ const LITERAL: u8 = 1;
 pub(crate) fn append_leaf(
     moment: &Moment,
     fields: &MomentFields,
-    node: &Node,
+    node: &RawNode,
     literals: &[u8],
     room: &mut [u8],
     at: usize,
@@ -43,7 +43,7 @@ pub(crate) fn append_leaf(
 #[tactic(auto, using(crate::proofs::FastLemmas::StepLemmas::literal_appended))]
 fn append_literal_of(
     moment: &Moment,
-    node: &Node,
+    node: &RawNode,
     literals: &[u8],
     room: &mut [u8],
     at: usize,

@@ -36,12 +36,12 @@ fn date_of(fields: &MomentFields) -> Date
 }
 
 #[inline(always)]
-#[tactic(auto, using(crate::proofs::FastLemmas::RangeLemmas::is_time_of_day, crate::proofs::FastLemmas::RangeLemmas::known_time, crate::proofs::FastLemmas::RangeLemmas::unknown_time))]
+#[tactic(auto, using(crate::proofs::FastLemmas::RangeLemmas::is_time_of_day))]
 fn time_of(fields: &MomentFields) -> Option<Time>
     requires { time_range fields.now ≡ None }
     ensures { IsTime fields.now result }
 {
-    if fields.known / 2 % 2 == 0 {
+    if !fields.has_time() {
         return None;
     }
     Some(Time {
@@ -53,12 +53,12 @@ fn time_of(fields: &MomentFields) -> Option<Time>
 }
 
 #[inline(always)]
-#[tactic(auto, using(crate::proofs::FastLemmas::RangeLemmas::is_offset_of, crate::proofs::FastLemmas::RangeLemmas::known_offset, crate::proofs::FastLemmas::RangeLemmas::unknown_offset))]
+#[tactic(auto, using(crate::proofs::FastLemmas::RangeLemmas::is_offset_of))]
 fn offset_of(fields: &MomentFields) -> Option<UtcOffset>
     requires { offset_range fields.now ≡ None }
     ensures { IsOffset fields.now result }
 {
-    if fields.known / 4 % 2 == 0 {
+    if !fields.has_offset() {
         return None;
     }
     Some(UtcOffset {

@@ -26,7 +26,7 @@ fn is_usual_date(fields: &MomentFields) -> bool
     ensures date { result ≡ true → has_date fields.now ≡ true }
     ensures range { result ≡ true → date_range fields.now ≡ None }
 {
-    if fields.known % 2 == 0 {
+    if !fields.has_date() {
         return false;
     }
     if fields.year < 0 || fields.year > 9_999 {
@@ -46,7 +46,7 @@ fn is_usual_date(fields: &MomentFields) -> bool
 fn is_time(fields: &MomentFields) -> bool
     ensures { result ≡ true → time_range fields.now ≡ None }
 {
-    if fields.known / 2 % 2 == 0 {
+    if !fields.has_time() {
         return true;
     }
     if fields.hour > 23 || fields.minute > 59 || fields.second > 59 {
@@ -63,7 +63,7 @@ fn is_time(fields: &MomentFields) -> bool
 fn is_offset(fields: &MomentFields) -> bool
     ensures { result ≡ true → offset_range fields.now ≡ None }
 {
-    if fields.known / 4 % 2 == 0 {
+    if !fields.has_offset() {
         return true;
     }
     if fields.offset_seconds.unsigned_abs() > 93_599 {
@@ -73,12 +73,11 @@ fn is_offset(fields: &MomentFields) -> bool
 }
 
 #[inline(never)]
-#[tactic(auto, using(crate::proofs::FastLemmas::RangeLemmas::known_date))]
 fn are_exactly_in_range(fields: &MomentFields) -> bool
     ensures date { result ≡ true → has_date fields.now ≡ true }
     ensures range { result ≡ true → range_fault fields.now ≡ None }
 {
-    if fields.known % 2 == 0 {
+    if !fields.has_date() {
         return false;
     }
     match fields.moment() {

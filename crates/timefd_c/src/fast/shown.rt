@@ -7,7 +7,7 @@ ghost use Rattle.timefd_c_nodes.specs.Decoding.{component_of};
 
 use crate::fast::moment::moment_of;
 use crate::moment::MomentFields;
-use timefd_c_nodes::Node;
+use timefd_c_nodes::RawNode;
 use timefd_date_format::append_quickly;
 use timefd_date_moment::Moment;
 use timefd_lang_component::Component;
@@ -17,7 +17,7 @@ use timefd_lang_component::Component;
 pub(crate) fn append_year(
     moment: &Moment,
     fields: &MomentFields,
-    node: &Node,
+    node: &RawNode,
     component: &Component,
     literals: &[u8],
     room: &mut [u8],
@@ -37,63 +37,13 @@ pub(crate) fn append_year(
     append_shown(moment, fields, node, component, literals, room, at)
 }
 
-/// Appends a part of the time of day, if that is known.
-#[inline(always)]
-pub(crate) fn append_of_time(
-    moment: &Moment,
-    fields: &MomentFields,
-    node: &Node,
-    component: &Component,
-    literals: &[u8],
-    room: &mut [u8],
-    at: usize,
-) -> Option<usize>
-    requires date { has_date fields.now ≡ true }
-    requires range { range_fault fields.now ≡ None }
-    requires moment { IsMoment fields.now moment.now }
-    requires what { node.now.what ≡ 2 }
-    requires component { component_of node.now ≡ Some component.now }
-    requires there { at + 32 ≤ length room.old }
-    ensures { IfSome result (IsLeafAppended moment.now literals.now node.now room.old at room.new) }
-{
-    if fields.known / 2 % 2 == 0 {
-        return None;
-    }
-    append_shown(moment, fields, node, component, literals, room, at)
-}
-
-/// Appends a part of the offset, if that is known.
-#[inline(always)]
-pub(crate) fn append_of_offset(
-    moment: &Moment,
-    fields: &MomentFields,
-    node: &Node,
-    component: &Component,
-    literals: &[u8],
-    room: &mut [u8],
-    at: usize,
-) -> Option<usize>
-    requires date { has_date fields.now ≡ true }
-    requires range { range_fault fields.now ≡ None }
-    requires moment { IsMoment fields.now moment.now }
-    requires what { node.now.what ≡ 2 }
-    requires component { component_of node.now ≡ Some component.now }
-    requires there { at + 32 ≤ length room.old }
-    ensures { IfSome result (IsLeafAppended moment.now literals.now node.now room.old at room.new) }
-{
-    if fields.known / 4 % 2 == 0 {
-        return None;
-    }
-    append_shown(moment, fields, node, component, literals, room, at)
-}
-
-/// Appends the hours of the offset after their sign, if it is known: three bytes.
+/// Appends the hours of the offset after their sign: three bytes.
 #[inline(always)]
 #[tactic(auto, using(crate::proofs::FastLemmas::StepLemmas::three_appended))]
 pub(crate) fn append_hours(
     moment: &Moment,
     fields: &MomentFields,
-    node: &Node,
+    node: &RawNode,
     component: &Component,
     literals: &[u8],
     room: &mut [u8],
@@ -107,9 +57,6 @@ pub(crate) fn append_hours(
     requires there { at + 32 ≤ length room.old }
     ensures { IfSome result (IsLeafAppended moment.now literals.now node.now room.old at room.new) }
 {
-    if fields.known / 4 % 2 == 0 {
-        return None;
-    }
     let end = append_end(moment, fields, node, component, literals, room, at)?;
     if end == at + 3 { Some(3) } else { None }
 }
@@ -119,7 +66,7 @@ pub(crate) fn append_hours(
 pub(crate) fn append_shown(
     moment: &Moment,
     fields: &MomentFields,
-    node: &Node,
+    node: &RawNode,
     component: &Component,
     literals: &[u8],
     room: &mut [u8],
@@ -144,7 +91,7 @@ pub(crate) fn append_shown(
 fn append_end(
     moment: &Moment,
     fields: &MomentFields,
-    node: &Node,
+    node: &RawNode,
     component: &Component,
     literals: &[u8],
     room: &mut [u8],

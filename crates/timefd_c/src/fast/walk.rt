@@ -6,7 +6,7 @@ ghost use Rattle.timefd_c.specs.Moments.{IsMoment, has_date, range_fault};
 
 use crate::fast::leaf::append_leaf;
 use crate::moment::MomentFields;
-use timefd_c_nodes::Node;
+use timefd_c_nodes::RawNode;
 use timefd_date_moment::Moment;
 
 // What members one after another are, as a node says it.
@@ -18,7 +18,7 @@ const COMPOUND: u8 = 3;
 pub(crate) fn append_nodes(
     moment: &Moment,
     fields: &MomentFields,
-    nodes: &[Node],
+    nodes: &[RawNode],
     literals: &[u8],
     room: &mut [u8],
 ) -> Option<usize>
@@ -45,7 +45,7 @@ pub(crate) fn append_nodes(
 
 // Where the text ends, if this is the last node, and has no more members than there are nodes in front of it.
 #[inline(always)]
-fn end_of(nodes: &[Node], node: &Node, left: &[Node], at: usize) -> Option<usize>
+fn end_of(nodes: &[RawNode], node: &RawNode, left: &[RawNode], at: usize) -> Option<usize>
     ensures end { IfSome result (λ end. end ≡ at) }
     ensures last { IfSome result (λ end. length left.now ≡ 1) }
     ensures fits { IfSome result (λ end. node.now.count < length nodes.now) }

@@ -9,7 +9,7 @@ use crate::fast::moment::moment_of;
 use crate::fast::range::are_in_range;
 use crate::fast::walk::append_nodes;
 use crate::moment::MomentFields;
-use timefd_c_nodes::Node;
+use timefd_c_nodes::RawNode;
 use timefd_date_moment::Moment;
 
 // Few texts are longer.
@@ -19,7 +19,7 @@ const ROOM: usize = 80;
 /// After `None` the buffer is unchanged.
 #[inline(always)]
 pub fn write_at_once(
-    nodes: &[Node],
+    nodes: &[RawNode],
     literals: &[u8],
     fields: &MomentFields,
     buffer: &mut [u8],
@@ -40,7 +40,7 @@ pub fn write_at_once(
 fn write_through(
     moment: &Moment,
     fields: &MomentFields,
-    nodes: &[Node],
+    nodes: &[RawNode],
     literals: &[u8],
     room: &mut [u8],
     buffer: &mut [u8],

@@ -12,31 +12,31 @@ use Rattle.timefd_lang_component.specs.declared.component.Component.{Component}
 use Rattle.timefd_lang_component.specs.Modern.{modern}
 use Rattle.timefd_lang_component.specs.Tree.{Text, component}
 use Rattle.timefd_lang_node_list.specs.Nodes.{shown, text, together}
-use Rattle.timefd_c_nodes.specs.declared.node.Node.{Node}
+use Rattle.timefd_c_nodes.specs.declared.node.RawNode.{RawNode}
 use Rattle.timefd_c_nodes.specs.Decoding.{component_of, format_of}
 use Rattle.timefd_c_nodes.specs.Formatting.Parts.{by_kind, component_role, kind_of, literal_role, perhaps_role, role_in, shown_role}
-use Rattle.timefd_date_moment.specs.declared.fields.fault.Reason.TheVariants as for
+use Rattle.timefd_date_moment.specs.declared.fields.fault.UnreadReason.TheVariants as for
 use Rattle.timefd_date_moment.specs.declared.fields.short.Numbers.{Numbers}
 use Rattle.timefd_date_moment.specs.Fields.Reads.{at, fault_at, read}
 use Rattle.timefd_date_moment.specs.Fields.Short.{fields_with}
 use Rattle.timefd_c_nodes.specs.Dates.Taken.{IsTaken, one_more}
 
-shown_in : (l : Text) (n : Node) (c : Component) → n.what ≡ 2 → component_of n ≡ Some c → role_in l n ≡ Some (shown c)
+shown_in : (l : Text) (n : RawNode) (c : Component) → n.what ≡ 2 → component_of n ≡ Some c → role_in l n ≡ Some (shown c)
 shown_in l n c what is =
     ap (λ w. by_kind (kind_of w) (literal_role n.start n.count l) (component_role n) n.count (perhaps_role (format_of n))) what
     ∙ ap shown_role is
 
-text_in : (l : Text) (n : Node) (bytes : Text) → n.what ≡ 1 → literal_role n.start n.count l ≡ Some (text bytes)
+text_in : (l : Text) (n : RawNode) (bytes : Text) → n.what ≡ 1 → literal_role n.start n.count l ≡ Some (text bytes)
     → role_in l n ≡ Some (text bytes)
 text_in l n bytes what is =
     ap (λ w. by_kind (kind_of w) (literal_role n.start n.count l) (component_role n) n.count (perhaps_role (format_of n))) what
     ∙ is
 
-members_in : (l : Text) (n : Node) → n.what ≡ 3 → role_in l n ≡ Some (together n.count)
+members_in : (l : Text) (n : RawNode) → n.what ≡ 3 → role_in l n ≡ Some (together n.count)
 members_in l n what =
     ap (λ w. by_kind (kind_of w) (literal_role n.start n.count l) (component_role n) n.count (perhaps_role (format_of n))) what
 
-pub component_taken : (l : Text) (n : Node) (c : Component) (left : Text) (old : Numbers) (count : ℕ)
+pub component_taken : (l : Text) (n : RawNode) (c : Component) (left : Text) (old : Numbers) (count : ℕ)
     (r : Option (ℕ × Numbers)) → n.what ≡ 2 → component_of n ≡ Some c → modern c ≡ c
     → IfSome r (λ s. s.0 ≤ length left)
     → IfSome r (λ s. read (component c) (at left (fields_with old)) ≡ Ok (at (drop s.0 left) (fields_with s.1)))
@@ -52,7 +52,7 @@ component_taken l n c left old count (Some s) what is same inside gives = record
   reads = ap (λ d. read (component d) (at left (fields_with old))) same ∙ gives;
 }
 
-pub literal_taken : (l : Text) (n : Node) (bytes : Bor Text) (left : Text) (old : Numbers) (count : ℕ) → IsAscii left
+pub literal_taken : (l : Text) (n : RawNode) (bytes : Bor Text) (left : Text) (old : Numbers) (count : ℕ) → IsAscii left
     → n.what ≡ 1 → literal_role n.start n.count l ≡ Some (text bytes.now) → starts_with eqb left bytes.now ≡ true
     → IsTaken l n left old count (record { len = length bytes.now; numbers = old; count = count + 1 })
 literal_taken l n bytes left old count ascii what is starts =
@@ -73,7 +73,7 @@ literal_taken l n bytes left old count ascii what is starts =
           else fault_at (at left (fields_with old)) for.Literal) starts;
     }
 
-pub compound_taken : (l : Text) (n : Node) (left : Text) (old : Numbers) (count : ℕ) → n.what ≡ 3 → n.count ≤ count
+pub compound_taken : (l : Text) (n : RawNode) (left : Text) (old : Numbers) (count : ℕ) → n.what ≡ 3 → n.count ≤ count
     → IsTaken l n left old count (record { len = 0; numbers = old; count = count - n.count + 1 })
 compound_taken l n left old count what few = record {
   role = together n.count;

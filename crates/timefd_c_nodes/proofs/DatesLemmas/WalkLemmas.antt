@@ -9,7 +9,7 @@ use Rattle.timefd_lang_component.specs.Modern.{modern}
 use Rattle.timefd_lang_component.specs.Tree.{Text, Tree, component, compound, literal, trees}
 use Rattle.timefd_lang_node_list.specs.Nodes.{Role, text, shown, together, perhaps, either, arity, before, ending, grown}
 use Rattle.timefd_lang_node_list.proofs.NodeLemmas.{before_zero}
-use Rattle.timefd_c_nodes.specs.declared.node.Node.{Node}
+use Rattle.timefd_c_nodes.specs.declared.node.RawNode.{RawNode}
 use Rattle.timefd_c_nodes.specs.Decoding.{read_nodes, read_on}
 use Rattle.timefd_c_nodes.specs.Formatting.Literals.{is_text}
 use Rattle.timefd_c_nodes.specs.Formatting.Nodes.{count_after, fault_after, fault_from, node_fault, node_trees, trees_of}
@@ -61,14 +61,14 @@ reads_grown ts (perhaps format) p q s e gives = absurd gives
 reads_grown ts (either count) p q s e gives = absurd gives
 
 -- whether the literals of nodes are UTF-8
-abbrev pub are_texts : Text → List Node → Bool
+abbrev pub are_texts : Text → List RawNode → Bool
 are_texts l ns = list_all (λ n. is_text (role_in l n)) ns
 
-texts_on : (l : Text) (n : Node) (ns : List Node) → is_text (role_in l n) ≡ true → are_texts l (n ∷ ns) ≡ are_texts l ns
+texts_on : (l : Text) (n : RawNode) (ns : List RawNode) → is_text (role_in l n) ≡ true → are_texts l (n ∷ ns) ≡ are_texts l ns
 texts_on l n ns e = ap (λ b. b && are_texts l ns) e
 
 -- The nodes in front of an index are these trees, and they read the date up to here.
-pub record IsReadSoFar (l : Text) (ns : List Node) (i count : ℕ) (date left : Text) (numbers : Numbers) : Type 0 where
+pub record IsReadSoFar (l : Text) (ns : List RawNode) (i count : ℕ) (date left : Text) (numbers : Numbers) : Type 0 where
   pub ts : List Tree
   pub counted : length ts ≡ count
   pub few : count ≤ i
@@ -78,7 +78,7 @@ pub record IsReadSoFar (l : Text) (ns : List Node) (i count : ℕ) (date left : 
   pub so_far : read_all (trees ts) (start date) ≡ Ok (at left (fields_with numbers))
   pub ascii : IsAscii left
 
-pub none_read : (l : Text) (ns : List Node) (date : Text) (numbers : Numbers)
+pub none_read : (l : Text) (ns : List RawNode) (date : Text) (numbers : Numbers)
     → start date ≡ at date (fields_with numbers) → IsAscii date → IsReadSoFar l ns 0 0 date date numbers
 none_read l ns date numbers is plain = record {
   ts = [];
@@ -91,12 +91,12 @@ none_read l ns date numbers is plain = record {
   ascii = plain;
 }
 
-pub one_read : (l : Text) (ns : List Node) (i count : ℕ) (d : Node) (date left after : Text) (old : Numbers) (r : Taken)
+pub one_read : (l : Text) (ns : List RawNode) (i count : ℕ) (d : RawNode) (date left after : Text) (old : Numbers) (r : Taken)
     → i < length ns → IsReadSoFar l ns i count date left old → IsTaken l (get_or ns i d) left old count r
     → after ≡ drop r.len left → IsReadSoFar l ns (i + 1) r.count date after r.numbers
 one_read l ns i count d date left after old r below so one is =
-    let n : Node = get_or ns i d in
-    let rest : List Node = drop (i + 1) ns in
+    let n : RawNode = get_or ns i d in
+    let rest : List RawNode = drop (i + 1) ns in
     let cut : drop i ns ≡ n ∷ rest = rw add-one (drop-cons ns i d below) in
     let fits : arity one.role ≤ length so.ts = subst (λ k. arity one.role ≤ k) (sym so.counted) one.fits in
     subst (λ x. IsReadSoFar l ns (i + 1) r.count date x r.numbers) (sym is) (record {
@@ -115,7 +115,7 @@ one_read l ns i count d date left after old r below so one is =
       ascii = IsAscii-drop left r.len so.ascii;
     })
 
-pub all_read : (l : Text) (ns : List Node) (i count : ℕ) (date left : Text) (numbers : Numbers) → length ns ≤ i
+pub all_read : (l : Text) (ns : List RawNode) (i count : ℕ) (date left : Text) (numbers : Numbers) → length ns ≤ i
     → left ≡ [] → IsReadSoFar l ns i count date left numbers → AreShown ns l date numbers
 all_read l ns i count date left numbers end none so =
     let whole : node_trees l ns ≡ so.ts =
@@ -127,7 +127,7 @@ all_read l ns i count date left numbers end none so =
           ∙ short.all_read (trees so.ts) date left (fields_with numbers) (sym so.so_far) none;
     }
 
-pub moment_read : (ns : List Node) (l date : Text) (numbers : Numbers) (r : Option Moment) → IsAscii date
+pub moment_read : (ns : List RawNode) (l date : Text) (numbers : Numbers) (r : Option Moment) → IsAscii date
     → AreShown ns l date numbers → IfSome r (λ m. IsMomentOf (fields_with numbers) (Ok m)) → IfSome r (IsShown ns l date)
 moment_read ns l date numbers None plain are is = tt
 moment_read ns l date numbers (Some m) plain are is =

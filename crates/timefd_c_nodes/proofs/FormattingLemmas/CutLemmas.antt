@@ -7,12 +7,12 @@ use Rattle.timefd_lang_component.specs.Modern.{modern}
 use Rattle.timefd_lang_component.specs.Tree.{Text, Tree, component, literal, compound, optional, first, pack, trees}
 use Rattle.timefd_lang_node_list.specs.Nodes.{Role, text, shown, together, perhaps, either, arity, Part, made, before, ending, grown}
 use Rattle.timefd_lang_node_list.proofs.NodeLemmas.{before-one_more, before_zero, length-before}
-use Rattle.timefd_c_nodes.specs.declared.node.Node.{Node}
+use Rattle.timefd_c_nodes.specs.declared.node.RawNode.{RawNode}
 use Rattle.timefd_c_nodes.specs.Decoding.{component_of, format_of, grown_with, read_on, read_nodes, with_component, with_members, with_optional}
 use Rattle.timefd_c_nodes.specs.Formatting.Nodes.{count_after, fault_after, fault_from, node_fault, node_trees, trees_of}
 use Rattle.timefd_c_nodes.specs.Formatting.Parts.{by_kind, part_role, perhaps_role, role, role_in, shown_role}
-use Rattle.timefd_c_nodes.specs.declared.formatting.part.Kind.TheVariants as kind
-use Rattle.timefd_c_nodes.specs.declared.formatting.part.Part.{Part as NodePart}
+use Rattle.timefd_c_nodes.specs.declared.formatting.part.RawNodeKind.TheVariants as kind
+use Rattle.timefd_c_nodes.specs.declared.formatting.part.WritingPart.{WritingPart as NodePart}
 use Rattle.std.specs.Prelude.{IsSome}
 use Rattle.std.specs.List.{list_all}
 use Rattle.std.proofs.lemmas.List.Folds.{list_all_at}
@@ -67,7 +67,7 @@ more_by ts false false false false true far bytes co k fl r fits is =
     (members_more k (λ us. first (trees us)) ts (subst (λ x. arity x ≤ length ts) (sym same) fits))
 more_by ts false false false false false far bytes co k fl r fits is = absurd cc
 
-pub whole_role : (l : Text) (n : Node) (ts : List Tree) (r : Role) → role_in l n ≡ Some r → arity r ≤ length ts
+pub whole_role : (l : Text) (n : RawNode) (ts : List Tree) (r : Role) → role_in l n ≡ Some r → arity r ≤ length ts
     → grown_with l n (Some ts) ≡ Some (grown ts (as_part r))
 whole_role l n ts r is fits =
     more_by ts (n.what == 1) (n.what == 2) (n.what == 3) (n.what == 4) (n.what == 5)
@@ -106,7 +106,7 @@ grown_length ts r h =
     )
 
 -- One node after others, all of which are parts of a description.
-pub record Cut (l : Text) (at : ℕ) (ns : List Node) (n : Node) (ts : List Tree) : Type 0 where
+pub record Cut (l : Text) (at : ℕ) (ns : List RawNode) (n : RawNode) (ts : List Tree) : Type 0 where
   pub front : fault_from l at ns (length ts) ≡ None
   pub fs : List Tree
   pub read : read_on l ns (Some ts) ≡ Some fs
@@ -114,7 +114,7 @@ pub record Cut (l : Text) (at : ℕ) (ns : List Node) (n : Node) (ts : List Tree
   pub is : role_in l n ≡ Some role
   pub fits : arity role ≤ length fs
 
-pub cut_last : (l : Text) (at : ℕ) (ns : List Node) (n : Node) (ts : List Tree)
+pub cut_last : (l : Text) (at : ℕ) (ns : List RawNode) (n : RawNode) (ts : List Tree)
     → fault_from l at (ns ++ n ∷ []) (length ts) ≡ None → Cut l at ns n ts
 cut_last l at [] n ts e =
     let o = opened_step at (length ts) (role_in l n) (fault_from l (at + 1) []) e in
@@ -135,7 +135,7 @@ cut_last l at (x ∷ ns) n ts e =
       fits = c.fits;
     }
 
-few_from : (l : Text) (at : ℕ) (ns : List Node) (ts : List Tree) → fault_from l at ns (length ts) ≡ None
+few_from : (l : Text) (at : ℕ) (ns : List RawNode) (ts : List Tree) → fault_from l at ns (length ts) ≡ None
     → length (trees_of (read_on l ns (Some ts))) ≤ length ts + length ns
 few_from l at [] ts e = omega arith
 few_from l at (x ∷ ns) ts e =
@@ -148,39 +148,39 @@ few_from l at (x ∷ ns) ts e =
     (sym (whole_role l x ts o.role o.is o.fits)) (omega (arith, rest, len))
 
 -- there are at most as many trees as nodes
-pub few : (l : Text) (ns : List Node) → node_fault l ns ≡ None → length (node_trees l ns) ≤ length ns
+pub few : (l : Text) (ns : List RawNode) → node_fault l ns ≡ None → length (node_trees l ns) ≤ length ns
 few l ns e = omega (arith, few_from l 0 ns [] e)
 
-split_at : (ns : List Node) (n : Node) → 1 ≤ length ns → n ≡ get_or ns (length ns - 1) n
+split_at : (ns : List RawNode) (n : RawNode) → 1 ≤ length ns → n ≡ get_or ns (length ns - 1) n
     → ns ≡ take (length ns - 1) ns ++ n ∷ []
 split_at ns n h is =
     let i : ℕ = length ns - 1 in
     sym (take_all (i + 1) ns (omega (arith, h))) ∙ take_more ns i n (omega (arith, h))
     ∙ ap (λ x. take i ns ++ x ∷ []) (sym is)
 
-pub last_cut : (l : Text) (ns : List Node) (n : Node) → 1 ≤ length ns
+pub last_cut : (l : Text) (ns : List RawNode) (n : RawNode) → 1 ≤ length ns
     → n ≡ get_or ns (length ns - 1) n → node_fault l ns ≡ None → Cut l 0 (take (length ns - 1) ns) n []
 last_cut l ns n h is e =
     cut_last l 0 (take (length ns - 1) ns) n []
     (ap (λ xs. fault_from l 0 xs 0) (sym (split_at ns n h is)) ∙ e)
 
-read_after : (l : Text) (ns ms : List Node) (ts : Option (List Tree))
+read_after : (l : Text) (ns ms : List RawNode) (ts : Option (List Tree))
     → read_on l (ns ++ ms) ts ≡ read_on l ms (read_on l ns ts)
 read_after l [] ms ts = refl
 read_after l (n ∷ ns) ms ts = read_after l ns ms (grown_with l n ts)
 
-pub last_trees : (l : Text) (ns : List Node) (n : Node) → 1 ≤ length ns
+pub last_trees : (l : Text) (ns : List RawNode) (n : RawNode) → 1 ≤ length ns
     → n ≡ get_or ns (length ns - 1) n → (c : Cut l 0 (take (length ns - 1) ns) n [])
     → node_trees l ns ≡ grown (node_trees l (take (length ns - 1) ns)) (as_part c.role)
 last_trees l ns n h is c =
-    let front : List Node = take (length ns - 1) ns in
+    let front : List RawNode = take (length ns - 1) ns in
     ap (λ xs. trees_of (read_nodes l xs)) (split_at ns n h is)
     ∙ ap trees_of (read_after l front (n ∷ []) (Some []))
     ∙ ap (λ o. trees_of (grown_with l n o)) c.read
     ∙ ap trees_of (whole_role l n c.fs c.role c.is c.fits)
     ∙ ap (λ o. grown (trees_of o) (as_part c.role)) (sym c.read)
 
-pub last_fits : (l : Text) (ns : List Node) (n : Node) (c : Cut l 0 ns n [])
+pub last_fits : (l : Text) (ns : List RawNode) (n : RawNode) (c : Cut l 0 ns n [])
     → arity c.role ≤ length (node_trees l ns)
 last_fits l ns n c = subst (λ o. arity c.role ≤ length (trees_of o)) (sym c.read) c.fits
 
@@ -216,14 +216,14 @@ skipped_fits fs r left one fits there = omega (arith, one, fits, there, grown_le
 
 -- One node further.
 
-fault_cut : (l : Text) (ns : List Node) (at count : ℕ) (d : Node) → at < length ns
+fault_cut : (l : Text) (ns : List RawNode) (at count : ℕ) (d : RawNode) → at < length ns
     → fault_from l at (drop at ns) count
     ≡ fault_after at (count_after count (role_in l (get_or ns at d))) (fault_from l (at + 1) (drop (at + 1) ns))
 fault_cut l ns at count d below =
     let first : drop at ns ≡ get_or ns at d ∷ drop (at + 1) ns = rw add-one (drop-cons ns at d below) in
     ap (λ xs. fault_from l at xs count) first
 
-pub fault_step : (l : Text) (ns : List Node) (at count b : ℕ) (d : Node) (whole : Option ℕ) → at < length ns
+pub fault_step : (l : Text) (ns : List RawNode) (at count b : ℕ) (d : RawNode) (whole : Option ℕ) → at < length ns
     → count_after count (role_in l (get_or ns at d)) ≡ Some b
     → fault_from l at (drop at ns) count ≡ whole
     → fault_from l (at + 1) (drop (at + 1) ns) b ≡ whole
@@ -244,16 +244,16 @@ one_more_at_most count b (Some r) e = by (nat_lt count (arity r)) e
 
 -- The last node, as it is read from the list.
 
-last_read : (ns : List Node) (d : Node) → 1 ≤ length ns
+last_read : (ns : List RawNode) (d : RawNode) → 1 ≤ length ns
     → get_or ns (length ns - 1) d ≡ get_or ns (length ns - 1) (get_or ns (length ns - 1) d)
 last_read ns d h = by ns (length ns - 1) (omega (arith, h))
   where
-    by : (xs : List Node) (i : ℕ) → i < length xs → get_or xs i d ≡ get_or xs i (get_or ns (length ns - 1) d)
+    by : (xs : List RawNode) (i : ℕ) → i < length xs → get_or xs i d ≡ get_or xs i (get_or ns (length ns - 1) d)
     by [] i h = absurd (omega (arith, h))
     by (x ∷ xs) zero h = refl
     by (x ∷ xs) (suc i) h = by xs i (omega (arith, h))
 
-module _ (l : Text) (ns : List Node) (d : Node) (there : 1 ≤ length ns) (sound : node_fault l ns ≡ None) where
+module _ (l : Text) (ns : List RawNode) (d : RawNode) (there : 1 ≤ length ns) (sound : node_fault l ns ≡ None) where
   the_cut : Cut l 0 (take (length ns - 1) ns) (get_or ns (length ns - 1) d) []
   the_cut = last_cut l ns (get_or ns (length ns - 1) d) there (last_read ns d there) sound
 
@@ -282,7 +282,7 @@ module _ (l : Text) (ns : List Node) (d : Node) (there : 1 ≤ length ns) (sound
 
 -- The nodes in front of an index, and the node with that index.
 
-prefix_from : (l : Text) (at count k : ℕ) (ns : List Node) → fault_from l at ns count ≡ None
+prefix_from : (l : Text) (at count k : ℕ) (ns : List RawNode) → fault_from l at ns count ≡ None
     → fault_from l at (take k ns) count ≡ None
 prefix_from l at count zero ns e = refl
 prefix_from l at count (suc k) [] e = refl
@@ -295,7 +295,7 @@ prefix_from l at count (suc k) (x ∷ ns) e =
 all_false : (b : Bool) → b ≡ true → b ≡ false → ⊥
 all_false b t f = absurd cc
 
-module _ (l : Text) (ns : List Node) (at : ℕ) (d : Node) (there : at < length ns) (sound : node_fault l ns ≡ None) where
+module _ (l : Text) (ns : List RawNode) (at : ℕ) (d : RawNode) (there : at < length ns) (sound : node_fault l ns ≡ None) where
   at_split : take (at + 1) ns ≡ take at ns ++ get_or ns at d ∷ []
   at_split = take_more ns at d there
 
@@ -320,7 +320,7 @@ module _ (l : Text) (ns : List Node) (at : ℕ) (d : Node) (there : at < length 
   pub at_grown : (p : NodePart) → Some (role p) ≡ role_in l (get_or ns at d)
       → node_trees l (take (at + 1) ns) ≡ grown (node_trees l (take at ns)) (as_part (role p))
   at_grown p e =
-      let n : Node = get_or ns at d in
+      let n : RawNode = get_or ns at d in
       ap (λ xs. trees_of (read_nodes l xs)) at_split
       ∙ ap trees_of (read_after l (take at ns) (n ∷ []) (Some []))
       ∙ ap (λ o. trees_of (grown_with l n o)) at_cut.read

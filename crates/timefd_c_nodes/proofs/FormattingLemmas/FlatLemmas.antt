@@ -11,7 +11,7 @@ use Rattle.timefd_lang_node_list.specs.declared.leaves.Leaf.{Leaf}
 use Rattle.timefd_lang_node_list.specs.LeafMeaning.{leaf_tree}
 use Rattle.timefd_lang_node_list.specs.Nodes.{Role, arity, before, ending, grown, made, text, shown, together}
 use Rattle.timefd_lang_node_list.proofs.NodeLemmas.{before_zero}
-use Rattle.timefd_c_nodes.specs.declared.node.Node.{Node}
+use Rattle.timefd_c_nodes.specs.declared.node.RawNode.{RawNode}
 use Rattle.timefd_c_nodes.specs.Decoding.{grown_with, read_nodes, read_on}
 use Rattle.timefd_c_nodes.specs.Formatting.Flat.{IsAdded, IsLeaf, IsMadeOf, ReadAs, Takes}
 use Rattle.timefd_c_nodes.specs.Formatting.Literals.{is_text, is_textual}
@@ -22,23 +22,23 @@ use Rattle.timefd_date_moment.specs.Fields.Reads.{Point, fields_of, followed, re
 use Rattle.timefd_c_nodes.proofs.FormattingLemmas.CutLemmas.{as_part, after_step, grown_length, whole_role}
 
 -- The nodes in front of an index are these trees, and the remaining nodes decide the rest.
-pub record AreInFront (l : Text) (ns : List Node) (at : ℕ) (ts : List Tree) : Type 0 where
+pub record AreInFront (l : Text) (ns : List RawNode) (at : ℕ) (ts : List Tree) : Type 0 where
   pub fault : fault_from l at (drop at ns) (length ts) ≡ node_fault l ns
   pub read : read_on l (drop at ns) (Some ts) ≡ read_nodes l ns
   pub texts : list_all (λ n. is_text (role_in l n)) (drop at ns)
       ≡ list_all (λ n. is_text (role_in l n)) ns
 
-texts_on : (l : Text) (n : Node) (ns : List Node) → is_text (role_in l n) ≡ true
+texts_on : (l : Text) (n : RawNode) (ns : List RawNode) → is_text (role_in l n) ≡ true
     → list_all (λ n. is_text (role_in l n)) (n ∷ ns) ≡ list_all (λ n. is_text (role_in l n)) ns
 texts_on l n ns e = ap (λ b. b && list_all (λ n. is_text (role_in l n)) ns) e
 
 -- One more of them.
-role_in_front : (l : Text) (ns : List Node) (at : ℕ) (d : Node) (ts : List Tree) (r : Role) → at < length ns
+role_in_front : (l : Text) (ns : List RawNode) (at : ℕ) (d : RawNode) (ts : List Tree) (r : Role) → at < length ns
     → role_in l (get_or ns at d) ≡ Some r → arity r ≤ length ts → is_textual r ≡ true → AreInFront l ns at ts
     → AreInFront l ns (at + 1) (grown ts (as_part r))
 role_in_front l ns at d ts r below is fits textual front =
-    let n : Node = get_or ns at d in
-    let rest : List Node = drop (at + 1) ns in
+    let n : RawNode = get_or ns at d in
+    let rest : List RawNode = drop (at + 1) ns in
     let cut : drop at ns ≡ n ∷ rest = rw add-one (drop-cons ns at d below) in
     let len : length (grown ts (as_part r)) ≡ length ts - arity r + 1 = grown_length ts r fits in
     record {
@@ -62,14 +62,14 @@ grown_leaf ts r leaf alone tree =
     ∙ ap (λ t. ts ++ t ∷ []) tree
 
 -- The nodes in front of an index are these trees, which read the same as the leaves so far.
-pub record AreLeaves (l : Text) (ns : List Node) (at parts : ℕ) (leaves : List Leaf) : Type 0 where
+pub record AreLeaves (l : Text) (ns : List RawNode) (at parts : ℕ) (leaves : List Leaf) : Type 0 where
   pub ts : List Tree
   pub counted : length ts ≡ parts
   pub few : parts ≤ at
   pub front : AreInFront l ns at ts
   pub same : (p : Point) → read_all (trees ts) p ≡ read_all (trees (map leaf_tree leaves)) p
 
-pub none_in_front : (l : Text) (ns : List Node) → AreLeaves l ns 0 0 []
+pub none_in_front : (l : Text) (ns : List RawNode) → AreLeaves l ns 0 0 []
 none_in_front l ns = record {
   ts = [];
   counted = refl;
@@ -86,7 +86,7 @@ added_read ts us t p same =
     appended ts (t ∷ []) p ∙ ap (λ o. followed o (λ q. read_all (trees (t ∷ [])) q)) (same p)
     ∙ sym (appended us (t ∷ []) p)
 
-one_added : (l : Text) (ns : List Node) (at parts after : ℕ) (d : Node) (leaves more : List Leaf) → at < length ns
+one_added : (l : Text) (ns : List RawNode) (at parts after : ℕ) (d : RawNode) (leaves more : List Leaf) → at < length ns
     → AreLeaves l ns at parts leaves → IsAdded l (get_or ns at d) parts leaves after more
     → AreLeaves l ns (at + 1) after more
 one_added l ns at parts after d leaves more below so one =
@@ -105,7 +105,7 @@ one_added l ns at parts after d leaves more below so one =
           ∙ ap (λ us. read_all (trees us) p) (sym (map-append leaf_tree leaves (leaf ∷ [])));
     })
 
-one_made : (l : Text) (ns : List Node) (at parts after : ℕ) (d : Node) (leaves more : List Leaf) → at < length ns
+one_made : (l : Text) (ns : List RawNode) (at parts after : ℕ) (d : RawNode) (leaves more : List Leaf) → at < length ns
     → AreLeaves l ns at parts leaves → IsMadeOf l (get_or ns at d) parts leaves after more
     → AreLeaves l ns (at + 1) after more
 one_made l ns at parts after d leaves more below so one =
@@ -119,14 +119,14 @@ one_made l ns at parts after d leaves more below so one =
           ∙ ap (λ us. read_all (trees us) p) (take-append-drop (length so.ts - one.count) so.ts) ∙ so.same p;
     })
 
-pub one_more : (l : Text) (ns : List Node) (at parts after : ℕ) (d : Node) (leaves more : List Leaf) → at < length ns
+pub one_more : (l : Text) (ns : List RawNode) (at parts after : ℕ) (d : RawNode) (leaves more : List Leaf) → at < length ns
     → AreLeaves l ns at parts leaves → Takes l (get_or ns at d) parts leaves after more
     → AreLeaves l ns (at + 1) after more
 one_more l ns at parts after d leaves more below so (inl one) = one_added l ns at parts after d leaves more below so one
 one_more l ns at parts after d leaves more below so (inr one) = one_made l ns at parts after d leaves more below so one
 
 -- All of them.
-module _ (l : Text) (ns : List Node) (at parts : ℕ) (leaves : List Leaf) (end : length ns ≤ at)
+module _ (l : Text) (ns : List RawNode) (at parts : ℕ) (leaves : List Leaf) (end : length ns ≤ at)
     (so : AreLeaves l ns at parts leaves) where
   pub sound_all : node_fault l ns ≡ None
   sound_all = sym so.front.fault ∙ ap (λ xs. fault_from l at xs (length so.ts)) (drop_all at ns end)
@@ -141,7 +141,7 @@ module _ (l : Text) (ns : List Node) (at parts : ℕ) (leaves : List Leaf) (end 
   reads_all date =
       ap (λ us. fields_of (compound (trees us)) date) trees_all ∙ ap (whole (length date)) (so.same (start date))
 
-pub text_leaf : (l : Text) (n : Node) (bytes : Text) (leaf : Leaf) → Some (text bytes) ≡ role_in l n
+pub text_leaf : (l : Text) (n : RawNode) (bytes : Text) (leaf : Leaf) → Some (text bytes) ≡ role_in l n
     → IsUtf8 bytes → literal bytes ≡ leaf_tree leaf → IsLeaf l n leaf
 text_leaf l n bytes leaf is utf8 tree = record {
   role = text bytes;
@@ -151,23 +151,23 @@ text_leaf l n bytes leaf is utf8 tree = record {
   tree = tree;
 }
 
-pub component_leaf : (l : Text) (n : Node) (c : Component) (leaf : Leaf) → Some (shown c) ≡ role_in l n
+pub component_leaf : (l : Text) (n : RawNode) (c : Component) (leaf : Leaf) → Some (shown c) ≡ role_in l n
     → component (modern c) ≡ leaf_tree leaf → IsLeaf l n leaf
 component_leaf l n c leaf is tree =
     record { role = shown c; is = sym is; alone = refl; textual = refl; tree = tree }
 
-pub takes_leaf : (l : Text) (n : Node) (parts after : ℕ) (leaves more : List Leaf) (leaf : Leaf) → IsLeaf l n leaf
+pub takes_leaf : (l : Text) (n : RawNode) (parts after : ℕ) (leaves more : List Leaf) (leaf : Leaf) → IsLeaf l n leaf
     → after ≡ parts + 1 → more ≡ leaves ++ leaf ∷ [] → Takes l n parts leaves after more
 takes_leaf l n parts after leaves more leaf is one added = inl (record { leaf = leaf; is = is; one = one; added = added })
 
-pub takes_text : (l : Text) (n : Node) (parts : ℕ) (leaves more : List Leaf) (leaf : Leaf) (r : Option ℕ)
+pub takes_text : (l : Text) (n : RawNode) (parts : ℕ) (leaves more : List Leaf) (leaf : Leaf) (r : Option ℕ)
     → IsLeaf l n leaf → IfSome r (λ after. after ≡ parts + 1) → IfSome r (λ after. more ≡ leaves ++ leaf ∷ [])
     → IfSome r (λ after. Takes l n parts leaves after more)
 takes_text l n parts leaves more leaf None is one added = tt
 takes_text l n parts leaves more leaf (Some after) is one added =
     takes_leaf l n parts after leaves more leaf is one added
 
-pub takes_members : (l : Text) (n : Node) (parts count : ℕ) (leaves : List Leaf) → Some (together count) ≡ role_in l n
+pub takes_members : (l : Text) (n : RawNode) (parts count : ℕ) (leaves : List Leaf) → Some (together count) ≡ role_in l n
     → count ≤ parts → Takes l n parts leaves (parts - count + 1) leaves
 takes_members l n parts count leaves is few =
     inr (record { count = count; is = sym is; few = few; one = refl; same = refl })

@@ -13,14 +13,14 @@ use Rattle.timefd_date_format.specs.Appends.{IsKept, IsAppended, TriesToAppend}
 use Rattle.timefd_date_format.proofs.AppendLemmas.{both_appended, nothing_appended}
 use Rattle.timefd_lang_node_list.specs.Nodes.{Role, text, shown, together, perhaps, either, arity, before, ending, grown}
 use Rattle.timefd_lang_node_list.proofs.NodeLemmas.{before_zero}
-use Rattle.timefd_c_nodes.specs.declared.node.Node.{Node}
+use Rattle.timefd_c_nodes.specs.declared.node.RawNode.{RawNode}
 use Rattle.timefd_c_nodes.specs.Decoding.{read_nodes, read_on}
 use Rattle.timefd_c_nodes.specs.Formatting.Forward.{IsAfter, IsForward, role_text}
 use Rattle.timefd_c_nodes.specs.Formatting.Nodes.{count_after, fault_after, fault_from, node_fault, node_trees, trees_of}
 use Rattle.timefd_c_nodes.specs.Formatting.Parts.{by_kind, perhaps_role, shown_role}
 use Rattle.timefd_c_nodes.specs.declared.formatting.forward.Reached.{Reached}
-use Rattle.timefd_c_nodes.specs.declared.formatting.part.Kind.{Kind}
-use Rattle.timefd_c_nodes.specs.declared.formatting.part.Kind.TheVariants as kind
+use Rattle.timefd_c_nodes.specs.declared.formatting.part.RawNodeKind.{RawNodeKind}
+use Rattle.timefd_c_nodes.specs.declared.formatting.part.RawNodeKind.TheVariants as kind
 use Rattle.timefd_c_nodes.proofs.FormattingLemmas.CutLemmas.{as_part, after_step, grown_length, whole_role}
 use Rattle.timefd_c_nodes.proofs.FormattingLemmas.WriteLemmas.{component_by_itself}
 
@@ -50,7 +50,7 @@ forward_shows m ts (perhaps format) is fits = absurd is
 forward_shows m ts (either count) is fits = absurd is
 
 -- The trees so far, and what is written of them.
-pub record IsRead (m : Moment) (l : Text) (nodes : List Node) (i count : ℕ) (old room : Text) (at : ℕ) : Type 0 where
+pub record IsRead (m : Moment) (l : Text) (nodes : List RawNode) (i count : ℕ) (old room : Text) (at : ℕ) : Type 0 where
   pub ts : List Tree
   pub done : Text
   pub counted : length ts ≡ count
@@ -61,7 +61,7 @@ pub record IsRead (m : Moment) (l : Text) (nodes : List Node) (i count : ℕ) (o
   pub put : IsAppended done old 0 room at
   pub inside : at ≤ length room
 
-pub none_read : (m : Moment) (l : Text) (nodes : List Node) (old : Text) → IsRead m l nodes 0 0 old old 0
+pub none_read : (m : Moment) (l : Text) (nodes : List RawNode) (old : Text) → IsRead m l nodes 0 0 old old 0
 none_read m l nodes old = record {
   ts = [];
   done = [];
@@ -74,12 +74,12 @@ none_read m l nodes old = record {
   inside = omega arith;
 }
 
-pub one_read : (m : Moment) (l : Text) (nodes : List Node) (i count : ℕ) (n d : Node) (old room new : Text) (at : ℕ)
+pub one_read : (m : Moment) (l : Text) (nodes : List RawNode) (i count : ℕ) (n d : RawNode) (old room new : Text) (at : ℕ)
     (r : Reached) → i < length nodes → n ≡ get_or nodes i d → IsRead m l nodes i count old room at
     → IsAfter m l n count room at new r → IsRead m l nodes (i + 1) r.count old new r.at
 one_read m l nodes i count n d old room new at r below is so one = by (role_text m one.role) refl one.puts
   where
-    rest : List Node
+    rest : List RawNode
     rest = drop (i + 1) nodes
 
     cut : drop i nodes ≡ n ∷ drop (i + 1) nodes
@@ -132,12 +132,12 @@ one_read m l nodes i count n d old room new at r below is so one = by (role_text
       );
     }
 
-pub all_sound : (m : Moment) (l : Text) (nodes : List Node) (i count : ℕ) (old room : Text) (at : ℕ)
+pub all_sound : (m : Moment) (l : Text) (nodes : List RawNode) (i count : ℕ) (old room : Text) (at : ℕ)
     → length nodes ≤ i → IsRead m l nodes i count old room at → node_fault l nodes ≡ None
 all_sound m l nodes i count old room at end so =
     sym so.fault ∙ ap (λ xs. fault_from l i xs count) (drop_all i nodes end)
 
-pub all_shown : (m : Moment) (l : Text) (nodes : List Node) (i count : ℕ) (old room : Text) (at : ℕ)
+pub all_shown : (m : Moment) (l : Text) (nodes : List RawNode) (i count : ℕ) (old room : Text) (at : ℕ)
     → length nodes ≤ i → IsRead m l nodes i count old room at
     → written_all m (trees (node_trees l nodes)) ≡ Ok (take at room)
 all_shown m l nodes i count old room at end so =
@@ -146,7 +146,7 @@ all_shown m l nodes i count old room at end so =
     ap (λ ts. written_all m (trees ts)) whole ∙ so.shows ∙ ap Ok (sym so.put.front)
 
 -- the component of a node
-pub component_is : (k : Option Kind) (short : Bool) (bytes : Text) (o : Option Component) (count : ℕ)
+pub component_is : (k : Option RawNodeKind) (short : Bool) (bytes : Text) (o : Option Component) (count : ℕ)
     (f : Option Bool) (c : Component)
     → by_kind k (if short then None else Some (text bytes)) (shown_role o) count (perhaps_role f) ≡ Some (shown c)
     → o ≡ Some c

@@ -8,7 +8,7 @@ use Rattle.timefd_lang_component.specs.Modern.{modern}
 use Rattle.timefd_lang_component.specs.Tree.{Text, Tree, component, compound, literal, trees}
 use Rattle.timefd_lang_node_list.specs.Nodes.{Role, arity, before, ending, grown, shown, text}
 use Rattle.timefd_lang_node_list.proofs.NodeLemmas.{before_zero}
-use Rattle.timefd_c_nodes.specs.declared.node.Node.{Node}
+use Rattle.timefd_c_nodes.specs.declared.node.RawNode.{RawNode}
 use Rattle.timefd_c_nodes.specs.Formatting.Nodes.{node_trees}
 use Rattle.timefd_c_nodes.proofs.FormattingLemmas.CutLemmas.{as_part, grown_length}
 
@@ -43,7 +43,7 @@ whole_compound ts count e =
     let none : length ts - count ≡ 0 = omega (arith, e) in
     ap (λ k. take k ts ++ compound (trees (drop k ts)) ∷ []) none
 
-pub all_listed : (l : Text) (ns : List Node) (k : ℕ) (ts us : List Tree)
+pub all_listed : (l : Text) (ns : List RawNode) (k : ℕ) (ts us : List Tree)
     → us ≡ compound (trees ts) ∷ [] → ts ≡ node_trees l (take k ns) → length ns ≤ k
     → us ≡ compound (trees (node_trees l ns)) ∷ []
 all_listed l ns k ts us e t h =

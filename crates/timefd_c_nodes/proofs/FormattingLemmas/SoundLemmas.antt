@@ -11,21 +11,21 @@ use Rattle.timefd_lang_component.specs.Modern.{AreModern}
 use Rattle.timefd_lang_component.specs.Tree.{Text, Tree, component, literal, compound, optional, first, Trees, no_trees, more_trees, pack, trees}
 use Rattle.timefd_lang_node_list.specs.Nodes.{Role, text, shown, together, perhaps, either, arity, before, ending, grown}
 use Rattle.timefd_lang_node_list.specs.Views.{walked, walked_all}
-use Rattle.timefd_c_nodes.specs.declared.node.Node.{Node}
+use Rattle.timefd_c_nodes.specs.declared.node.RawNode.{RawNode}
 use Rattle.timefd_c_nodes.specs.Decoding.{component_of, format_of, grown_with, read_on, with_component, with_members, with_optional}
 use Rattle.timefd_c_nodes.specs.Encoding.{component_table, literals_of, node_for, nodes_from, own_text}
 use Rattle.timefd_c_nodes.proofs.DecodeLemmas.{nodes_from-append, trees_back}
 use Rattle.timefd_c_nodes.proofs.WriteLemmas.{literals_of-append}
 use Rattle.timefd_c_nodes.specs.Formatting.Nodes.{count_after, fault_after, fault_from, node_fault}
 use Rattle.timefd_c_nodes.specs.Formatting.Parts.{by_kind, perhaps_role, role_in, shown_role}
-use Rattle.timefd_c_nodes.specs.declared.formatting.part.Kind.TheVariants as kind
+use Rattle.timefd_c_nodes.specs.declared.formatting.part.RawNodeKind.TheVariants as kind
 use Rattle.timefd_c_nodes.proofs.FormattingLemmas.CutLemmas.{as_part, after_step, grown_length, whole_role}
 
 -- All bytes of a literal are among the literals.
-record IsPart (l : Text) (n : Node) : Type 0 where
+record IsPart (l : Text) (n : RawNode) : Type 0 where
   pub inside : n.what ≡ 1 → n.start + n.count ≤ length l
 
-abbrev AreParts : Text → List Node → Type 0
+abbrev AreParts : Text → List RawNode → Type 0
 AreParts l [] = ⊤
 AreParts l (n ∷ ns) = IsPart l n × AreParts l ns
 
@@ -84,7 +84,7 @@ equal a b e = by (eqb_tells a b) e
     by (inl x) e = x.1
     by (inr x) e = let no : false ≡ true = sym x.0 ∙ e in absurd cc
 
-found : (l : Text) (n : Node) (ts us : List Tree) → IsPart l n → grown_with l n (Some ts) ≡ Some us
+found : (l : Text) (n : RawNode) (ts us : List Tree) → IsPart l n → grown_with l n (Some ts) ≡ Some us
     → Found ts (role_in l n)
 found l n ts us p h =
     found_by ts us (n.what == 1) (n.what == 2) (n.what == 3) (n.what == 4) (n.what == 5)
@@ -95,11 +95,11 @@ found l n ts us p h =
 same_trees : (ts us : List Tree) → Some ts ≡ Some us → ts ≡ us
 same_trees ts us e = cc
 
-no_more : (l : Text) (ns : List Node) (us : List Tree) → read_on l ns None ≡ Some us → ⊥
+no_more : (l : Text) (ns : List RawNode) (us : List Tree) → read_on l ns None ≡ Some us → ⊥
 no_more l [] us e = absurd cc
 no_more l (n ∷ ns) us e = no_more l ns us e
 
-sound_from : (l : Text) (at : ℕ) (ns : List Node) (ts us : List Tree) → AreParts l ns
+sound_from : (l : Text) (at : ℕ) (ns : List RawNode) (ts us : List Tree) → AreParts l ns
     → read_on l ns (Some ts) ≡ Some us → fault_from l at ns (length ts) ≡ None
 sound_from l at [] ts us p e = refl
 sound_from l at (n ∷ ns) ts us p e =
@@ -133,7 +133,7 @@ node_part (compound ts) at used l room = record { inside = λ e. absurd (omega (
 node_part (optional format t) at used l room = record { inside = λ e. absurd (omega (arith, e)) }
 node_part (first ts) at used l room = record { inside = λ e. absurd (omega (arith, e)) }
 
-parts_append : (l : Text) (ns ms : List Node) → AreParts l ns → AreParts l ms → AreParts l (ns ++ ms)
+parts_append : (l : Text) (ns ms : List RawNode) → AreParts l ns → AreParts l ms → AreParts l (ns ++ ms)
 parts_append l [] ms p q = q
 parts_append l (n ∷ ns) ms p q = (p.0, parts_append l ns ms p.1 q)
 

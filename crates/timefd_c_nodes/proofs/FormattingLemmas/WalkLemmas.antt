@@ -14,7 +14,7 @@ use Rattle.timefd_date_format.specs.Writes.{IsIn, Writes}
 use Rattle.timefd_date_format.specs.Written.{followed, written_all}
 use Rattle.timefd_date_format.proofs.LeafLemmas.{written_append}
 use Rattle.timefd_date_format.proofs.WalkLemmas.{writes_after, writes_in}
-use Rattle.timefd_c_nodes.specs.declared.node.Node.{Node}
+use Rattle.timefd_c_nodes.specs.declared.node.RawNode.{RawNode}
 use Rattle.timefd_c_nodes.specs.Decoding.{read_on}
 use Rattle.timefd_c_nodes.specs.Formatting.Nodes.{fault_after, fault_from, count_after, node_fault, node_leaves, node_trees, trees_of}
 use Rattle.timefd_c_nodes.specs.Formatting.Parts.{role_in}
@@ -23,11 +23,11 @@ use Rattle.timefd_c_nodes.proofs.FormattingLemmas.CutLemmas.{as_part, after_step
 use Rattle.timefd_c_nodes.proofs.FormattingLemmas.WriteLemmas.{IsPutTo, all_put, by_leaves_in, no_room_for, none_put}
 
 -- nodes that are a description, and one more node that finds its members among their trees
-record IsMore (l : Text) (at : ℕ) (ns : List Node) (n : Node) (r : Role) (ts : List Tree) : Type 0 where
+record IsMore (l : Text) (at : ℕ) (ns : List RawNode) (n : RawNode) (r : Role) (ts : List Tree) : Type 0 where
   sound : fault_from l at (ns ++ n ∷ []) (length ts) ≡ None
   reads : trees_of (read_on l (ns ++ n ∷ []) (Some ts)) ≡ grown (trees_of (read_on l ns (Some ts))) (as_part r)
 
-one_node_more : (l : Text) (at : ℕ) (ns : List Node) (n : Node) (r : Role) (ts : List Tree)
+one_node_more : (l : Text) (at : ℕ) (ns : List RawNode) (n : RawNode) (r : Role) (ts : List Tree)
     → fault_from l at ns (length ts) ≡ None → role_in l n ≡ Some r
     → arity r ≤ length (trees_of (read_on l ns (Some ts))) → IsMore l at ns n r ts
 one_node_more l at [] n r ts e is fits = record {
@@ -39,7 +39,7 @@ one_node_more l at (x ∷ ns) n r ts e is fits =
     let o = opened_step at (length ts) (role_in l x) (fault_from l (at + 1) ns) e in
     let us : List Tree = grown ts (as_part o.role) in
     let len : length us ≡ length ts - arity o.role + 1 = grown_length ts o.role o.fits in
-    let read : (ms : List Node) → read_on l (x ∷ ms) (Some ts) ≡ read_on l ms (Some us) =
+    let read : (ms : List RawNode) → read_on l (x ∷ ms) (Some ts) ≡ read_on l ms (Some us) =
     λ ms. ap (read_on l ms) (whole_role l x ts o.role o.is o.fits) in
     let rest = one_node_more l (at + 1) ns n r us (ap (fault_from l (at + 1) ns) len ∙ o.on) is
     (subst (λ fs. arity r ≤ length (trees_of fs)) (read ns) fits) in
@@ -109,17 +109,17 @@ parts_put m whole left rest ts old mid new e k w is one = record {
 }
 
 -- all nodes are a description, and the leaves after the remaining ones are written
-pub record IsLeft (m : Moment) (l : Text) (ns : List Node) (left skip : ℕ) (old new : Text) (at : WriteCursor) : Type 0 where
+pub record IsLeft (m : Moment) (l : Text) (ns : List RawNode) (left skip : ℕ) (old new : Text) (at : WriteCursor) : Type 0 where
   pub sound : node_fault l ns ≡ None
   pub put : IsPutTo m (node_leaves l ns) (leaves_in (before skip (node_trees l (take left ns)))) old new at
 
 -- the remaining nodes are a description with as many trees as are wanted
-pub record IsFront (l : Text) (ns : List Node) (left need : ℕ) : Type 0 where
+pub record IsFront (l : Text) (ns : List RawNode) (left need : ℕ) : Type 0 where
   pub sound : node_fault l (take left ns) ≡ None
   pub enough : need ≤ length (node_trees l (take left ns))
 
 -- `left` nodes remain
-pub record IsWalked (m : Moment) (l : Text) (ns : List Node) (left need skip : ℕ) (old new : Text) (at : WriteCursor) : Type 0 where
+pub record IsWalked (m : Moment) (l : Text) (ns : List RawNode) (left need skip : ℕ) (old new : Text) (at : WriteCursor) : Type 0 where
   pub inside : IsIn (length new) at
   pub within : left ≤ length ns
   pub few : need ≤ left
@@ -128,7 +128,7 @@ pub record IsWalked (m : Moment) (l : Text) (ns : List Node) (left need skip : �
       → IsLeft m l ns left skip old new at
   pub if_sound : node_fault l ns ≡ None → IsFront l ns left need
 
-pub none_walked : (m : Moment) (l : Text) (ns : List Node) (left : ℕ) (old : Text) → left ≡ length ns
+pub none_walked : (m : Moment) (l : Text) (ns : List RawNode) (left : ℕ) (old : Text) → left ≡ length ns
     → IsWalked m l ns left 0 0 old old (cursor.At (length old))
 none_walked m l ns left old all =
     let whole : take left ns ≡ ns = take_all left ns (omega (arith, all)) in
@@ -147,14 +147,14 @@ none_walked m l ns left old all =
     }
 
 -- the nodes in front of the last remaining one
-front_more : (ns : List Node) (d : Node) (left fewer : ℕ) → left ≤ length ns → fewer ≡ left - 1 → 0 < left
+front_more : (ns : List RawNode) (d : RawNode) (left fewer : ℕ) → left ≤ length ns → fewer ≡ left - 1 → 0 < left
     → take left ns ≡ take fewer ns ++ get_or ns fewer d ∷ []
 front_more ns d left fewer within one some =
     let next : left ≡ fewer + 1 = omega (arith, one, some) in
     ap (λ k. take k ns) next ∙ take_more ns fewer d (omega (arith, within, one, some))
 
 -- what is known of that node if all nodes are a description
-record IsOpened (l : Text) (ns : List Node) (d : Node) (left need fewer : ℕ) : Type 0 where
+record IsOpened (l : Text) (ns : List RawNode) (d : RawNode) (left need fewer : ℕ) : Type 0 where
   role : Role
   is : role_in l (get_or ns fewer d) ≡ Some role
   sound : node_fault l (take fewer ns) ≡ None
@@ -162,10 +162,10 @@ record IsOpened (l : Text) (ns : List Node) (d : Node) (left need fewer : ℕ) :
   fits : arity role ≤ length (node_trees l (take fewer ns))
   read : node_trees l (take left ns) ≡ grown (node_trees l (take fewer ns)) (as_part role)
 
-opened_one : (l : Text) (ns : List Node) (d : Node) (left need fewer : ℕ) → left ≤ length ns
+opened_one : (l : Text) (ns : List RawNode) (d : RawNode) (left need fewer : ℕ) → left ≤ length ns
     → IsFront l ns left need → fewer ≡ left - 1 → 0 < left → IsOpened l ns d left need fewer
 opened_one l ns d left need fewer within w one some =
-    let n : Node = get_or ns fewer d in
+    let n : RawNode = get_or ns fewer d in
     let fs : List Tree = node_trees l (take fewer ns) in
     let cut : take left ns ≡ take fewer ns ++ n ∷ [] = front_more ns d left fewer within one some in
     let c = cut_last l 0 (take fewer ns) n [] (ap (node_fault l) (sym cut) ∙ w.sound) in
@@ -182,7 +182,7 @@ opened_one l ns d left need fewer within w one some =
       read = ap (node_trees l) cut ∙ more.reads;
     }
 
-pub one_walked : (m : Moment) (l : Text) (ns : List Node) (d : Node) (r : Role)
+pub one_walked : (m : Moment) (l : Text) (ns : List RawNode) (d : RawNode) (r : Role)
     (left need skip fewer needs skips : ℕ) (old mid new : Text) (e k : WriteCursor)
     → IsWalked m l ns left need skip old mid e → fewer ≡ left - 1 → 0 < left
     → role_in l (get_or ns fewer d) ≡ Some r → needs ≡ needed need r → needs ≤ fewer → skips ≡ skipped skip r
@@ -194,7 +194,7 @@ one_walked m l ns d r left need skip fewer needs skips old mid new e k w one som
   few = few;
   less = omega (arith, need_is, skip_is, skipped_needed skip need r w.less);
   if_left = λ sound enough.
-      let n : Node = get_or ns fewer d in
+      let n : RawNode = get_or ns fewer d in
       let fs : List Tree = node_trees l (take fewer ns) in
       let cut : take left ns ≡ take fewer ns ++ n ∷ [] =
       front_more ns d left fewer w.within one some in
@@ -224,7 +224,7 @@ one_walked m l ns d r left need skip fewer needs skips old mid new e k w one som
 }
 
 -- a node that means nothing is not part of a description
-pub meaningless : (m : Moment) (l : Text) (ns : List Node) (d : Node) (left need skip fewer : ℕ) (old new : Text)
+pub meaningless : (m : Moment) (l : Text) (ns : List RawNode) (d : RawNode) (left need skip fewer : ℕ) (old new : Text)
     (at : WriteCursor) → IsWalked m l ns left need skip old new at → fewer ≡ left - 1 → 0 < left
     → role_in l (get_or ns fewer d) ≡ None → node_fault l ns ≡ None → ⊥
 meaningless m l ns d left need skip fewer old new at w one some none sound =
@@ -235,7 +235,7 @@ meaningless m l ns d left need skip fewer old new at w one some none sound =
     no_role r e = absurd cc
 
 -- and neither is a node with too few nodes in front of it
-pub too_few : (m : Moment) (l : Text) (ns : List Node) (d : Node) (r : Role) (left need skip fewer : ℕ)
+pub too_few : (m : Moment) (l : Text) (ns : List RawNode) (d : RawNode) (r : Role) (left need skip fewer : ℕ)
     (old new : Text) (at : WriteCursor) → IsWalked m l ns left need skip old new at → fewer ≡ left - 1 → 0 < left
     → role_in l (get_or ns fewer d) ≡ Some r → fewer < needed need r → node_fault l ns ≡ None → ⊥
 too_few m l ns d r left need skip fewer old new at w one some role_is short sound =
@@ -245,7 +245,7 @@ too_few m l ns d r left need skip fewer old new at w one some role_is short soun
     omega (arith, short, o.enough, ap arity same, least, length-take fewer ns)
 
 -- If a part doesn't fit in front of the written text, the whole text doesn't fit.
-pub not_written : (m : Moment) (l : Text) (ns : List Node) (d : Node) (r : Role) (left need skip fewer : ℕ)
+pub not_written : (m : Moment) (l : Text) (ns : List RawNode) (d : RawNode) (r : Role) (left need skip fewer : ℕ)
     (old mid : Text) (end : ℕ) → IsWalked m l ns left need skip old mid (cursor.At end) → fewer ≡ left - 1 → 0 < left
     → role_in l (get_or ns fewer d) ≡ Some r
     → IfOk (written_all m (trees (leaves_here skip r))) (λ text. end < length text) → node_fault l ns ≡ None
@@ -274,17 +274,17 @@ not_written m l ns d r left need skip fewer old mid end w one some role_is short
     (no_room_for _ _ _ old mid end short put.writes)
 
 -- no nodes remain
-none_left : (m : Moment) (l : Text) (ns : List Node) (left need skip : ℕ) (old new : Text) (at : WriteCursor)
+none_left : (m : Moment) (l : Text) (ns : List RawNode) (left need skip : ℕ) (old new : Text) (at : WriteCursor)
     → IsWalked m l ns left need skip old new at → left ≡ 0 → IsLeft m l ns left skip old new at
 none_left m l ns left need skip old new at w none =
     w.if_left (ap (λ k. node_fault l (take k ns)) none) (omega (arith, w.few, none))
 
-pub all_sound : (m : Moment) (l : Text) (ns : List Node) (left need skip : ℕ) (old new : Text) (at : WriteCursor)
+pub all_sound : (m : Moment) (l : Text) (ns : List RawNode) (left need skip : ℕ) (old new : Text) (at : WriteCursor)
     → IsWalked m l ns left need skip old new at → left ≡ 0 → node_fault l ns ≡ None
 all_sound m l ns left need skip old new at w none =
     (none_left m l ns left need skip old new at w none).sound
 
-pub all_written : (m : Moment) (l : Text) (ns : List Node) (left need skip : ℕ) (old new : Text) (at : WriteCursor)
+pub all_written : (m : Moment) (l : Text) (ns : List RawNode) (left need skip : ℕ) (old new : Text) (at : WriteCursor)
     → IsWalked m l ns left need skip old new at → left ≡ 0
     → Writes (written_all m (trees (node_trees l ns))) old (cursor.At (length old)) new at
 all_written m l ns left need skip old new at w none =

@@ -24,7 +24,7 @@ use Rattle.timefd_parse.specs.Read.{IsFaultIn, Leads}
 use Rattle.timefd_language.specs.declared.strftime.piece.StrftimePiece.{StrftimePiece}
 use Rattle.timefd_language.specs.Directives.PieceMeaning.{piece_tree}
 use Rattle.timefd_language.specs.Directives.StrftimeReading.{BeginsWithPiece, IsStrftimeFaultIn}
-use Rattle.timefd_c_nodes.specs.declared.node.Node.{Node}
+use Rattle.timefd_c_nodes.specs.declared.node.RawNode.{RawNode}
 use Rattle.timefd_c_nodes.specs.declared.position.WritePosition.{WritePosition}
 use Rattle.timefd_c_nodes.specs.declared.position.Written.{Written}
 use Rattle.timefd_c_nodes.specs.Encoding.{literals_of, own_text}
@@ -90,7 +90,7 @@ members_front text piece rest begins =
     }
 
 pub fits_more : (one : Bool) (text rest after : Text) (piece : StrftimePiece) (at : WritePosition) (w : Written)
-    (ns ms : List Node) (a b : Text) → BeginsWithPiece rest piece after
+    (ns ms : List RawNode) (a b : Text) → BeginsWithPiece rest piece after
     → PieceIsWritten one piece at ns ms a b w → FitsIf one at text rest → FitsIf one w.end text after
 fits_more false text rest after piece at w ns ms a b begins is fits =
     let f = members_front rest piece after begins in
@@ -153,7 +153,7 @@ piece_front v limit text tree rest leads less =
     }
 
 pub leaf_fits : (v : DescriptionVersion) (limit : ℕ) (text rest after : Text) (piece : Piece) (tree : Tree)
-    (at : WritePosition) (w : Written) (ns ms : List Node) (a b : Text) → Leads v limit 0 rest tree after
+    (at : WritePosition) (w : Written) (ns ms : List RawNode) (a b : Text) → Leads v limit 0 rest tree after
     → length after < length rest → IsLeafTree piece tree
     → IsWritten (walked tree) (reserve tree) at ns ms a b w → Fits at text rest → Fits w.end text after
 leaf_fits v limit text rest after (pieces.Literal bytes) tree at w ns ms a b leads less leaf is fits =

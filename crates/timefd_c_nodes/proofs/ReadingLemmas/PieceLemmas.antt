@@ -10,15 +10,15 @@ use Rattle.timefd_language.specs.declared.strftime.letter.Composite.TheVariants.
 use Rattle.timefd_language.specs.declared.strftime.piece.StrftimePiece.{StrftimePiece}
 use Rattle.timefd_language.specs.declared.strftime.piece.StrftimePiece.TheVariants.{Literal, Component, Composite}
 use Rattle.timefd_language.specs.Directives.PieceMeaning.{piece_tree}
-use Rattle.timefd_c_nodes.specs.declared.node.Node.{Node}
+use Rattle.timefd_c_nodes.specs.declared.node.RawNode.{RawNode}
 use Rattle.timefd_c_nodes.specs.declared.position.WritePosition.{WritePosition}
 use Rattle.timefd_c_nodes.specs.declared.position.TheConstants.{START}
 use Rattle.timefd_c_nodes.specs.declared.position.Written.{Written}
 use Rattle.timefd_c_nodes.specs.Writing.{IsWritten, Puts}
 use Rattle.timefd_c_nodes.proofs.WithinLemmas.{part_node, parts_both, parts_none}
-use Rattle.timefd_c_nodes.specs.declared.reading.progress.Progress.{Progress}
+use Rattle.timefd_c_nodes.specs.declared.reading.progress.ReadProgress.{ReadProgress}
 use Rattle.timefd_c_nodes.specs.declared.reading.progress.TheConstants.{NOTHING}
-use Rattle.timefd_c_nodes.specs.declared.reading.report.Report.{Report}
+use Rattle.timefd_c_nodes.specs.declared.reading.report.ReadReport.{ReadReport}
 use Rattle.timefd_c_nodes.specs.Reading.Composites.{composite_tree, node_of, piece_node, piece_text}
 use Rattle.timefd_c_nodes.specs.Reading.Pieces.{IsOneNode, IsStrftimeReport, PieceIsWritten, PiecesAreWritten}
 use Rattle.timefd_c_nodes.specs.Reading.Progress.{HasWrittenParts, one_more}
@@ -33,7 +33,7 @@ HasNoMembers (Component c) = Unit {0}
 HasNoMembers (Composite c) = ⊥
 
 -- a piece without members, which has one node either way
-leaf_written : (one : Bool) (p : StrftimePiece) (at : WritePosition) (ns ms : List Node) (a b : Text)
+leaf_written : (one : Bool) (p : StrftimePiece) (at : WritePosition) (ns ms : List RawNode) (a b : Text)
     (w : Written) → HasNoMembers p
     → IsWritten (walked (piece_tree p)) (reserve (piece_tree p)) at ns ms a b w
     → PieceIsWritten one p at ns ms a b w
@@ -62,7 +62,7 @@ leaf_written true (Component c) at ns ms a b w leaf is = record {
 }
 leaf_written true (Composite c) at ns ms a b w leaf is = absurd leaf
 
-pub leaf_some : (one : Bool) (p : StrftimePiece) (at : WritePosition) (ns ms : List Node) (a b : Text)
+pub leaf_some : (one : Bool) (p : StrftimePiece) (at : WritePosition) (ns ms : List RawNode) (a b : Text)
     (r : Option Written) → HasNoMembers p
     → IfSome r (IsWritten (walked (piece_tree p)) (reserve (piece_tree p)) at ns ms a b)
     → IfSome r (PieceIsWritten one p at ns ms a b)
@@ -79,7 +79,7 @@ few_bytes TimeOf24 = refl
 few_bytes Offset = refl
 
 -- a composite letter as one node
-pub composite_written : (c : CompositeLetter) (at : WritePosition) (ns ms : List Node) (a : Text)
+pub composite_written : (c : CompositeLetter) (at : WritePosition) (ns ms : List RawNode) (a : Text)
     (r : Option Written) → IfSome r (Puts (node_of c) (reserve (composite_tree c)) at ns ms)
     → IfSome r (PieceIsWritten true (Composite c) at ns ms a a)
 composite_written c at ns ms a None puts = puts
@@ -91,7 +91,7 @@ composite_written c at ns ms a (Some w) puts = record {
 
 -- Pieces, one after another.
 
-pub no_pieces : (one : Bool) (ns : List Node) (a : Text) → PiecesAreWritten one [] ns ns a a NOTHING
+pub no_pieces : (one : Bool) (ns : List RawNode) (a : Text) → PiecesAreWritten one [] ns ns a a NOTHING
 no_pieces true ns a = (
   [],
   refl,
@@ -104,7 +104,7 @@ no_pieces true ns a = (
 no_pieces false ns a = nothing_written ns a
 
 one_node_more : (pieces : List StrftimePiece) (list : List Tree) (piece : StrftimePiece)
-    (p : Progress) (w : Written) (ns ms ks : List Node) (a b c : Text)
+    (p : ReadProgress) (w : Written) (ns ms ks : List RawNode) (a b c : Text)
     → HasWrittenParts piece_node piece_text pieces list ns ms a b p
     → IsOneNode piece p.end ms ks b c w
     → HasWrittenParts piece_node piece_text (pieces ++ piece ∷ []) (list ++ piece_tree piece ∷ []) ns
@@ -116,8 +116,8 @@ one_node_more pieces list piece p w ns ms ks a b c before is = record {
   bytes = omega (arith, before.bytes, is.bytes, reserve_more list (piece_tree piece));
 }
 
-pub pieces_more : (one : Bool) (list : List Tree) (piece : StrftimePiece) (p q : Progress)
-    (w : Written) (ns ms ks : List Node) (a b c : Text) → PiecesAreWritten one list ns ms a b p
+pub pieces_more : (one : Bool) (list : List Tree) (piece : StrftimePiece) (p q : ReadProgress)
+    (w : Written) (ns ms ks : List RawNode) (a b c : Text) → PiecesAreWritten one list ns ms a b p
     → PieceIsWritten one piece p.end ms ks b c w → q ≡ one_more p w
     → PiecesAreWritten one (list ++ piece_tree piece ∷ []) ns ks a c q
 pieces_more true list piece p q w ns ms ks a b c before is more = (
@@ -131,8 +131,8 @@ pieces_more true list piece p q w ns ms ks a b c before is more = (
 pieces_more false list piece p q w ns ms ks a b c before is more =
     written_more list (piece_tree piece) p q w ns ms ks a b c before is more
 
-pub piece_counted : (one : Bool) (list : List Tree) (piece : StrftimePiece) (p : Progress)
-    (w : Written) (ns ms ks : List Node) (a b c : Text) → PiecesAreWritten one list ns ms a b p
+pub piece_counted : (one : Bool) (list : List Tree) (piece : StrftimePiece) (p : ReadProgress)
+    (w : Written) (ns ms ks : List RawNode) (a b c : Text) → PiecesAreWritten one list ns ms a b p
     → PieceIsWritten one piece p.end ms ks b c w → p.count < w.end.nodes
 piece_counted true list piece p w ns ms ks a b c before is = omega (
   arith,
@@ -147,8 +147,8 @@ piece_counted false list piece p w ns ms ks a b c before is =
 
 -- The report.
 
-pub pieces_report : (one : Bool) (list : List Tree) (p : Progress) (ns ms : List Node) (a b : Text)
-    (t : Bool) (r : Report) → PiecesAreWritten one list ns ms a b p → (IsTrue t ↔ Fit p.end ms b)
+pub pieces_report : (one : Bool) (list : List Tree) (p : ReadProgress) (ns ms : List RawNode) (a b : Text)
+    (t : Bool) (r : ReadReport) → PiecesAreWritten one list ns ms a b p → (IsTrue t ↔ Fit p.end ms b)
     → r ≡ report p.count p.bytes p.end t → IsStrftimeReport one ns ms a b list r
 pieces_report true list p ns ms a b t r all fits is = (
   all.0,

@@ -3,7 +3,7 @@ use Rattle.std.proofs.Common.{◌≡◌, ◌∙◌, ◌+◌, ◌<◌, ◌≤◌,
 use Rattle.timefd_lang_component.specs.Reserved.{reserve, reserve_all}
 use Rattle.timefd_lang_component.specs.Tree.{Text, Tree, component, literal, compound, optional, first, trees}
 use Rattle.timefd_lang_node_list.specs.Views.{walked, walked_all}
-use Rattle.timefd_c_nodes.specs.declared.node.Node.{Node}
+use Rattle.timefd_c_nodes.specs.declared.node.RawNode.{RawNode}
 use Rattle.timefd_c_nodes.specs.declared.position.TheConstants.{START}
 use Rattle.timefd_c_nodes.specs.declared.position.Written.{Written}
 use Rattle.timefd_c_nodes.specs.Writing.{IsWritten, WritesWithin}
@@ -12,7 +12,7 @@ use Rattle.timefd_c_nodes.proofs.WithinLemmas.{within_both, within_none}
 use Rattle.timefd_parse.specs.declared.piece.Piece.{Piece}
 use Rattle.timefd_parse.specs.declared.piece.Piece.TheVariants.{Literal, Component, Compound}
 use Rattle.timefd_parse.specs.Pieces.{IsLeaf, IsLeafTree, IsPiece}
-use Rattle.timefd_c_nodes.specs.declared.reading.progress.Progress.{Progress}
+use Rattle.timefd_c_nodes.specs.declared.reading.progress.ReadProgress.{ReadProgress}
 use Rattle.timefd_c_nodes.specs.declared.reading.progress.TheConstants.{NOTHING}
 use Rattle.timefd_c_nodes.specs.Reading.Progress.{HasWritten, one_more}
 
@@ -40,15 +40,15 @@ nodes_at_least [] = omega arith
 nodes_at_least (t ∷ ts) =
     omega (arith, length-append (walked t) (walked_all (trees ts)), some_node t, nodes_at_least ts)
 
-pub nothing_written : (ns : List Node) (a : Text) → HasWritten [] ns ns a a NOTHING
+pub nothing_written : (ns : List RawNode) (a : Text) → HasWritten [] ns ns a a NOTHING
 nothing_written ns a = record {
   within = within_none START ns a;
   count = refl;
   bytes = omega arith;
 }
 
-pub written_more : (list : List Tree) (t : Tree) (p q : Progress) (w : Written)
-    (ns ms ks : List Node) (a b c : Text) → HasWritten list ns ms a b p
+pub written_more : (list : List Tree) (t : Tree) (p q : ReadProgress) (w : Written)
+    (ns ms ks : List RawNode) (a b c : Text) → HasWritten list ns ms a b p
     → IsWritten (walked t) (reserve t) p.end ms ks b c w → q ≡ one_more p w
     → HasWritten (list ++ t ∷ []) ns ks a c q
 written_more list t p q w ns ms ks a b c before is more =
@@ -60,8 +60,8 @@ written_more list t p q w ns ms ks a b c before is more =
       bytes = omega (arith, before.bytes, is.bytes, reserve_more list t);
     })
 
-pub counted_below : (list : List Tree) (t : Tree) (p : Progress) (w : Written)
-    (ns ms ks : List Node) (a b c : Text) → HasWritten list ns ms a b p
+pub counted_below : (list : List Tree) (t : Tree) (p : ReadProgress) (w : Written)
+    (ns ms ks : List RawNode) (a b c : Text) → HasWritten list ns ms a b p
     → IsWritten (walked t) (reserve t) p.end ms ks b c w → p.count < w.end.nodes
 counted_below list t p w ns ms ks a b c before is = omega (
   arith,

@@ -3,7 +3,7 @@ use Rattle.std.proofs.Common.{◌≡◌, ℕ, ◌^◌, ◌<◌, ◌≤◌, List,
 use Rattle.timefd_lang_component.specs.Reserved.{reserve, reserve_all}
 use Rattle.timefd_lang_component.specs.Tree.{Text, Tree, pack, trees}
 use Rattle.timefd_lang_node_list.specs.Views.{walked, walked_all}
-use Rattle.timefd_c_nodes.specs.declared.node.Node.{Node}
+use Rattle.timefd_c_nodes.specs.declared.node.RawNode.{RawNode}
 use Rattle.timefd_c_nodes.specs.declared.position.TheConstants.{START}
 use Rattle.timefd_c_nodes.specs.declared.position.Written.{Written}
 use Rattle.timefd_c_nodes.specs.Encoding.{compound_node}
@@ -12,22 +12,22 @@ use Rattle.timefd_c_nodes.proofs.WithinLemmas.{written_compound}
 use Rattle.timefd_parse.specs.declared.piece.Piece.{Piece}
 use Rattle.timefd_parse.specs.declared.piece.Piece.TheVariants.{Literal, Component, Compound}
 use Rattle.timefd_parse.specs.Pieces.{IsPiece}
-use Rattle.timefd_c_nodes.specs.declared.reading.progress.Progress.{Progress}
+use Rattle.timefd_c_nodes.specs.declared.reading.progress.ReadProgress.{ReadProgress}
 use Rattle.timefd_c_nodes.specs.Reading.Progress.{HasWritten}
 use Rattle.timefd_c_nodes.proofs.ReadingLemmas.ProgressLemmas.{reserve_more}
 
-abbrev written_so_far : Progress → Written
+abbrev written_so_far : ReadProgress → Written
 written_so_far p = record { end = p.end; bytes = p.bytes }
 
-after_all : (list : List Tree) (p : Progress) (before ms : List Node) (a b : Text)
+after_all : (list : List Tree) (p : ReadProgress) (before ms : List RawNode) (a b : Text)
     → HasWritten list before ms a b p
     → IsWritten (walked_all (trees list)) (reserve_all (trees list)) START before ms a b
     (written_so_far p)
 after_all list p before ms a b all = record { within = all.within; bytes = all.bytes }
 
 -- several pieces, or none, in one node after them
-pub whole_written : (list : List Tree) (p : Progress) (before ms ks : List Node) (a b : Text)
-    (n : Node) (r : Option Written) → HasWritten list before ms a b p → (p.count ≡ 1 → ⊥)
+pub whole_written : (list : List Tree) (p : ReadProgress) (before ms ks : List RawNode) (a b : Text)
+    (n : RawNode) (r : Option Written) → HasWritten list before ms a b p → (p.count ≡ 1 → ⊥)
     → n ≡ compound_node 0 p.count p.bytes → IfSome r (Puts n p.bytes p.end ms ks)
     → IfSome r (IsWritten (walked (pack list)) (reserve (pack list)) START before ks a b)
 whole_written [] p before ms ks a b n r all several is puts =
@@ -39,7 +39,7 @@ whole_written (t ∷ u ∷ ts) p before ms ks a b n r all several is puts =
     (after_all (t ∷ u ∷ ts) p before ms a b all) all.count is puts
 
 -- one piece, which is everything
-pub one_written : (list : List Tree) (p : Progress) (before ms : List Node) (a b : Text)
+pub one_written : (list : List Tree) (p : ReadProgress) (before ms : List RawNode) (a b : Text)
     → HasWritten list before ms a b p → p.count ≡ 1
     → IsWritten (walked (pack list)) (reserve (pack list)) START before ms a b (written_so_far p)
 one_written [] p before ms a b all one = absurd (omega (arith, all.count, one))

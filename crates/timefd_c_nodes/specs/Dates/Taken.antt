@@ -3,7 +3,7 @@ use Rattle.std.specs.Prelude.{ℕ, ◌≡◌, ◌≤◌, ◌+◌, ◌-◌, drop,
 use Rattle.timefd_c_nodes.specs.declared.dates.fast.walk.Taken.{Taken}
 use Rattle.timefd_c_nodes.specs.Formatting.Literals.{is_textual}
 use Rattle.timefd_c_nodes.specs.Formatting.Parts.{role_in}
-use Rattle.timefd_c_nodes.specs.declared.node.Node.{Node}
+use Rattle.timefd_c_nodes.specs.declared.node.RawNode.{RawNode}
 use Rattle.timefd_lang_component.specs.Modern.{modern}
 use Rattle.timefd_lang_component.specs.Tree.{Text, component, literal}
 use Rattle.timefd_lang_node_list.specs.Nodes.{Role, text, shown, together, perhaps, either, arity}
@@ -21,7 +21,7 @@ ReadsRole (either count) p q = ⊥
 
 -- The node is part of a description, and reads this many bytes at the start. The numbers then have what it
 -- read. There were `count` trees before it.
-pub record IsTaken (literals : Text) (n : Node) (left : Text) (old : Numbers) (count : ℕ) (r : Taken) : Type 0 where
+pub record IsTaken (literals : Text) (n : RawNode) (left : Text) (old : Numbers) (count : ℕ) (r : Taken) : Type 0 where
   pub role : Role
   pub is : role_in literals n ≡ Some role
   pub textual : is_textual role ≡ true

@@ -4,13 +4,13 @@ use Rattle.timefd_lang_component.specs.Tree.{Text, Tree, compound, trees}
 use Rattle.timefd_lang_node_list.specs.LeafMeaning.{leaf_tree}
 use Rattle.timefd_lang_node_list.specs.Nodes.{Role, arity, made, together}
 use Rattle.timefd_lang_node_list.specs.declared.leaves.Leaf.{Leaf}
-use Rattle.timefd_c_nodes.specs.declared.node.Node.{Node}
+use Rattle.timefd_c_nodes.specs.declared.node.RawNode.{RawNode}
 use Rattle.timefd_c_nodes.specs.Formatting.Literals.{is_textual}
 use Rattle.timefd_c_nodes.specs.Formatting.Parts.{role_in}
 use Rattle.timefd_date_moment.specs.Fields.Reads.{fields_of}
 
 -- The node is part of a description and has no members, and its tree is that of the component or text.
-pub record IsLeaf (literals : Text) (n : Node) (leaf : Leaf) : Type 0 where
+pub record IsLeaf (literals : Text) (n : RawNode) (leaf : Leaf) : Type 0 where
   pub role : Role
   pub is : role_in literals n ≡ Some role
   pub alone : arity role ≡ 0
@@ -23,14 +23,14 @@ ReadAs ts leaves = (date : Text) → fields_of (compound (trees ts)) date
     ≡ fields_of (compound (trees (map leaf_tree leaves))) date
 
 -- The node is a leaf more.
-pub record IsAdded (literals : Text) (n : Node) (parts : ℕ) (leaves : List Leaf) (after : ℕ) (more : List Leaf) : Type 0 where
+pub record IsAdded (literals : Text) (n : RawNode) (parts : ℕ) (leaves : List Leaf) (after : ℕ) (more : List Leaf) : Type 0 where
   pub leaf : Leaf
   pub is : IsLeaf literals n leaf
   pub one : after ≡ parts + 1
   pub added : more ≡ leaves ++ leaf ∷ []
 
 -- The node makes one part of the last ones in front of it.
-pub record IsMadeOf (literals : Text) (n : Node) (parts : ℕ) (leaves : List Leaf) (after : ℕ) (more : List Leaf) : Type 0 where
+pub record IsMadeOf (literals : Text) (n : RawNode) (parts : ℕ) (leaves : List Leaf) (after : ℕ) (more : List Leaf) : Type 0 where
   pub count : ℕ
   pub is : role_in literals n ≡ Some (together count)
   pub few : count ≤ parts
@@ -38,6 +38,6 @@ pub record IsMadeOf (literals : Text) (n : Node) (parts : ℕ) (leaves : List Le
   pub same : more ≡ leaves
 
 -- After the node there are so many parts, of these leaves.
-abbrev pub Takes : Text → Node → ℕ → List Leaf → ℕ → List Leaf → Type 0
+abbrev pub Takes : Text → RawNode → ℕ → List Leaf → ℕ → List Leaf → Type 0
 Takes literals n parts leaves after more =
     IsAdded literals n parts leaves after more ⊎ IsMadeOf literals n parts leaves after more

@@ -6,7 +6,7 @@ use Rattle.timefd_date_format.specs.declared.unshown.Unshown.{Unshown}
 use Rattle.timefd_date_format.specs.Appends.{TriesToAppend}
 use Rattle.timefd_date_format.specs.Written as written
 use Rattle.timefd_lang_node_list.specs.Nodes.{Role, text, shown, together, perhaps, either, arity}
-use Rattle.timefd_c_nodes.specs.declared.node.Node.{Node}
+use Rattle.timefd_c_nodes.specs.declared.node.RawNode.{RawNode}
 use Rattle.timefd_c_nodes.specs.Formatting.Parts.{role_in}
 use Rattle.timefd_c_nodes.specs.declared.formatting.forward.Reached.{Reached}
 
@@ -28,7 +28,7 @@ IsForward (either count) = ⊥
 
 -- the node is part of a description, all of its members are written, and what it shows without them is
 -- appended
-pub record IsAfter (m : Moment) (literals : Text) (n : Node) (count : ℕ) (old : Text) (at : ℕ) (new : Text)
+pub record IsAfter (m : Moment) (literals : Text) (n : RawNode) (count : ℕ) (old : Text) (at : ℕ) (new : Text)
     (r : Reached) : Type 0 where
   pub role : Role
   pub is : role_in literals n ≡ Some role

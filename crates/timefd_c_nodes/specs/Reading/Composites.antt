@@ -10,7 +10,7 @@ use Rattle.timefd_language.specs.declared.strftime.piece.StrftimePiece.{Strftime
 use Rattle.timefd_language.specs.declared.strftime.piece.StrftimePiece.TheVariants as piece
 use Rattle.timefd_language.specs.Directives.LetterMeaning.{composite_list}
 use Rattle.timefd_language.specs.Directives.PieceMeaning.{piece_tree}
-use Rattle.timefd_c_nodes.specs.declared.node.Node.{Node}
+use Rattle.timefd_c_nodes.specs.declared.node.RawNode.{RawNode}
 use Rattle.timefd_c_nodes.specs.Encoding.{component_node, composite_node, literal_node, own_text}
 use Rattle.timefd_c_nodes.specs.declared.reading.composite.CompositeList.{CompositeList}
 use Rattle.timefd_c_nodes.specs.declared.reading.composite.TheConstants.{COMPOSITES}
@@ -48,7 +48,7 @@ list_of c = record {
 }
 
 -- the one node of a composite letter
-abbrev pub node_of : Composite → Node
+abbrev pub node_of : Composite → RawNode
 node_of c = composite_node (start_of c) (length (composite_list c)) (reserve (composite_tree c))
 
 -- the bytes that a piece of one node adds to the literals
@@ -56,7 +56,7 @@ abbrev pub piece_text : StrftimePiece → Text
 piece_text p = own_text (piece_tree p)
 
 -- the one node of a piece, which has the index `at` and has `used` bytes of literals before it
-abbrev pub piece_node : ℕ → ℕ → StrftimePiece → Node
+abbrev pub piece_node : ℕ → ℕ → StrftimePiece → RawNode
 piece_node at used (piece.Literal text) = literal_node used (length text.now)
 piece_node at used (piece.Component c) = component_node c at
 piece_node at used (piece.Composite c) = node_of c

@@ -12,9 +12,9 @@ use Rattle.timefd_language.specs.declared.language.Language.{Language}
 use Rattle.timefd_language.specs.declared.language.Language.TheVariants.{Version, Strftime}
 use Rattle.timefd_lang_fault.specs.Faults.{Fault}
 use Rattle.timefd_parse.specs.Language.{FaultIn, SpellsIn, amount}
-use Rattle.timefd_c_nodes.specs.declared.node.Node.{Node}
+use Rattle.timefd_c_nodes.specs.declared.node.RawNode.{RawNode}
 use Rattle.timefd_c_nodes.specs.Encoding.{node_for, nodes_by, own_text, texts_of}
-use Rattle.timefd_c_nodes.specs.declared.reading.report.Report.{Report}
+use Rattle.timefd_c_nodes.specs.declared.reading.report.ReadReport.{ReadReport}
 
 -- All parts of a description, each after its members: the parts of the items one after another, or in
 -- version 3 those of the one tree that the items are packed to.
@@ -41,8 +41,8 @@ longest Strftime list = kept_bytes (reserve_all (trees list))
 
 -- These parts, each with one node and these bytes, are reported. If both buffers have room, they begin with
 -- the nodes and literals.
-pub record ReportsParts {A : Type 0} (node : ℕ → ℕ → A → Node) (own : A → Text) (all : List A)
-    (counted greatest : ℕ) (nodes_before nodes_after : List Node) (before after : Text) (r : Report)
+pub record ReportsParts {A : Type 0} (node : ℕ → ℕ → A → RawNode) (own : A → Text) (all : List A)
+    (counted greatest : ℕ) (nodes_before nodes_after : List RawNode) (before after : Text) (r : ReadReport)
     : Type 0 where
   pub value : r.value ≡ counted
   pub bytes : r.bytes ≡ greatest
@@ -56,12 +56,12 @@ pub record ReportsParts {A : Type 0} (node : ℕ → ℕ → A → Node) (own : 
       → after ≡ texts_of own all ++ drop (length (texts_of own all)) before
 
 -- The trees are reported, each with its own node and bytes.
-abbrev pub Reports : List Tree → ℕ → ℕ → List Node → List Node → Text → Text → Report → Type 0
+abbrev pub Reports : List Tree → ℕ → ℕ → List RawNode → List RawNode → Text → Text → ReadReport → Type 0
 Reports ts counted greatest nodes_before nodes_after before after r =
     ReportsParts node_for own_text ts counted greatest nodes_before nodes_after before after r
 
 -- the report on a text that spells the list in the language
-abbrev pub IsReport : Language → List Tree → List Node → List Node → Text → Text → Report → Type 0
+abbrev pub IsReport : Language → List Tree → List RawNode → List RawNode → Text → Text → ReadReport → Type 0
 IsReport language list nodes_before nodes_after before after r =
     Reports (parts language list) (amount language list) (longest language list) nodes_before
     nodes_after before after r
@@ -71,7 +71,7 @@ IsReport language list nodes_before nodes_after before after r =
 -- text that spells a list is accepted, unless memory runs out, and a text with a fault is refused for it.
 -- The empty text takes no memory.
 pub record IsReadAs (language : Language) (limit : ℕ) (text : Text)
-    (IsReported : List Tree → Report → Type 0) (r : Result Report BorrowedParseError) : Type 0 where
+    (IsReported : List Tree → ReadReport → Type 0) (r : Result ReadReport BorrowedParseError) : Type 0 where
   pub found : IfOk r (λ x. (list : List Tree) × SpellsIn language limit text list × IsReported list x)
   pub fault : IfErr r (IsBorrowedOf (FaultIn language limit text))
   pub spelled : (list : List Tree) → SpellsIn language limit text list
@@ -81,8 +81,8 @@ pub record IsReadAs (language : Language) (limit : ℕ) (text : Text)
   pub empty : text ≡ [] → IsOk r
 
 -- What is read is reported part by part.
-abbrev pub IsRead : Language → ℕ → Text → List Node → List Node → Text → Text
-    → Result Report BorrowedParseError → Type 0
+abbrev pub IsRead : Language → ℕ → Text → List RawNode → List RawNode → Text → Text
+    → Result ReadReport BorrowedParseError → Type 0
 IsRead language limit text nodes_before nodes_after before after r =
     IsReadAs language limit text
     (λ list x. IsReport language list nodes_before nodes_after before after x) r

@@ -3,7 +3,7 @@
 ghost use Rattle.std.specs.Prelude.{◌≡◌, ◌<◌};
 ghost use Rattle.timefd_c_nodes.specs.Decoding as spec;
 
-use crate::Node;
+use crate::RawNode;
 use crate::formatting::modifier::{count_of, digits_of, flag_of, padding_of, trailing_input_of};
 use timefd_lang_component::Component;
 use timefd_modifier::{
@@ -20,7 +20,7 @@ use timefd_modifier::{
 /// The component that the numbers of a node name. `None` says that a number that the component has
 /// means nothing.
 #[inline(always)]
-pub(crate) fn component_of(node: &Node) -> Option<Component>
+pub(crate) fn component_of(node: &RawNode) -> Option<Component>
     ensures { result ≡ spec.component_of node.now }
 {
     Some(match node.component {

@@ -8,15 +8,15 @@ ghost use Rattle.timefd_c_nodes.specs.Formatting.Literals.{is_text};
 ghost use Rattle.timefd_c_nodes.specs.Formatting.Nodes.{node_fault, node_trees};
 ghost use Rattle.timefd_c_nodes.specs.Formatting.Parts.{role_in};
 
-use crate::Node;
-use crate::formatting::part::{Part, part_of};
+use crate::RawNode;
+use crate::formatting::part::{WritingPart, part_of};
 use std::alloc::Global;
 use timefd_lang_node_list::Leaf;
 
 /// The components and texts that nodes are, or have as members in turn, one after another. `None` says that the
 /// nodes are something else, or that memory ran out.
 #[tactic(auto, using(crate::proofs::FormattingLemmas::FlatLemmas::none_in_front, crate::proofs::FormattingLemmas::FlatLemmas::sound_all, crate::proofs::FormattingLemmas::FlatLemmas::texts_all, crate::proofs::FormattingLemmas::FlatLemmas::reads_all))]
-pub fn leaves_of<'l>(alloc: Global, nodes: &[Node], literals: &'l [u8]) -> Option<Vec<Leaf<'l>>>
+pub fn leaves_of<'l>(alloc: Global, nodes: &[RawNode], literals: &'l [u8]) -> Option<Vec<Leaf<'l>>>
     ensures sound { IfSome result (λ leaves. node_fault literals.now nodes.now ≡ None) }
     ensures texts { IfSome result (λ leaves.
         list_all (λ n. is_text (role_in literals.now n)) nodes.now ≡ true) }
@@ -35,7 +35,7 @@ pub fn leaves_of<'l>(alloc: Global, nodes: &[Node], literals: &'l [u8]) -> Optio
 #[inline(always)]
 #[tactic(auto, using(crate::proofs::FormattingLemmas::FlatLemmas::takes_leaf, crate::proofs::FormattingLemmas::FlatLemmas::takes_members))]
 fn take_node<'l>(
-    node: &Node,
+    node: &RawNode,
     literals: &'l [u8],
     parts: usize,
     leaves: &mut Vec<Leaf<'l>>,
@@ -44,20 +44,20 @@ fn take_node<'l>(
     ensures { IfSome result (λ after. Takes literals.now node.now parts leaves.old.items after leaves.new.items) }
 {
     match part_of(node, literals)? {
-        Part::Literal(bytes) => {
+        WritingPart::Literal(bytes) => {
             let text = text_of(bytes)?;
             add_leaf(Leaf::Literal(text), parts, leaves)
         }
-        Part::Component(component) => {
+        WritingPart::Component(component) => {
             add_leaf(Leaf::Component(component.modern()), parts, leaves)
         }
-        Part::Compound(count) => {
+        WritingPart::Compound(count) => {
             if count > parts {
                 return None;
             }
             Some(parts - count + 1)
         }
-        Part::Optional(_) | Part::First(_) => None,
+        WritingPart::Optional(_) | WritingPart::First(_) => None,
     }
 }
 

@@ -9,7 +9,7 @@ ghost use Rattle.timefd_date_format.specs.Fronts.{IsLen};
 ghost use Rattle.timefd_date_format.specs.Written.{written_all};
 ghost use Rattle.std.specs.Prelude.{ℕ};
 
-use crate::Node;
+use crate::RawNode;
 use crate::formatting::fault::node_fault;
 use crate::formatting::len::text_len;
 use crate::formatting::short::format_short;
@@ -38,7 +38,7 @@ pub enum NodesError {
 /// Writes the moment by nodes to the front of the buffer if all that they write fits. Otherwise,
 /// and after an `Err`, the buffer is unchanged. It takes no memory.
 pub fn format_nodes(
-    nodes: &[Node],
+    nodes: &[RawNode],
     literals: &[u8],
     moment: Moment,
     buffer: &mut [u8],
@@ -59,7 +59,7 @@ pub fn format_nodes(
 /// written.
 fn format_long(
     moment: Moment,
-    nodes: &[Node],
+    nodes: &[RawNode],
     literals: &[u8],
     buffer: &mut [u8],
 ) -> Result<NodesText, NodesError>
@@ -79,7 +79,7 @@ fn format_long(
 #[tactic(auto, using(crate::proofs::FormattingLemmas::WriteLemmas::shows, crate::proofs::FormattingLemmas::WriteLemmas::shows_none))]
 fn format_counted(
     moment: Moment,
-    nodes: &[Node],
+    nodes: &[RawNode],
     literals: &[u8],
     buffer: &mut [u8],
 ) -> Result<NodesText, NodesError>
@@ -101,7 +101,7 @@ fn format_counted(
 #[tactic(auto, using(crate::proofs::FormattingLemmas::WriteLemmas::len_is, crate::proofs::FormattingLemmas::WriteLemmas::len_short, crate::proofs::FormattingLemmas::WriteLemmas::front_written))]
 fn write_front(
     moment: Moment,
-    nodes: &[Node],
+    nodes: &[RawNode],
     literals: &[u8],
     len: usize,
     buffer: &mut [u8],

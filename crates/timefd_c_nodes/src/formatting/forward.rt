@@ -10,9 +10,9 @@ ghost use Rattle.timefd_lang_component.specs.Tree.{trees};
 ghost use Rattle.timefd_date_format.specs.Appends.{TriesToAppend};
 ghost use Rattle.timefd_date_format.specs.Written.{shown, written_all};
 
-use crate::Node;
+use crate::RawNode;
 use crate::formatting::component::component_of;
-use crate::formatting::part::{Part, part_of};
+use crate::formatting::part::{WritingPart, part_of};
 use timefd_date_format::{append_literal, append_quickly, append_slowly};
 use timefd_date_moment::Moment;
 use timefd_lang_component::Component;
@@ -30,7 +30,7 @@ pub struct Reached {
 #[tactic(auto, using(crate::proofs::FormattingLemmas::ForwardLemmas::none_read, crate::proofs::FormattingLemmas::ForwardLemmas::one_read, crate::proofs::FormattingLemmas::ForwardLemmas::all_sound, crate::proofs::FormattingLemmas::ForwardLemmas::all_shown))]
 pub(crate) fn append_nodes(
     moment: &Moment,
-    nodes: &[Node],
+    nodes: &[RawNode],
     literals: &[u8],
     room: &mut [u8],
 ) -> Option<usize>
@@ -53,7 +53,7 @@ pub(crate) fn append_nodes(
 #[inline(always)]
 fn append_node(
     moment: &Moment,
-    node: &Node,
+    node: &RawNode,
     literals: &[u8],
     room: &mut [u8],
     at: usize,
@@ -67,21 +67,21 @@ fn append_node(
         return None;
     }
     match part_of(node, literals)? {
-        Part::Component(component) => {
+        WritingPart::Component(component) => {
             let at = append_component_of(moment, node, &component, room, at)?;
             Some(Reached {
                 at,
                 count: count + 1,
             })
         }
-        Part::Literal(bytes) => {
+        WritingPart::Literal(bytes) => {
             let at = append_literal(bytes, room, at)?;
             Some(Reached {
                 at,
                 count: count + 1,
             })
         }
-        Part::Compound(members) => {
+        WritingPart::Compound(members) => {
             if members > count {
                 return None;
             }
@@ -90,7 +90,7 @@ fn append_node(
                 count: count - members + 1,
             })
         }
-        Part::Optional(_) | Part::First(_) => None,
+        WritingPart::Optional(_) | WritingPart::First(_) => None,
     }
 }
 
@@ -98,7 +98,7 @@ fn append_node(
 #[inline(always)]
 fn append_component_of(
     moment: &Moment,
-    node: &Node,
+    node: &RawNode,
     component: &Component,
     room: &mut [u8],
     at: usize,
@@ -116,7 +116,7 @@ fn append_component_of(
 /// Appends what the component of a node shows, by the rule for every component. The component is
 /// decoded again, so that the first one stays in registers.
 #[inline(never)]
-fn append_again(moment: &Moment, node: &Node, room: &mut [u8], at: usize) -> Option<usize>
+fn append_again(moment: &Moment, node: &RawNode, room: &mut [u8], at: usize) -> Option<usize>
     requires { at + 32 ≤ length room.old }
     ensures { IfSome (decoded.component_of node.now) (λ component. TriesToAppend (shown moment.now component)
         room.old at room.new result) }

@@ -6,13 +6,13 @@ ghost use Rattle.timefd_c_nodes.specs.Formatting.Nodes as spec;
 ghost use Rattle.timefd_c_nodes.specs.Formatting.Nodes.{leaf_tree, node_leaves, node_trees};
 ghost use Rattle.timefd_c_nodes.specs.Formatting.Parts.{role};
 
-use crate::Node;
-use crate::formatting::part::{Part, members, part_of, unwritten_members};
+use crate::RawNode;
+use crate::formatting::part::{WritingPart, members, part_of, unwritten_members};
 use timefd_lang_component::Component;
 
 /// A part that is written.
 #[derive(Clone, Copy)]
-pub enum Leaf<'l> {
+pub enum WrittenLeaf<'l> {
     /// A component, in its modern form.
     Component(Component),
     /// Bytes, written as they are.
@@ -21,9 +21,9 @@ pub enum Leaf<'l> {
 
 /// The last written part, and the nodes in front of it.
 pub(crate) fn split_last<'n, 'l>(
-    nodes: &'n [Node],
+    nodes: &'n [RawNode],
     literals: &'l [u8],
-) -> Option<(&'n [Node], Leaf<'l>)>
+) -> Option<(&'n [RawNode], WrittenLeaf<'l>)>
     requires { spec.node_fault literals.now nodes.now ≡ None }
     ensures sound { IfSome result (λ r. spec.node_fault literals.now r.0.now ≡ None) }
     ensures leaves { MatchOption result (node_leaves literals.now nodes.now ≡ [])
@@ -33,9 +33,12 @@ pub(crate) fn split_last<'n, 'l>(
     'nodes: while left.len() > 0 {
         let (front, last) = last_node(left, literals);
         match last {
-            Part::Literal(bytes) => return Some((front, Leaf::Literal(bytes))),
-            Part::Component(component) => return Some((front, Leaf::Component(component.modern()))),
-            Part::Compound(_) | Part::Optional(_) | Part::First(_) => {
+            WritingPart::Literal(bytes) => return Some((front, WrittenLeaf::Literal(bytes))),
+            WritingPart::Component(component) => return Some((
+                front,
+                WrittenLeaf::Component(component.modern()),
+            )),
+            WritingPart::Compound(_) | WritingPart::Optional(_) | WritingPart::First(_) => {
                 left = in_front(front, literals, unwritten_members(last));
             }
         }
@@ -45,7 +48,7 @@ pub(crate) fn split_last<'n, 'l>(
 
 /// The last node, and the nodes in front of it, which end with its members.
 #[tactic(auto, using(crate::proofs::FormattingLemmas::CutLemmas::last_sound, crate::proofs::FormattingLemmas::CutLemmas::last_is_there, crate::proofs::FormattingLemmas::CutLemmas::last_members, crate::proofs::FormattingLemmas::CutLemmas::last_grown))]
-fn last_node<'n, 'l>(nodes: &'n [Node], literals: &'l [u8]) -> (&'n [Node], Part<'l>)
+fn last_node<'n, 'l>(nodes: &'n [RawNode], literals: &'l [u8]) -> (&'n [RawNode], WritingPart<'l>)
     requires sound { spec.node_fault literals.now nodes.now ≡ None }
     requires there { 1 ≤ length nodes.now }
     ensures sound { spec.node_fault literals.now result.0.now ≡ None }
@@ -62,7 +65,7 @@ fn last_node<'n, 'l>(nodes: &'n [Node], literals: &'l [u8]) -> (&'n [Node], Part
 
 /// The nodes in front of the last `count` trees.
 #[tactic(auto, using(crate::proofs::FormattingLemmas::CutLemmas::few))]
-fn in_front<'n>(nodes: &'n [Node], literals: &[u8], count: usize) -> &'n [Node]
+fn in_front<'n>(nodes: &'n [RawNode], literals: &[u8], count: usize) -> &'n [RawNode]
     requires sound { spec.node_fault literals.now nodes.now ≡ None }
     requires there { count ≤ length (node_trees literals.now nodes.now) }
     ensures sound { spec.node_fault literals.now result.now ≡ None }

@@ -7,14 +7,14 @@ ghost use Rattle.timefd_lang_component.specs.Tree.{trees};
 ghost use Rattle.timefd_date_format.specs.Fronts.{IsLen};
 ghost use Rattle.timefd_date_format.specs.Written.{written, written_all};
 
-use crate::Node;
-use crate::formatting::leaf::{Leaf, split_last};
+use crate::RawNode;
+use crate::formatting::leaf::{WrittenLeaf, split_last};
 use timefd_date_format::{Unshown, component_len, len_of_both};
 use timefd_date_moment::Moment;
 
 /// How many bytes nodes write of the moment, at most `usize::MAX`. An `Err` names the first component
 /// that shows nothing.
-pub(crate) fn text_len(moment: Moment, nodes: &[Node], literals: &[u8]) -> Result<usize, Unshown>
+pub(crate) fn text_len(moment: Moment, nodes: &[RawNode], literals: &[u8]) -> Result<usize, Unshown>
     requires { spec.node_fault literals.now nodes.now ≡ None }
     ensures { IsLen (written_all moment (trees (node_trees literals.now nodes.now))) result }
 {
@@ -27,11 +27,11 @@ pub(crate) fn text_len(moment: Moment, nodes: &[Node], literals: &[u8]) -> Resul
     len
 }
 
-fn leaf_len(moment: Moment, leaf: Leaf<'_>) -> Result<usize, Unshown>
+fn leaf_len(moment: Moment, leaf: WrittenLeaf<'_>) -> Result<usize, Unshown>
     ensures { IsLen (written moment (leaf_tree leaf.entry)) result }
 {
     match leaf {
-        Leaf::Literal(bytes) => Ok(bytes.len()),
-        Leaf::Component(component) => component_len(moment, component),
+        WrittenLeaf::Literal(bytes) => Ok(bytes.len()),
+        WrittenLeaf::Component(component) => component_len(moment, component),
     }
 }

@@ -10,19 +10,19 @@ ghost use Rattle.timefd_lang_component.specs.Tree.{compound, trees};
 ghost use Rattle.timefd_lang_node_list.specs.NodeTrees.{HasRoom, list_trees};
 ghost use Rattle.timefd_lang_node_list.specs.Nodes.{arity, grown};
 
-use crate::Node;
-use crate::formatting::part::{Part, members, part_of};
+use crate::RawNode;
+use crate::formatting::part::{WritingPart, members, part_of};
 use std::alloc::{AllocError, Global};
 use timefd_lang_node_list::node_list::NodeList;
 
 /// Whether each literal of nodes is UTF-8 by itself.
-pub fn are_texts(nodes: &[Node], literals: &[u8]) -> bool
+pub fn are_texts(nodes: &[RawNode], literals: &[u8]) -> bool
     ensures { result ≡ list_all (λ n. spec.is_text (role_in literals.now n)) nodes.now }
 {
     nodes.iter().all(|node| is_text(node, literals))
 }
 
-fn is_text(node: &Node, literals: &[u8]) -> bool
+fn is_text(node: &RawNode, literals: &[u8]) -> bool
     ensures { result ≡ spec.is_text (role_in literals.now node.now) }
 {
     match part_of(node, literals) {
@@ -31,12 +31,15 @@ fn is_text(node: &Node, literals: &[u8]) -> bool
     }
 }
 
-fn is_textual(part: Part<'_>) -> bool
+fn is_textual(part: WritingPart<'_>) -> bool
     ensures { result ≡ spec.is_textual (role part.entry) }
 {
     match part {
-        Part::Literal(bytes) => are_utf8(bytes),
-        Part::Component(_) | Part::Compound(_) | Part::Optional(_) | Part::First(_) => true,
+        WritingPart::Literal(bytes) => are_utf8(bytes),
+        WritingPart::Component(_)
+        | WritingPart::Compound(_)
+        | WritingPart::Optional(_)
+        | WritingPart::First(_) => true,
     }
 }
 
@@ -54,7 +57,7 @@ fn are_utf8(bytes: &[u8]) -> bool
 #[tactic(auto, using(crate::proofs::FormattingLemmas::ListLemmas::all_listed))]
 pub fn listed<'l>(
     alloc: Global,
-    nodes: &[Node],
+    nodes: &[RawNode],
     literals: &'l [u8],
 ) -> Result<NodeList<'l>, AllocError>
     requires sound { node_fault literals.now nodes.now ≡ None }
@@ -75,7 +78,7 @@ pub fn listed<'l>(
 fn add<'l>(
     list: &mut NodeList<'l>,
     count: usize,
-    nodes: &[Node],
+    nodes: &[RawNode],
     literals: &'l [u8],
     at: usize,
 ) -> Result<usize, AllocError>
@@ -98,7 +101,7 @@ fn add<'l>(
 
 /// The node with this index.
 #[tactic(auto, using(crate::proofs::FormattingLemmas::CutLemmas::at_is_there, crate::proofs::FormattingLemmas::CutLemmas::at_members, crate::proofs::FormattingLemmas::CutLemmas::at_grown, crate::proofs::FormattingLemmas::CutLemmas::at_textual))]
-fn part_at<'l>(nodes: &[Node], literals: &'l [u8], at: usize) -> Part<'l>
+fn part_at<'l>(nodes: &[RawNode], literals: &'l [u8], at: usize) -> WritingPart<'l>
     requires sound { node_fault literals.now nodes.now ≡ None }
     requires texts { list_all (λ n. spec.is_text (role_in literals.now n)) nodes.now ≡ true }
     requires there { at < length nodes.now }
@@ -113,7 +116,7 @@ fn part_at<'l>(nodes: &[Node], literals: &'l [u8], at: usize) -> Part<'l>
 
 /// Adds a node whose members are the last trees.
 #[tactic(auto, using(crate::proofs::FormattingLemmas::ListLemmas::text_grown, crate::proofs::FormattingLemmas::ListLemmas::component_grown))]
-fn put<'l>(list: &mut NodeList<'l>, part: Part<'l>)
+fn put<'l>(list: &mut NodeList<'l>, part: WritingPart<'l>)
     requires members { arity (role part) ≤ length (list_trees list.old) }
     requires text { spec.is_textual (role part) ≡ true }
     requires room { HasRoom list.old 1 }
@@ -121,13 +124,13 @@ fn put<'l>(list: &mut NodeList<'l>, part: Part<'l>)
         (record { role = role part.entry; nodes = 0; bytes = 0 }) }
 {
     match part {
-        Part::Literal(bytes) => list.literal(text_in(bytes)),
-        Part::Component(component) => {
+        WritingPart::Literal(bytes) => list.literal(text_in(bytes)),
+        WritingPart::Component(component) => {
             list.component(component);
         }
-        Part::Compound(count) => list.compound(count),
-        Part::Optional(format) => list.optional(format),
-        Part::First(count) => list.first(count),
+        WritingPart::Compound(count) => list.compound(count),
+        WritingPart::Optional(format) => list.optional(format),
+        WritingPart::First(count) => list.first(count),
     }
 }
 

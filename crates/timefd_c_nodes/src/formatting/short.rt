@@ -7,7 +7,7 @@ ghost use Rattle.timefd_c_nodes.specs.Formatting.Texts.{IsShown, ShowsNodes};
 ghost use Rattle.timefd_lang_component.specs.Tree.{trees};
 ghost use Rattle.timefd_date_format.specs.Written.{written_all};
 
-use crate::Node;
+use crate::RawNode;
 use crate::formatting::format::NodesText;
 use crate::formatting::forward::append_nodes;
 use crate::formatting::write::write_nodes;
@@ -21,7 +21,7 @@ const SHORT: usize = 128;
 #[inline(never)]
 pub(crate) fn format_short(
     moment: &Moment,
-    nodes: &[Node],
+    nodes: &[RawNode],
     literals: &[u8],
     buffer: &mut [u8],
 ) -> Option<NodesText>
@@ -41,7 +41,7 @@ pub(crate) fn format_short(
 #[inline(never)]
 fn format_back(
     moment: Moment,
-    nodes: &[Node],
+    nodes: &[RawNode],
     literals: &[u8],
     buffer: &mut [u8],
 ) -> Option<NodesText>
@@ -57,7 +57,7 @@ fn format_back(
 #[tactic(auto, using(crate::proofs::FormattingLemmas::ShortLemmas::copied))]
 fn format_back_in(
     moment: Moment,
-    nodes: &[Node],
+    nodes: &[RawNode],
     literals: &[u8],
     room: &mut [u8],
     buffer: &mut [u8],
@@ -77,7 +77,7 @@ fn format_back_in(
 #[tactic(auto, using(crate::proofs::FormattingLemmas::ShortLemmas::front_copied))]
 fn format_in(
     moment: &Moment,
-    nodes: &[Node],
+    nodes: &[RawNode],
     literals: &[u8],
     room: &mut [u8],
     buffer: &mut [u8],

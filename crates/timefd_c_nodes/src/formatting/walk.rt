@@ -4,12 +4,12 @@ ghost use Rattle.std.specs.Prelude.{◌≡◌, ◌+◌, ◌<◌, ◌≤◌, Matc
 ghost use Rattle.timefd_c_nodes.specs.Formatting.Parts.{role};
 ghost use Rattle.timefd_c_nodes.specs.Formatting.Walk as spec;
 
-use crate::formatting::part::{Part, members, unwritten_members};
+use crate::formatting::part::{WritingPart, members, unwritten_members};
 
 /// How many trees have to be in front of a part, if `need` trees are wanted of which the last is its
 /// own: the others, and its members. `None` says that there are fewer nodes in front of it.
 #[inline(always)]
-pub(crate) fn needed(part: Part<'_>, need: usize, front: usize) -> Option<usize>
+pub(crate) fn needed(part: WritingPart<'_>, need: usize, front: usize) -> Option<usize>
     requires { need ≤ front + 1 }
     ensures { MatchOption result (front < spec.needed need (role part.entry))
         (λ n. (n ≡ spec.needed need (role part.entry)) × (n ≤ front)) }
@@ -25,7 +25,7 @@ pub(crate) fn needed(part: Part<'_>, need: usize, front: usize) -> Option<usize>
 /// How many of the last trees in front of a part aren't written, if `skip` of the last trees up to
 /// its own aren't.
 #[inline(always)]
-pub(crate) fn skipped(part: Part<'_>, skip: usize, need: usize) -> usize
+pub(crate) fn skipped(part: WritingPart<'_>, skip: usize, need: usize) -> usize
     requires { spec.skipped skip (role part) ≤ need }
     ensures { result ≡ spec.skipped skip (role part.entry) }
 {

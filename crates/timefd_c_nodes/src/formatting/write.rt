@@ -9,8 +9,8 @@ ghost use Rattle.timefd_c_nodes.specs.Formatting.Walk.{leaves_here};
 ghost use Rattle.timefd_lang_component.specs.Tree.{trees};
 ghost use Rattle.timefd_date_format.specs.Written.{written_all};
 
-use crate::Node;
-use crate::formatting::part::{Part, part_of};
+use crate::RawNode;
+use crate::formatting::part::{WritingPart, part_of};
 use crate::formatting::put::{put_component, put_literal};
 use crate::formatting::walk::{needed, skipped};
 use timefd_date_moment::Moment;
@@ -20,7 +20,7 @@ use timefd_date_moment::Moment;
 /// there is no room.
 pub(crate) fn write_nodes(
     moment: Moment,
-    nodes: &[Node],
+    nodes: &[RawNode],
     literals: &[u8],
     buffer: &mut [u8],
 ) -> Option<usize>
@@ -49,7 +49,7 @@ pub(crate) fn write_nodes(
 #[inline(always)]
 fn put_part(
     moment: Moment,
-    part: Part<'_>,
+    part: WritingPart<'_>,
     skip: usize,
     buffer: &mut [u8],
     end: usize,
@@ -62,8 +62,8 @@ fn put_part(
         return Some(end);
     }
     match part {
-        Part::Component(component) => put_component(moment, component, buffer, end),
-        Part::Literal(bytes) => put_literal(bytes, buffer, end),
-        Part::Compound(_) | Part::Optional(_) | Part::First(_) => Some(end),
+        WritingPart::Component(component) => put_component(moment, component, buffer, end),
+        WritingPart::Literal(bytes) => put_literal(bytes, buffer, end),
+        WritingPart::Compound(_) | WritingPart::Optional(_) | WritingPart::First(_) => Some(end),
     }
 }

@@ -6,7 +6,7 @@ ghost use Rattle.timefd_c_nodes.specs.Writing.{Puts};
 ghost use Rattle.timefd_c_nodes.specs.Reading.Composites as spec;
 ghost use Rattle.timefd_c_nodes.specs.Reading.Composites.{composite_tree};
 
-use crate::{Node, WritePosition, Written, put};
+use crate::{RawNode, WritePosition, Written, put};
 use timefd_language::strftime::Composite;
 
 /// The text whose nodes and literals are the lists of all composite letters, one after another.
@@ -43,12 +43,16 @@ fn list_of(composite: Composite) -> CompositeList
 /// Writes the one node of a composite letter at a position, if there is room for it. `None` says
 /// that a `usize` can't count the nodes.
 #[inline(always)]
-pub fn put_composite(composite: Composite, at: WritePosition, nodes: &mut [Node]) -> Option<Written>
+pub fn put_composite(
+    composite: Composite,
+    at: WritePosition,
+    nodes: &mut [RawNode],
+) -> Option<Written>
     ensures some { IfSome result (Puts (spec.node_of composite)
         (reserve (composite_tree composite)) at nodes.old nodes.new) }
     ensures none { result ≡ None → 2 ^ 64 ≤ at.nodes + 1 }
 {
     let list = list_of(composite);
-    let node = Node::composite(list.start, list.len, list.bytes);
+    let node = RawNode::composite(list.start, list.len, list.bytes);
     put(node, list.bytes, at, nodes)
 }

@@ -8,7 +8,7 @@ ghost use Rattle.timefd_lang_node_list.specs.Views.{walked};
 ghost use Rattle.timefd_c_nodes.specs.Writing.{IsPast, IsWritten};
 ghost use Rattle.timefd_parse.specs.Pieces.{IsLeaf, IsLeafTree};
 
-use crate::{Node, WritePosition, Written, put_component, put_literal};
+use crate::{RawNode, WritePosition, Written, put_component, put_literal};
 use timefd_items::Component;
 use timefd_parse::Piece;
 
@@ -18,7 +18,7 @@ use timefd_parse::Piece;
 pub fn write_component(
     component: Component,
     at: WritePosition,
-    nodes: &mut [Node],
+    nodes: &mut [RawNode],
 ) -> Option<Written>
     ensures some { (literals : Text) → IfSome result (IsWritten (walked (spec.component component))
         (reserve (spec.component component)) at nodes.old nodes.new literals literals) }
@@ -33,7 +33,7 @@ pub fn write_component(
 pub fn write_leaf(
     piece: Piece<'_>,
     at: WritePosition,
-    nodes: &mut [Node],
+    nodes: &mut [RawNode],
     literals: &mut [u8],
 ) -> Option<Written>
     requires { IsLeaf piece }

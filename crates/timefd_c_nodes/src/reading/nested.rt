@@ -8,9 +8,9 @@ ghost use Rattle.timefd_language.specs.declared.description_version.DescriptionV
 ghost use Rattle.timefd_lang_node_list.specs.Views.{walked};
 ghost use Rattle.timefd_c_nodes.specs.Reading.Reports.{IsRead, Reports};
 
-use crate::reading::report::{Report, has_room, report_of};
+use crate::reading::report::{ReadReport, has_room, report_of};
 use crate::reading::version_three::read_in_turn;
-use crate::{Node, START, write_view};
+use crate::{RawNode, START, write_view};
 use std::alloc::{AllocError, Global};
 use timefd_items::FormatDescriptionV3;
 use timefd_parse::{
@@ -27,9 +27,9 @@ pub fn read_version_three<'a>(
     alloc: Global,
     limit: u8,
     text: &'a str,
-    nodes: &mut [Node],
+    nodes: &mut [RawNode],
     literals: &mut [u8],
-) -> Result<Report, BorrowedParseError<'a>>
+) -> Result<ReadReport, BorrowedParseError<'a>>
     requires { limit ≤ nesting_limit }
     ensures { IsRead (Language.Version Three) limit text.now nodes.old nodes.new literals.old
         literals.new result }
@@ -67,9 +67,9 @@ fn read_built<'a>(
     alloc: Global,
     limit: u8,
     text: &'a str,
-    nodes: &mut [Node],
+    nodes: &mut [RawNode],
     literals: &mut [u8],
-) -> Result<Report, BorrowedParseError<'a>>
+) -> Result<ReadReport, BorrowedParseError<'a>>
     requires within { limit ≤ nesting_limit }
     requires some { 0 < length text.now }
     ensures { IsRead (Language.Version Three) limit text.now nodes.old nodes.new literals.old
@@ -91,9 +91,9 @@ fn read_built<'a>(
 // written.
 fn report_description(
     description: &FormatDescriptionV3<'_>,
-    nodes: &mut [Node],
+    nodes: &mut [RawNode],
     literals: &mut [u8],
-) -> Option<Report>
+) -> Option<ReadReport>
     ensures { IfSome result (Reports (walked (description_tree description.now))
         (reserve (description_tree description.now)) (reserve (description_tree description.now))
         nodes.old nodes.new literals.old literals.new) }

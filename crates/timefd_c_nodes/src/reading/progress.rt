@@ -7,7 +7,7 @@ use crate::{START, WritePosition, Written};
 
 /// What was read and written so far.
 #[derive(Clone, Copy)]
-pub struct Progress {
+pub struct ReadProgress {
     /// How many items were read.
     pub count: usize,
     /// The bytes that the items reserve together, at most `usize::MAX`.
@@ -17,7 +17,7 @@ pub struct Progress {
 }
 
 /// Nothing was read.
-pub const NOTHING: Progress = Progress {
+pub const NOTHING: ReadProgress = ReadProgress {
     count: 0,
     bytes: 0,
     end: START,
@@ -25,11 +25,11 @@ pub const NOTHING: Progress = Progress {
 
 /// The progress after one more item, which has a node of its own.
 #[inline(always)]
-pub fn one_more(before: Progress, item: Written) -> Progress
+pub fn one_more(before: ReadProgress, item: Written) -> ReadProgress
     requires { before.count < item.end.nodes }
     ensures { result ≡ spec.one_more before item }
 {
-    Progress {
+    ReadProgress {
         count: before.count + 1,
         bytes: before.bytes.saturating_add(item.bytes),
         end: item.end,

@@ -10,9 +10,9 @@ ghost use Rattle.timefd_parse.specs.Language.{FaultIn, SpellsIn};
 ghost use Rattle.timefd_c_nodes.specs.Reading.Pieces.{IsReportOfPieces};
 ghost use Rattle.timefd_c_nodes.specs.Reading.Reports.{IsReport, TakesNone};
 
-use crate::Node;
+use crate::RawNode;
 use crate::reading::nested::read_version_three;
-use crate::reading::report::Report;
+use crate::reading::report::ReadReport;
 use crate::reading::strftime::read_strftime;
 use crate::reading::version::read_version;
 use std::alloc::Global;
@@ -28,9 +28,9 @@ pub fn read<'a>(
     alloc: Global,
     language: Language,
     text: &'a str,
-    nodes: &mut [Node],
+    nodes: &mut [RawNode],
     literals: &mut [u8],
-) -> Result<Report, BorrowedParseError<'a>>
+) -> Result<ReadReport, BorrowedParseError<'a>>
     // An accepted text spells the list, and a refused text has the fault that the rules assign.
     ensures found { IfOk result (λ r. (list : List Tree)
         × SpellsIn language nesting_limit text.now list
@@ -62,9 +62,9 @@ pub fn read_within<'a>(
     language: Language,
     limit: u8,
     text: &'a str,
-    nodes: &mut [Node],
+    nodes: &mut [RawNode],
     literals: &mut [u8],
-) -> Result<Report, BorrowedParseError<'a>>
+) -> Result<ReadReport, BorrowedParseError<'a>>
     requires { limit ≤ nesting_limit }
 
     // An accepted text spells the list, and a refused text has the fault that the rules assign.
@@ -102,9 +102,9 @@ pub fn read_within<'a>(
 /// The error is `Invalid` with the fault of the text.
 pub fn read_composites<'a>(
     text: &'a str,
-    nodes: &mut [Node],
+    nodes: &mut [RawNode],
     literals: &mut [u8],
-) -> Result<Report, BorrowedParseError<'a>>
+) -> Result<ReadReport, BorrowedParseError<'a>>
     // An accepted text spells the list, and a refused text has the fault that the rules assign.
     ensures found { IfOk result (λ r. (list : List Tree) × SpellsIn Language.Strftime 0 text.now list
         × IsReportOfPieces list nodes.old nodes.new literals.old literals.new r) }

@@ -2,11 +2,11 @@
 
 ghost use Rattle.std.specs.Prelude.{◌≡◌, ◌≤◌, ◌↔◌, IsTrue, length};
 
-use crate::{Node, WritePosition};
+use crate::{RawNode, WritePosition};
 
 /// The report on a text that is a description.
 #[derive(Debug, Clone, Copy, PartialEq, Eq)]
-pub struct Report {
+pub struct ReadReport {
     /// How many items the text has, or in version 3 how many bytes it reserves.
     pub value: usize,
     /// How many bytes the longest rendering has, at most `usize::MAX`.
@@ -21,14 +21,14 @@ pub struct Report {
 
 /// Whether there is room for everything before a position.
 #[inline(always)]
-pub fn has_room(end: WritePosition, nodes: &[Node], literals: &[u8]) -> bool
+pub fn has_room(end: WritePosition, nodes: &[RawNode], literals: &[u8]) -> bool
     ensures { IsTrue result ↔ ((end.nodes ≤ length nodes.now) × (end.literals ≤ length literals.now)) }
 {
     end.nodes <= nodes.len() && end.literals <= literals.len()
 }
 
 #[inline(always)]
-pub fn report_of(value: usize, bytes: usize, end: WritePosition, written: bool) -> Report
+pub fn report_of(value: usize, bytes: usize, end: WritePosition, written: bool) -> ReadReport
     ensures { result ≡ record {
       value = value;
       bytes = bytes;
@@ -38,7 +38,7 @@ pub fn report_of(value: usize, bytes: usize, end: WritePosition, written: bool) 
       written = written;
     } }
 {
-    Report {
+    ReadReport {
         value,
         bytes,
         nodes: end.nodes,

@@ -16,9 +16,9 @@ ghost use Rattle.timefd_c_nodes.specs.Reading.Reports.{IsCounted, IsReadAs};
 
 use crate::reading::composite::put_composite;
 use crate::reading::leaf::write_component;
-use crate::reading::progress::{NOTHING, Progress, one_more};
-use crate::reading::report::{Report, has_room, report_of};
-use crate::{Node, WritePosition, Written, put_literal, write_compound};
+use crate::reading::progress::{NOTHING, ReadProgress, one_more};
+use crate::reading::report::{ReadReport, has_room, report_of};
+use crate::{RawNode, WritePosition, Written, put_literal, write_compound};
 use timefd_lang_fault::read_error::ReadError;
 use timefd_language::strftime::{
     Composite, StrftimePiece, StrftimeTables, next_strftime_piece, strftime_error,
@@ -29,9 +29,9 @@ use timefd_parse::{BorrowedParseError, Language};
 /// after them. It takes no memory.
 pub fn read_strftime<'a, const AS_ONE: bool>(
     text: &'a str,
-    nodes: &mut [Node],
+    nodes: &mut [RawNode],
     literals: &mut [u8],
-) -> Result<Report, BorrowedParseError<'a>>
+) -> Result<ReadReport, BorrowedParseError<'a>>
     ensures reads { IsReadAs Language.Strftime 0 text.now (IsStrftimeReport AS_ONE nodes.old nodes.new
         literals.old literals.new) result }
 
@@ -54,9 +54,9 @@ pub fn read_strftime<'a, const AS_ONE: bool>(
 #[inline(always)]
 fn write_pieces<'a, const AS_ONE: bool>(
     text: &'a str,
-    nodes: &mut [Node],
+    nodes: &mut [RawNode],
     literals: &mut [u8],
-) -> Result<Progress, ReadError<'a>>
+) -> Result<ReadProgress, ReadError<'a>>
     ensures pieces { MatchResult result (λ p. (list : List Tree) × SpellsStrftime text.now list
         × PiecesAreWritten AS_ONE list nodes.old nodes.new literals.old literals.new p)
         (MemoryOr (IsStrftimeFaultIn text.now)) }
@@ -83,7 +83,7 @@ fn write_pieces<'a, const AS_ONE: bool>(
 fn write_piece<const AS_ONE: bool>(
     piece: StrftimePiece<'_>,
     at: WritePosition,
-    nodes: &mut [Node],
+    nodes: &mut [RawNode],
     literals: &mut [u8],
 ) -> Option<Written>
     ensures some { IfSome result (PieceIsWritten AS_ONE piece.entry at nodes.old nodes.new literals.old
@@ -103,7 +103,7 @@ fn write_piece<const AS_ONE: bool>(
 fn write_composite(
     composite: Composite,
     at: WritePosition,
-    nodes: &mut [Node],
+    nodes: &mut [RawNode],
     literals: &mut [u8],
 ) -> Option<Written>
     ensures some { IfSome result (IsWritten (walked (compound (trees (composite_list composite)))) (reserve

@@ -3,21 +3,41 @@
 ghost use Rattle.std.specs.Prelude.{◌≡◌, ◌≤◌, ◌<◌, ◌+◌, ℕ, IsTrue, MatchResult, length, slice_index};
 ghost use Rattle.std.specs.Str.{IsAscii, IsUtf8};
 
+use simdutf8::is_utf8_baseline;
 use std::simd::prelude::*;
 use std::str::Utf8Error;
 
 /// The bytes as text, or an error if they aren't UTF-8. The result is that of `str::from_utf8`, but
-/// ASCII, which most formats are, takes less time.
+/// ASCII, which most formats are, and long texts take less time.
 #[inline(always)]
 pub fn text_of(bytes: &[u8]) -> Result<&str, Utf8Error>
     ensures cases { MatchResult result (λ text. (text.now ≡ bytes.now) × IsUtf8 bytes.now)
         (λ _. ¬ (IsUtf8 bytes.now)) }
 {
-    if is_ascii(bytes) {
-        // SAFETY: ASCII is UTF-8.
+    if is_text_at_once(bytes) {
+        // SAFETY: the bytes are UTF-8.
         return Ok(unsafe { str::from_utf8_unchecked(bytes) });
     }
     str::from_utf8(bytes)
+}
+
+// From so many bytes on UTF-8 is checked in blocks, each of so many bytes.
+const BLOCK: usize = 64;
+
+// Whether bytes are UTF-8, if many bytes at once say so.
+#[inline(always)]
+fn is_text_at_once(bytes: &[u8]) -> bool
+    ensures { IsTrue result → IsUtf8 bytes.now }
+{
+    is_ascii(bytes) || is_long_text(bytes)
+}
+
+// Whether bytes are UTF-8, if they fill a block.
+#[inline(never)]
+fn is_long_text(bytes: &[u8]) -> bool
+    ensures { IsTrue result → IsUtf8 bytes.now }
+{
+    BLOCK <= bytes.len() && is_utf8_baseline(bytes)
 }
 
 #[inline(always)]

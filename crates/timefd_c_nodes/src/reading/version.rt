@@ -10,10 +10,10 @@ ghost use Rattle.timefd_parse.specs.Read.{IsFaultIn, PiecesToEnd};
 ghost use Rattle.timefd_c_nodes.specs.Reading.Progress.{HasWritten};
 ghost use Rattle.timefd_c_nodes.specs.Reading.Reports.{IsRead};
 
-use crate::Node;
+use crate::RawNode;
 use crate::reading::leaf::write_leaf;
-use crate::reading::progress::{NOTHING, Progress, one_more};
-use crate::reading::report::{Report, has_room, report_of};
+use crate::reading::progress::{NOTHING, ReadProgress, one_more};
+use crate::reading::report::{ReadReport, has_room, report_of};
 use std::alloc::Global;
 use timefd_items::DescriptionBuilder;
 use timefd_lang_fault::read_error::ReadError;
@@ -27,9 +27,9 @@ pub fn read_version<'a>(
     version: DescriptionVersion,
     limit: u8,
     text: &'a str,
-    nodes: &mut [Node],
+    nodes: &mut [RawNode],
     literals: &mut [u8],
-) -> Result<Report, BorrowedParseError<'a>>
+) -> Result<ReadReport, BorrowedParseError<'a>>
     requires { IsFalse (is_version_three version) }
     ensures reads { IsRead (Language.Version version) limit text.now nodes.old nodes.new literals.old
         literals.new result }
@@ -53,9 +53,9 @@ fn write_pieces<'a>(
     version: DescriptionVersion,
     limit: u8,
     text: &'a str,
-    nodes: &mut [Node],
+    nodes: &mut [RawNode],
     literals: &mut [u8],
-) -> Result<Progress, ReadError<'a>>
+) -> Result<ReadProgress, ReadError<'a>>
     requires { IsFalse (is_version_three version) }
     ensures pieces { MatchResult result (λ p. (list : List Tree)
         × PiecesToEnd version limit 0 text.now list []

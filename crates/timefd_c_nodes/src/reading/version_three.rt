@@ -8,7 +8,7 @@ ghost use Rattle.timefd_items.specs.Builder.{built};
 ghost use Rattle.timefd_lang_fault.specs.ReadErrors.{MemoryOr};
 ghost use Rattle.timefd_language.specs.declared.description_version.DescriptionVersion.TheVariants.{Three};
 ghost use Rattle.timefd_lang_node_list.specs.Views.{walked};
-ghost use Rattle.timefd_c_nodes.specs.declared.node.Node as spec_node;
+ghost use Rattle.timefd_c_nodes.specs.declared.node.RawNode as spec_node;
 ghost use Rattle.timefd_c_nodes.specs.declared.position.TheConstants as positions;
 ghost use Rattle.timefd_c_nodes.specs.Writing.{IsWritten};
 ghost use Rattle.timefd_parse.specs.Pieces.{IsPiece};
@@ -17,9 +17,9 @@ ghost use Rattle.timefd_c_nodes.specs.Reading.Progress.{HasWritten};
 ghost use Rattle.timefd_c_nodes.specs.Reading.Reports.{IsRead};
 
 use crate::reading::leaf::write_leaf;
-use crate::reading::progress::{NOTHING, Progress, one_more};
-use crate::reading::report::{Report, has_room, report_of};
-use crate::{Node, START, WritePosition, Written, put, write_view};
+use crate::reading::progress::{NOTHING, ReadProgress, one_more};
+use crate::reading::report::{ReadReport, has_room, report_of};
+use crate::{RawNode, START, WritePosition, Written, put, write_view};
 use std::alloc::{AllocError, Global};
 use std::mem;
 use timefd_items::DescriptionBuilder;
@@ -33,9 +33,9 @@ pub fn read_in_turn<'a>(
     alloc: Global,
     limit: u8,
     text: &'a str,
-    nodes: &mut [Node],
+    nodes: &mut [RawNode],
     literals: &mut [u8],
-) -> Result<Report, BorrowedParseError<'a>>
+) -> Result<ReadReport, BorrowedParseError<'a>>
     ensures { IsRead (Language.Version Three) limit text.now nodes.old nodes.new literals.old
         literals.new result }
 {
@@ -59,8 +59,8 @@ pub fn read_in_turn<'a>(
 /// Writes the node of all pieces after them, as far as there is room, unless there is just one
 /// piece. `None` says that a `usize` can't count the nodes.
 #[inline(always)]
-fn write_whole(all: Progress, nodes: &mut [Node]) -> Option<Written>
-    ensures some { (list : List Tree) (before : List spec_node.Node) (text after : Text)
+fn write_whole(all: ReadProgress, nodes: &mut [RawNode]) -> Option<Written>
+    ensures some { (list : List Tree) (before : List spec_node.RawNode) (text after : Text)
         → HasWritten list before nodes.old text after all
         → IfSome result (IsWritten (walked (pack list)) (reserve (pack list)) positions.START before nodes.new
         text after) }
@@ -72,7 +72,7 @@ fn write_whole(all: Progress, nodes: &mut [Node]) -> Option<Written>
             bytes: all.bytes,
         });
     }
-    let node = Node::compound(START.nodes, all.count, all.bytes);
+    let node = RawNode::compound(START.nodes, all.count, all.bytes);
     put(node, all.bytes, all.end, nodes)
 }
 
@@ -82,9 +82,9 @@ fn write_pieces<'a>(
     alloc: Global,
     limit: u8,
     text: &'a str,
-    nodes: &mut [Node],
+    nodes: &mut [RawNode],
     literals: &mut [u8],
-) -> Result<Progress, ReadError<'a>>
+) -> Result<ReadProgress, ReadError<'a>>
     ensures pieces { MatchResult result (λ p. (list : List Tree)
         × PiecesToEnd Three limit 0 text.now list []
         × HasWritten list nodes.old nodes.new literals.old literals.new p)
@@ -116,7 +116,7 @@ fn write_piece<'a>(
     builder: &mut DescriptionBuilder<'a>,
     piece: Piece<'a>,
     at: WritePosition,
-    nodes: &mut [Node],
+    nodes: &mut [RawNode],
     literals: &mut [u8],
 ) -> Option<Written>
     requires { reserve_all (trees (built builder.old)) < 2 ^ 64 }
@@ -138,7 +138,7 @@ fn write_built<'a>(
     alloc: Global,
     builder: &mut DescriptionBuilder<'a>,
     at: WritePosition,
-    nodes: &mut [Node],
+    nodes: &mut [RawNode],
     literals: &mut [u8],
 ) -> Option<Written>
     requires { reserve_all (trees (built builder.old)) < 2 ^ 64 }

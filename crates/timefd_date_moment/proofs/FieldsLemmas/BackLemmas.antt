@@ -13,7 +13,7 @@ use Rattle.std.specs.Str.Parse.{AllDigits, digits_value}
 use Rattle.timefd_lang_component.specs.Texts.{filled}
 use Rattle.timefd_lang_component.specs.Tree.{Text}
 use Rattle.timefd_modifier.specs.declared.enums.Padding.{Padding}
-use Rattle.timefd_date_moment.specs.declared.fields.rule.Names.{Names}
+use Rattle.timefd_date_moment.specs.declared.fields.rule.NameList.{NameList}
 use Rattle.timefd_date_moment.specs.Fields.Laws.{ReadsFilled, ReadsNames}
 use Rattle.timefd_date_moment.specs.Fields.Numbers.{digits, enough, within}
 use Rattle.timefd_date_moment.specs.Fields.Inputs.{as_count}
@@ -90,51 +90,51 @@ reads_filled field width lowest highest n rest some few low high small =
     ∙ ap (λ r. as_count field r) (in_range lowest highest n width low high)
 
 pub reads_names : ReadsNames
-reads_names Names.ShortMonths zero rest h = refl
-reads_names Names.ShortMonths (suc zero) rest h = refl
-reads_names Names.ShortMonths (suc (suc zero)) rest h = refl
-reads_names Names.ShortMonths (suc (suc (suc zero))) rest h = refl
-reads_names Names.ShortMonths (suc (suc (suc (suc zero)))) rest h = refl
-reads_names Names.ShortMonths (suc (suc (suc (suc (suc zero))))) rest h = refl
-reads_names Names.ShortMonths (suc (suc (suc (suc (suc (suc zero)))))) rest h = refl
-reads_names Names.ShortMonths (suc (suc (suc (suc (suc (suc (suc zero))))))) rest h = refl
-reads_names Names.ShortMonths (suc (suc (suc (suc (suc (suc (suc (suc zero)))))))) rest h = refl
-reads_names Names.ShortMonths (suc (suc (suc (suc (suc (suc (suc (suc (suc zero))))))))) rest h = refl
-reads_names Names.ShortMonths (suc (suc (suc (suc (suc (suc (suc (suc (suc (suc zero)))))))))) rest h = refl
-reads_names Names.ShortMonths (suc (suc (suc (suc (suc (suc (suc (suc (suc (suc (suc zero))))))))))) rest h = refl
-reads_names Names.ShortMonths (suc (suc (suc (suc (suc (suc (suc (suc (suc (suc (suc (suc n)))))))))))) rest h = absurd (omega (arith, h))
-reads_names Names.LongMonths zero rest h = refl
-reads_names Names.LongMonths (suc zero) rest h = refl
-reads_names Names.LongMonths (suc (suc zero)) rest h = refl
-reads_names Names.LongMonths (suc (suc (suc zero))) rest h = refl
-reads_names Names.LongMonths (suc (suc (suc (suc zero)))) rest h = refl
-reads_names Names.LongMonths (suc (suc (suc (suc (suc zero))))) rest h = refl
-reads_names Names.LongMonths (suc (suc (suc (suc (suc (suc zero)))))) rest h = refl
-reads_names Names.LongMonths (suc (suc (suc (suc (suc (suc (suc zero))))))) rest h = refl
-reads_names Names.LongMonths (suc (suc (suc (suc (suc (suc (suc (suc zero)))))))) rest h = refl
-reads_names Names.LongMonths (suc (suc (suc (suc (suc (suc (suc (suc (suc zero))))))))) rest h = refl
-reads_names Names.LongMonths (suc (suc (suc (suc (suc (suc (suc (suc (suc (suc zero)))))))))) rest h = refl
-reads_names Names.LongMonths (suc (suc (suc (suc (suc (suc (suc (suc (suc (suc (suc zero))))))))))) rest h = refl
-reads_names Names.LongMonths (suc (suc (suc (suc (suc (suc (suc (suc (suc (suc (suc (suc n)))))))))))) rest h = absurd (omega (arith, h))
-reads_names Names.ShortWeekdays zero rest h = refl
-reads_names Names.ShortWeekdays (suc zero) rest h = refl
-reads_names Names.ShortWeekdays (suc (suc zero)) rest h = refl
-reads_names Names.ShortWeekdays (suc (suc (suc zero))) rest h = refl
-reads_names Names.ShortWeekdays (suc (suc (suc (suc zero)))) rest h = refl
-reads_names Names.ShortWeekdays (suc (suc (suc (suc (suc zero))))) rest h = refl
-reads_names Names.ShortWeekdays (suc (suc (suc (suc (suc (suc zero)))))) rest h = refl
-reads_names Names.ShortWeekdays (suc (suc (suc (suc (suc (suc (suc n))))))) rest h = absurd (omega (arith, h))
-reads_names Names.LongWeekdays zero rest h = refl
-reads_names Names.LongWeekdays (suc zero) rest h = refl
-reads_names Names.LongWeekdays (suc (suc zero)) rest h = refl
-reads_names Names.LongWeekdays (suc (suc (suc zero))) rest h = refl
-reads_names Names.LongWeekdays (suc (suc (suc (suc zero)))) rest h = refl
-reads_names Names.LongWeekdays (suc (suc (suc (suc (suc zero))))) rest h = refl
-reads_names Names.LongWeekdays (suc (suc (suc (suc (suc (suc zero)))))) rest h = refl
-reads_names Names.LongWeekdays (suc (suc (suc (suc (suc (suc (suc n))))))) rest h = absurd (omega (arith, h))
-reads_names Names.UpperPeriods zero rest h = refl
-reads_names Names.UpperPeriods (suc zero) rest h = refl
-reads_names Names.UpperPeriods (suc (suc n)) rest h = absurd (omega (arith, h))
-reads_names Names.LowerPeriods zero rest h = refl
-reads_names Names.LowerPeriods (suc zero) rest h = refl
-reads_names Names.LowerPeriods (suc (suc n)) rest h = absurd (omega (arith, h))
+reads_names NameList.ShortMonths zero rest h = refl
+reads_names NameList.ShortMonths (suc zero) rest h = refl
+reads_names NameList.ShortMonths (suc (suc zero)) rest h = refl
+reads_names NameList.ShortMonths (suc (suc (suc zero))) rest h = refl
+reads_names NameList.ShortMonths (suc (suc (suc (suc zero)))) rest h = refl
+reads_names NameList.ShortMonths (suc (suc (suc (suc (suc zero))))) rest h = refl
+reads_names NameList.ShortMonths (suc (suc (suc (suc (suc (suc zero)))))) rest h = refl
+reads_names NameList.ShortMonths (suc (suc (suc (suc (suc (suc (suc zero))))))) rest h = refl
+reads_names NameList.ShortMonths (suc (suc (suc (suc (suc (suc (suc (suc zero)))))))) rest h = refl
+reads_names NameList.ShortMonths (suc (suc (suc (suc (suc (suc (suc (suc (suc zero))))))))) rest h = refl
+reads_names NameList.ShortMonths (suc (suc (suc (suc (suc (suc (suc (suc (suc (suc zero)))))))))) rest h = refl
+reads_names NameList.ShortMonths (suc (suc (suc (suc (suc (suc (suc (suc (suc (suc (suc zero))))))))))) rest h = refl
+reads_names NameList.ShortMonths (suc (suc (suc (suc (suc (suc (suc (suc (suc (suc (suc (suc n)))))))))))) rest h = absurd (omega (arith, h))
+reads_names NameList.LongMonths zero rest h = refl
+reads_names NameList.LongMonths (suc zero) rest h = refl
+reads_names NameList.LongMonths (suc (suc zero)) rest h = refl
+reads_names NameList.LongMonths (suc (suc (suc zero))) rest h = refl
+reads_names NameList.LongMonths (suc (suc (suc (suc zero)))) rest h = refl
+reads_names NameList.LongMonths (suc (suc (suc (suc (suc zero))))) rest h = refl
+reads_names NameList.LongMonths (suc (suc (suc (suc (suc (suc zero)))))) rest h = refl
+reads_names NameList.LongMonths (suc (suc (suc (suc (suc (suc (suc zero))))))) rest h = refl
+reads_names NameList.LongMonths (suc (suc (suc (suc (suc (suc (suc (suc zero)))))))) rest h = refl
+reads_names NameList.LongMonths (suc (suc (suc (suc (suc (suc (suc (suc (suc zero))))))))) rest h = refl
+reads_names NameList.LongMonths (suc (suc (suc (suc (suc (suc (suc (suc (suc (suc zero)))))))))) rest h = refl
+reads_names NameList.LongMonths (suc (suc (suc (suc (suc (suc (suc (suc (suc (suc (suc zero))))))))))) rest h = refl
+reads_names NameList.LongMonths (suc (suc (suc (suc (suc (suc (suc (suc (suc (suc (suc (suc n)))))))))))) rest h = absurd (omega (arith, h))
+reads_names NameList.ShortWeekdays zero rest h = refl
+reads_names NameList.ShortWeekdays (suc zero) rest h = refl
+reads_names NameList.ShortWeekdays (suc (suc zero)) rest h = refl
+reads_names NameList.ShortWeekdays (suc (suc (suc zero))) rest h = refl
+reads_names NameList.ShortWeekdays (suc (suc (suc (suc zero)))) rest h = refl
+reads_names NameList.ShortWeekdays (suc (suc (suc (suc (suc zero))))) rest h = refl
+reads_names NameList.ShortWeekdays (suc (suc (suc (suc (suc (suc zero)))))) rest h = refl
+reads_names NameList.ShortWeekdays (suc (suc (suc (suc (suc (suc (suc n))))))) rest h = absurd (omega (arith, h))
+reads_names NameList.LongWeekdays zero rest h = refl
+reads_names NameList.LongWeekdays (suc zero) rest h = refl
+reads_names NameList.LongWeekdays (suc (suc zero)) rest h = refl
+reads_names NameList.LongWeekdays (suc (suc (suc zero))) rest h = refl
+reads_names NameList.LongWeekdays (suc (suc (suc (suc zero)))) rest h = refl
+reads_names NameList.LongWeekdays (suc (suc (suc (suc (suc zero))))) rest h = refl
+reads_names NameList.LongWeekdays (suc (suc (suc (suc (suc (suc zero)))))) rest h = refl
+reads_names NameList.LongWeekdays (suc (suc (suc (suc (suc (suc (suc n))))))) rest h = absurd (omega (arith, h))
+reads_names NameList.UpperPeriods zero rest h = refl
+reads_names NameList.UpperPeriods (suc zero) rest h = refl
+reads_names NameList.UpperPeriods (suc (suc n)) rest h = absurd (omega (arith, h))
+reads_names NameList.LowerPeriods zero rest h = refl
+reads_names NameList.LowerPeriods (suc zero) rest h = refl
+reads_names NameList.LowerPeriods (suc (suc n)) rest h = absurd (omega (arith, h))

@@ -6,8 +6,8 @@ use Rattle.std.specs.List.{starts_with}
 use Rattle.timefd_lang_component.specs.declared.component.Component.{Component}
 use Rattle.timefd_lang_component.specs.Modern.{modern}
 use Rattle.timefd_lang_component.specs.Tree.{Text, component, literal, compound, optional, first, Trees, no_trees, more_trees}
-use Rattle.timefd_date_moment.specs.declared.fields.fault.Fault.{Fault}
-use Rattle.timefd_date_moment.specs.declared.fields.fault.Reason.TheVariants as for
+use Rattle.timefd_date_moment.specs.declared.fields.fault.FieldFault.{FieldFault}
+use Rattle.timefd_date_moment.specs.declared.fields.fault.UnreadReason.TheVariants as for
 use Rattle.timefd_date_moment.specs.declared.fields.fields.Fields.{Fields}
 use Rattle.timefd_date_moment.specs.declared.fields.reading.Reading.{Reading}
 use Rattle.timefd_date_moment.specs.Fields.Inputs.{input}
@@ -35,37 +35,37 @@ after_literal bytes p true = cut (length bytes) p
 after_literal bytes p false = omega arith
 
 -- One part after another.
-after_both : (p q : Point) (front : Text) (r : Result Point Fault) → p.rest ≡ front ++ q.rest
+after_both : (p q : Point) (front : Text) (r : Result Point FieldFault) → p.rest ≡ front ++ q.rest
     → IsAfter q r → IsAfter p r
 after_both p q front (Ok s) e b =
     (front ++ b.0, e ∙ ap (λ x. front ++ x) b.1 ∙ sym (append_assoc front b.0 s.rest))
 after_both p q front (Err f) e b = omega (arith, b, ap length e, length-append front q.rest)
 
-after_followed : (p : Point) (r : Result Point Fault) (next : Point → Result Point Fault)
+after_followed : (p : Point) (r : Result Point FieldFault) (next : Point → Result Point FieldFault)
     → IsAfter p r → ((q : Point) → IsAfter q (next q)) → IsAfter p (followed r next)
 after_followed p (Ok q) next b n = after_both p q b.0 (next q) b.1 (n q)
 after_followed p (Err f) next b n = b
 
-after_perhaps : (p : Point) (r : Result Point Fault) → IsAfter p r → IsAfter p (perhaps p r)
+after_perhaps : (p : Point) (r : Result Point FieldFault) → IsAfter p r → IsAfter p (perhaps p r)
 after_perhaps p (Ok q) b = b
 after_perhaps p (Err f) b = ([], refl)
 
-abbrev IsWithin : Point → Option Fault → Type 0
+abbrev IsWithin : Point → Option FieldFault → Type 0
 IsWithin p None = Unit {0}
 IsWithin p (Some f) = f.left ≤ length p.rest
 
-after_unless : (p : Point) (r : Result Point Fault) (others : Fault → Result Point Fault)
-    → IsAfter p r → ((f : Fault) → f.left ≤ length p.rest → IsAfter p (others f))
+after_unless : (p : Point) (r : Result Point FieldFault) (others : FieldFault → Result Point FieldFault)
+    → IsAfter p r → ((f : FieldFault) → f.left ≤ length p.rest → IsAfter p (others f))
     → IsAfter p (unless_read r others)
 after_unless p (Ok q) others b n = b
 after_unless p (Err f) others b n = n f b
 
-within_earlier : (p : Point) (before : Option Fault) (f : Fault) → IsWithin p before
+within_earlier : (p : Point) (before : Option FieldFault) (f : FieldFault) → IsWithin p before
     → f.left ≤ length p.rest → IsWithin p (earlier before f)
 within_earlier p None f w b = b
 within_earlier p (Some e) f w b = w
 
-after_none : (p : Point) (fault : Option Fault) → IsWithin p fault → IsAfter p (none_reads p fault)
+after_none : (p : Point) (fault : Option FieldFault) → IsWithin p fault → IsAfter p (none_reads p fault)
 after_none p None w = ([], refl)
 after_none p (Some f) w = w
 
@@ -82,7 +82,7 @@ mutual
   all_fronts (more_trees t ts) p =
       after_followed p (read t p) (λ q. read_all ts q) (reads_fronts t p) (λ q. all_fronts ts q)
 
-  first_fronts : (fault : Option Fault) (ts : Trees) (p : Point) → IsWithin p fault
+  first_fronts : (fault : Option FieldFault) (ts : Trees) (p : Point) → IsWithin p fault
       → IsAfter p (read_first fault ts p)
   first_fronts fault no_trees p w = after_none p fault w
   first_fronts fault (more_trees t ts) p w =

@@ -11,8 +11,8 @@ use Rattle.timefd_date_moment.specs.declared.fields.fields.Count.{Count}
 use Rattle.timefd_date_moment.specs.declared.fields.fields.Fields.{Fields}
 use Rattle.timefd_date_moment.specs.declared.fields.fields.Signed.{Signed}
 use Rattle.timefd_date_moment.specs.declared.fields.reading.Reading.TheVariants as reads
-use Rattle.timefd_date_moment.specs.declared.fields.rule.Form.{Form}
-use Rattle.timefd_date_moment.specs.declared.fields.rule.Rule.TheVariants as by
+use Rattle.timefd_date_moment.specs.declared.fields.rule.NumberForm.{NumberForm}
+use Rattle.timefd_date_moment.specs.declared.fields.rule.FieldRule.TheVariants as by
 use Rattle.timefd_date_moment.specs.Fields.Fields.{amount, count}
 use Rattle.timefd_date_moment.specs.Fields.Inputs.{as_amount, as_count, input}
 use Rattle.timefd_date_moment.specs.Fields.Numbers.{digits, padded, sign_in, signed, signed_by, with_sign, within}
@@ -32,7 +32,7 @@ number_is_modern (UnixTimestamp m) field p w l h e = absurd cc
 number_is_modern (Year m) field p w l h e = absurd cc
 number_is_modern _ field p w l h e = refl
 
-signed_is_modern : (c : Component) (field : Amount) (b : Bool) (form : Form)
+signed_is_modern : (c : Component) (field : Amount) (b : Bool) (form : NumberForm)
     → by.Signed field b form ≡ rule_of c → modern c ≡ c
 signed_is_modern (Month m) field b form e = absurd cc
 signed_is_modern (Weekday m) field b form e = absurd cc
@@ -50,7 +50,7 @@ by_number c field l h text old new r is takes =
     subst (λ rule. TakesFront (input rule text) text old new r)
     (is ∙ ap rule_of (sym (number_is_modern c field Padding.Zero 2 l h is))) takes
 
-pub by_sign : (c : Component) (field : Amount) (form : Form) (text : Text) (old new : Fields) (r : Option ℕ)
+pub by_sign : (c : Component) (field : Amount) (form : NumberForm) (text : Text) (old new : Fields) (r : Option ℕ)
     → by.Signed field false form ≡ rule_of c
     → TakesFront (as_amount field (signed false form text)) text old new r
     → TakesFront (input (rule_of (modern c)) text) text old new r
@@ -74,7 +74,7 @@ two_taken field l h n text old new found long low high takes = (
 )
 
 -- The four digits of a form with four digits.
-pub four_taken : (field : Amount) (form : Form) (n : ℕ) (text : Text) (old new : Fields)
+pub four_taken : (field : Amount) (form : NumberForm) (n : ℕ) (text : Text) (old new : Fields)
     → IsFour form → digits 4 4 text ≡ Some (n, 4) → sign_in text ≡ None → 4 ≤ length text → n ≤ form.greatest
     → amount_with old field (record { is_negative = false; magnitude = n })
     (amount old field) ≡ Some new

@@ -8,17 +8,17 @@ use Rattle.std.specs.List.{starts_with}
 use Rattle.timefd_lang_component.specs.declared.component.Component.{Component}
 use Rattle.timefd_lang_component.specs.Modern.{modern}
 use Rattle.timefd_lang_component.specs.Tree.{Text, Tree, component, literal, compound, optional, first, Trees, no_trees, more_trees}
-use Rattle.timefd_date_moment.specs.declared.fields.fault.Fault.{Fault}
+use Rattle.timefd_date_moment.specs.declared.fields.fault.FieldFault.{FieldFault}
 use Rattle.timefd_date_moment.specs.declared.fields.fields.Fields.{Fields}
 use Rattle.timefd_date_moment.specs.declared.fields.reading.Reading.{Reading}
 use Rattle.timefd_date_moment.specs.Fields.Inputs.{input}
 use Rattle.timefd_date_moment.specs.Fields.Reads.{Point, agreed, earlier, fault_at, followed, none_reads, perhaps, read, read_all, read_first, read_literal, taken, unless_read}
-use Rattle.timefd_date_moment.specs.declared.fields.fault.Reason.TheVariants as for
+use Rattle.timefd_date_moment.specs.declared.fields.fault.UnreadReason.TheVariants as for
 use Rattle.timefd_date_moment.specs.Fields.Readings.{with_reading}
 use Rattle.timefd_date_moment.specs.Fields.Relations.{Reads, ReadsAll, ReadsComponent, ReadsExactly, ReadsFirst}
 use Rattle.timefd_date_moment.specs.Fields.Rules.{rule_of}
 
-abbrev point_of : Point → Result Point Fault → Point
+abbrev point_of : Point → Result Point FieldFault → Point
 point_of p (Ok q) = q
 point_of p (Err f) = p
 
@@ -66,34 +66,34 @@ is_literal bytes p q cut same =
 
 -- what follows, and what may be missing
 
-followed_is : (r : Result Point Fault) (next : Point → Result Point Fault) (q : Point)
+followed_is : (r : Result Point FieldFault) (next : Point → Result Point FieldFault) (q : Point)
     → followed r next ≡ Ok q → (mid : Point) × (r ≡ Ok mid) × (next mid ≡ Ok q)
 followed_is (Ok mid) next q e = (mid, refl, e)
 followed_is (Err f) next q e = absurd cc
 
-unless_is : (r : Result Point Fault) (others : Fault → Result Point Fault) (q : Point)
-    → unless_read r others ≡ Ok q → (r ≡ Ok q) ⊎ ((f : Fault) × (r ≡ Err f) × (others f ≡ Ok q))
+unless_is : (r : Result Point FieldFault) (others : FieldFault → Result Point FieldFault) (q : Point)
+    → unless_read r others ≡ Ok q → (r ≡ Ok q) ⊎ ((f : FieldFault) × (r ≡ Err f) × (others f ≡ Ok q))
 unless_is (Ok p) others q e = inl e
 unless_is (Err f) others q e = inr (f, refl, e)
 
-perhaps_is : (p q : Point) (r : Result Point Fault) → perhaps p r ≡ Ok q
-    → (r ≡ Ok q) ⊎ ((f : Fault) × (r ≡ Err f) × (q ≡ p))
+perhaps_is : (p q : Point) (r : Result Point FieldFault) → perhaps p r ≡ Ok q
+    → (r ≡ Ok q) ⊎ ((f : FieldFault) × (r ≡ Err f) × (q ≡ p))
 perhaps_is p q (Ok s) e = inl e
 perhaps_is p q (Err f) e = inr (f, refl, sym (ap (point_of p) e))
 
 -- What can't be read has a fault.
-faulty : (r : Result Point Fault) (P : Point → Type 0) → ((q : Point) → r ≡ Ok q → P q)
-    → ((q : Point) → P q → ⊥) → (f : Fault) × (r ≡ Err f)
+faulty : (r : Result Point FieldFault) (P : Point → Type 0) → ((q : Point) → r ≡ Ok q → P q)
+    → ((q : Point) → P q → ⊥) → (f : FieldFault) × (r ≡ Err f)
 faulty (Ok q) P is none = absurd (none q (is q refl))
 faulty (Err f) P is none = (f, refl)
 
-unread : (r : Result Point Fault) (f : Fault) (q : Point) → r ≡ Err f → r ≡ Ok q → ⊥
+unread : (r : Result Point FieldFault) (f : FieldFault) (q : Point) → r ≡ Err f → r ≡ Ok q → ⊥
 unread r f q e o = absurd cc
 
-none_is : (p q : Point) (f : Fault) → none_reads p (Some f) ≡ Ok q → ⊥
+none_is : (p q : Point) (f : FieldFault) → none_reads p (Some f) ≡ Ok q → ⊥
 none_is p q f e = absurd cc
 
-some_earlier : (before : Option Fault) (f : Fault) → (e : Fault) × (earlier before f ≡ Some e)
+some_earlier : (before : Option FieldFault) (f : FieldFault) → (e : FieldFault) × (earlier before f ≡ Some e)
 some_earlier None f = (f, refl)
 some_earlier (Some e) f = (e, refl)
 
@@ -119,7 +119,7 @@ mutual
   answered_all (more_trees t ts) p q r =
       ap (λ x. followed x (λ s. read_all ts s)) (answered t p r.0 r.1) ∙ answered_all ts r.0 q r.2
 
-  answered_first : (fault : Option Fault) (ts : Trees) (p q : Point) → ReadsFirst ts p q
+  answered_first : (fault : Option FieldFault) (ts : Trees) (p q : Point) → ReadsFirst ts p q
       → read_first fault ts p ≡ Ok q
   answered_first fault no_trees p q r = absurd r
   answered_first fault (more_trees t ts) p q (inl r) =
@@ -150,7 +150,7 @@ mutual
       let parts = followed_is (read t p) (λ s. read_all ts s) q e in
       (parts.0, reads t p parts.0 parts.1, reads_all ts parts.0 q parts.2)
 
-  reads_first : (f : Fault) (ts : Trees) (p q : Point) → read_first (Some f) ts p ≡ Ok q
+  reads_first : (f : FieldFault) (ts : Trees) (p q : Point) → read_first (Some f) ts p ≡ Ok q
       → ReadsFirst ts p q
   reads_first f no_trees p q e = absurd (none_is p q f e)
   reads_first f (more_trees t ts) p q e =

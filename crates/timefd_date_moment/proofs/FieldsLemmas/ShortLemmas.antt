@@ -4,13 +4,13 @@ use Rattle.timefd_modifier.specs.declared.enums.Padding.{Padding}
 use Rattle.timefd_lang_component.specs.declared.component.Component.{Component}
 use Rattle.timefd_lang_component.specs.Modern.{modern}
 use Rattle.timefd_lang_component.specs.Tree.{Text, Trees, compound, component}
-use Rattle.timefd_date_moment.specs.declared.fields.fault.Fault.{Fault}
+use Rattle.timefd_date_moment.specs.declared.fields.fault.FieldFault.{FieldFault}
 use Rattle.timefd_date_moment.specs.declared.fields.fields.Amount.{Amount}
 use Rattle.timefd_date_moment.specs.declared.fields.fields.Count.{Count}
 use Rattle.timefd_date_moment.specs.declared.fields.fields.Fields.{Fields}
 use Rattle.timefd_date_moment.specs.declared.fields.reading.Reading.{Reading}
-use Rattle.timefd_date_moment.specs.declared.fields.rule.Form.{Form}
-use Rattle.timefd_date_moment.specs.declared.fields.rule.Rule.TheVariants as by
+use Rattle.timefd_date_moment.specs.declared.fields.rule.NumberForm.{NumberForm}
+use Rattle.timefd_date_moment.specs.declared.fields.rule.FieldRule.TheVariants as by
 use Rattle.timefd_date_moment.specs.declared.fields.short.Numbers.{Numbers}
 use Rattle.timefd_date_moment.specs.Fields.Inputs.{as_amount, as_count, input}
 use Rattle.timefd_date_moment.specs.Fields.Numbers.{digits, signed, within}
@@ -28,7 +28,7 @@ number_by c field l h text old None is takes = tt
 number_by c field l h text old (Some r) is takes =
     quick.by_number c field l h text (fields_with old) (fields_with r.1) (Some r.0) is takes
 
-pub sign_by : (c : Component) (form : Form) (text : Text) (old : Numbers) (r : Option (ℕ × Numbers))
+pub sign_by : (c : Component) (form : NumberForm) (text : Text) (old : Numbers) (r : Option (ℕ × Numbers))
     → by.Signed Amount.Year false form ≡ rule_of c
     → TakesNumber (as_amount Amount.Year (signed false form text)) text old r
     → TakesNumber (input (rule_of (modern c)) text) text old r

@@ -2,10 +2,10 @@
 use Rattle.std.proofs.Common.{ℕ, ◌≡◌, ◌∙◌, ◌==◌, Bool, true, false, drop, Option, Some, None, Result, Ok, refl, sym, ap, subst}
 use denote.Ref.{Bor}
 use Rattle.timefd_lang_component.specs.Tree.{Text}
-use Rattle.timefd_date_moment.specs.declared.fields.fault.Fault.{Fault}
-use Rattle.timefd_date_moment.specs.declared.fields.rule.Rule.{Rule}
+use Rattle.timefd_date_moment.specs.declared.fields.fault.FieldFault.{FieldFault}
+use Rattle.timefd_date_moment.specs.declared.fields.rule.FieldRule.{FieldRule}
 use Rattle.timefd_lang_component.specs.declared.component.Component.{Component}
-use Rattle.timefd_date_moment.specs.declared.fields.fault.Reason.TheVariants as for
+use Rattle.timefd_date_moment.specs.declared.fields.fault.UnreadReason.TheVariants as for
 use Rattle.timefd_date_moment.specs.declared.fields.fields.Amount.{Amount}
 use Rattle.timefd_date_moment.specs.declared.fields.fields.Count.{Count}
 use Rattle.timefd_date_moment.specs.declared.fields.fields.Fields.{Fields}
@@ -42,24 +42,24 @@ amount_set f field n e = sym (ap (amount_with f field n) e)
 
 -- a component, by its rule
 
-pub by_rule : (c : Component) (p : Point) (rule : Rule) (read : Option (Reading × ℕ)) (new : Fields)
-    (r : Result (Bor Text) Fault) → rule ≡ rule_of c → read ≡ input rule p.rest
+pub by_rule : (c : Component) (p : Point) (rule : FieldRule) (read : Option (Reading × ℕ)) (new : Fields)
+    (r : Result (Bor Text) FieldFault) → rule ≡ rule_of c → read ≡ input rule p.rest
     → Gives (taken c p read) new r → Gives (read_component c p) new r
 by_rule c p rule read new r is reads gives =
     subst (λ x. Gives (taken c p (input x p.rest)) new r) is
     (subst (λ x. Gives (taken c p x) new r) reads gives)
 
-pub rule_read : (c : Component) (p : Point) (rule : Rule) (reading : Reading) (len : ℕ) (fields : Fields)
+pub rule_read : (c : Component) (p : Point) (rule : FieldRule) (reading : Reading) (len : ℕ) (fields : Fields)
     → input rule p.rest ≡ Some (reading, len) → with_reading p.fields reading ≡ Some fields
     → taken c p (input rule p.rest) ≡ Ok (at (drop len p.rest) fields)
 rule_read c p rule reading len fields i w = ap (taken c p) i ∙ ap (agreed c p len) w
 
-pub rule_contradicts : (c : Component) (p : Point) (rule : Rule) (reading : Reading) (len : ℕ)
+pub rule_contradicts : (c : Component) (p : Point) (rule : FieldRule) (reading : Reading) (len : ℕ)
     → input rule p.rest ≡ Some (reading, len) → with_reading p.fields reading ≡ None
     → taken c p (input rule p.rest) ≡ fault_at p (for.Contradiction c)
 rule_contradicts c p rule reading len i w = ap (taken c p) i ∙ ap (agreed c p len) w
 
-pub rule_unread : (c : Component) (p : Point) (rule : Rule) → input rule p.rest ≡ None
+pub rule_unread : (c : Component) (p : Point) (rule : FieldRule) → input rule p.rest ≡ None
     → taken c p (input rule p.rest) ≡ fault_at p (for.Unread c)
 rule_unread c p rule i = ap (taken c p) i
 

@@ -10,10 +10,10 @@ use Rattle.timefd_date_moment.specs.declared.fields.fields.Amount.{Amount}
 use Rattle.timefd_date_moment.specs.declared.fields.fields.Signed.{Signed}
 use Rattle.timefd_date_moment.specs.declared.fields.reading.Reading.{Reading}
 use Rattle.timefd_date_moment.specs.declared.fields.reading.Reading.TheVariants as reads
-use Rattle.timefd_date_moment.specs.declared.fields.rule.Rule.{Rule}
-use Rattle.timefd_date_moment.specs.declared.fields.rule.Rule.TheVariants as by
-use Rattle.timefd_date_moment.specs.declared.fields.rule.Names.{Names}
-use Rattle.timefd_date_moment.specs.declared.fields.rule.Form.{Form}
+use Rattle.timefd_date_moment.specs.declared.fields.rule.FieldRule.{FieldRule}
+use Rattle.timefd_date_moment.specs.declared.fields.rule.FieldRule.TheVariants as by
+use Rattle.timefd_date_moment.specs.declared.fields.rule.NameList.{NameList}
+use Rattle.timefd_date_moment.specs.declared.fields.rule.NumberForm.{NumberForm}
 use Rattle.timefd_date_moment.specs.Fields.Numbers.{digits, padded, within, signed}
 use Rattle.timefd_date_moment.specs.Fields.Names.{listed, name_from}
 use Rattle.timefd_date_moment.specs.Fields.Readings.{unit}
@@ -32,7 +32,7 @@ abbrev pub as_amount : Amount → Option (Signed × ℕ) → Option (Reading × 
 as_amount field None = None
 as_amount field (Some r) = Some (reads.Amount field r.0, r.1)
 
-abbrev pub amount : Amount → Bool → Form → Text → Option (Reading × ℕ)
+abbrev pub amount : Amount → Bool → NumberForm → Text → Option (Reading × ℕ)
 amount field is_mandatory form text = as_amount field (signed is_mandatory form text)
 
 -- weekdays by number, as days after Monday
@@ -60,7 +60,7 @@ abbrev pub as_name : Count → ℕ → Option (ℕ × ℕ) → Option (Reading �
 as_name field first None = None
 as_name field first (Some r) = Some (reads.Count field (first + r.0), r.1)
 
-abbrev pub name : Count → Names → Bool → ℕ → Text → Option (Reading × ℕ)
+abbrev pub name : Count → NameList → Bool → ℕ → Text → Option (Reading × ℕ)
 name field names is_case_sensitive first text =
     as_name field first (name_from 0 is_case_sensitive (listed names) text)
 
@@ -68,7 +68,7 @@ abbrev pub as_period : Option (ℕ × ℕ) → Option (Reading × ℕ)
 as_period None = None
 as_period (Some r) = Some (reads.Period (r.0 == 1), r.1)
 
-abbrev pub period : Names → Bool → Text → Option (Reading × ℕ)
+abbrev pub period : NameList → Bool → Text → Option (Reading × ℕ)
 period names is_case_sensitive text = as_period (name_from 0 is_case_sensitive (listed names) text)
 
 -- digits of a second, as nanoseconds
@@ -106,7 +106,7 @@ abbrev pub end : TrailingInput → Text → Option (Reading × ℕ)
 end TrailingInput.Prohibit text = if length text == 0 then Some (reads.Nothing, 0) else None
 end TrailingInput.Discard text = Some (reads.Nothing, length text)
 
-abbrev pub input : Rule → Text → Option (Reading × ℕ)
+abbrev pub input : FieldRule → Text → Option (Reading × ℕ)
 input (by.Number field padding width lowest highest) text =
     number field padding width lowest highest text
 input (by.Weekday is_sunday_first is_one_indexed) text = weekday is_sunday_first is_one_indexed text

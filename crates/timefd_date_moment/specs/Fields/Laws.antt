@@ -5,18 +5,18 @@ use Rattle.std.specs.List.{prefix_len}
 use Rattle.timefd_lang_component.specs.Texts.{filled}
 use Rattle.timefd_lang_component.specs.Tree.{Text, Tree}
 use Rattle.timefd_modifier.specs.declared.enums.Padding.{Padding}
-use Rattle.timefd_date_moment.specs.declared.fields.fault.Fault.{Fault}
+use Rattle.timefd_date_moment.specs.declared.fields.fault.FieldFault.{FieldFault}
 use Rattle.timefd_date_moment.specs.declared.fields.fields.Amount.{Amount}
 use Rattle.timefd_date_moment.specs.declared.fields.fields.Count.{Count}
 use Rattle.timefd_date_moment.specs.declared.fields.reading.Reading.TheVariants as reads
-use Rattle.timefd_date_moment.specs.declared.fields.rule.Form.{Form}
-use Rattle.timefd_date_moment.specs.declared.fields.rule.Names.{Names}
+use Rattle.timefd_date_moment.specs.declared.fields.rule.NumberForm.{NumberForm}
+use Rattle.timefd_date_moment.specs.declared.fields.rule.NameList.{NameList}
 use Rattle.timefd_date_moment.specs.Fields.Inputs.{amount, number}
 use Rattle.timefd_date_moment.specs.Fields.Names.{listed, name_from}
 use Rattle.timefd_date_moment.specs.Fields.Reads.{Point, read}
 
 -- What is left is the end of the text, and a fault begins within it.
-abbrev pub IsAfter : Point → Result Point Fault → Type 0
+abbrev pub IsAfter : Point → Result Point FieldFault → Type 0
 IsAfter p (Ok q) = (front : Text) × (p.rest ≡ front ++ q.rest)
 IsAfter p (Err f) = f.left ≤ length p.rest
 
@@ -33,7 +33,7 @@ ReadsFilled = (field : Count) (width lowest highest n : ℕ) (rest : Text) → 1
 
 -- A name is read back as its index in the list, whatever follows it.
 abbrev pub ReadsNames : Type 0
-ReadsNames = (names : Names) (n : ℕ) (rest : Text) → n < length (listed names)
+ReadsNames = (names : NameList) (n : ℕ) (rest : Text) → n < length (listed names)
     → name_from 0 true (listed names) (get_or (listed names) n [] ++ rest)
     ≡ Some (n, length (get_or (listed names) n []))
 
@@ -54,7 +54,7 @@ sign_byte false = 43
 
 -- A number that was written after its sign is read back if no digit follows it.
 abbrev pub ReadsSigned : Type 0
-ReadsSigned = (field : Amount) (is_mandatory is_negative : Bool) (form : Form) (n : ℕ) (rest : Text)
+ReadsSigned = (field : Amount) (is_mandatory is_negative : Bool) (form : NumberForm) (n : ℕ) (rest : Text)
     → 1 ≤ form.width → form.width ≤ form.most_signed → form.most_signed ≤ 23 → n ≤ form.greatest
     → form.greatest < 10 ^ form.most_signed → HasNoDigit rest
     → amount field is_mandatory form (sign_byte is_negative ∷ (filled form.padding form.width n ++ rest))
@@ -62,7 +62,7 @@ ReadsSigned = (field : Amount) (is_mandatory is_negative : Bool) (form : Form) (
 
 -- A number without a sign is read back too, if no sign is mandatory.
 abbrev pub ReadsUnsigned : Type 0
-ReadsUnsigned = (field : Amount) (form : Form) (n : ℕ) (rest : Text) → 1 ≤ form.width
+ReadsUnsigned = (field : Amount) (form : NumberForm) (n : ℕ) (rest : Text) → 1 ≤ form.width
     → form.width ≤ form.most → form.most ≤ 23 → n ≤ form.greatest → n < 10 ^ form.most → HasNoDigit rest
     → amount field false form (filled form.padding form.width n ++ rest)
     ≡ Some (reads.Amount field (record { is_negative = false; magnitude = n }), length (filled form.padding form.width n))

@@ -3,15 +3,15 @@ use Rattle.std.specs.Prelude.{ℕ, ◌+◌, ◌==◌, ◌&&◌, Bool, true, fals
 use Rattle.std.specs.Char.{eq_ignore_ascii_case}
 use Rattle.timefd_lang_component.specs.Tree.{Text}
 use Rattle.timefd_lang_component.specs.Texts.{short_months, long_months, short_weekdays, long_weekdays, periods}
-use Rattle.timefd_date_moment.specs.declared.fields.rule.Names.{Names}
+use Rattle.timefd_date_moment.specs.declared.fields.rule.NameList.{NameList}
 
-abbrev pub listed : Names → List Text
-listed Names.ShortMonths = short_months
-listed Names.LongMonths = long_months
-listed Names.ShortWeekdays = short_weekdays
-listed Names.LongWeekdays = long_weekdays
-listed Names.UpperPeriods = periods true
-listed Names.LowerPeriods = periods false
+abbrev pub listed : NameList → List Text
+listed NameList.ShortMonths = short_months
+listed NameList.LongMonths = long_months
+listed NameList.ShortWeekdays = short_weekdays
+listed NameList.LongWeekdays = long_weekdays
+listed NameList.UpperPeriods = periods true
+listed NameList.LowerPeriods = periods false
 
 -- Whether two bytes are the same. If case makes no difference, an ASCII letter is the same in both cases.
 abbrev pub same_byte : Bool → ℕ → ℕ → Bool

@@ -6,7 +6,7 @@ use Rattle.std.specs.Str.Parse.{digits_value}
 use Rattle.timefd_lang_component.specs.Tree.{Text}
 use Rattle.timefd_modifier.specs.declared.enums.Padding.{Padding}
 use Rattle.timefd_date_moment.specs.declared.fields.fields.Signed.{Signed}
-use Rattle.timefd_date_moment.specs.declared.fields.rule.Form.{Form}
+use Rattle.timefd_date_moment.specs.declared.fields.rule.NumberForm.{NumberForm}
 
 -- The value of the first `count` digits, if they are enough.
 abbrev pub enough : ℕ → ℕ → Text → Option (ℕ × ℕ)
@@ -55,7 +55,7 @@ with_sign is_negative None = None
 with_sign is_negative (Some r) = Some (record { is_negative = is_negative; magnitude = r.0 }, r.1)
 
 -- A number may have more digits after a sign than without one.
-abbrev pub signed_by : Option Bool → Bool → Form → Text → Option (Signed × ℕ)
+abbrev pub signed_by : Option Bool → Bool → NumberForm → Text → Option (Signed × ℕ)
 signed_by (Some is_negative) mandatory form text =
     with_sign is_negative (after 1
     (within 0 form.greatest (padded form.padding form.width form.most_signed (drop 1 text))))
@@ -63,7 +63,7 @@ signed_by None true form text = None
 signed_by None false form text = with_sign false
     (within 0 form.greatest (padded form.padding form.width form.most text))
 
-abbrev pub signed : Bool → Form → Text → Option (Signed × ℕ)
+abbrev pub signed : Bool → NumberForm → Text → Option (Signed × ℕ)
 signed mandatory form text = signed_by (sign_in text) mandatory form text
 
 -- One digit or one space more: the run that begins at the next position is shorter by one.

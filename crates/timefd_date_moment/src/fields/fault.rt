@@ -5,14 +5,14 @@ use timefd_lang_component::Component;
 /// Why a text can't be read, and where.
 #[derive(Debug, Clone, Copy)]
 pub struct ReadError {
-    pub reason: Reason,
+    pub reason: UnreadReason,
     /// The byte index in the text where the part begins that can't be read.
     pub index: usize,
 }
 
 /// Why a text can't be read.
 #[derive(Debug, Clone, Copy)]
-pub enum Reason {
+pub enum UnreadReason {
     /// What follows in the text is nothing that this component reads.
     Unread(Component),
     /// This component was read before, and reads another value here.
@@ -25,7 +25,7 @@ pub enum Reason {
 
 /// Why a text can't be read, with the number of bytes that were left.
 #[derive(Clone, Copy)]
-pub(crate) struct Fault {
-    pub reason: Reason,
+pub(crate) struct FieldFault {
+    pub reason: UnreadReason,
     pub left: usize,
 }

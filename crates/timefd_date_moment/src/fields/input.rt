@@ -9,46 +9,46 @@ use crate::fields::fields::{Amount, Count, Fraction};
 use crate::fields::names::leading_name;
 use crate::fields::numbers::{padded, signed, within};
 use crate::fields::reading::{Reading, unit};
-use crate::fields::rule::{Form, Names, Rule};
+use crate::fields::rule::{FieldRule, NameList, NumberForm};
 use timefd_modifier::{Padding, SubsecondDigits, TrailingInput};
 
 /// What is read by the rule at the start of the text, and how many bytes it takes.
-pub(crate) fn input(rule: Rule, text: &[u8]) -> Option<(Reading, usize)>
+pub(crate) fn input(rule: FieldRule, text: &[u8]) -> Option<(Reading, usize)>
     requires { IsRule rule }
     ensures value { result ≡ spec.input rule text.now }
     ensures within { IfSome result (λ r. r.1 ≤ length text.now) }
 {
     match rule {
-        Rule::Number {
+        FieldRule::Number {
             field,
             padding,
             width,
             lowest,
             highest,
         } => count(field, number(text, field, padding, width, lowest, highest)),
-        Rule::Weekday {
+        FieldRule::Weekday {
             is_sunday_first,
             is_one_indexed,
         } => weekday(text, is_sunday_first, is_one_indexed),
-        Rule::Name {
+        FieldRule::Name {
             field,
             names,
             is_case_sensitive,
             first,
         } => name(text, field, names, is_case_sensitive, first),
-        Rule::Period {
+        FieldRule::Period {
             names,
             is_case_sensitive,
         } => period(text, names, is_case_sensitive),
-        Rule::Signed {
+        FieldRule::Signed {
             field,
             is_mandatory,
             form,
         } => amount(text, field, is_mandatory, form),
-        Rule::Fraction(digits) => fraction(text, digits),
-        Rule::Ignore(count) => ignored(text, count as usize),
-        Rule::End(trailing_input) => end(text, trailing_input),
-        Rule::Deprecated => None,
+        FieldRule::Fraction(digits) => fraction(text, digits),
+        FieldRule::Ignore(count) => ignored(text, count as usize),
+        FieldRule::End(trailing_input) => end(text, trailing_input),
+        FieldRule::Deprecated => None,
     }
 }
 
@@ -112,7 +112,7 @@ fn after_monday(is_sunday_first: bool, days: u16) -> u16
 fn name(
     text: &[u8],
     field: Count,
-    names: Names,
+    names: NameList,
     is_case_sensitive: bool,
     first: u16,
 ) -> Option<(Reading, usize)>
@@ -126,7 +126,7 @@ fn name(
     }
 }
 
-fn period(text: &[u8], names: Names, is_case_sensitive: bool) -> Option<(Reading, usize)>
+fn period(text: &[u8], names: NameList, is_case_sensitive: bool) -> Option<(Reading, usize)>
     ensures value { result ≡ spec.period names is_case_sensitive text.now }
     ensures within { IfSome result (λ r. r.1 ≤ length text.now) }
 {
@@ -136,7 +136,12 @@ fn period(text: &[u8], names: Names, is_case_sensitive: bool) -> Option<(Reading
     }
 }
 
-fn amount(text: &[u8], field: Amount, is_mandatory: bool, form: Form) -> Option<(Reading, usize)>
+fn amount(
+    text: &[u8],
+    field: Amount,
+    is_mandatory: bool,
+    form: NumberForm,
+) -> Option<(Reading, usize)>
     requires { IsForm form }
     ensures value { result ≡ spec.amount field is_mandatory form text.now }
     ensures within { IfSome result (λ r. r.1 ≤ length text.now) }

@@ -6,7 +6,7 @@ ghost use Rattle.timefd_lang_node_list.specs.Item.Meaning.{item_tree, item_trees
 ghost use Rattle.timefd_date_moment.specs.Fields.Reads as spec;
 ghost use Rattle.timefd_date_moment.specs.Fields.Reads.{Gives, at};
 
-use crate::fields::fault::Fault;
+use crate::fields::fault::FieldFault;
 use crate::fields::fields::Fields;
 use crate::fields::part::{read_component, read_literal};
 use crate::fields::view::{earlier, none_reads};
@@ -19,7 +19,7 @@ fn read<'t>(
     item: &BorrowedFormatItem<'_>,
     rest: &'t [u8],
     fields: &mut Fields,
-) -> Result<&'t [u8], Fault>
+) -> Result<&'t [u8], FieldFault>
     ensures { Gives (spec.read (item_tree item.now) (at rest.now fields.old)) fields.new result }
 {
     match *item {
@@ -39,7 +39,7 @@ fn read_optional<'t>(
     item: &BorrowedFormatItem<'_>,
     rest: &'t [u8],
     fields: &mut Fields,
-) -> Result<&'t [u8], Fault>
+) -> Result<&'t [u8], FieldFault>
     ensures { Gives (spec.perhaps (at rest.now fields.old) (spec.read (item_tree item.now)
         (at rest.now fields.old))) fields.new result }
 {
@@ -59,7 +59,7 @@ pub(crate) fn read_all<'t>(
     items: &[BorrowedFormatItem<'_>],
     rest: &'t [u8],
     fields: &mut Fields,
-) -> Result<&'t [u8], Fault>
+) -> Result<&'t [u8], FieldFault>
     ensures { Gives (spec.read_all (trees (item_trees items.now)) (at rest.now fields.old))
         fields.new result }
 {
@@ -80,7 +80,7 @@ fn read_first<'t>(
     alternatives: &[BorrowedFormatItem<'_>],
     rest: &'t [u8],
     fields: &mut Fields,
-) -> Result<&'t [u8], Fault>
+) -> Result<&'t [u8], FieldFault>
     ensures { Gives (spec.read_first None (trees (item_trees alternatives.now))
         (at rest.now fields.old)) fields.new result }
 {

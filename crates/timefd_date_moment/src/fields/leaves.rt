@@ -8,7 +8,7 @@ ghost use Rattle.timefd_lang_node_list.specs.Views.{member_trees, view_tree};
 ghost use Rattle.timefd_date_moment.specs.Fields.Reads as spec;
 ghost use Rattle.timefd_date_moment.specs.Fields.Reads.{Gives, at};
 
-use crate::fields::fault::Fault;
+use crate::fields::fault::FieldFault;
 use crate::fields::fields::Fields;
 use crate::fields::part::{read_front, read_literal};
 use std::alloc::{AllocError, Global};
@@ -63,7 +63,7 @@ pub(crate) fn read_all<'t>(
     leaves: &[Leaf<'_>],
     rest: &'t [u8],
     fields: &mut Fields,
-) -> Result<&'t [u8], Fault>
+) -> Result<&'t [u8], FieldFault>
     ensures { Gives (spec.read_all (trees (map leaf_tree leaves.now)) (at rest.now fields.old))
         fields.new result }
 {
@@ -78,7 +78,11 @@ pub(crate) fn read_all<'t>(
 }
 
 #[inline(always)]
-fn read_leaf<'t>(leaf: Leaf<'_>, rest: &'t [u8], fields: &mut Fields) -> Result<&'t [u8], Fault>
+fn read_leaf<'t>(
+    leaf: Leaf<'_>,
+    rest: &'t [u8],
+    fields: &mut Fields,
+) -> Result<&'t [u8], FieldFault>
     ensures { Gives (spec.read (leaf_tree leaf.entry) (at rest.now fields.old)) fields.new result }
 {
     match leaf {

@@ -3,12 +3,12 @@
 ghost use Rattle.std.specs.Prelude.{◌≡◌, ◌≤◌, IfSome, IsTrue, length, map};
 ghost use Rattle.timefd_date_moment.specs.Fields.Names as spec;
 
-use crate::fields::rule::Names;
+use crate::fields::rule::NameList;
 
 /// The index of the first name of the list that the text begins with, and its length in bytes.
 pub(crate) fn leading_name(
     text: &[u8],
-    names: Names,
+    names: NameList,
     is_case_sensitive: bool,
 ) -> Option<(usize, usize)>
     ensures value { result ≡ spec.name_from 0 is_case_sensitive (spec.listed names) text.now }
@@ -18,15 +18,15 @@ pub(crate) fn leading_name(
     first_of(text, listed(names), is_case_sensitive)
 }
 
-fn listed(names: Names) -> &'static [&'static str]
+fn listed(names: NameList) -> &'static [&'static str]
     ensures names { map (λ name. name.now) result.now ≡ spec.listed names }
     ensures few { length result.now ≤ 12 }
 {
     match names {
-        Names::ShortMonths => &[
+        NameList::ShortMonths => &[
             "Jan", "Feb", "Mar", "Apr", "May", "Jun", "Jul", "Aug", "Sep", "Oct", "Nov", "Dec",
         ],
-        Names::LongMonths => &[
+        NameList::LongMonths => &[
             "January",
             "February",
             "March",
@@ -40,8 +40,8 @@ fn listed(names: Names) -> &'static [&'static str]
             "November",
             "December",
         ],
-        Names::ShortWeekdays => &["Mon", "Tue", "Wed", "Thu", "Fri", "Sat", "Sun"],
-        Names::LongWeekdays => &[
+        NameList::ShortWeekdays => &["Mon", "Tue", "Wed", "Thu", "Fri", "Sat", "Sun"],
+        NameList::LongWeekdays => &[
             "Monday",
             "Tuesday",
             "Wednesday",
@@ -50,8 +50,8 @@ fn listed(names: Names) -> &'static [&'static str]
             "Saturday",
             "Sunday",
         ],
-        Names::UpperPeriods => &["AM", "PM"],
-        Names::LowerPeriods => &["am", "pm"],
+        NameList::UpperPeriods => &["AM", "PM"],
+        NameList::LowerPeriods => &["am", "pm"],
     }
 }
 

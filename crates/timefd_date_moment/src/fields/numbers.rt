@@ -6,7 +6,7 @@ ghost use Rattle.timefd_date_moment.specs.Fields.Rules.{IsForm};
 
 use crate::fields::digits::{digits, leading_spaces};
 use crate::fields::fields::Signed;
-use crate::fields::rule::Form;
+use crate::fields::rule::NumberForm;
 use timefd_modifier::Padding;
 
 /// A number that is padded to a width, or not at all, of at most `most` digits, and how many bytes it takes.
@@ -80,7 +80,7 @@ fn sign_in(text: &[u8]) -> Option<bool>
 
 /// A number with its sign, and how many bytes it takes. The sign may be missing unless it is mandatory.
 #[inline(always)]
-pub(crate) fn signed(text: &[u8], is_mandatory: bool, form: Form) -> Option<(Signed, usize)>
+pub(crate) fn signed(text: &[u8], is_mandatory: bool, form: NumberForm) -> Option<(Signed, usize)>
     requires { IsForm form }
     ensures value { result ≡ spec.signed is_mandatory form text.now }
     ensures within { IfSome result (λ r. r.1 ≤ length text.now) }
@@ -103,7 +103,7 @@ pub(crate) fn signed(text: &[u8], is_mandatory: bool, form: Form) -> Option<(Sig
     }
 }
 
-fn unsigned(text: &[u8], is_mandatory: bool, form: Form) -> Option<(Signed, usize)>
+fn unsigned(text: &[u8], is_mandatory: bool, form: NumberForm) -> Option<(Signed, usize)>
     requires { IsForm form }
     ensures value { result ≡ spec.signed_by None is_mandatory form text.now }
     ensures within { IfSome result (λ r. r.1 ≤ length text.now) }

@@ -8,19 +8,19 @@ ghost use Rattle.timefd_date_moment.specs.Fields.Reads as spec;
 ghost use Rattle.timefd_date_moment.specs.Fields.Reads.{Gives, at};
 ghost use Rattle.timefd_date_moment.specs.Fields.Rules.{IsRule};
 
-use crate::fields::fault::{Fault, Reason};
+use crate::fields::fault::{FieldFault, UnreadReason};
 use crate::fields::fields::{Amount, Count, Fields, Signed};
 use crate::fields::input::{input, number};
 use crate::fields::numbers::signed;
 use crate::fields::quick::take_quickly;
 use crate::fields::reading::{take, take_amount, take_count};
-use crate::fields::rule::{Rule, rule_of};
+use crate::fields::rule::{FieldRule, rule_of};
 use timefd_lang_component::Component;
 
-fn fault(rest: &[u8], reason: Reason) -> Fault
+fn fault(rest: &[u8], reason: UnreadReason) -> FieldFault
     ensures { result ≡ record { reason = reason; left = length rest.now } }
 {
-    Fault {
+    FieldFault {
         reason,
         left: rest.len(),
     }
@@ -33,7 +33,7 @@ pub(crate) fn read_component<'t>(
     component: Component,
     rest: &'t [u8],
     fields: &mut Fields,
-) -> Result<&'t [u8], Fault>
+) -> Result<&'t [u8], FieldFault>
     ensures { Gives (spec.read_component (modern component) (at rest.now fields.old)) fields.new
         result }
 {
@@ -47,7 +47,7 @@ pub(crate) fn read_front<'t>(
     component: Component,
     rest: &'t [u8],
     fields: &mut Fields,
-) -> Result<&'t [u8], Fault>
+) -> Result<&'t [u8], FieldFault>
     ensures { Gives (spec.read_component (modern component) (at rest.now fields.old)) fields.new
         result }
 {
@@ -64,11 +64,11 @@ fn read_modern<'t>(
     component: Component,
     rest: &'t [u8],
     fields: &mut Fields,
-) -> Result<&'t [u8], Fault>
+) -> Result<&'t [u8], FieldFault>
     ensures { Gives (spec.read_component component (at rest.now fields.old)) fields.new result }
 {
     match rule_of(component) {
-        Rule::Number {
+        FieldRule::Number {
             field,
             padding,
             width,
@@ -78,7 +78,7 @@ fn read_modern<'t>(
             let found = number(rest, field, padding, width, lowest, highest);
             read_count(component, field, found, rest, fields)
         }
-        Rule::Signed {
+        FieldRule::Signed {
             field,
             is_mandatory,
             form,
@@ -98,7 +98,7 @@ fn read_count<'t>(
     found: Option<(u16, usize)>,
     rest: &'t [u8],
     fields: &mut Fields,
-) -> Result<&'t [u8], Fault>
+) -> Result<&'t [u8], FieldFault>
     requires { IfSome found (λ r. r.1 ≤ length rest.now) }
     ensures { Gives (spec.taken component (at rest.now fields.old) (as_count field found)) fields.new
         result }
@@ -108,10 +108,10 @@ fn read_count<'t>(
             if take_count(fields, field, number) {
                 Ok(&rest[len..])
             } else {
-                Err(fault(rest, Reason::Contradiction(component)))
+                Err(fault(rest, UnreadReason::Contradiction(component)))
             }
         }
-        None => Err(fault(rest, Reason::Unread(component))),
+        None => Err(fault(rest, UnreadReason::Unread(component))),
     }
 }
 
@@ -123,7 +123,7 @@ fn read_amount<'t>(
     found: Option<(Signed, usize)>,
     rest: &'t [u8],
     fields: &mut Fields,
-) -> Result<&'t [u8], Fault>
+) -> Result<&'t [u8], FieldFault>
     requires { IfSome found (λ r. r.1 ≤ length rest.now) }
     ensures { Gives (spec.taken component (at rest.now fields.old) (as_amount field found)) fields.new
         result }
@@ -133,10 +133,10 @@ fn read_amount<'t>(
             if take_amount(fields, field, number) {
                 Ok(&rest[len..])
             } else {
-                Err(fault(rest, Reason::Contradiction(component)))
+                Err(fault(rest, UnreadReason::Contradiction(component)))
             }
         }
-        None => Err(fault(rest, Reason::Unread(component))),
+        None => Err(fault(rest, UnreadReason::Unread(component))),
     }
 }
 
@@ -145,10 +145,10 @@ fn read_amount<'t>(
 #[tactic(auto, using(crate::proofs::FieldsLemmas::TakeLemmas::rule_read, crate::proofs::FieldsLemmas::TakeLemmas::rule_contradicts, crate::proofs::FieldsLemmas::TakeLemmas::rule_unread))]
 fn read_other<'t>(
     component: Component,
-    rule: Rule,
+    rule: FieldRule,
     rest: &'t [u8],
     fields: &mut Fields,
-) -> Result<&'t [u8], Fault>
+) -> Result<&'t [u8], FieldFault>
     requires { IsRule rule }
     ensures { Gives (spec.taken component (at rest.now fields.old) (input rule rest.now)) fields.new
         result }
@@ -158,10 +158,10 @@ fn read_other<'t>(
             if take(fields, reading) {
                 Ok(&rest[len..])
             } else {
-                Err(fault(rest, Reason::Contradiction(component)))
+                Err(fault(rest, UnreadReason::Contradiction(component)))
             }
         }
-        None => Err(fault(rest, Reason::Unread(component))),
+        None => Err(fault(rest, UnreadReason::Unread(component))),
     }
 }
 
@@ -171,13 +171,13 @@ pub(crate) fn read_literal<'t>(
     bytes: &[u8],
     rest: &'t [u8],
     fields: &Fields,
-) -> Result<&'t [u8], Fault>
+) -> Result<&'t [u8], FieldFault>
     ensures { Gives (spec.read_literal bytes.now (at rest.now fields.now)) fields.now result }
 {
     if begins(rest, bytes) {
         Ok(&rest[bytes.len()..])
     } else {
-        Err(fault(rest, Reason::Literal))
+        Err(fault(rest, UnreadReason::Literal))
     }
 }
 

@@ -12,7 +12,7 @@ ghost use Rattle.timefd_date_moment.specs.Fields.Rules.{IsFour};
 use crate::fields::digits::{four_digits, two_digits};
 use crate::fields::fields::{Amount, Count, Fields, Signed};
 use crate::fields::reading::{take_amount, take_count};
-use crate::fields::rule::{Form, Rule, rule_of};
+use crate::fields::rule::{FieldRule, NumberForm, rule_of};
 use timefd_lang_component::Component;
 use timefd_modifier::Padding;
 
@@ -25,14 +25,14 @@ pub(crate) fn take_quickly(component: Component, text: &[u8], fields: &mut Field
         fields.new result }
 {
     match rule_of(component) {
-        Rule::Number {
+        FieldRule::Number {
             field,
             padding: Padding::Zero,
             width: 2,
             lowest,
             highest,
         } => take_two(field, lowest, highest, text, fields),
-        Rule::Signed {
+        FieldRule::Signed {
             field,
             is_mandatory: false,
             form,
@@ -64,11 +64,11 @@ fn take_two(
 
 /// Takes the four digits of a year without a sign.
 #[inline(always)]
-fn take_year(field: Amount, form: Form, text: &[u8], fields: &mut Fields) -> Option<usize>
+fn take_year(field: Amount, form: NumberForm, text: &[u8], fields: &mut Fields) -> Option<usize>
     ensures { TakesFront (as_amount field (signed false form text.now)) text.now fields.old fields.new
         result }
 {
-    if let Form {
+    if let NumberForm {
         padding: Padding::Zero,
         width: 4,
         most: 4,
@@ -83,7 +83,7 @@ fn take_year(field: Amount, form: Form, text: &[u8], fields: &mut Fields) -> Opt
 
 #[inline(always)]
 #[tactic(auto, using(crate::proofs::FieldsLemmas::QuickLemmas::four_taken))]
-fn take_four(field: Amount, form: Form, text: &[u8], fields: &mut Fields) -> Option<usize>
+fn take_four(field: Amount, form: NumberForm, text: &[u8], fields: &mut Fields) -> Option<usize>
     requires { IsFour form }
     ensures { TakesFront (as_amount field (signed false form text.now)) text.now fields.old fields.new
         result }

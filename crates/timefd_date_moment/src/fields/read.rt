@@ -8,7 +8,7 @@ ghost use Rattle.timefd_lang_node_list.specs.Views.{view_tree};
 ghost use Rattle.timefd_date_moment.specs.Fields.Reads as spec;
 ghost use Rattle.timefd_date_moment.specs.Fields.Reads.{Fills};
 
-use crate::fields::fault::{Fault, ReadError, Reason};
+use crate::fields::fault::{FieldFault, ReadError, UnreadReason};
 use crate::fields::fields::{Fields, NO_FIELDS};
 use crate::fields::{items, leaves, view};
 use timefd_lang_node_list::item::BorrowedFormatItem;
@@ -83,8 +83,8 @@ pub fn fill_leaf_fields(
 }
 
 /// The result, from what is left of the text and the fields that were read.
-fn answer(text: &[u8], read: Result<&[u8], Fault>, fields: &Fields) -> Result<(), ReadError>
-    ensures { (reached : Result spec.Point Fault) → spec.Gives reached fields.now read.entry
+fn answer(text: &[u8], read: Result<&[u8], FieldFault>, fields: &Fields) -> Result<(), ReadError>
+    ensures { (reached : Result spec.Point FieldFault) → spec.Gives reached fields.now read.entry
         → Fills (spec.whole (length text.now) reached) fields.now result }
 {
     match read {
@@ -93,7 +93,7 @@ fn answer(text: &[u8], read: Result<&[u8], Fault>, fields: &Fields) -> Result<()
                 Ok(())
             } else {
                 Err(ReadError {
-                    reason: Reason::Trailing,
+                    reason: UnreadReason::Trailing,
                     index: text.len().saturating_sub(rest.len()),
                 })
             }

@@ -10,7 +10,7 @@ use timefd_modifier::{Padding, SubsecondDigits, TrailingInput};
 
 /// How a component is read.
 #[derive(Clone, Copy)]
-pub(crate) enum Rule {
+pub(crate) enum FieldRule {
     /// A number in a range, padded to a width or not at all.
     Number {
         field: Count,
@@ -27,20 +27,20 @@ pub(crate) enum Rule {
     /// A name. Its index in its list counts from `first`.
     Name {
         field: Count,
-        names: Names,
+        names: NameList,
         is_case_sensitive: bool,
         first: u16,
     },
     /// AM or PM.
     Period {
-        names: Names,
+        names: NameList,
         is_case_sensitive: bool,
     },
     /// A number with its sign.
     Signed {
         field: Amount,
         is_mandatory: bool,
-        form: Form,
+        form: NumberForm,
     },
     /// The digits of a fraction of a second.
     Fraction(SubsecondDigits),
@@ -54,7 +54,7 @@ pub(crate) enum Rule {
 
 /// A list of names.
 #[derive(Clone, Copy)]
-pub(crate) enum Names {
+pub(crate) enum NameList {
     ShortMonths,
     LongMonths,
     ShortWeekdays,
@@ -65,7 +65,7 @@ pub(crate) enum Names {
 
 /// How many digits a number with its sign has.
 #[derive(Clone, Copy)]
-pub(crate) struct Form {
+pub(crate) struct NumberForm {
     pub padding: Padding,
     /// The width to which it is padded.
     pub width: usize,
@@ -79,20 +79,25 @@ pub(crate) struct Form {
 
 /// How a modern component is read.
 #[inline(always)]
-pub(crate) fn rule_of(component: Component) -> Rule
+pub(crate) fn rule_of(component: Component) -> FieldRule
     ensures table { result ≡ spec.rule_of component }
     ensures bounds { IsRule result }
 {
     match component {
         Component::Day(m) => number(Count::Day, m.padding, 2, 1, 31),
-        Component::MonthShort(m) => name(Count::Month, Names::ShortMonths, m.case_sensitive, 1),
-        Component::MonthLong(m) => name(Count::Month, Names::LongMonths, m.case_sensitive, 1),
+        Component::MonthShort(m) => name(Count::Month, NameList::ShortMonths, m.case_sensitive, 1),
+        Component::MonthLong(m) => name(Count::Month, NameList::LongMonths, m.case_sensitive, 1),
         Component::MonthNumerical(m) => number(Count::Month, m.padding, 2, 1, 12),
         Component::Ordinal(m) => number(Count::Ordinal, m.padding, 3, 1, 366),
         Component::WeekdayShort(m) => {
-            name(Count::Weekday, Names::ShortWeekdays, m.case_sensitive, 0)
+            name(Count::Weekday, NameList::ShortWeekdays, m.case_sensitive, 0)
         }
-        Component::WeekdayLong(m) => name(Count::Weekday, Names::LongWeekdays, m.case_sensitive, 0),
+        Component::WeekdayLong(m) => name(
+            Count::Weekday,
+            NameList::LongWeekdays,
+            m.case_sensitive,
+            0,
+        ),
         Component::WeekdaySunday(m) => weekday(true, m.one_indexed),
         Component::WeekdayMonday(m) => weekday(false, m.one_indexed),
         Component::WeekNumberIso(m) => number(Count::IsoWeek, m.padding, 2, 1, 53),
@@ -142,11 +147,11 @@ pub(crate) fn rule_of(component: Component) -> Rule
         Component::Second(m) => number(Count::Second, m.padding, 2, 0, 59),
         Component::OffsetMinute(m) => number(Count::OffsetMinute, m.padding, 2, 0, 59),
         Component::OffsetSecond(m) => number(Count::OffsetSecond, m.padding, 2, 0, 59),
-        Component::Period(m) => Rule::Period {
+        Component::Period(m) => FieldRule::Period {
             names: periods(m.is_uppercase),
             is_case_sensitive: m.case_sensitive,
         },
-        Component::Subsecond(m) => Rule::Fraction(m.digits),
+        Component::Subsecond(m) => FieldRule::Fraction(m.digits),
         Component::OffsetHour(m) => {
             signed(Amount::OffsetHour, m.sign_is_mandatory, two(m.padding, 25))
         }
@@ -172,21 +177,21 @@ pub(crate) fn rule_of(component: Component) -> Rule
             m.sign_is_mandatory,
             stamp(23, 99_999_999_999_999_999_999_999),
         ),
-        Component::Ignore(m) => Rule::Ignore(m.count.get()),
-        Component::End(m) => Rule::End(m.trailing_input),
+        Component::Ignore(m) => FieldRule::Ignore(m.count.get()),
+        Component::End(m) => FieldRule::End(m.trailing_input),
         Component::Month(_)
         | Component::Weekday(_)
         | Component::WeekNumber(_)
         | Component::Hour(_)
         | Component::UnixTimestamp(_)
-        | Component::Year(_) => Rule::Deprecated,
+        | Component::Year(_) => FieldRule::Deprecated,
     }
 }
 
-fn number(field: Count, padding: Padding, width: usize, lowest: u16, highest: u16) -> Rule
-    ensures { result ≡ Rule.Number field padding width lowest highest }
+fn number(field: Count, padding: Padding, width: usize, lowest: u16, highest: u16) -> FieldRule
+    ensures { result ≡ FieldRule.Number field padding width lowest highest }
 {
-    Rule::Number {
+    FieldRule::Number {
         field,
         padding,
         width,
@@ -195,19 +200,19 @@ fn number(field: Count, padding: Padding, width: usize, lowest: u16, highest: u1
     }
 }
 
-fn weekday(is_sunday_first: bool, is_one_indexed: bool) -> Rule
-    ensures { result ≡ Rule.Weekday is_sunday_first is_one_indexed }
+fn weekday(is_sunday_first: bool, is_one_indexed: bool) -> FieldRule
+    ensures { result ≡ FieldRule.Weekday is_sunday_first is_one_indexed }
 {
-    Rule::Weekday {
+    FieldRule::Weekday {
         is_sunday_first,
         is_one_indexed,
     }
 }
 
-fn name(field: Count, names: Names, is_case_sensitive: bool, first: u16) -> Rule
-    ensures { result ≡ Rule.Name field names is_case_sensitive first }
+fn name(field: Count, names: NameList, is_case_sensitive: bool, first: u16) -> FieldRule
+    ensures { result ≡ FieldRule.Name field names is_case_sensitive first }
 {
-    Rule::Name {
+    FieldRule::Name {
         field,
         names,
         is_case_sensitive,
@@ -215,30 +220,30 @@ fn name(field: Count, names: Names, is_case_sensitive: bool, first: u16) -> Rule
     }
 }
 
-fn periods(is_uppercase: bool) -> Names
+fn periods(is_uppercase: bool) -> NameList
     ensures { result ≡ spec.period_names is_uppercase }
 {
     if is_uppercase {
-        Names::UpperPeriods
+        NameList::UpperPeriods
     } else {
-        Names::LowerPeriods
+        NameList::LowerPeriods
     }
 }
 
-fn signed(field: Amount, is_mandatory: bool, form: Form) -> Rule
-    ensures { result ≡ Rule.Signed field is_mandatory form }
+fn signed(field: Amount, is_mandatory: bool, form: NumberForm) -> FieldRule
+    ensures { result ≡ FieldRule.Signed field is_mandatory form }
 {
-    Rule::Signed {
+    FieldRule::Signed {
         field,
         is_mandatory,
         form,
     }
 }
 
-fn extended_year(padding: Padding) -> Form
+fn extended_year(padding: Padding) -> NumberForm
     ensures { result ≡ spec.extended_year padding }
 {
-    Form {
+    NumberForm {
         padding,
         width: 4,
         most: 4,
@@ -247,10 +252,10 @@ fn extended_year(padding: Padding) -> Form
     }
 }
 
-fn standard_year(padding: Padding) -> Form
+fn standard_year(padding: Padding) -> NumberForm
     ensures { result ≡ spec.standard_year padding }
 {
-    Form {
+    NumberForm {
         padding,
         width: 4,
         most: 4,
@@ -259,10 +264,10 @@ fn standard_year(padding: Padding) -> Form
     }
 }
 
-fn extended_century(padding: Padding) -> Form
+fn extended_century(padding: Padding) -> NumberForm
     ensures { result ≡ spec.extended_century padding }
 {
-    Form {
+    NumberForm {
         padding,
         width: 2,
         most: 2,
@@ -272,10 +277,10 @@ fn extended_century(padding: Padding) -> Form
 }
 
 /// The form of two digits.
-fn two(padding: Padding, greatest: u128) -> Form
+fn two(padding: Padding, greatest: u128) -> NumberForm
     ensures { result ≡ spec.two padding greatest }
 {
-    Form {
+    NumberForm {
         padding,
         width: 2,
         most: 2,
@@ -285,10 +290,10 @@ fn two(padding: Padding, greatest: u128) -> Form
 }
 
 /// The form of digits that aren't padded.
-fn stamp(most: usize, greatest: u128) -> Form
+fn stamp(most: usize, greatest: u128) -> NumberForm
     ensures { result ≡ spec.stamp most greatest }
 {
-    Form {
+    NumberForm {
         padding: Padding::None,
         width: 1,
         most,

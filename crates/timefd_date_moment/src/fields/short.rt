@@ -18,7 +18,7 @@ ghost use Rattle.timefd_date_moment.specs.Fields.Short.{TakesNumber, fields_with
 use crate::fields::digits::{four_digits, two_digits};
 use crate::fields::fields::{Amount, Count, Fields, NO_FIELDS, Signed};
 use crate::fields::part::begins;
-use crate::fields::rule::{Form, Rule, rule_of};
+use crate::fields::rule::{FieldRule, NumberForm, rule_of};
 use timefd_lang_component::Component;
 use timefd_lang_node_list::Leaf;
 use timefd_modifier::Padding;
@@ -228,42 +228,42 @@ fn take_component(component: Component, text: &[u8], numbers: Numbers) -> Option
 {
     // An arm for each field, so that no field is looked up again.
     match rule_of(component) {
-        Rule::Number {
+        FieldRule::Number {
             field: Count::Month,
             padding: Padding::Zero,
             width: 2,
             lowest,
             highest,
         } => take_two(Count::Month, lowest, highest, text, numbers),
-        Rule::Number {
+        FieldRule::Number {
             field: Count::Day,
             padding: Padding::Zero,
             width: 2,
             lowest,
             highest,
         } => take_two(Count::Day, lowest, highest, text, numbers),
-        Rule::Number {
+        FieldRule::Number {
             field: Count::Hour,
             padding: Padding::Zero,
             width: 2,
             lowest,
             highest,
         } => take_two(Count::Hour, lowest, highest, text, numbers),
-        Rule::Number {
+        FieldRule::Number {
             field: Count::Minute,
             padding: Padding::Zero,
             width: 2,
             lowest,
             highest,
         } => take_two(Count::Minute, lowest, highest, text, numbers),
-        Rule::Number {
+        FieldRule::Number {
             field: Count::Second,
             padding: Padding::Zero,
             width: 2,
             lowest,
             highest,
         } => take_two(Count::Second, lowest, highest, text, numbers),
-        Rule::Signed {
+        FieldRule::Signed {
             field: Amount::Year,
             is_mandatory: false,
             form,
@@ -294,10 +294,10 @@ fn take_two(
 
 /// Takes the four digits of a year.
 #[inline(always)]
-fn take_year(form: Form, text: &[u8], numbers: Numbers) -> Option<(usize, Numbers)>
+fn take_year(form: NumberForm, text: &[u8], numbers: Numbers) -> Option<(usize, Numbers)>
     ensures { TakesNumber (as_amount Amount.Year (signed false form text.now)) text.now numbers result }
 {
-    if let Form {
+    if let NumberForm {
         padding: Padding::Zero,
         width: 4,
         most: 4,
@@ -311,7 +311,7 @@ fn take_year(form: Form, text: &[u8], numbers: Numbers) -> Option<(usize, Number
 }
 
 #[inline(always)]
-fn take_four(form: Form, text: &[u8], numbers: Numbers) -> Option<(usize, Numbers)>
+fn take_four(form: NumberForm, text: &[u8], numbers: Numbers) -> Option<(usize, Numbers)>
     requires { rules.IsFour form }
     ensures { TakesNumber (as_amount Amount.Year (signed false form text.now)) text.now numbers result }
 {

@@ -6,7 +6,7 @@ ghost use Rattle.timefd_lang_node_list.specs.Views.{member_trees, view_tree};
 ghost use Rattle.timefd_date_moment.specs.Fields.Reads as spec;
 ghost use Rattle.timefd_date_moment.specs.Fields.Reads.{Gives, at};
 
-use crate::fields::fault::Fault;
+use crate::fields::fault::FieldFault;
 use crate::fields::fields::Fields;
 use crate::fields::part::{read_component, read_literal};
 use timefd_lang_node_list::{Members, Shape, View};
@@ -19,7 +19,7 @@ pub(crate) fn read<'t>(
     view: View<'_, '_>,
     rest: &'t [u8],
     fields: &mut Fields,
-) -> Result<&'t [u8], Fault>
+) -> Result<&'t [u8], FieldFault>
     ensures { Gives (spec.read (view_tree view.entry) (at rest.now fields.old)) fields.new result }
 {
     match view.shape() {
@@ -38,7 +38,7 @@ fn read_optional<'t>(
     member: View<'_, '_>,
     rest: &'t [u8],
     fields: &mut Fields,
-) -> Result<&'t [u8], Fault>
+) -> Result<&'t [u8], FieldFault>
     ensures { Gives (spec.perhaps (at rest.now fields.old) (spec.read (view_tree member.entry)
         (at rest.now fields.old))) fields.new result }
 {
@@ -59,7 +59,7 @@ fn read_all<'t>(
     members: Members<'_, '_>,
     rest: &'t [u8],
     fields: &mut Fields,
-) -> Result<&'t [u8], Fault>
+) -> Result<&'t [u8], FieldFault>
     ensures { Gives (spec.read_all (trees (member_trees members.entry)) (at rest.now fields.old))
         fields.new result }
 {
@@ -80,7 +80,7 @@ fn read_first<'t>(
     alternatives: Members<'_, '_>,
     rest: &'t [u8],
     fields: &mut Fields,
-) -> Result<&'t [u8], Fault>
+) -> Result<&'t [u8], FieldFault>
     ensures { Gives (spec.read_first None (trees (member_trees alternatives.entry))
         (at rest.now fields.old)) fields.new result }
 {
@@ -99,7 +99,7 @@ fn read_first<'t>(
 }
 
 /// The fault of the first alternative.
-pub(crate) fn earlier(before: Option<Fault>, fault: Fault) -> Option<Fault>
+pub(crate) fn earlier(before: Option<FieldFault>, fault: FieldFault) -> Option<FieldFault>
     ensures { result ≡ spec.earlier before fault }
 {
     match before {
@@ -112,8 +112,8 @@ pub(crate) fn earlier(before: Option<Fault>, fault: Fault) -> Option<Fault>
 pub(crate) fn none_reads<'t>(
     rest: &'t [u8],
     fields: &Fields,
-    fault: Option<Fault>,
-) -> Result<&'t [u8], Fault>
+    fault: Option<FieldFault>,
+) -> Result<&'t [u8], FieldFault>
     ensures { Gives (spec.none_reads (at rest.now fields.now) fault) fields.now result }
 {
     match fault {

@@ -5,6 +5,7 @@ ghost use Rattle.timefd_description.specs.Guessing.Found as spec;
 ghost use Rattle.timefd_lang_node_list.specs.Views.{view_tree};
 ghost use Rattle.timefd_date_moment.specs.Fields.Reads.{fields_of};
 
+use crate::description::Description;
 use std::alloc::{AllocError, Global};
 use timefd_date_format::{TextError, format};
 use timefd_date_moment::Moment;
@@ -12,17 +13,18 @@ use timefd_date_moment::fields::read_fields;
 use timefd_date_moment::reading::moment;
 use timefd_lang_fault::BorrowedParseError;
 use timefd_lang_node_list::View;
-use timefd_parse::{BorrowedOutput, DescriptionVersion, NESTING_LIMIT, parse_all_borrowed};
+use timefd_parse::{DescriptionVersion, Language};
 
 /// Whether the description reads each text and writes it back. An `Err` says that memory ran out.
 pub fn reads_all(alloc: Global, description: &str, texts: &[&str]) -> Result<bool, AllocError>
     ensures { IfOk result (spec.ReadsAll description.now (spec.texts texts.now)) }
 {
-    match parse_all_borrowed(alloc, DescriptionVersion::Three, NESTING_LIMIT, description) {
-        Ok(BorrowedOutput::Description(description)) => {
-            all_come_back(alloc, description.view(), texts)
-        }
-        Ok(BorrowedOutput::Items(_)) => unreachable!(),
+    match Description::parse(
+        alloc,
+        Language::Version(DescriptionVersion::Three),
+        description,
+    ) {
+        Ok(description) => all_come_back(alloc, description.view(), texts),
         Err(BorrowedParseError::Invalid(_)) => Ok(false),
         Err(BorrowedParseError::Memory(error)) => Err(error),
     }

@@ -5,11 +5,12 @@ ghost use Rattle.timefd_description.specs.Guessing.Candidates.{text_option};
 ghost use Rattle.timefd_description.specs.Guessing.Found as spec;
 ghost use Rattle.timefd_lang_node_list.specs.Views.{view_tree};
 
+use crate::description::Description;
 use crate::guessing::comes_back::comes_back;
 use std::alloc::{AllocError, Global};
 use timefd_lang_fault::BorrowedParseError;
 use timefd_lang_node_list::View;
-use timefd_parse::{BorrowedOutput, DescriptionVersion, NESTING_LIMIT, parse_all_borrowed};
+use timefd_parse::{DescriptionVersion, Language};
 
 /// How many texts the description with day and month swapped reads and writes back too. 0 if there is no
 /// such description. An `Err` says that memory ran out.
@@ -26,9 +27,12 @@ pub fn undecided(alloc: Global, swapped: Option<&str>, texts: &[&str]) -> Result
 fn read_by(alloc: Global, description: &str, texts: &[&str]) -> Result<usize, AllocError>
     ensures { IfOk result (spec.ReadBy description.now (spec.texts texts.now)) }
 {
-    match parse_all_borrowed(alloc, DescriptionVersion::Three, NESTING_LIMIT, description) {
-        Ok(BorrowedOutput::Description(description)) => count(alloc, description.view(), texts),
-        Ok(BorrowedOutput::Items(_)) => unreachable!(),
+    match Description::parse(
+        alloc,
+        Language::Version(DescriptionVersion::Three),
+        description,
+    ) {
+        Ok(description) => count(alloc, description.view(), texts),
         Err(BorrowedParseError::Invalid(_)) => Ok(0),
         Err(BorrowedParseError::Memory(error)) => Err(error),
     }

@@ -6,7 +6,7 @@ use Rattle.timefd_lang_component.specs.declared.component.Component.{Component}
 use Rattle.timefd_lang_component.specs.declared.component.Component.TheVariants as shows
 use Rattle.timefd_lang_component.specs.Modern.{modern}
 use Rattle.timefd_lang_component.specs.Tree.{Tree, component, literal, compound, optional, first, trees}
-use Rattle.timefd_date_format.specs.declared.field.Field.TheVariants as fields
+use Rattle.timefd_date_format.specs.declared.field.WrittenField.TheVariants as fields
 use Rattle.timefd_date_format.specs.Fields.{field, from_one, plain, year}
 use Rattle.timefd_date_format.specs.Written.{followed, text_of, written, written_all}
 use Rattle.timefd_date_format.proofs.LeafLemmas.{by_leaves}

@@ -15,16 +15,16 @@ use timefd_date_moment::fields::Fields;
 use timefd_lang_component::Component;
 use timefd_lang_node_list::item::BorrowedFormatItem;
 use timefd_lang_node_list::{Leaf, View};
-use timefd_lang_warnings::Description;
+use timefd_lang_warnings::ReadDescription;
 
 /// Whether the description shows the same of each date that has what was read: each component of a date that
 /// it writes shows a part that was read. It takes no memory.
-pub fn are_given(fields: &Fields, description: Description<'_, '_>) -> bool
+pub fn are_given(fields: &Fields, description: ReadDescription<'_, '_>) -> bool
     ensures { result ≡ spec.are_given fields.now (parts description.entry) }
 {
     match description {
-        Description::Version3(view) => is_view_given(fields, view),
-        Description::Items(items) => are_items_given(fields, items, true),
+        ReadDescription::Version3(view) => is_view_given(fields, view),
+        ReadDescription::Items(items) => are_items_given(fields, items, true),
     }
 }
 

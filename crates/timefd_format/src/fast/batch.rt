@@ -8,7 +8,7 @@ ghost use Rattle.timefd_format.specs.Sources.{AreLeavesIn};
 
 use crate::fast::line::append_line;
 use crate::fast::line_end::first_line_len;
-use crate::source::Source;
+use crate::source::MomentSource;
 use timefd_lang_node_list::Leaf;
 use timefd_lint_rewrite::without_newline;
 use timefd_parse::BorrowedOutput;
@@ -42,7 +42,7 @@ impl Batch {
 #[inline(never)]
 #[tactic(auto, using(crate::proofs::BatchLemmas::empty_batch))]
 pub fn batch_of(
-    source: &Source<'_>,
+    source: &MomentSource<'_>,
     source_leaves: Option<&[Leaf<'_>]>,
     description: &BorrowedOutput<'_>,
     leaves: &[Leaf<'_>],
@@ -75,7 +75,7 @@ pub fn batch_of(
 #[inline(always)]
 #[tactic(auto, using(crate::proofs::BatchLemmas::one_more, crate::proofs::BatchLemmas::same_batch))]
 fn grown(
-    source: &Source<'_>,
+    source: &MomentSource<'_>,
     source_leaves: Option<&[Leaf<'_>]>,
     description: &BorrowedOutput<'_>,
     leaves: &[Leaf<'_>],

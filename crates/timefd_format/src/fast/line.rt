@@ -8,7 +8,7 @@ ghost use Rattle.timefd_format.specs.Sources.{AreLeavesIn};
 ghost use Rattle.timefd_format.specs.Written.{written_of};
 
 use crate::fast::moment::{date_found, moment_found};
-use crate::source::Source;
+use crate::source::MomentSource;
 use timefd_date_format::{append_leaves, append_literal};
 use timefd_date_moment::Moment;
 use timefd_lang_node_list::Leaf;
@@ -19,7 +19,7 @@ use timefd_parse::BorrowedOutput;
 #[inline(always)]
 #[tactic(auto, using(crate::proofs::BatchLemmas::moment_appended, timefd_date_format::proofs::AppendLemmas::kept))]
 pub fn append_line(
-    source: &Source<'_>,
+    source: &MomentSource<'_>,
     source_leaves: Option<&[Leaf<'_>]>,
     description: &BorrowedOutput<'_>,
     leaves: &[Leaf<'_>],

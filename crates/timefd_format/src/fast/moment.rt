@@ -6,9 +6,9 @@ ghost use Rattle.timefd_format.specs.Sources.{AreLeavesIn, IsFoundIn, IsMomentIn
 
 use crate::fast::day::date_shown;
 use crate::fast::spelled::moment_spelled;
-use crate::names::Names;
+use crate::names::GivenNames;
 use crate::read_back::moment_shown;
-use crate::source::{Source, SourceKind, moment_in};
+use crate::source::{MomentSource, SourceKind, moment_in};
 use std::str;
 use timefd_date_moment::Moment;
 use timefd_lang_node_list::Leaf;
@@ -18,7 +18,7 @@ use timefd_parse::BorrowedOutput;
 /// the line.
 #[inline(always)]
 pub fn date_found(
-    source: &Source<'_>,
+    source: &MomentSource<'_>,
     source_leaves: Option<&[Leaf<'_>]>,
     description: &BorrowedOutput<'_>,
     line: &[u8],
@@ -35,7 +35,7 @@ pub fn date_found(
 #[inline(always)]
 #[tactic(auto, using(crate::proofs::ReadBackLemmas::whole))]
 fn date_shown_by(
-    source: &Source<'_>,
+    source: &MomentSource<'_>,
     source_leaves: Option<&[Leaf<'_>]>,
     description: &BorrowedOutput<'_>,
     line: &[u8],
@@ -55,7 +55,7 @@ fn date_shown_by(
 /// The moment that a line without its newline names or shows. `None` says nothing about the line.
 #[inline(always)]
 pub fn moment_found(
-    source: &Source<'_>,
+    source: &MomentSource<'_>,
     source_leaves: Option<&[Leaf<'_>]>,
     description: &BorrowedOutput<'_>,
     line: &[u8],
@@ -73,7 +73,7 @@ pub fn moment_found(
 // check that the text is UTF-8.
 #[inline(always)]
 fn moment_by_numbers(
-    source: &Source<'_>,
+    source: &MomentSource<'_>,
     source_leaves: Option<&[Leaf<'_>]>,
     description: &BorrowedOutput<'_>,
     line: &[u8],
@@ -90,7 +90,7 @@ fn moment_by_numbers(
 #[inline(always)]
 #[tactic(auto, using(crate::proofs::ReadBackLemmas::whole))]
 fn moment_shown_by(
-    source: &Source<'_>,
+    source: &MomentSource<'_>,
     source_leaves: Option<&[Leaf<'_>]>,
     description: &BorrowedOutput<'_>,
     line: &[u8],
@@ -110,7 +110,7 @@ fn moment_shown_by(
 // The moment that a usual name spells. No bracket closes it, so it names no time zone.
 #[inline(always)]
 #[tactic(auto, using(crate::proofs::NameLemmas::named))]
-fn moment_named_at_once(names: &Names<'_>, name: &[u8]) -> Option<Moment>
+fn moment_named_at_once(names: &GivenNames<'_>, name: &[u8]) -> Option<Moment>
     ensures { IfSome result (λ moment. IsNamed names.entry.now name.now (Ok moment)) }
 {
     if name.ends_with(b"]") {
@@ -121,7 +121,7 @@ fn moment_named_at_once(names: &Names<'_>, name: &[u8]) -> Option<Moment>
 
 #[inline(never)]
 fn moment_of_text(
-    source: &Source<'_>,
+    source: &MomentSource<'_>,
     source_leaves: Option<&[Leaf<'_>]>,
     description: &BorrowedOutput<'_>,
     line: &[u8],

@@ -12,7 +12,7 @@ use crate::fast::moment::moment_found;
 use crate::fast::plain_cell::plain_cell;
 use crate::field::any_wants_quotes;
 use crate::frame::Cell;
-use crate::source::Source;
+use crate::source::MomentSource;
 use timefd_date_format::{append_leaves, append_literal};
 use timefd_date_moment::Moment;
 use timefd_lang_node_list::Leaf;
@@ -24,7 +24,7 @@ use timefd_parse::BorrowedOutput;
 #[inline(always)]
 #[tactic(auto, using(crate::proofs::RecordBatchLemmas::record_appended, timefd_date_format::proofs::AppendLemmas::kept))]
 pub fn append_record(
-    source: &Source<'_>,
+    source: &MomentSource<'_>,
     source_leaves: Option<&[Leaf<'_>]>,
     description: &BorrowedOutput<'_>,
     leaves: &[Leaf<'_>],

@@ -7,7 +7,7 @@ ghost use Rattle.timefd_format.specs.Sources.{AreLeavesIn};
 use crate::fast::batch::Batch;
 use crate::fast::record::append_record;
 use crate::fast::record_end::plain_record_len;
-use crate::source::Source;
+use crate::source::MomentSource;
 use timefd_lang_node_list::Leaf;
 use timefd_parse::BorrowedOutput;
 
@@ -17,7 +17,7 @@ use timefd_parse::BorrowedOutput;
 #[inline(never)]
 #[tactic(auto, using(crate::proofs::RecordBatchLemmas::empty_batch))]
 pub fn record_batch_of(
-    source: &Source<'_>,
+    source: &MomentSource<'_>,
     source_leaves: Option<&[Leaf<'_>]>,
     description: &BorrowedOutput<'_>,
     leaves: &[Leaf<'_>],
@@ -52,7 +52,7 @@ pub fn record_batch_of(
 #[inline(always)]
 #[tactic(auto, using(crate::proofs::RecordBatchLemmas::one_more, crate::proofs::RecordBatchLemmas::same_batch))]
 fn grown(
-    source: &Source<'_>,
+    source: &MomentSource<'_>,
     source_leaves: Option<&[Leaf<'_>]>,
     description: &BorrowedOutput<'_>,
     leaves: &[Leaf<'_>],

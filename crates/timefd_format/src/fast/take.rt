@@ -11,7 +11,7 @@ ghost use Rattle.timefd_format.specs.Sources.{AreLeavesIn};
 use crate::fast::batch::batch_of;
 use crate::frame::send;
 use crate::outcome::RunError;
-use crate::source::Source;
+use crate::source::MomentSource;
 use std::alloc::{AllocError, Global};
 use timefd_bin_streams::{BufferedError, BufferedSource, Sink};
 use timefd_lang_node_list::Leaf;
@@ -22,7 +22,7 @@ const BATCH_ROOM: usize = 65_536;
 
 /// What taking a batch came to.
 #[derive(Clone, Copy)]
-pub enum Taken {
+pub enum BatchTaken {
     /// This many lines are read and written: one or more.
     Lines(usize),
     /// No line. The next one has to be looked at by itself.
@@ -45,14 +45,14 @@ pub fn batch_room(alloc: Global) -> Result<Vec<u8>, AllocError>
 /// An `Err` says that memory ran out, or that the output failed.
 #[tactic(auto, using(crate::proofs::TakenLemmas::batch_taken, crate::proofs::TakenLemmas::end_shown))]
 pub fn take_batch<R: BufferedSource, W: Sink>(
-    source: &Source<'_>,
+    source: &MomentSource<'_>,
     source_leaves: Option<&[Leaf<'_>]>,
     description: &BorrowedOutput<'_>,
     leaves: Option<&[Leaf<'_>]>,
     room: &mut [u8],
     reader: &mut R,
     output: &mut W,
-) -> Result<Taken, RunError>
+) -> Result<BatchTaken, RunError>
     requires source { AreLeavesIn source.now source_leaves }
     requires written { AreLeavesOf description.now leaves }
     ensures taken { IfOk result (IsTaken source.now description.now (R.remaining reader.old)
@@ -62,23 +62,23 @@ pub fn take_batch<R: BufferedSource, W: Sink>(
     ensures error { IfErr result (IsFailure (W.has_failed output.new)) }
 {
     let Some(leaves) = leaves else {
-        return Ok(Taken::Nothing);
+        return Ok(BatchTaken::Nothing);
     };
     if let Err(error) = reader.fill() {
         return match error {
             BufferedError::Memory => Err(RunError::Memory),
-            BufferedError::Failed(_) => Ok(Taken::Failed),
+            BufferedError::Failed(_) => Ok(BatchTaken::Failed),
         };
     }
     let text = reader.buffer();
     if text.is_empty() {
-        return Ok(Taken::End);
+        return Ok(BatchTaken::End);
     }
     let batch = batch_of(source, source_leaves, description, leaves, text, room);
     if batch.line_count == 0 {
-        return Ok(Taken::Nothing);
+        return Ok(BatchTaken::Nothing);
     }
     send(&room[..batch.written], output)?;
     reader.consume(batch.read);
-    Ok(Taken::Lines(batch.line_count))
+    Ok(BatchTaken::Lines(batch.line_count))
 }

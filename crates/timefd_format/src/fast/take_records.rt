@@ -8,10 +8,10 @@ ghost use Rattle.timefd_format.specs.RecordBatches.{AreRecordsTaken};
 ghost use Rattle.timefd_format.specs.Sources.{AreLeavesIn};
 
 use crate::fast::record_batch::record_batch_of;
-use crate::fast::take::Taken;
+use crate::fast::take::BatchTaken;
 use crate::frame::send;
 use crate::outcome::RunError;
-use crate::source::Source;
+use crate::source::MomentSource;
 use timefd_bin_streams::{BufferedError, BufferedSource, Sink};
 use timefd_lang_node_list::Leaf;
 use timefd_parse::BorrowedOutput;
@@ -22,7 +22,7 @@ use timefd_parse::BorrowedOutput;
 /// An `Err` says that memory ran out, or that the output failed.
 #[tactic(auto, using(crate::proofs::RecordTakenLemmas::batch_taken, crate::proofs::TakenLemmas::end_shown))]
 pub fn take_records<R: BufferedSource, W: Sink>(
-    source: &Source<'_>,
+    source: &MomentSource<'_>,
     source_leaves: Option<&[Leaf<'_>]>,
     description: &BorrowedOutput<'_>,
     leaves: Option<&[Leaf<'_>]>,
@@ -30,7 +30,7 @@ pub fn take_records<R: BufferedSource, W: Sink>(
     room: &mut [u8],
     reader: &mut R,
     output: &mut W,
-) -> Result<Taken, RunError>
+) -> Result<BatchTaken, RunError>
     requires source { AreLeavesIn source.now source_leaves }
     requires written { AreLeavesOf description.now leaves }
     ensures taken { IfOk result (AreRecordsTaken source.now description.now count (R.remaining reader.old)
@@ -40,17 +40,17 @@ pub fn take_records<R: BufferedSource, W: Sink>(
     ensures error { IfErr result (IsFailure (W.has_failed output.new)) }
 {
     let Some(leaves) = leaves else {
-        return Ok(Taken::Nothing);
+        return Ok(BatchTaken::Nothing);
     };
     if let Err(error) = reader.fill() {
         return match error {
             BufferedError::Memory => Err(RunError::Memory),
-            BufferedError::Failed(_) => Ok(Taken::Failed),
+            BufferedError::Failed(_) => Ok(BatchTaken::Failed),
         };
     }
     let text = reader.buffer();
     if text.is_empty() {
-        return Ok(Taken::End);
+        return Ok(BatchTaken::End);
     }
     let batch = record_batch_of(
         source,
@@ -62,9 +62,9 @@ pub fn take_records<R: BufferedSource, W: Sink>(
         room,
     );
     if batch.line_count == 0 {
-        return Ok(Taken::Nothing);
+        return Ok(BatchTaken::Nothing);
     }
     send(&room[..batch.written], output)?;
     reader.consume(batch.read);
-    Ok(Taken::Lines(batch.line_count))
+    Ok(BatchTaken::Lines(batch.line_count))
 }

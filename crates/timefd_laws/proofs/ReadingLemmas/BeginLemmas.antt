@@ -9,7 +9,7 @@ use Rattle.timefd_lang_component.specs.declared.component.Component.{Component}
 use Rattle.timefd_lang_component.specs.declared.component.Component.TheVariants as of
 use Rattle.timefd_lang_component.specs.Texts.{filled, long_months, long_weekdays, short_months, short_weekdays}
 use Rattle.timefd_lang_component.specs.Tree.{Text}
-use Rattle.timefd_date_format.specs.declared.field.Field.{Field}
+use Rattle.timefd_date_format.specs.declared.field.WrittenField.{WrittenField}
 use Rattle.timefd_date_format.specs.declared.field.Lack.{Lack}
 use Rattle.timefd_date_format.specs.Fields.{field, field_text, instant_field, on_date, on_offset, on_time, period_text, sign_of}
 use Rattle.timefd_date_format.specs.Fields.{sign_text, stamp_field, stamp_of, year}
@@ -74,28 +74,28 @@ sign_begins known true false false xs e rest h = absurd (clash true (sym (e refl
 
 -- fields
 
-each_date : (P : Field → Type 0) (known : Option Date) (g : Date → Result Field Lack)
+each_date : (P : WrittenField → Type 0) (known : Option Date) (g : Date → Result WrittenField Lack)
     → ((d : Date) → IfOk (g d) P) → IfOk (on_date known g) P
 each_date P None g h = tt
 each_date P (Some d) g h = h d
 
-each_time : (P : Field → Type 0) (known : Option Time) (g : Time → Result Field Lack)
+each_time : (P : WrittenField → Type 0) (known : Option Time) (g : Time → Result WrittenField Lack)
     → ((t : Time) → IfOk (g t) P) → IfOk (on_time known g) P
 each_time P None g h = tt
 each_time P (Some t) g h = h t
 
-each_offset : (P : Field → Type 0) (known : Option UtcOffset) (g : UtcOffset → Result Field Lack)
+each_offset : (P : WrittenField → Type 0) (known : Option UtcOffset) (g : UtcOffset → Result WrittenField Lack)
     → ((o : UtcOffset) → IfOk (g o) P) → IfOk (on_offset known g) P
 each_offset P None g h = tt
 each_offset P (Some o) g h = h o
 
-unknown : (known : Bound) (r : Result Field Lack)
+unknown : (known : Bound) (r : Result WrittenField Lack)
     → IfOk r (λ f. Begins known Bound.Anything (field_text f))
 unknown known (Ok f) = λ rest h. tt
 unknown known (Err l) = tt
 
 -- a field that begins with a sign if one is mandatory
-abbrev BeginsSigned : Bound → Bool → Field → Type 0
+abbrev BeginsSigned : Bound → Bool → WrittenField → Type 0
 BeginsSigned known mandatory f = Begins known (signed_begin mandatory) (field_text f)
 
 year_begins : (known : Bound) (greatest width unit : ℕ) (p : Padding) (mandatory : Bool) (y : ℕ)
@@ -110,7 +110,7 @@ stamp_begins : (known : Bound) (mandatory : Bool) (u : UnixTime) (n : ℕ)
 stamp_begins known mandatory u n =
     sign_begins known mandatory u.is_negative mandatory (filled Padding.None 1 n) (λ e. e)
 
-each_instant : (P : Field → Type 0) (m : Moment) (c : Component) → ((u : UnixTime) → P (stamp_field u c))
+each_instant : (P : WrittenField → Type 0) (m : Moment) (c : Component) → ((u : UnixTime) → P (stamp_field u c))
     → IfOk (on_date m.date (λ d. on_time m.time (λ t. on_offset m.offset (λ o. instant_field (unix_time d t o) c)))) P
 each_instant P m c h =
     each_date P m.date _ (λ d. each_time P m.time _ (λ t. each_offset P m.offset _ (λ o.

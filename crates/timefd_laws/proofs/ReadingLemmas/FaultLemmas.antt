@@ -8,8 +8,8 @@ use Rattle.timefd_lang_component.specs.declared.component.Component.{Component}
 use Rattle.timefd_lang_component.specs.Modern.{modern}
 use Rattle.timefd_lang_component.specs.Tree.{Text, Tree, component, literal, compound, optional, first, Trees, no_trees, more_trees}
 use Rattle.timefd_date_moment.specs.declared.fields.fault.ReadError.{ReadError}
-use Rattle.timefd_date_moment.specs.declared.fields.fault.Reason.{Reason}
-use Rattle.timefd_date_moment.specs.declared.fields.fault.Reason.TheVariants as for
+use Rattle.timefd_date_moment.specs.declared.fields.fault.UnreadReason.{UnreadReason}
+use Rattle.timefd_date_moment.specs.declared.fields.fault.UnreadReason.TheVariants as for
 use Rattle.timefd_date_moment.specs.declared.fields.fields.Fields.{Fields}
 use Rattle.timefd_date_moment.specs.Fields.Inputs.{input}
 use Rattle.timefd_date_moment.specs.Fields.Laws.{IsAfter}
@@ -43,7 +43,7 @@ faulty (Ok q) P is none = absurd (none q (is q refl))
 faulty (Err e) P is none = (e, refl)
 
 -- What is read has no fault.
-excludes : (t : Tree) (p q s : Point) (r : Reason) → read t p ≡ fault_at q r → Reads t p s → ⊥
+excludes : (t : Tree) (p q s : Point) (r : UnreadReason) → read t p ≡ fault_at q r → Reads t p s → ⊥
 excludes t p q s r f is = unfaulty (read t p) s _ f ((reads_exactly t p s).0 is)
 
 -- components
@@ -68,7 +68,7 @@ module _ (c : Component) (p : Point) where
   contradicts None i some none = absurd (clash false refl some)
   contradicts (Some r) i some none = agreed_not (with_reading p.fields r.0) r.0 r.1 i refl none
 
-  component_stopped : (q : Point) (r : Reason) → Stops (component c) p q r → read (component c) p ≡ fault_at q r
+  component_stopped : (q : Point) (r : UnreadReason) → Stops (component c) p q r → read (component c) p ≡ fault_at q r
   component_stopped q (for.Unread d) s =
       unread (input (rule_of (modern c)) p.rest) refl s.1.1
       ∙ ap (λ x. fault_at p (for.Unread x)) (sym s.1.0) ∙ ap (λ x. fault_at x (for.Unread d)) (sym s.0)
@@ -82,7 +82,7 @@ module _ (c : Component) (p : Point) where
   -- whether a part is read, or where it stops
   component_agreed : (f : Option Fields) (reading : _) (len : ℕ)
       → input (rule_of (modern c)) p.rest ≡ Some (reading, len) → with_reading p.fields reading ≡ f
-      → ((q : Point) × Reads (component c) p q) ⊎ ((q : Point) × (r : Reason) × Stops (component c) p q r)
+      → ((q : Point) × Reads (component c) p q) ⊎ ((q : Point) × (r : UnreadReason) × Stops (component c) p q r)
   component_agreed None reading len i w =
       let f : read (component c) p ≡ fault_at p (for.Contradiction (modern c)) =
       ap (taken (modern c) p) i ∙ ap (agreed (modern c) p len) w in
@@ -91,7 +91,7 @@ module _ (c : Component) (p : Point) where
       inl (at (drop len p.rest) f, (reading, len, i, w, refl))
 
   component_answered : (x : _) → input (rule_of (modern c)) p.rest ≡ x
-      → ((q : Point) × Reads (component c) p q) ⊎ ((q : Point) × (r : Reason) × Stops (component c) p q r)
+      → ((q : Point) × Reads (component c) p q) ⊎ ((q : Point) × (r : UnreadReason) × Stops (component c) p q r)
   component_answered None i = inr (p, for.Unread (modern c), (refl, (refl, ap is_some i)))
   component_answered (Some r) i = component_agreed (with_reading p.fields r.0) r.0 r.1 i refl
 
@@ -107,7 +107,7 @@ module _ (bytes : Text) (p : Point) where
       ((starts_is unsigned_Decides p.rest bytes (starts_with eqb p.rest bytes) refl).0 is))
   literal_unread false is none = refl
 
-  literal_stopped : (q : Point) (r : Reason) → Stops (literal bytes) p q r → read (literal bytes) p ≡ fault_at q r
+  literal_stopped : (q : Point) (r : UnreadReason) → Stops (literal bytes) p q r → read (literal bytes) p ≡ fault_at q r
   literal_stopped q (for.Unread d) s = absurd s.1
   literal_stopped q (for.Contradiction d) s = absurd s.1
   literal_stopped q for.Literal s =
@@ -115,7 +115,7 @@ module _ (bytes : Text) (p : Point) where
   literal_stopped q for.Trailing s = absurd s.1
 
   literal_answered : (t : Bool) → starts_with eqb p.rest bytes ≡ t
-      → ((q : Point) × Reads (literal bytes) p q) ⊎ ((q : Point) × (r : Reason) × Stops (literal bytes) p q r)
+      → ((q : Point) × Reads (literal bytes) p q) ⊎ ((q : Point) × (r : UnreadReason) × Stops (literal bytes) p q r)
   literal_answered true is = inl (
     at (drop (length bytes) p.rest) p.fields,
     ((starts_is unsigned_Decides p.rest bytes (starts_with eqb p.rest bytes) refl).0 is, refl),
@@ -139,7 +139,7 @@ none_first f (more_trees t ts) p none =
     (faulty (read t p) (Reads t p) (λ q e. (reads_exactly t p q).1 e) none.0).1 ∙ none_first f ts p none.1
 
 mutual
-  stopped : (t : Tree) (p q : Point) (r : Reason) → Stops t p q r → read t p ≡ fault_at q r
+  stopped : (t : Tree) (p q : Point) (r : UnreadReason) → Stops t p q r → read t p ≡ fault_at q r
   stopped (component c) p q r s = component_stopped c p q r s
   stopped (literal bytes) p q r s = literal_stopped bytes p q r s
   stopped (compound ts) p q r s = stopped_among ts p q r s
@@ -149,7 +149,7 @@ mutual
       ap (λ x. unless_read x (λ g. read_first (earlier None g) ts p)) (stopped t p q r s.0)
       ∙ none_first _ ts p s.1
 
-  stopped_among : (ts : Trees) (p q : Point) (r : Reason) → StopsAmong ts p q r → read_all ts p ≡ fault_at q r
+  stopped_among : (ts : Trees) (p q : Point) (r : UnreadReason) → StopsAmong ts p q r → read_all ts p ≡ fault_at q r
   stopped_among no_trees p q r s = absurd s
   stopped_among (more_trees t ts) p q r (inl s) =
       ap (λ x. followed x (λ m. read_all ts m)) (stopped t p q r s)
@@ -160,13 +160,13 @@ mutual
 -- From each position a description is read, or stops.
 
 abbrev IsAnswered : Tree → Point → Type 0
-IsAnswered t p = ((q : Point) × Reads t p q) ⊎ ((q : Point) × (r : Reason) × Stops t p q r)
+IsAnswered t p = ((q : Point) × Reads t p q) ⊎ ((q : Point) × (r : UnreadReason) × Stops t p q r)
 
-not_read : (t : Tree) (p q s : Point) (r : Reason) → Stops t p q r → Reads t p s → ⊥
+not_read : (t : Tree) (p q s : Point) (r : UnreadReason) → Stops t p q r → Reads t p s → ⊥
 not_read t p q s r stops reads = excludes t p q s r (stopped t p q r stops) reads
 
 abbrev IsAnsweredAll : Trees → Point → Type 0
-IsAnsweredAll ts p = ((q : Point) × ReadsAll ts p q) ⊎ ((q : Point) × (r : Reason) × StopsAmong ts p q r)
+IsAnsweredAll ts p = ((q : Point) × ReadsAll ts p q) ⊎ ((q : Point) × (r : UnreadReason) × StopsAmong ts p q r)
 
 abbrev IsAnsweredFirst : Trees → Point → Type 0
 IsAnsweredFirst ts p = ((q : Point) × ReadsFirst ts p q) ⊎ NoneReads ts p
@@ -219,7 +219,7 @@ reads_front : (t : Tree) (p q : Point) → Reads t p q → (front : Text) × (p.
 reads_front t p q is = subst (IsAfter p) ((reads_exactly t p q).0 is) (reads_fronts t p)
 
 mutual
-  stops_front : (t : Tree) (p q : Point) (r : Reason) → Stops t p q r → (front : Text) × (p.rest ≡ front ++ q.rest)
+  stops_front : (t : Tree) (p q : Point) (r : UnreadReason) → Stops t p q r → (front : Text) × (p.rest ≡ front ++ q.rest)
   stops_front (component c) p q r s = ([], ap (λ (x : Point). x.rest) (sym s.0))
   stops_front (literal bytes) p q r s = ([], ap (λ (x : Point). x.rest) (sym s.0))
   stops_front (compound ts) p q r s = among_front ts p q r s
@@ -227,7 +227,7 @@ mutual
   stops_front (first no_trees) p q r s = absurd s
   stops_front (first (more_trees t ts)) p q r s = stops_front t p q r s.0
 
-  among_front : (ts : Trees) (p q : Point) (r : Reason) → StopsAmong ts p q r
+  among_front : (ts : Trees) (p q : Point) (r : UnreadReason) → StopsAmong ts p q r
       → (front : Text) × (p.rest ≡ front ++ q.rest)
   among_front no_trees p q r s = absurd s
   among_front (more_trees t ts) p q r (inl s) = stops_front t p q r s
@@ -275,7 +275,7 @@ fault_answered t text e h = by h.why ∙ ap (λ n. Err (record { reason = e.reas
 whole_answered : (t : Tree) (text : Text) (f : Fields) → ReadsWhole t text f → fields_of t text ≡ Ok f
 whole_answered t text f is = ap (whole (length text)) ((reads_exactly t (start text) (at [] f)).0 is)
 
-has_fault : (t : Tree) (text front rest : Text) (f : Fields) (r : Reason) → text ≡ front ++ rest
+has_fault : (t : Tree) (text front rest : Text) (f : Fields) (r : UnreadReason) → text ≡ front ++ rest
     → (Stops t (start text) (at rest f) r ⊎ Trails t text (at rest f) r) → (e : ReadError) × HasFault t text e
 has_fault t text front rest f r cut why = (
   record { reason = r; index = length front },

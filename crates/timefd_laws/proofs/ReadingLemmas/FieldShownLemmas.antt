@@ -4,7 +4,7 @@ use Rattle.std.proofs.Common.{Option, Some, None, Result, Ok, Err, refl, ap, sub
 use Rattle.std.proofs.lemmas.Bool.{eqb-true, le-leb}
 use Rattle.timefd_lang_component.specs.declared.component.Component.{Component}
 use Rattle.timefd_lang_component.specs.declared.component.Component.TheVariants as of
-use Rattle.timefd_date_format.specs.declared.field.Field.{Field}
+use Rattle.timefd_date_format.specs.declared.field.WrittenField.{WrittenField}
 use Rattle.timefd_date_format.specs.Kinds.{Kind}
 use Rattle.timefd_date_format.specs.Kinds as kinds
 use Rattle.timefd_date_format.specs.declared.field.Lack.{Lack}
@@ -33,7 +33,7 @@ pub date_shown : (m : Moment) (f : Fields) (h : HasDate m f) (c : Component) →
     → is_ok (on_date m.date (λ d. date_field d c)) ≡ true
 date_shown m f h c e = ap (λ (x : Option Date). is_ok (on_date x (λ d. date_field d c))) h.is ∙ e
 
-abbrev instant_by : Option Date → Option Time → Option UtcOffset → Component → Result Field Lack
+abbrev instant_by : Option Date → Option Time → Option UtcOffset → Component → Result WrittenField Lack
 instant_by x y z c =
     on_date x (λ d. on_time y (λ t. on_offset z (λ o. instant_field (unix_time d t o) c)))
 

@@ -5,7 +5,7 @@ use Rattle.std.proofs.Math.Seq.{drop-append_seam}
 use Rattle.std.proofs.lemmas.Bool.{cond_both, eq-eqb, leb-false, leb-true}
 use Rattle.timefd_lang_component.specs.declared.component.Component.{Component}
 use Rattle.timefd_lang_component.specs.Tree.{Text}
-use Rattle.timefd_date_format.specs.declared.field.Field.{Field}
+use Rattle.timefd_date_format.specs.declared.field.WrittenField.{WrittenField}
 use Rattle.timefd_date_format.specs.declared.field.Lack.{Lack}
 use Rattle.timefd_date_format.specs.Fields.{date_field, field_text, instant_field, offset_field, on_date, on_offset, on_time}
 use Rattle.timefd_date_format.specs.Fields.{signed, stamp_field, time_field, year}
@@ -67,23 +67,23 @@ same_number a =
 
 -- The parts that a moment has are these.
 
-pub of_date : (P : Field → Type 0) (known : Option Date) (d : Date) (g : Date → Result Field Lack)
+pub of_date : (P : WrittenField → Type 0) (known : Option Date) (d : Date) (g : Date → Result WrittenField Lack)
     → IfSome known (λ e. e ≡ d) → IfOk (g d) P → IfOk (on_date known g) P
 of_date P None d g is h = tt
 of_date P (Some e) d g is h = subst (λ (x : Date). IfOk (g x) P) (sym is) h
 
-pub of_time : (P : Field → Type 0) (known : Option Time) (t : Time) (g : Time → Result Field Lack)
+pub of_time : (P : WrittenField → Type 0) (known : Option Time) (t : Time) (g : Time → Result WrittenField Lack)
     → IfSome known (λ e. e ≡ t) → IfOk (g t) P → IfOk (on_time known g) P
 of_time P None t g is h = tt
 of_time P (Some e) t g is h = subst (λ (x : Time). IfOk (g x) P) (sym is) h
 
-pub of_offset : (P : Field → Type 0) (known : Option UtcOffset) (o : UtcOffset) (g : UtcOffset → Result Field Lack)
+pub of_offset : (P : WrittenField → Type 0) (known : Option UtcOffset) (o : UtcOffset) (g : UtcOffset → Result WrittenField Lack)
     → IfSome known (λ e. e ≡ o) → IfOk (g o) P → IfOk (on_offset known g) P
 of_offset P None o g is h = tt
 of_offset P (Some e) o g is h = subst (λ (x : UtcOffset). IfOk (g x) P) (sym is) h
 
 -- a year that is not too long
-pub of_year : (P : Field → Type 0) (greatest width unit : ℕ) (p : Padding) (mandatory : Bool) (y : ℕ)
+pub of_year : (P : WrittenField → Type 0) (greatest width unit : ℕ) (p : Padding) (mandatory : Bool) (y : ℕ)
     → (magnitude y ≤ greatest
     → P (signed (is_before_zero y) (mandatory || nat_le 10000 (magnitude y)) p width (magnitude y / unit)))
     → IfOk (year greatest width unit p mandatory y) P
@@ -99,7 +99,7 @@ no_plus true n e = absurd (clash true e refl)
 no_plus false n e = (refl, leb-false 10000 n e)
 
 -- The text of a field is read as the fields of its component, and nothing of what follows is read.
-abbrev pub IsRow : Date → Time → UtcOffset → Shows → Component → Field → Type 0
+abbrev pub IsRow : Date → Time → UtcOffset → Shows → Component → WrittenField → Type 0
 IsRow d t o s c f = Row d t o s c (field_text f)
 
 module _ (m : Moment) (d : Date) (t : Time) (o : UtcOffset) (s : Shows) (is : IsOf m d t o) where

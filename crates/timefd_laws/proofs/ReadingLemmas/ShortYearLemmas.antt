@@ -10,7 +10,7 @@ use Rattle.timefd_lang_component.specs.Tree.{optional}
 use Rattle.timefd_date_format.specs.Kinds.{Kind}
 use Rattle.timefd_date_format.specs.Fields.{date_field, field, kind as kind_of, on_date, signed, year}
 use Rattle.timefd_date_format.specs.Written.{followed, shown, text_of, written}
-use Rattle.timefd_date_format.specs.declared.field.Field.{Field}
+use Rattle.timefd_date_format.specs.declared.field.WrittenField.{WrittenField}
 use Rattle.timefd_date_format.specs.declared.field.Lack.{Lack}
 use Rattle.timefd_date_format.specs.declared.unshown.Unshown.{Unshown}
 use Rattle.timefd_modifier.specs.declared.enums.Padding.{Padding}
@@ -125,7 +125,7 @@ ok_lacks : (r : Result Text Unshown) → is_ok r ≡ true → LacksYear r
 ok_lacks (Ok text) e = tt
 ok_lacks (Err u) e = absurd (clash true (sym e) refl)
 
-text_lacks : (c : Component) (r : Result Field Lack) → IsLong r → LacksYear (text_of c r)
+text_lacks : (c : Component) (r : Result WrittenField Lack) → IsLong r → LacksYear (text_of c r)
 text_lacks c (Ok f) h = tt
 text_lacks c (Err l) h = h
 

@@ -6,7 +6,7 @@ use Rattle.timefd_lang_component.specs.declared.component.Component.TheVariants 
 use Rattle.timefd_lang_component.specs.Modern.{modern}
 use Rattle.timefd_lang_component.specs.Texts.{filled, long_months, long_weekdays, short_months, short_weekdays}
 use Rattle.timefd_lang_component.specs.Tree.{Text}
-use Rattle.timefd_date_format.specs.declared.field.Field.{Field}
+use Rattle.timefd_date_format.specs.declared.field.WrittenField.{WrittenField}
 use Rattle.timefd_date_format.specs.declared.field.Lack.{Lack}
 use Rattle.timefd_date_format.specs.declared.unshown.Unshown.{Unshown}
 use Rattle.timefd_date_format.specs.Fields.{field, field_text, from_one, name_at, period_text}
@@ -205,7 +205,7 @@ abbrev text_in : Result Text Unshown → Text
 text_in (Ok text) = text
 text_in (Err u) = []
 
-of_text : (P : Text → Type 0) (c : Component) (r : Result Field Lack) (text : Text)
+of_text : (P : Text → Type 0) (c : Component) (r : Result WrittenField Lack) (text : Text)
     → IfOk r (λ f. P (field_text f)) → text_of c r ≡ Ok text → P text
 of_text P c (Ok f) text h e = subst P (ap text_in e) h
 of_text P c (Err l) text h e = absurd cc

@@ -9,7 +9,7 @@ use Rattle.std.proofs.lemmas.Bool.{cond_both}
 use Rattle.timefd_lang_component.specs.declared.component.Component.{Component}
 use Rattle.timefd_lang_component.specs.Modern.{modern}
 use Rattle.timefd_lang_component.specs.Tree.{Text, Tree, component, literal, compound, optional, first, Trees, no_trees, more_trees}
-use Rattle.timefd_date_format.specs.declared.field.Field.{Field}
+use Rattle.timefd_date_format.specs.declared.field.WrittenField.{WrittenField}
 use Rattle.timefd_date_format.specs.declared.field.Lack.{Lack}
 use Rattle.timefd_date_format.specs.declared.unshown.Unshown.{Unshown}
 use Rattle.timefd_date_format.specs.Fields.{field, field_text}
@@ -34,7 +34,7 @@ use Rattle.timefd_laws.proofs.ReadingLemmas.BeginLemmas.{Begins, field_begins}
 use Rattle.timefd_laws.proofs.ReadingLemmas.RowLemmas.{Row}
 use Rattle.timefd_laws.proofs.ReadingLemmas.TableLemmas.{back}
 
-of_shown : (P : Text → Type 0) (c : Component) (r : Result Field Lack) → IfOk r (λ f. P (field_text f))
+of_shown : (P : Text → Type 0) (c : Component) (r : Result WrittenField Lack) → IfOk r (λ f. P (field_text f))
     → IfOk (text_of c r) P
 of_shown P c (Ok f) h = h
 of_shown P c (Err l) h = tt

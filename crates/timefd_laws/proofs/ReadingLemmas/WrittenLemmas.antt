@@ -4,7 +4,7 @@ use Rattle.std.specs.Prelude.{⊤}
 use Rattle.timefd_lang_component.specs.declared.component.Component.{Component}
 use Rattle.timefd_lang_component.specs.Modern.{modern}
 use Rattle.timefd_lang_component.specs.Tree.{Text, Tree, component, literal, compound, optional, first, Trees, no_trees, more_trees}
-use Rattle.timefd_date_format.specs.declared.field.Field.{Field}
+use Rattle.timefd_date_format.specs.declared.field.WrittenField.{WrittenField}
 use Rattle.timefd_date_format.specs.Kinds.{Kind}
 use Rattle.timefd_date_format.specs.declared.field.Lack.{Lack}
 use Rattle.timefd_date_format.specs.declared.unshown.Unshown.{Unshown}
@@ -100,7 +100,7 @@ mutual
 
 -- what is written
 
-pub text_ok : (c : Component) (r : Result Field Lack) → is_ok r ≡ true → is_ok (text_of c r) ≡ true
+pub text_ok : (c : Component) (r : Result WrittenField Lack) → is_ok r ≡ true → is_ok (text_of c r) ≡ true
 text_ok c (Ok f) e = refl
 text_ok c (Err l) e = absurd (clash true (sym e) refl)
 

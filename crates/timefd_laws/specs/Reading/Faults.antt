@@ -5,8 +5,8 @@ use Rattle.timefd_lang_component.specs.declared.component.Component.{Component}
 use Rattle.timefd_lang_component.specs.Modern.{modern}
 use Rattle.timefd_lang_component.specs.Tree.{Text, Tree, component, literal, compound, optional, first, Trees, no_trees, more_trees}
 use Rattle.timefd_date_moment.specs.declared.fields.fault.ReadError.{ReadError}
-use Rattle.timefd_date_moment.specs.declared.fields.fault.Reason.{Reason}
-use Rattle.timefd_date_moment.specs.declared.fields.fault.Reason.TheVariants as for
+use Rattle.timefd_date_moment.specs.declared.fields.fault.UnreadReason.{UnreadReason}
+use Rattle.timefd_date_moment.specs.declared.fields.fault.UnreadReason.TheVariants as for
 use Rattle.timefd_date_moment.specs.declared.fields.fields.Fields.{Fields}
 use Rattle.timefd_date_moment.specs.Fields.Inputs.{input}
 use Rattle.timefd_date_moment.specs.Fields.Reads.{Point, at, fields_of, start}
@@ -19,7 +19,7 @@ stands c text = is_some (input (rule_of c) text)
 
 -- A component is not read: nothing that it reads is here, or what is here contradicts a value that was read
 -- before.
-abbrev pub IsUnread : Component → Point → Reason → Type 0
+abbrev pub IsUnread : Component → Point → UnreadReason → Type 0
 IsUnread c p (for.Unread d) = (d ≡ c) × (stands c p.rest ≡ false)
 IsUnread c p (for.Contradiction d) =
     (d ≡ c) × (stands c p.rest ≡ true) × ((q : Point) → ReadsComponent c p q → ⊥)
@@ -27,7 +27,7 @@ IsUnread c p for.Literal = ⊥
 IsUnread c p for.Trailing = ⊥
 
 -- a literal is not read: the text goes on with something else
-abbrev pub IsOtherwise : Text → Point → Reason → Type 0
+abbrev pub IsOtherwise : Text → Point → UnreadReason → Type 0
 IsOtherwise bytes p (for.Unread c) = ⊥
 IsOtherwise bytes p (for.Contradiction c) = ⊥
 IsOtherwise bytes p for.Literal = (rest : Text) → p.rest ≡ bytes ++ rest → ⊥
@@ -41,7 +41,7 @@ NoneReads (more_trees t ts) p = ((q : Point) → Reads t p q → ⊥) × NoneRea
 -- is read. An optional part never stops. Alternatives stop if none of them is read, at the position and for
 -- the reason of the first one.
 abbrev mutual
-  pub Stops : Tree → Point → Point → Reason → Type 0
+  pub Stops : Tree → Point → Point → UnreadReason → Type 0
   Stops (component c) p q r = (q ≡ p) × IsUnread (modern c) p r
   Stops (literal bytes) p q r = (q ≡ p) × IsOtherwise bytes p r
   Stops (compound ts) p q r = StopsAmong ts p q r
@@ -49,13 +49,13 @@ abbrev mutual
   Stops (first no_trees) p q r = ⊥
   Stops (first (more_trees t ts)) p q r = Stops t p q r × NoneReads ts p
 
-  pub StopsAmong : Trees → Point → Point → Reason → Type 0
+  pub StopsAmong : Trees → Point → Point → UnreadReason → Type 0
   StopsAmong no_trees p q r = ⊥
   StopsAmong (more_trees t ts) p q r =
       Stops t p q r ⊎ ((mid : Point) × Reads t p mid × StopsAmong ts mid q r)
 
 -- the whole description is read, and more text follows
-abbrev pub Trails : Tree → Text → Point → Reason → Type 0
+abbrev pub Trails : Tree → Text → Point → UnreadReason → Type 0
 Trails t text q r = (r ≡ for.Trailing) × Reads t (start text) q × (q.rest ≡ [] → ⊥)
 
 -- The text has a front that is read, and after it the description stops, or has ended. The index of the fault

@@ -8,7 +8,7 @@ use Rattle.timefd_lang_component.specs.Tree.{Text}
 use Rattle.timefd_lint_lsp.proofs.EditorLemmas.EachLemmas.{both_added, none_added, unwanted, wanted}
 use Rattle.timefd_lint_lsp.specs.declared.editor.action.Action.{Action}
 use Rattle.timefd_lint_lsp.specs.declared.editor.action.Edit.{Edit}
-use Rattle.timefd_lint_lsp.specs.declared.editor.action.Wanted.{Wanted}
+use Rattle.timefd_lint_lsp.specs.declared.editor.action.WantedActions.{WantedActions}
 use Rattle.timefd_lint_lsp.specs.Editor.Actions.{AreActionsBy, AreActionsIn, AreActionsOf, AreMends, AreOffers, AreRewrites, IsBecoming, IsOffer, IsOfferOf, IsOneAction, kind_of, overlaps, title_of}
 use Rattle.timefd_lint_lsp.specs.Editor.AllFixes.{IsFixAll, IsWritable}
 use Rattle.timefd_lint_lsp.specs.Editor.Each.{Adds, AreIf, AreOf}
@@ -16,9 +16,9 @@ use Rattle.timefd_lint_lsp.specs.Editor.Edits.{AreEdits}
 use Rattle.timefd_lint_rewrite.specs.declared.fixes.Fixes.TheVariants as fixes
 use Rattle.timefd_language.specs.declared.description_version.DescriptionVersion.TheVariants as versions
 use Rattle.timefd_lint_sources.specs.declared.reported.Finder.TheVariants.{Rust, Keys}
-use Rattle.timefd_lint_sources.specs.declared.reported.Source.{Source}
-use Rattle.timefd_lint_scan.specs.declared.keys.format.Format.{Format}
-use Rattle.timefd_lint_scan.specs.declared.keys.key.Key.{Key}
+use Rattle.timefd_lint_sources.specs.declared.reported.SourceText.{SourceText}
+use Rattle.timefd_lint_scan.specs.declared.keys.format.FileFormat.{FileFormat}
+use Rattle.timefd_lint_scan.specs.declared.keys.key.DescriptionKey.{DescriptionKey}
 use denote.Ref.{Bor}
 use Rattle.timefd_lint_sources.specs.declared.rewriting.answer.NewParts.{NewParts}
 use Rattle.timefd_lint_sources.specs.declared.rewriting.answer.Answer.{Answer}
@@ -27,16 +27,16 @@ use Rattle.timefd_lint_sources.specs.declared.rewriting.change.Change.{Change}
 use Rattle.timefd_lint_sources.specs.declared.rewriting.change.Change.TheVariants.{Mended, Least}
 use Rattle.timefd_lint_sources.specs.declared.rewriting.outcome.Outcome.{Outcome}
 use Rattle.timefd_lint_sources.specs.Rewriting.Written.{IsAnswer, items_of}
-use Rattle.timefd_lint_scan.specs.declared.description.Description.{Description}
+use Rattle.timefd_lint_scan.specs.declared.description.SourceDescription.{SourceDescription}
 use Rattle.timefd_lint_scan.specs.Found.{AllStandIn, AreDescriptionsOf, AreInOrder}
 
-pub same_text : (change : Change) (text : Text) (d : Description) (rewritten : NewParts) (before after : List Action)
+pub same_text : (change : Change) (text : Text) (d : SourceDescription) (rewritten : NewParts) (before after : List Action)
     → rewritten.body ≡ None → Adds (IsOneAction change text d rewritten.digit None) before after
     → Adds (IsBecoming change text d rewritten true) before after
 same_text change text d rewritten before after is added =
     subst (λ b. Adds (IsOneAction change text d rewritten.digit (items_of b)) before after) (sym is) added
 
-pub other_text : (change : Change) (text : Text) (d : Description) (rewritten : NewParts) (body : Vec ℕ Global)
+pub other_text : (change : Change) (text : Text) (d : SourceDescription) (rewritten : NewParts) (body : Vec ℕ Global)
     (new : Text) (before after : List Action) → rewritten.body ≡ Some body → new ≡ body.items
     → Adds (IsOneAction change text d rewritten.digit (Some new)) before after
     → Adds (IsBecoming change text d rewritten true) before after
@@ -44,19 +44,19 @@ other_text change text d rewritten body new before after is same added =
     subst (λ b. Adds (IsOneAction change text d rewritten.digit (items_of b)) before after) (sym is)
     (subst (λ t. Adds (IsOneAction change text d rewritten.digit (Some t)) before after) same added)
 
-pub no_text : (change : Change) (text : Text) (d : Description) (rewritten : NewParts) (body : Vec ℕ Global)
+pub no_text : (change : Change) (text : Text) (d : SourceDescription) (rewritten : NewParts) (body : Vec ℕ Global)
     (before : List Action) → rewritten.body ≡ Some body → ¬ IsUtf8 body.items
     → Adds (IsBecoming change text d rewritten false) before before
 no_text change text d rewritten body before is not =
     none_added (IsBecoming change text d rewritten false) before
     ((λ utf8. not (subst (λ b. IsWritable (items_of b)) is utf8)), refl)
 
-pub stays : (change : Change) (text : Text) (d : Description) (outcome : Outcome) (before : List Action)
+pub stays : (change : Change) (text : Text) (d : SourceDescription) (outcome : Outcome) (before : List Action)
     → IsAnswer change text d (Stays outcome) → Adds (IsOffer change text d false) before before
 stays change text d outcome before is =
     none_added (IsOffer change text d false) before (record { answer = Stays outcome; is = is; offered = refl })
 
-pub becomes : {E : Type 0} (change : Change) (text : Text) (d : Description) (rewritten : NewParts)
+pub becomes : {E : Type 0} (change : Change) (text : Text) (d : SourceDescription) (rewritten : NewParts)
     (before after : List Action) (done : Result Bool E) → IsAnswer change text d (Becomes rewritten)
     → IfOk done (λ b. Adds (IsBecoming change text d rewritten b) before after)
     → IfOk done (λ b. Adds (IsOffer change text d b) before after)
@@ -64,17 +64,17 @@ becomes change text d rewritten before after (Ok b) is (more, offered, added) =
     (more, record { answer = Becomes rewritten; is = is; offered = offered }, added)
 becomes change text d rewritten before after (Err e) is added = tt
 
-pub surely : (text : Text) (d : Description) (before after : List Action) (done : Bool) → done ≡ true
+pub surely : (text : Text) (d : SourceDescription) (before after : List Action) (done : Bool) → done ≡ true
     → Adds (IsOffer (Mended fixes.Sure) text d done) before after → Adds (AreMends text d) before after
 surely text d before after done is (more, offered, whole) =
     (more, inl (subst (λ b. IsOffer (Mended fixes.Sure) text d b more) is offered), whole)
 
-none_offered : (change : Change) (text : Text) (d : Description) (answer : Answer) (actions : List Action)
+none_offered : (change : Change) (text : Text) (d : SourceDescription) (answer : Answer) (actions : List Action)
     → IsOfferOf change text d answer false actions → actions ≡ []
 none_offered change text d (Stays outcome) actions none = none
 none_offered change text d (Becomes rewritten) actions none = none.1
 
-pub by_guesses : (text : Text) (d : Description) (before middle after : List Action) (first second : Bool)
+pub by_guesses : (text : Text) (d : SourceDescription) (before middle after : List Action) (first second : Bool)
     → first ≡ false → Adds (IsOffer (Mended fixes.Sure) text d first) before middle
     → Adds (IsOffer (Mended fixes.All) text d second) middle after → Adds (AreMends text d) before after
 by_guesses text d before middle after first second is (none, sure, a) (more, guess, b) =
@@ -86,31 +86,31 @@ by_guesses text d before middle after first second is (none, sure, a) (more, gue
       b ∙ ap (λ l. l ++ more) (a ∙ ap (λ l. before ++ l) empty ∙ append-nil before),
     )
 
-pub rewritten : (text : Text) (d : Description) (before after : List Action) (is_wanted done : Bool)
+pub rewritten : (text : Text) (d : SourceDescription) (before after : List Action) (is_wanted done : Bool)
     → is_wanted ≡ true → Adds (IsOffer (Least versions.Three) text d done) before after
     → Adds (AreIf is_wanted (AreRewrites text d)) before after
 rewritten text d before after is_wanted done asked (more, offered, whole) =
     wanted (AreRewrites text d) is_wanted before after asked (more, (done, offered), whole)
 
-pub mends_and_rewrites : (asked : Wanted) (text : Text) (d : Description) (before middle after : List Action)
+pub mends_and_rewrites : (asked : WantedActions) (text : Text) (d : SourceDescription) (before middle after : List Action)
     → Adds (AreIf asked.fixes (AreMends text d)) before middle
     → Adds (AreIf asked.rewrites (AreRewrites text d)) middle after → Adds (AreOffers asked text d) before after
 mends_and_rewrites asked text d before middle after first second =
     both_added (AreIf asked.fixes (AreMends text d)) (AreIf asked.rewrites (AreRewrites text d))
     (AreOffers asked text d) before middle after (λ one rest is are. (one, rest, is, are, refl)) first second
 
-pub apart : (asked : Wanted) (text : Text) (d : Description) (from to : ℕ) (before : List Action)
+pub apart : (asked : WantedActions) (text : Text) (d : SourceDescription) (from to : ℕ) (before : List Action)
     → overlaps d.piece from to ≡ false → Adds (AreActionsIn asked text from to d) before before
 apart asked text d from to before is =
     unwanted (AreOffers asked text d) (overlaps d.piece from to) before is
 
-pub within : (asked : Wanted) (text : Text) (d : Description) (from to : ℕ) (before after : List Action)
+pub within : (asked : WantedActions) (text : Text) (d : SourceDescription) (from to : ℕ) (before after : List Action)
     → overlaps d.piece from to ≡ true → Adds (AreOffers asked text d) before after
     → Adds (AreActionsIn asked text from to d) before after
 within asked text d from to before after is added =
     wanted (AreOffers asked text d) (overlaps d.piece from to) before after is added
 
-pub by_rust : (s : Source) (asked : Wanted) (from to : ℕ) (ds : List Description) (middle actions : List Action)
+pub by_rust : (s : SourceText) (asked : WantedActions) (from to : ℕ) (ds : List SourceDescription) (middle actions : List Action)
     → s.finder ≡ Rust → AreDescriptionsOf s.text.now ds → AllStandIn s.text.now ds → AreInOrder 0 ds
     → Adds (AreOf (AreActionsIn asked s.text.now from to) ds) [] middle
     → Adds (AreIf asked.fix_all (IsFixAll s.text.now ds)) middle actions → AreActionsOf asked from to s actions
@@ -127,12 +127,12 @@ by_rust s asked from to ds middle actions is all stand in_order (each, offered, 
       whole = second ∙ ap (λ l. l ++ fix_all) first;
     })
 
-pub by_keys : (s : Source) (asked : Wanted) (from to : ℕ) (format : Format) (keys : Bor (List Key))
+pub by_keys : (s : SourceText) (asked : WantedActions) (from to : ℕ) (format : FileFormat) (keys : Bor (List DescriptionKey))
     (actions : List Action) → s.finder ≡ Keys format keys → actions ≡ [] → AreActionsOf asked from to s actions
 by_keys s asked from to format keys actions is none =
     subst (λ f. AreActionsBy f asked from to s.text.now actions) (sym is) none
 
-pub pushed : (change : Change) (text : Text) (d : Description) (digit : Option ℕ) (body : Option Text)
+pub pushed : (change : Change) (text : Text) (d : SourceDescription) (digit : Option ℕ) (body : Option Text)
     (a : Action) (empty : List Edit) (before after : List Action) → empty ≡ []
     → string_bytes a.title ≡ title_of change → a.kind ≡ kind_of change
     → Adds (AreEdits text d digit body) empty a.edits.items → after ≡ before ++ (a ∷ [])

@@ -5,8 +5,8 @@ use Rattle.std.specs.Prelude.{nat_lt, not, ◌&&◌, ◌||◌, if◌then◌else�
 use Rattle.std.specs.Str.{IsCharBoundary}
 use Rattle.timefd_lang_component.specs.Tree.{Text}
 use Rattle.timefd_lint_lsp.specs.Editor.Positions.{goes_on, index_of, is_line_end, is_second, passed, start, step, stops_at}
-use Rattle.timefd_lint_lsp.specs.declared.editor.position.Position.{Position}
-use Rattle.timefd_lint_lsp.specs.declared.editor.walk.Walk.{Walk}
+use Rattle.timefd_lint_lsp.specs.declared.editor.position.DocumentPosition.{DocumentPosition}
+use Rattle.timefd_lint_lsp.specs.declared.editor.walk.CountingWalk.{CountingWalk}
 
 either_true : (x y : Bool) → (x || y) ≡ true → (x ≡ true) ⊎ (y ≡ true)
 either_true true y is = inl refl
@@ -32,7 +32,7 @@ character_begins : (b : ℕ) → goes_on b ≡ false → 128 ≤ b → 192 ≤ b
 character_begins b is large =
     ltb-false b 192 (subst (λ (x : Bool). (x && nat_lt b 192) ≡ false) (le-leb 128 b large) is)
 
-begins_here : (w : Walk) (sought : Position) (b : ℕ) → stops_at w sought b ≡ true → 128 ≤ b → 192 ≤ b
+begins_here : (w : CountingWalk) (sought : DocumentPosition) (b : ℕ) → stops_at w sought b ≡ true → 128 ≤ b → 192 ≤ b
 begins_here w sought b stops large =
     elim (stops_by (w.position.line == sought.line) (is_second w b) (is_line_end b) (goes_on b) _ stops) [
       | inl ends ↦ end_begins b ends large
@@ -42,7 +42,7 @@ begins_here w sought b stops large =
 one_more : (b n : ℕ) (text : Text) → IsCharBoundary text n → IsCharBoundary (b ∷ text) (suc n)
 one_more b n text at = (omega (arith, at.0), (λ below. at.1 (omega (arith, below))))
 
-passed_to : (w : Walk) (sought : Position) (text : Text) → IsCharBoundary text (passed w sought text)
+passed_to : (w : CountingWalk) (sought : DocumentPosition) (text : Text) → IsCharBoundary text (passed w sought text)
 passed_to w sought [] = (omega arith, (λ below. absurd (omega (arith, below))))
 passed_to w sought (b ∷ text) = by (stops_at w sought b) refl (passed_to (step w b) sought text)
   where
@@ -54,5 +54,5 @@ passed_to w sought (b ∷ text) = by (stops_at w sought b) refl (passed_to (step
         subst (λ (n : ℕ). IsCharBoundary (b ∷ text) n) next
         (one_more b (passed (step w b) sought text) text later)
 
-pub at_boundary : (text : Text) (sought : Position) (n : ℕ) → n ≡ index_of text sought → IsCharBoundary text n
+pub at_boundary : (text : Text) (sought : DocumentPosition) (n : ℕ) → n ≡ index_of text sought → IsCharBoundary text n
 at_boundary text sought n is = subst (λ (k : ℕ). IsCharBoundary text k) (sym is) (passed_to start sought text)

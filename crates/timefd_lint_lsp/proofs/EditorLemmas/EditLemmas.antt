@@ -7,44 +7,44 @@ use Rattle.timefd_lint_lsp.specs.declared.editor.action.Edit.{Edit}
 use Rattle.timefd_lint_lsp.specs.Editor.Each.{Adds}
 use Rattle.timefd_lint_lsp.specs.Editor.Edits.{AreBodyEdits, AreEdits, AreSaid, AreVersionEdits, IsArgumentEdit, IsDigitEdit, IsOneEdit}
 use Rattle.timefd_lint_lsp.specs.Editor.Positions.{range_of}
-use Rattle.timefd_lint_scan.specs.declared.description.Description.{Description}
+use Rattle.timefd_lint_scan.specs.declared.description.SourceDescription.{SourceDescription}
 use Rattle.timefd_lint_scan.specs.declared.version.VersionPosition.TheVariants.{Digit, Unsaid, Call, Elsewhere}
 
-pub same_version : (text : Text) (d : Description) (before : List Edit)
+pub same_version : (text : Text) (d : SourceDescription) (before : List Edit)
     → Adds (AreVersionEdits text d None) before before
 same_version text d before = none_added (AreVersionEdits text d None) before refl
 
-pub by_digit : {R E : Type 0} (text : Text) (d : Description) (at digit : ℕ) (before after : List Edit)
+pub by_digit : {R E : Type 0} (text : Text) (d : SourceDescription) (at digit : ℕ) (before after : List Edit)
     (done : Result R E) → d.version ≡ Digit at
     → OnOk done (Adds (IsDigitEdit text at digit) before after)
     → OnOk done (Adds (AreVersionEdits text d (Some digit)) before after)
 by_digit text d at digit before after done is added =
     subst (λ v. OnOk done (Adds (AreSaid text d.piece.start digit v) before after)) (sym is) added
 
-pub by_argument : {R E : Type 0} (text : Text) (d : Description) (digit : ℕ) (before after : List Edit)
+pub by_argument : {R E : Type 0} (text : Text) (d : SourceDescription) (digit : ℕ) (before after : List Edit)
     (done : Result R E) → d.version ≡ Unsaid
     → OnOk done (Adds (IsArgumentEdit text d.piece.start digit) before after)
     → OnOk done (Adds (AreVersionEdits text d (Some digit)) before after)
 by_argument text d digit before after done is added =
     subst (λ v. OnOk done (Adds (AreSaid text d.piece.start digit v) before after)) (sym is) added
 
-pub by_call : (text : Text) (d : Description) (digit : ℕ) (before : List Edit) → d.version ≡ Call
+pub by_call : (text : Text) (d : SourceDescription) (digit : ℕ) (before : List Edit) → d.version ≡ Call
     → Adds (AreVersionEdits text d (Some digit)) before before
 by_call text d digit before is =
     subst (λ v. Adds (AreSaid text d.piece.start digit v) before before) (sym is)
     (none_added (AreSaid text d.piece.start digit Call) before refl)
 
-pub elsewhere : (text : Text) (d : Description) (digit : ℕ) (before : List Edit) → d.version ≡ Elsewhere
+pub elsewhere : (text : Text) (d : SourceDescription) (digit : ℕ) (before : List Edit) → d.version ≡ Elsewhere
     → Adds (AreVersionEdits text d (Some digit)) before before
 elsewhere text d digit before is =
     subst (λ v. Adds (AreSaid text d.piece.start digit v) before before) (sym is)
     (none_added (AreSaid text d.piece.start digit Elsewhere) before refl)
 
-pub same_body : (text : Text) (d : Description) (before : List Edit)
+pub same_body : (text : Text) (d : SourceDescription) (before : List Edit)
     → Adds (AreBodyEdits text d None) before before
 same_body text d before = none_added (AreBodyEdits text d None) before refl
 
-pub both : {R E : Type 0} (text : Text) (d : Description) (digit : Option ℕ) (body : Option Text)
+pub both : {R E : Type 0} (text : Text) (d : SourceDescription) (digit : Option ℕ) (body : Option Text)
     (before middle after : List Edit) (done : Result R E)
     → Adds (AreVersionEdits text d digit) before middle
     → OnOk done (Adds (AreBodyEdits text d body) middle after)
@@ -70,7 +70,7 @@ edited text from from' to to' new new' before after done begins ends same added 
     (subst (λ i. OnOk done (Adds (IsOneEdit text from i new') before after)) ends
     (subst (λ t. OnOk done (Adds (IsOneEdit text from to t) before after)) same added))
 
-pub other_body : {R E : Type 0} (text : Text) (d : Description) (body : Option Text) (new : Text)
+pub other_body : {R E : Type 0} (text : Text) (d : SourceDescription) (body : Option Text) (new : Text)
     (before after : List Edit) (done : Result R E) → body ≡ Some new
     → OnOk done (Adds (AreBodyEdits text d (Some new)) before after)
     → OnOk done (Adds (AreBodyEdits text d body) before after)

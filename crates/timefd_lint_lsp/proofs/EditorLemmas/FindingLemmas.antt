@@ -17,18 +17,18 @@ use Rattle.timefd_lint_lsp.specs.Editor.Findings.{AreFaults, AreOn, AreOnIn, Are
 use Rattle.timefd_lint_lsp.specs.Editor.Others.{AreOnOther}
 use Rattle.timefd_lang_fault.specs.Faults.{fault_of}
 use Rattle.timefd_language.specs.Grammar.{nesting_limit}
-use Rattle.timefd_lint_sources.specs.declared.reported.End.TheVariants.{Accepted, Refused, NotText}
+use Rattle.timefd_lint_sources.specs.declared.reported.ItemEnd.TheVariants.{Accepted, Refused, NotText}
 use Rattle.timefd_lint_sources.specs.declared.reported.Finder.{Finder}
 use Rattle.timefd_lint_sources.specs.Judged.{language_in, other_of, reported_further, text_of}
 use Rattle.timefd_lint_warnings.specs.Found.{found_by}
 use Rattle.timefd_language.specs.declared.language.Language.{Language}
 use Rattle.timefd_parse.specs.Language.{SpellsIn, FaultIn}
-use Rattle.timefd_lint_scan.specs.declared.description.Description.{Description}
+use Rattle.timefd_lint_scan.specs.declared.description.SourceDescription.{SourceDescription}
 use Rattle.timefd_lint_scan.specs.Found.{index_in_source}
 use Rattle.timefd_lang_warnings.specs.declared.levels.Levels.{Levels}
 
 -- A description of `time` is judged by itself.
-pub as_own : {R E : Type 0} (levels : Option Levels) (finder : Finder) (text : Text) (d : Description)
+pub as_own : {R E : Type 0} (levels : Option Levels) (finder : Finder) (text : Text) (d : SourceDescription)
     (which : Option other.Dialect) (before after : List Finding) (done : Result R E) → which ≡ other_of d.dialect
     → which ≡ None → OnOk done (Adds (AreOnOwn levels text d) before after)
     → OnOk done (Adds (AreOn levels finder text d) before after)
@@ -37,7 +37,7 @@ as_own levels finder text d which before after (Ok x) is none (more, own, added)
 as_own levels finder text d which before after (Err e) is none added = tt
 
 -- A format of another language or library is judged by its table.
-pub as_other : {R E : Type 0} (levels : Option Levels) (finder : Finder) (text : Text) (d : Description)
+pub as_other : {R E : Type 0} (levels : Option Levels) (finder : Finder) (text : Text) (d : SourceDescription)
     (which : Option other.Dialect) (dialect : other.Dialect) (reports : Bool) (description : Text)
     (before after : List Finding) (done : Result R E) → which ≡ other_of d.dialect → which ≡ Some dialect
     → reports ≡ is_some levels → IsUtf8 description → description ≡ text_of d
@@ -53,20 +53,20 @@ as_other levels finder text d which dialect reports description before after (Ok
     )
 as_other levels finder text d which dialect reports description before after (Err e) is some asked utf8 same added = tt
 
-no_text_in : (levels : Option Levels) (finder : Finder) (text : Text) (d : Description) (found : List Finding)
+no_text_in : (levels : Option Levels) (finder : Finder) (text : Text) (d : SourceDescription) (found : List Finding)
     (which : Option other.Dialect) → ¬ IsUtf8 (text_of d) → IsNote text d found
     → AreOnIn which levels finder text d found
 no_text_in levels finder text d found None not note = record { end = NotText; is = not; reported = note }
 no_text_in levels finder text d found (Some dialect) not note = inr (not, note)
 
-pub no_text : {R E : Type 0} (levels : Option Levels) (finder : Finder) (text : Text) (d : Description)
+pub no_text : {R E : Type 0} (levels : Option Levels) (finder : Finder) (text : Text) (d : SourceDescription)
     (before after : List Finding) (done : Result R E) → ¬ IsUtf8 (text_of d)
     → OnOk done (Adds (IsNote text d) before after) → OnOk done (Adds (AreOn levels finder text d) before after)
 no_text levels finder text d before after (Ok x) not (found, note, added) =
     (found, no_text_in levels finder text d found (other_of d.dialect) not note, added)
 no_text levels finder text d before after (Err e) not added = tt
 
-pub with_list : {R E : Type 0} (levels : Option Levels) (text : Text) (d : Description) (language : Language)
+pub with_list : {R E : Type 0} (levels : Option Levels) (text : Text) (d : SourceDescription) (language : Language)
     (description : Text) (list : List Tree) (warned : Levels) (before after : List Finding) (done : Result R E)
     → language ≡ language_in d → IsUtf8 description
     → description ≡ text_of d → SpellsIn language nesting_limit description list
@@ -91,7 +91,7 @@ with_list levels text d language description list warned before after (Ok x) nam
 )
 with_list levels text d language description list warned before after (Err e) named utf8 same spelled are added = tt
 
-pub with_fault : {R E : Type 0} (levels : Option Levels) (text : Text) (d : Description) (language : Language)
+pub with_fault : {R E : Type 0} (levels : Option Levels) (text : Text) (d : SourceDescription) (language : Language)
     (description : Text) (found : Option Diagnostic) (g : Diagnostic) (further : List Diagnostic)
     (before after : List Finding) (done : Result R E) → language ≡ language_in d
     → IsUtf8 description → description ≡ text_of d
@@ -132,7 +132,7 @@ with_fault levels text d language description found g further before after (Ok x
     )
 with_fault levels text d language description found g further before after (Err e) named utf8 same is faulty diagnosed others added = tt
 
-pub faults : {R E : Type 0} (text : Text) (d : Description) (g : Diagnostic) (further : List Diagnostic)
+pub faults : {R E : Type 0} (text : Text) (d : SourceDescription) (g : Diagnostic) (further : List Diagnostic)
     (before middle after : List Finding) (done : Result R E)
     → Adds (IsFault text d false g) before middle
     → OnOk done (Adds (AreOf (IsFault text d true) further) middle after)
@@ -142,7 +142,7 @@ faults text d g further before middle after (Ok x) first others =
     before middle after (λ one rest is are. (one, rest, is, are, refl)) first others
 faults text d g further before middle after (Err e) first others = tt
 
-pub at_positions : {R E : Type 0} (text : Text) (d : Description) (further : Bool) (g : Diagnostic)
+pub at_positions : {R E : Type 0} (text : Text) (d : SourceDescription) (further : Bool) (g : Diagnostic)
     (from to : ℕ) (name words : Text) (before after : List Finding) (done : Result R E)
     → from ≡ index_in_source d g.span.start → to ≡ index_in_source d g.span.end
     → name ≡ name_of (code_of (fault_of g.fault).kind) → words ≡ fault_words further g

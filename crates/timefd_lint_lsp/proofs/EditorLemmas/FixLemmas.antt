@@ -18,16 +18,16 @@ use Rattle.timefd_lint_sources.specs.declared.rewriting.answer.Answer.TheVariant
 use Rattle.timefd_lint_sources.specs.declared.rewriting.change.Change.TheVariants.{Mended}
 use Rattle.timefd_lint_sources.specs.declared.rewriting.outcome.Outcome.{Outcome}
 use Rattle.timefd_lint_sources.specs.Rewriting.Written.{IsAnswer, items_of}
-use Rattle.timefd_lint_scan.specs.declared.description.Description.{Description}
+use Rattle.timefd_lint_scan.specs.declared.description.SourceDescription.{SourceDescription}
 
 -- The body stays.
-pub same_body : (text : Text) (d : Description) (rewritten : NewParts) (before after : List Edit)
+pub same_body : (text : Text) (d : SourceDescription) (rewritten : NewParts) (before after : List Edit)
     → rewritten.body ≡ None → Adds (AreEdits text d rewritten.digit None) before after
     → Adds (AreFixesTo text d rewritten) before after
 same_body text d rewritten before after is (more, are, whole) =
     (more, inl (subst (λ b. AreEdits text d rewritten.digit (items_of b) more) (sym is) are), whole)
 
-pub other_body : (text : Text) (d : Description) (rewritten : NewParts) (body : Vec ℕ Global) (new : Text)
+pub other_body : (text : Text) (d : SourceDescription) (rewritten : NewParts) (body : Vec ℕ Global) (new : Text)
     (before after : List Edit) → rewritten.body ≡ Some body → new ≡ body.items
     → Adds (AreEdits text d rewritten.digit (Some new)) before after → Adds (AreFixesTo text d rewritten) before after
 other_body text d rewritten body new before after is same (more, are, whole) = (
@@ -37,18 +37,18 @@ other_body text d rewritten body new before after is same (more, are, whole) = (
   whole,
 )
 
-pub no_body : (text : Text) (d : Description) (rewritten : NewParts) (body : Vec ℕ Global) (before : List Edit)
+pub no_body : (text : Text) (d : SourceDescription) (rewritten : NewParts) (body : Vec ℕ Global) (before : List Edit)
     → rewritten.body ≡ Some body → ¬ IsUtf8 body.items → Adds (AreFixesTo text d rewritten) before before
 no_body text d rewritten body before is not =
     none_added (AreFixesTo text d rewritten) before
     (inr ((λ utf8. not (subst (λ b. IsWritable (items_of b)) is utf8)), refl))
 
-pub stays : (text : Text) (d : Description) (outcome : Outcome) (before : List Edit)
+pub stays : (text : Text) (d : SourceDescription) (outcome : Outcome) (before : List Edit)
     → IsAnswer (Mended Sure) text d (Stays outcome) → Adds (AreFixes text d) before before
 stays text d outcome before is =
     none_added (AreFixes text d) before (record { answer = Stays outcome; is = is; made = refl })
 
-pub becomes : (text : Text) (d : Description) (rewritten : NewParts) (before after : List Edit)
+pub becomes : (text : Text) (d : SourceDescription) (rewritten : NewParts) (before after : List Edit)
     → IsAnswer (Mended Sure) text d (Becomes rewritten) → Adds (AreFixesTo text d rewritten) before after
     → Adds (AreFixes text d) before after
 becomes text d rewritten before after is (more, made, whole) =
@@ -80,7 +80,7 @@ some_edits edits empty a before after is said title kind all whole =
     (λ none. true≢false (sym (eq-eqb edits.len 0 (edits.ok.0 ∙ none)) ∙ sym is ∙ said))
     title kind (ap (λ v. v.items) all) whole
 
-pub all_fixed : (text : Text) (ds : List Description) (is_wanted : Bool) (empty edits : List Edit)
+pub all_fixed : (text : Text) (ds : List SourceDescription) (is_wanted : Bool) (empty edits : List Edit)
     (before after : List Action) → is_wanted ≡ true → empty ≡ [] → Adds (AreOf (AreFixes text) ds) empty edits
     → Adds (AreAsOneAction edits) before after → Adds (AreIf is_wanted (IsFixAll text ds)) before after
 all_fixed text ds is_wanted empty edits before after said none (made, are, whole) (more, one, added) =

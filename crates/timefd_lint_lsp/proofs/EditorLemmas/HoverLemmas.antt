@@ -9,19 +9,19 @@ use Rattle.timefd_lint_lsp.specs.Editor.GoodFronts.{IsGoodFront}
 use Rattle.timefd_lint_lsp.specs.Editor.Hovers.{IsHoverIn, IsPartOrFault, IsShownAt, IsShownBy, IsShownIn, IsShownOf, IsShownOfAny, IsShownOn, IsShownRefused, IsShownRefusedIf, IsShownWhere, byte_at, covers, first_at, innermost, innermost_from, is_at}
 use Rattle.timefd_lint_diagnosis.specs.declared.diagnostic.Diagnostic.{Diagnostic}
 use Rattle.timefd_lint_diagnosis.specs.Diagnoses.{IsDiagnosed, IsDiagnosis}
-use Rattle.timefd_lint_explain.specs.declared.node.Node.{Node}
+use Rattle.timefd_lint_explain.specs.declared.node.ShownNode.{ShownNode}
 use Rattle.timefd_lint_explain.specs.Examples.{Examples, HasExample}
 use Rattle.timefd_lang_fault.specs.Faults.{fault_of}
 use Rattle.timefd_language.specs.Grammar.{nesting_limit}
-use Rattle.timefd_lint_sources.specs.declared.reported.End.{End}
-use Rattle.timefd_lint_sources.specs.declared.reported.End.TheVariants.{PassedOver, Accepted, Converted, Refused, NotText, Allowed, UnreadCall, UnreadValue, WrongComment}
-use Rattle.timefd_lint_sources.specs.declared.reported.Source.{Source}
+use Rattle.timefd_lint_sources.specs.declared.reported.ItemEnd.{ItemEnd}
+use Rattle.timefd_lint_sources.specs.declared.reported.ItemEnd.TheVariants.{PassedOver, Accepted, Converted, Refused, NotText, Allowed, UnreadCall, UnreadValue, WrongComment}
+use Rattle.timefd_lint_sources.specs.declared.reported.SourceText.{SourceText}
 use Rattle.timefd_lint_sources.specs.Judged.{is_passed_over, language_in, text_of}
 use Rattle.timefd_lint_sources.specs.Reported.{AllFound, AreAllOf, IsFound}
 use Rattle.timefd_lint_warnings.specs.Found.{found_by}
 use Rattle.timefd_language.specs.declared.language.Language.{Language}
 use Rattle.timefd_parse.specs.Language.{FaultIn, SpellsIn}
-use Rattle.timefd_lint_scan.specs.declared.description.Description.{Description}
+use Rattle.timefd_lint_scan.specs.declared.description.SourceDescription.{SourceDescription}
 use Rattle.timefd_lint_scan.specs.Found.{AreInOrder}
 
 some_inj : {X : Type 0} {a b : X} → Some a ≡ Some b → a ≡ b
@@ -30,11 +30,11 @@ some_inj e = cc
 none_is_some : {X : Type 0} {a : X} → None ≡ Some a → ⊥
 none_is_some e = cc
 
-abbrev IsInner : ℕ → Node → Type 0
+abbrev IsInner : ℕ → ShownNode → Type 0
 IsInner at n = HasExample n × IsTrue (covers n at)
 
 -- The innermost node at a byte covers it, and has its example.
-inner_from : (inner : Option Node) (ns : List Node) (at : ℕ) (n : Node) → IfSome inner (IsInner at) → Examples ns
+inner_from : (inner : Option ShownNode) (ns : List ShownNode) (at : ℕ) (n : ShownNode) → IfSome inner (IsInner at) → Examples ns
     → innermost_from inner ns at ≡ Some n → IsInner at n
 inner_from inner [] at n so_far each is = subst (λ o. IfSome o (IsInner at)) is so_far
 inner_from inner (m ∷ ns) at n so_far each is =
@@ -45,7 +45,7 @@ inner_from inner (m ∷ ns) at n so_far each is =
     by false covered = so_far
 
 -- The first description that covers an index is one of the descriptions, and covers it.
-first_is : (s : Source) (ds : List Description) (index : ℕ) (d : Description) → AllFound s ds
+first_is : (s : SourceText) (ds : List SourceDescription) (index : ℕ) (d : SourceDescription) → AllFound s ds
     → first_at ds index ≡ Some d → IsFound s d × IsTrue (is_at d.piece index)
 first_is s [] index d all is = absurd (none_is_some is)
 first_is s (e ∷ ds) index d all is =
@@ -60,7 +60,7 @@ first_is s (e ∷ ds) index d all is =
     by false stands same later = later same
 
 -- What is shown is a part of a description that covers the index.
-by_node : (s : Source) (d : Description) (index : ℕ) (h : Hover) (ns : List Node) (o : Option Node)
+by_node : (s : SourceText) (d : SourceDescription) (index : ℕ) (h : Hover) (ns : List ShownNode) (o : Option ShownNode)
     → IsFound s d → IsTrue (is_at d.piece index) → Examples ns → innermost ns (byte_at d index) ≡ o
     → IsShownOf s.text.now d o (Some h) → IsHoverIn s index h
 by_node s d index h ns None found stands each is shown = absurd (none_is_some (sym shown))
@@ -76,13 +76,13 @@ by_node s d index h ns (Some n) found stands each is shown =
       shown = shown;
     }
 
-by_parts : (s : Source) (d : Description) (index : ℕ) (h : Hover) (text : Text) → IsFound s d
+by_parts : (s : SourceText) (d : SourceDescription) (index : ℕ) (h : Hover) (text : Text) → IsFound s d
     → IsTrue (is_at d.piece index) → IsShownIn s.text.now d text (byte_at d index) (Some h) → IsHoverIn s index h
 by_parts s d index h text found stands (ns, are, shown) =
     by_node s d index h ns (innermost ns (byte_at d index)) found stands are.examples refl shown
 
 -- In a refused description it is its fault, or a part before that.
-by_refused : (s : Source) (d : Description) (index : ℕ) (h : Hover) (g : Diagnostic) (there : Bool)
+by_refused : (s : SourceText) (d : SourceDescription) (index : ℕ) (h : Hover) (g : Diagnostic) (there : Bool)
     → is_at_fault d g index ≡ there → IsFound s d → IsTrue (is_at d.piece index)
     → IsDiagnosed (language_in d) (text_of d) g
     → IsShownRefusedIf there s.text.now d (text_of d) g index (Some h) → IsPartOrFault s index h
@@ -98,7 +98,7 @@ by_refused s d index h g true is found stands diagnosed shown = inr (record {
 by_refused s d index h g false is found stands diagnosed (front, good, shown) =
     inl (by_parts s d index h front found stands shown)
 
-by_end : (s : Source) (d : Description) (index : ℕ) (h : Hover) (end : End) → IsFound s d
+by_end : (s : SourceText) (d : SourceDescription) (index : ℕ) (h : Hover) (end : ItemEnd) → IsFound s d
     → IsTrue (is_at d.piece index) → IsShownBy s.text.now d (text_of d) index end (Some h)
     → IsPartOrFault s index h
 by_end s d index h PassedOver found stands shown = absurd (none_is_some (sym shown))
@@ -112,25 +112,25 @@ by_end s d index h UnreadCall found stands shown = absurd shown
 by_end s d index h UnreadValue found stands shown = absurd shown
 by_end s d index h WrongComment found stands shown = absurd shown
 
-by_description : (s : Source) (ds : List Description) (index : ℕ) (h : Hover) (o : Option Description) → AllFound s ds
+by_description : (s : SourceText) (ds : List SourceDescription) (index : ℕ) (h : Hover) (o : Option SourceDescription) → AllFound s ds
     → first_at ds index ≡ o → IsShownOfAny s.text.now o index (Some h) → IsPartOrFault s index h
 by_description s ds index h None all is shown = absurd (none_is_some (sym shown))
 by_description s ds index h (Some d) all is shown =
     let first = first_is s ds index d all is in
     by_end s d index h shown.end first.0 first.1 shown.shown
 
-part_of : (s : Source) (index : ℕ) (found : Option Hover) → IsShownAt s index found
+part_of : (s : SourceText) (index : ℕ) (found : Option Hover) → IsShownAt s index found
     → IfSome found (IsPartOrFault s index)
 part_of s index None at = tt
 part_of s index (Some h) at =
     by_description s at.descriptions index h (first_at at.descriptions index) at.stand refl at.shown
 
-pub parts_of : {E : Type 0} (s : Source) (index : ℕ) (done : Result (Option Hover) E) → IfOk done (IsShownAt s index)
+pub parts_of : {E : Type 0} (s : SourceText) (index : ℕ) (done : Result (Option Hover) E) → IfOk done (IsShownAt s index)
     → IfOk done (λ found. IfSome found (IsPartOrFault s index))
 parts_of s index (Ok found) at = part_of s index found at
 parts_of s index (Err e) at = tt
 
-pub at_first : {E : Type 0} (s : Source) (ds : List Description) (index : ℕ) (o : Option Description)
+pub at_first : {E : Type 0} (s : SourceText) (ds : List SourceDescription) (index : ℕ) (o : Option SourceDescription)
     (done : Result (Option Hover) E) → AreAllOf s ds → AllFound s ds → AreInOrder 0 ds → o ≡ first_at ds index
     → IfOk done (IsShownOfAny s.text.now o index) → IfOk done (IsShownAt s index)
 at_first s ds index o (Ok found) all stand in_order first shown = record {
@@ -143,7 +143,7 @@ at_first s ds index o (Ok found) all stand in_order first shown = record {
 at_first s ds index o (Err e) all stand in_order first shown = tt
 
 -- For a refused text its fault is shown, or a part before it.
-pub refused : {E : Type 0} (document : Text) (d : Description) (language : Language) (text : Text) (index : ℕ)
+pub refused : {E : Type 0} (document : Text) (d : SourceDescription) (language : Language) (text : Text) (index : ℕ)
     (found : Option Diagnostic) (g : Diagnostic) (done : Result (Option Hover) E) → language ≡ language_in d
     → IsUtf8 text → found ≡ Some g
     → IfSome found (λ x. FaultIn language nesting_limit text (fault_of x.fault))
@@ -159,7 +159,7 @@ refused document d language text index found g (Ok hover) named utf8 is faulty d
 refused document d language text index found g (Err e) named utf8 is faulty diagnosis shown = tt
 
 -- For an accepted text its innermost part is shown.
-pub accepted : {E : Type 0} (document : Text) (d : Description) (language : Language) (text : Text) (index : ℕ)
+pub accepted : {E : Type 0} (document : Text) (d : SourceDescription) (language : Language) (text : Text) (index : ℕ)
     (list : List Tree) (done : Result (Option Hover) E) → language ≡ language_in d → IsUtf8 text
     → SpellsIn language nesting_limit text list → IfOk done (IsShownIn document d text (byte_at d index))
     → IfOk done (IsShownWhere document d text index)
@@ -171,7 +171,7 @@ accepted document d language text index list (Ok found) named utf8 spelled shown
 accepted document d language text index list (Err e) named utf8 spelled shown = tt
 
 -- Nothing is shown for a text that is passed over, nor for one that isn't UTF-8.
-pub passed_over : (document : Text) (d : Description) (index : ℕ) (bytes : Text) (passed : Bool) → bytes ≡ text_of d
+pub passed_over : (document : Text) (d : SourceDescription) (index : ℕ) (bytes : Text) (passed : Bool) → bytes ≡ text_of d
     → passed ≡ is_passed_over d.dialect bytes → passed ≡ true → IsShownOn document d index None
 passed_over document d index bytes passed same is so = record {
   end = PassedOver;
@@ -179,7 +179,7 @@ passed_over document d index bytes passed same is so = record {
   shown = refl;
 }
 
-pub not_text : (document : Text) (d : Description) (index : ℕ) (bytes : Text) (passed : Bool) → bytes ≡ text_of d
+pub not_text : (document : Text) (d : SourceDescription) (index : ℕ) (bytes : Text) (passed : Bool) → bytes ≡ text_of d
     → passed ≡ is_passed_over d.dialect bytes → passed ≡ false → ¬ IsUtf8 bytes → IsShownOn document d index None
 not_text document d index bytes passed same is so not = record {
   end = NotText;
@@ -191,14 +191,14 @@ not_text document d index bytes passed same is so not = record {
 }
 
 -- A fault is shown where the index is at it.
-pub at_fault : (document : Text) (d : Description) (text : Text) (g : Diagnostic) (index : ℕ) (there : Bool) (h : Hover)
+pub at_fault : (document : Text) (d : SourceDescription) (text : Text) (g : Diagnostic) (index : ℕ) (there : Bool) (h : Hover)
     → there ≡ is_at_fault d g index → there ≡ true → IsFaultHover document d g h
     → IsShownRefused document d text g index (Some h)
 at_fault document d text g index there h is so shown =
     subst (λ b. IsShownRefusedIf b document d text g index (Some h)) (sym so ∙ is) shown
 
 -- Elsewhere a part before the fault is shown.
-pub before_fault : {E : Type 0} (document : Text) (d : Description) (language : Language) (text front : Text) (g : Diagnostic)
+pub before_fault : {E : Type 0} (document : Text) (d : SourceDescription) (language : Language) (text front : Text) (g : Diagnostic)
     (index : ℕ) (there : Bool) (done : Result (Option Hover) E) → there ≡ is_at_fault d g index → there ≡ false
     → language ≡ language_in d → IsGoodFront language text front
     → IfOk done (IsShownIn document d front (byte_at d index)) → IfOk done (IsShownRefused document d text g index)

@@ -4,9 +4,9 @@ use Rattle.std.specs.Prelude.{IfOk, OnOk}
 use Rattle.std.specs.declared.alloc.Global.{Global}
 use Rattle.std.specs.declared.vec.Vec.{Vec}
 use Rattle.timefd_lang_component.specs.Tree.{Text}
-use Rattle.timefd_lint_scan.specs.declared.description.Description.{Description}
+use Rattle.timefd_lint_scan.specs.declared.description.SourceDescription.{SourceDescription}
 use Rattle.timefd_lang_warnings.specs.declared.levels.Levels.{Levels}
-use Rattle.timefd_lint_sources.specs.declared.reported.Source.{Source}
+use Rattle.timefd_lint_sources.specs.declared.reported.SourceText.{SourceText}
 use Rattle.timefd_lint_sources.specs.Allowances.Found.{AreAllowances}
 use Rattle.timefd_lint_sources.specs.declared.remark.Remark.{Remark}
 use Rattle.timefd_lint_sources.specs.Reported.{AreJudgedIn, AreRemarksOn}
@@ -16,7 +16,7 @@ use Rattle.timefd_lint_lsp.specs.Editor.Remarked.{IsRemarked}
 use Rattle.timefd_lint_lsp.specs.Editor.Findings.{AreFindingsLeft, AreFindingsOf, AreLeftOn, AreOn, unless_allowed}
 
 -- The findings on a description are filtered.
-pub adds_left : {R E : Type 0} (levels : Option Levels) (s : Source) (d : Description) (text : Text)
+pub adds_left : {R E : Type 0} (levels : Option Levels) (s : SourceText) (d : SourceDescription) (text : Text)
     (none all before after : List Finding) (done : Result R E) → text ≡ s.text.now → none ≡ []
     → Adds (AreOn levels s.finder text d) none all
     → OnOk done (after ≡ before ++ flat_map (unless_allowed s d) all)
@@ -29,7 +29,7 @@ adds_left levels s d text none all before after (Ok x) here empty (more, are, is
 adds_left levels s d text none all before after (Err e) here empty adds added = tt
 
 -- Nothing was found before.
-pub all_left : (levels : Option Levels) (s : Source) (text : Text) (ds given : List Description)
+pub all_left : (levels : Option Levels) (s : SourceText) (text : Text) (ds given : List SourceDescription)
     (remarks those : List Remark) (none some found : List Finding) → AreJudgedIn s ds → given ≡ ds → AreRemarksOn s remarks
     → those ≡ remarks → text ≡ s.text.now → none ≡ [] → Adds (AreOf (AreLeftOn levels s) given) none some
     → Adds (AreOf (IsRemarked text) those) some found → AreFindingsLeft levels s found
@@ -49,7 +49,7 @@ all_left levels s text ds given remarks those none some found judged same remark
     }
 
 -- The comments are those of the source.
-pub of_source : {E : Type 0} (levels : Option Levels) (s here : Source) (r : Result (Vec Finding Global) E)
+pub of_source : {E : Type 0} (levels : Option Levels) (s here : SourceText) (r : Result (Vec Finding Global) E)
     → here.finder ≡ s.finder → here.text.now ≡ s.text.now
     → AreAllowances here.finder here.text.now here.allowances.now
     → IfOk r (λ found. AreFindingsLeft levels here found.items)

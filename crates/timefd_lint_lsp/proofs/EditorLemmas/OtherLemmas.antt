@@ -3,7 +3,7 @@ use Rattle.std.proofs.Common.{ℕ, ◌≡◌, Bool, true, Option, Some, None, Li
 use Rattle.std.specs.Prelude.{OnOk, Result, Ok, Err}
 use Rattle.timefd_lang_component.specs.Tree.{Text}
 use Rattle.timefd_lang_dialect.specs.declared.dialect.Dialect.{Dialect}
-use Rattle.timefd_lang_dialect.specs.declared.error.Refusal.{Refusal}
+use Rattle.timefd_lang_dialect.specs.declared.error.RefusedPart.{RefusedPart}
 use Rattle.timefd_lang_dialect.specs.declared.trapping.Found.{Found}
 use Rattle.timefd_lang_dialect.specs.Traps.{AreTraps}
 use Rattle.timefd_lint_sources.specs.declared.reported.Finder.{Finder}
@@ -16,17 +16,17 @@ use Rattle.timefd_lint_lsp.specs.declared.editor.finding.Severity.{Severity}
 use Rattle.timefd_lint_lsp.specs.Editor.Each.{Adds, AreIf, AreOf}
 use Rattle.timefd_lint_lsp.specs.Editor.Finding.{IsOne}
 use Rattle.timefd_lint_lsp.specs.Editor.Others.{AreOnOther, AreTrapsOf, IsRefusal, IsTrap}
-use Rattle.timefd_lint_scan.specs.declared.description.Description.{Description}
+use Rattle.timefd_lint_scan.specs.declared.description.SourceDescription.{SourceDescription}
 
-searched_in : (finder : Finder) (d : Description) (dialect : Dialect) (format : Text) (first is : Option Refusal)
+searched_in : (finder : Finder) (d : SourceDescription) (dialect : Dialect) (format : Text) (first is : Option RefusedPart)
     → format ≡ text_of d → IsSearched finder dialect format first → first ≡ is
     → IsSearched finder dialect (text_of d) is
 searched_in finder d dialect format first is same searched equal =
     subst (IsSearched finder dialect (text_of d)) equal
     (subst (λ t. IsSearched finder dialect t first) same searched)
 
-pub has_refusal : {R E : Type 0} (finder : Finder) (reports : Bool) (text : Text) (d : Description) (dialect : Dialect)
-    (format : Text) (first : Option Refusal) (refusal : Refusal) (before after : List Finding) (done : Result R E)
+pub has_refusal : {R E : Type 0} (finder : Finder) (reports : Bool) (text : Text) (d : SourceDescription) (dialect : Dialect)
+    (format : Text) (first : Option RefusedPart) (refusal : RefusedPart) (before after : List Finding) (done : Result R E)
     → format ≡ text_of d → IsSearched finder dialect format first → first ≡ Some refusal
     → OnOk done (Adds (IsRefusal text d refusal) before after)
     → OnOk done (Adds (AreOnOther finder reports text d dialect) before after)
@@ -41,8 +41,8 @@ has_refusal finder reports text d dialect format first refusal before after (Ok 
 )
 has_refusal finder reports text d dialect format first refusal before after (Err e) same searched is added = tt
 
-pub is_right : {R E : Type 0} (finder : Finder) (reports : Bool) (text : Text) (d : Description) (dialect : Dialect)
-    (format : Text) (first : Option Refusal) (before after : List Finding) (done : Result R E) → format ≡ text_of d
+pub is_right : {R E : Type 0} (finder : Finder) (reports : Bool) (text : Text) (d : SourceDescription) (dialect : Dialect)
+    (format : Text) (first : Option RefusedPart) (before after : List Finding) (done : Result R E) → format ≡ text_of d
     → IsSearched finder dialect format first → first ≡ None
     → OnOk done (Adds (AreIf reports (AreTrapsOf text d dialect)) before after)
     → OnOk done (Adds (AreOnOther finder reports text d dialect) before after)
@@ -58,7 +58,7 @@ is_right finder reports text d dialect format first before after (Ok x) same sea
 is_right finder reports text d dialect format first before after (Err e) same searched is added = tt
 
 -- All traps are added, if they are asked for.
-pub are_wanted : {R E : Type 0} (reports : Bool) (text : Text) (d : Description) (dialect : Dialect) (format : Text)
+pub are_wanted : {R E : Type 0} (reports : Bool) (text : Text) (d : SourceDescription) (dialect : Dialect) (format : Text)
     (all given : List Found) (before after : List Finding) (done : Result R E) → reports ≡ true
     → format ≡ text_of d → AreTraps dialect format all → given ≡ all
     → OnOk done (Adds (AreOf (IsTrap text d) given) before after)

@@ -6,17 +6,17 @@ use Rattle.std.proofs.lemmas.List.{take_at, get_or_at, get_or_past}
 use Rattle.timefd_lint_lsp.proofs.EditorLemmas.WalkLemmas.{char_start_at}
 use Rattle.timefd_lang_component.specs.Tree.{Text}
 use Rattle.timefd_lint_lsp.specs.Editor.Positions.{RoundTrip, begins, capped, char_start, ends_with_return, goes_on, is_line_end, is_second, passed, start, step, stops_at, units, walked}
-use Rattle.timefd_lint_lsp.specs.declared.editor.position.Position.{Position}
-use Rattle.timefd_lint_lsp.specs.declared.editor.walk.Walk.{Walk}
+use Rattle.timefd_lint_lsp.specs.declared.editor.position.DocumentPosition.{DocumentPosition}
+use Rattle.timefd_lint_lsp.specs.declared.editor.walk.CountingWalk.{CountingWalk}
 
 -- A line that begins after a carriage return has no character yet.
-abbrev Sound : Walk → Type 0
+abbrev Sound : CountingWalk → Type 0
 Sound w = w.is_after_return ≡ true → w.position.character ≡ 0
 
-abbrev HasRoom : Walk → ℕ → Type 0
+abbrev HasRoom : CountingWalk → ℕ → Type 0
 HasRoom w n = w.position.line + w.position.character + 2 * n < 2 ^ 64
 
-record Reaches (p q : Position) : Type 0 where
+record Reaches (p q : DocumentPosition) : Type 0 where
   line : p.line ≤ q.line
   character : q.line ≡ p.line → p.character ≤ q.character
 
@@ -79,19 +79,19 @@ stops_not ends second goes line character count sought at room beyond far =
       | inr other ↦ rw other refl
     ]
 
-sound_step : (w : Walk) (b : ℕ) → Sound (step w b)
+sound_step : (w : CountingWalk) (b : ℕ) → Sound (step w b)
 sound_step w b is = elim (cases_Bool (b == 10)) [
   | inl newline ↦ rw newline refl
   | inr other ↦ rw (other, is) refl
 ]
 
-is_sound : (w : Walk) (b : ℕ) → Sound w → is_second w b ≡ true → w.position.character ≡ 0
+is_sound : (w : CountingWalk) (b : ℕ) → Sound w → is_second w b ≡ true → w.position.character ≡ 0
 is_sound w b sound second = elim (cases_Bool w.is_after_return) [
   | inl is ↦ sound is
   | inr other ↦ absurd (cc (sym second, ap (λ x. x && (b == 10)) other))
 ]
 
-reaches_step : (w : Walk) (b n : ℕ) → Sound w → HasRoom w (suc n)
+reaches_step : (w : CountingWalk) (b n : ℕ) → Sound w → HasRoom w (suc n)
     → Reaches w.position (step w b).position
 reaches_step w b n sound room = record {
   line = on_by (is_line_end b) (is_second w b) w.position.line w.position.character (units b) (omega arith);
@@ -99,17 +99,17 @@ reaches_step w b n sound room = record {
       (omega arith) (is_sound w b sound) (units_small b);
 }
 
-room_step : (w : Walk) (b n : ℕ) → HasRoom w (suc n) → HasRoom (step w b) n
+room_step : (w : CountingWalk) (b n : ℕ) → HasRoom w (suc n) → HasRoom (step w b) n
 room_step w b n room =
     room_by (is_line_end b) (is_second w b) w.position.line w.position.character (units b) n (units_small b) room
 
-reaches_trans : (p q r : Position) → Reaches p q → Reaches q r → Reaches p r
+reaches_trans : (p q r : DocumentPosition) → Reaches p q → Reaches q r → Reaches p r
 reaches_trans p q r a b = record {
   line = omega (arith, a.line, b.line);
   character = λ same. omega (arith, a.line, b.line, a.character, b.character);
 }
 
-reaches : (w : Walk) (text : Text) → Sound w → HasRoom w (length text)
+reaches : (w : CountingWalk) (text : Text) → Sound w → HasRoom w (length text)
     → Reaches w.position (walked w text).position
 reaches w [] sound room = record { line = omega arith; character = λ same. omega arith }
 reaches w (b ∷ text) sound room =
@@ -117,7 +117,7 @@ reaches w (b ∷ text) sound room =
     (reaches_step w b (length text) sound room)
     (reaches (step w b) text (sound_step w b) (room_step w b (length text) room))
 
-no_stop : (w : Walk) (b n : ℕ) (p : Position) → HasRoom w (suc n) → Reaches (step w b).position p
+no_stop : (w : CountingWalk) (b n : ℕ) (p : DocumentPosition) → HasRoom w (suc n) → Reaches (step w b).position p
     → stops_at w p b ≡ false
 no_stop w b n p room far =
     stops_not (is_line_end b) (is_second w b) (goes_on b) w.position.line w.position.character (units b)
@@ -140,7 +140,7 @@ stops_here false false true line character count room some few first begun = cc
 stops_here ends true goes line character count room some few first begun = cc
 
 -- A walk stops where it is, before a character or a line's end.
-here : (w : Walk) (b n : ℕ) → HasRoom w (suc n) → goes_on b ≡ false → is_second w b ≡ false
+here : (w : CountingWalk) (b n : ℕ) → HasRoom w (suc n) → goes_on b ≡ false → is_second w b ≡ false
     → stops_at w w.position b ≡ true
 here w b n room begun first =
     stops_here (is_line_end b) (is_second w b) (goes_on b) w.position.line w.position.character (units b)
@@ -155,7 +155,7 @@ second_not x false both = refl
 second_not false true both = cc
 second_not true true both = cc
 
-back_at : (w : Walk) (front back : Text) → Sound w → HasRoom w (length (front ++ back))
+back_at : (w : CountingWalk) (front back : Text) → Sound w → HasRoom w (length (front ++ back))
     → begins (ends_with_return w.is_after_return front) back ≡ true
     → passed w (walked w front).position (front ++ back) ≡ length front
 back_at w [] [] sound room between = refl

@@ -15,7 +15,7 @@ use Rattle.timefd_language.specs.Cut.{IsCut}
 use Rattle.timefd_language.specs.Head.{Head, IsHead, Modifier, IsModifier, AreModifiers, head_text, modifier_text, modifiers_text}
 use Rattle.timefd_language.proofs.Before.{modifiers_before-is}
 use Rattle.timefd_language.proofs.Spans.{key-not_white, all-append, all-implied, zero_from_one, stops_one, stops_zero, word-not_white, key-word, white-not_word}
-use Rattle.timefd_parse.specs.declared.modifier.Modifier as code
+use Rattle.timefd_parse.specs.declared.head.modifier.Modifier as code
 use Rattle.timefd_parse.specs.BracketParts.{BeginsNamed, BeginsModified, FindsModifiers, NamesHeads}
 use Rattle.timefd_parse.proofs.BracketLemmas.{same_cut}
 use Rattle.timefd_language.specs.Slots.{EndsInHead}

@@ -3,19 +3,19 @@ use Rattle.std.proofs.Common.{ℕ, zero, suc, ◌≡◌, ◌<◌, ◌≤◌, ◌
 use native.Mathlib.Numerals.{unary_clauses}
 use Rattle.timefd_lang_component.specs.Tree.{Text}
 use Rattle.timefd_lint_lsp.specs.Editor.Positions.{char_start, goes_on, step, walked}
-use Rattle.timefd_lint_lsp.specs.declared.editor.walk.Walk.{Walk}
+use Rattle.timefd_lint_lsp.specs.declared.editor.walk.CountingWalk.{CountingWalk}
 
-pub walked-append : (w : Walk) (front back : Text)
+pub walked-append : (w : CountingWalk) (front back : Text)
     → walked w (front ++ back) ≡ walked (walked w front) back
 walked-append w [] back = refl
 walked-append w (b ∷ front) back = walked-append (step w b) front back
 
-none : (w : Walk) (n : ℕ) → walked w (take {A = ℕ} n []) ≡ w
+none : (w : CountingWalk) (n : ℕ) → walked w (take {A = ℕ} n []) ≡ w
 none w zero = refl
 none w (suc n) = refl
 
 -- A walk up to a later index is the walk up to an earlier one, and then through the bytes between them.
-pub walked_on : (text : Text) (w : Walk) (i j : ℕ) → i ≤ j
+pub walked_on : (text : Text) (w : CountingWalk) (i j : ℕ) → i ≤ j
     → walked w (take j text) ≡ walked (walked w (take i text)) (take (j - i) (drop i text))
 walked_on text w zero j below = simp unary_clauses refl
 walked_on [] w (suc i) (suc j) below = sym (none w (suc j - suc i))

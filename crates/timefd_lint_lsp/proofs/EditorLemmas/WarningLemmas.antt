@@ -8,18 +8,18 @@ use Rattle.timefd_lint_lsp.specs.declared.editor.finding.Severity.{Severity}
 use Rattle.timefd_lint_lsp.specs.Editor.Each.{Adds}
 use Rattle.timefd_lint_lsp.specs.Editor.Finding.{IsOne, IsWarned, IsWarnedAt}
 use Rattle.timefd_lint_lsp.specs.Editor.Positions.{range_of}
-use Rattle.timefd_lint_scan.specs.declared.description.Description.{Description}
+use Rattle.timefd_lint_scan.specs.declared.description.SourceDescription.{SourceDescription}
 use Rattle.timefd_lang_warnings.specs.declared.levels.Level.{Level}
 use Rattle.timefd_lang_warnings.specs.declared.levels.Level.TheVariants.{Allowed}
 use Rattle.timefd_lang_warnings.specs.declared.levels.Levels.{Levels}
 use Rattle.timefd_lang_warnings.specs.declared.warning.Warning.{Warning}
 use Rattle.timefd_lang_warnings.specs.Levels.{level_of}
 
-pub allowed : (text : Text) (d : Description) (w : Warning) (before : List Finding)
+pub allowed : (text : Text) (d : SourceDescription) (w : Warning) (before : List Finding)
     → Adds (IsWarnedAt text d Allowed w) before before
 allowed text d w before = none_added (IsWarnedAt text d Allowed w) before refl
 
-pub by_level : {R E : Type 0} (text : Text) (d : Description) (warned : Levels) (w : Warning) (level : Level)
+pub by_level : {R E : Type 0} (text : Text) (d : SourceDescription) (warned : Levels) (w : Warning) (level : Level)
     (before after : List Finding) (done : Result R E) → level ≡ level_of warned w
     → OnOk done (Adds (IsWarnedAt text d level w) before after)
     → OnOk done (Adds (IsWarned text d warned w) before after)

@@ -4,7 +4,7 @@ use Rattle.timefd_lang_component.specs.Tree.{Text}
 use Rattle.timefd_lint_lsp.specs.declared.editor.action.Action.{Action}
 use Rattle.timefd_lint_lsp.specs.declared.editor.action.ActionKind.{ActionKind}
 use Rattle.timefd_lint_lsp.specs.declared.editor.action.ActionKind.TheVariants.{QuickFix, Guess, Rewrite}
-use Rattle.timefd_lint_lsp.specs.declared.editor.action.Wanted.{Wanted}
+use Rattle.timefd_lint_lsp.specs.declared.editor.action.WantedActions.{WantedActions}
 use Rattle.timefd_lint_lsp.specs.Editor.AllFixes.{IsFixAll, IsWritable}
 use Rattle.timefd_lint_lsp.specs.Editor.Each.{AreIf, AreOf}
 use Rattle.timefd_lint_lsp.specs.Editor.Edits.{AreEdits}
@@ -12,15 +12,15 @@ use Rattle.timefd_lint_rewrite.specs.declared.fixes.Fixes.TheVariants as fixes
 use Rattle.timefd_language.specs.declared.description_version.DescriptionVersion.TheVariants as versions
 use Rattle.timefd_lint_sources.specs.declared.reported.Finder.{Finder}
 use Rattle.timefd_lint_sources.specs.declared.reported.Finder.TheVariants.{Rust, Keys}
-use Rattle.timefd_lint_sources.specs.declared.reported.Source.{Source}
+use Rattle.timefd_lint_sources.specs.declared.reported.SourceText.{SourceText}
 use Rattle.timefd_lint_sources.specs.declared.rewriting.answer.NewParts.{NewParts}
 use Rattle.timefd_lint_sources.specs.declared.rewriting.answer.Answer.{Answer}
 use Rattle.timefd_lint_sources.specs.declared.rewriting.answer.Answer.TheVariants.{Stays, Becomes}
 use Rattle.timefd_lint_sources.specs.declared.rewriting.change.Change.{Change}
 use Rattle.timefd_lint_sources.specs.declared.rewriting.change.Change.TheVariants.{Mended, Least, Normal}
 use Rattle.timefd_lint_sources.specs.Rewriting.Written.{IsAnswer, items_of}
-use Rattle.timefd_lint_scan.specs.declared.description.Description.{Description}
-use Rattle.timefd_lint_scan.specs.declared.piece.Piece.{Piece}
+use Rattle.timefd_lint_scan.specs.declared.description.SourceDescription.{SourceDescription}
+use Rattle.timefd_lint_scan.specs.declared.piece.PlacedToken.{PlacedToken}
 use Rattle.timefd_lint_scan.specs.Found.{AllStandIn, AreDescriptionsOf, AreInOrder}
 
 abbrev pub kind_of : Change → ActionKind
@@ -36,18 +36,18 @@ title_of (Least version) = codes "Rewrite the format description in version 3"
 title_of Normal = codes "Rewrite the format description in version 3"
 
 -- A change is offered under its title, with these edits.
-pub record IsAction (change : Change) (text : Text) (d : Description) (digit : Option ℕ) (body : Option Text)
+pub record IsAction (change : Change) (text : Text) (d : SourceDescription) (digit : Option ℕ) (body : Option Text)
     (a : Action) : Type 0 where
   pub title : string_bytes a.title ≡ title_of change
   pub kind : a.kind ≡ kind_of change
   pub edits : AreEdits text d digit body a.edits.items
 
-abbrev pub IsOneAction : Change → Text → Description → Option ℕ → Option Text → List Action → Type 0
+abbrev pub IsOneAction : Change → Text → SourceDescription → Option ℕ → Option Text → List Action → Type 0
 IsOneAction change text d digit body actions =
     (a : Action) × IsAction change text d digit body a × (actions ≡ a ∷ [])
 
 -- What a description becomes is offered if it can be written. If the description stays, nothing is offered.
-abbrev pub IsBecoming : Change → Text → Description → NewParts → Bool → List Action → Type 0
+abbrev pub IsBecoming : Change → Text → SourceDescription → NewParts → Bool → List Action → Type 0
 IsBecoming change text d rewritten true actions =
     IsOneAction change text d rewritten.digit (items_of rewritten.body) actions
 IsBecoming change text d rewritten false actions = (¬ IsWritable (items_of rewritten.body)) × (actions ≡ [])
@@ -56,44 +56,44 @@ abbrev pub IsStaying : Bool → List Action → Type 0
 IsStaying true actions = ⊥
 IsStaying false actions = actions ≡ []
 
-abbrev pub IsOfferOf : Change → Text → Description → Answer → Bool → List Action → Type 0
+abbrev pub IsOfferOf : Change → Text → SourceDescription → Answer → Bool → List Action → Type 0
 IsOfferOf change text d (Stays outcome) done actions = IsStaying done actions
 IsOfferOf change text d (Becomes rewritten) done actions = IsBecoming change text d rewritten done actions
 
 -- What the linter would make of the description by this change, and whether that is offered.
-pub record IsOffer (change : Change) (text : Text) (d : Description) (done : Bool) (actions : List Action)
+pub record IsOffer (change : Change) (text : Text) (d : SourceDescription) (done : Bool) (actions : List Action)
     : Type 0 where
   pub answer : Answer
   pub is : IsAnswer change text d answer
   pub offered : IsOfferOf change text d answer done actions
 
 -- A description is fixed by a sure fix, or else by guesses.
-abbrev pub AreMends : Text → Description → List Action → Type 0
+abbrev pub AreMends : Text → SourceDescription → List Action → Type 0
 AreMends text d actions = IsOffer (Mended fixes.Sure) text d true actions
     ⊎ ((done : Bool) × IsOffer (Mended fixes.Sure) text d false []
     × IsOffer (Mended fixes.All) text d done actions)
 
 -- A description of an older version is rewritten in version 3.
-abbrev pub AreRewrites : Text → Description → List Action → Type 0
+abbrev pub AreRewrites : Text → SourceDescription → List Action → Type 0
 AreRewrites text d actions = (done : Bool) × IsOffer (Least versions.Three) text d done actions
 
-abbrev pub AreOffers : Wanted → Text → Description → List Action → Type 0
+abbrev pub AreOffers : WantedActions → Text → SourceDescription → List Action → Type 0
 AreOffers wanted text d actions = (mends : List Action) × (rewrites : List Action)
     × AreIf wanted.fixes (AreMends text d) mends × AreIf wanted.rewrites (AreRewrites text d) rewrites
     × (actions ≡ mends ++ rewrites)
 
 -- whether a literal overlaps or touches these bytes
-abbrev pub overlaps : Piece → ℕ → ℕ → Bool
+abbrev pub overlaps : PlacedToken → ℕ → ℕ → Bool
 overlaps p from to = nat_le p.start to && nat_le from p.end
 
-abbrev pub AreActionsIn : Wanted → Text → ℕ → ℕ → Description → List Action → Type 0
+abbrev pub AreActionsIn : WantedActions → Text → ℕ → ℕ → SourceDescription → List Action → Type 0
 AreActionsIn wanted text from to d actions = AreIf (overlaps d.piece from to) (AreOffers wanted text d) actions
 
 -- What is wanted of all that can be done to the descriptions in a source of Rust that overlap or touch these
 -- bytes, one after another; and then one action that fixes all descriptions, if it is wanted. Each description
 -- begins where the one before ends, or after that, so no edits overlap.
-pub record AreRustActions (wanted : Wanted) (from to : ℕ) (text : Text) (actions : List Action) : Type 0 where
-  pub descriptions : List Description
+pub record AreRustActions (wanted : WantedActions) (from to : ℕ) (text : Text) (actions : List Action) : Type 0 where
+  pub descriptions : List SourceDescription
   pub all : AreDescriptionsOf text descriptions
   pub stand : AllStandIn text descriptions
   pub in_order : AreInOrder 0 descriptions
@@ -103,10 +103,10 @@ pub record AreRustActions (wanted : Wanted) (from to : ℕ) (text : Text) (actio
   pub fixed : AreIf wanted.fix_all (IsFixAll text descriptions) fix_all
   pub whole : actions ≡ each ++ fix_all
 
-abbrev pub AreActionsBy : Finder → Wanted → ℕ → ℕ → Text → List Action → Type 0
+abbrev pub AreActionsBy : Finder → WantedActions → ℕ → ℕ → Text → List Action → Type 0
 AreActionsBy Rust wanted from to text actions = AreRustActions wanted from to text actions
 AreActionsBy (Keys format names) wanted from to text actions = actions ≡ []
 
 -- In a file with keys nothing is offered.
-abbrev pub AreActionsOf : Wanted → ℕ → ℕ → Source → List Action → Type 0
+abbrev pub AreActionsOf : WantedActions → ℕ → ℕ → SourceText → List Action → Type 0
 AreActionsOf wanted from to s actions = AreActionsBy s.finder wanted from to s.text.now actions

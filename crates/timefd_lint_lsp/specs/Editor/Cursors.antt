@@ -3,17 +3,17 @@ use Rattle.std.specs.Prelude.{ℕ, ◌+◌, ◌==◌, nat_lt, List, [], ◌∷�
 use Rattle.std.specs.List.{prefix_len}
 use Rattle.timefd_lang_component.specs.Tree.{Text}
 use Rattle.timefd_language.specs.Bytes.{is_key_byte}
-use Rattle.timefd_lint_scan.specs.declared.description.Description.{Description}
+use Rattle.timefd_lint_scan.specs.declared.description.SourceDescription.{SourceDescription}
 use Rattle.timefd_lint_scan.specs.Found.{index_in_source}
 
 -- how many bytes of a description come from positions that precede an index of its document
-abbrev pub count_before : Description → ℕ → ℕ
+abbrev pub count_before : SourceDescription → ℕ → ℕ
 count_before d index = prefix_len (λ p. nat_lt p index) d.unescaped.positions.items
 
 -- How many bytes of a description precede a cursor: those that come from what precedes it. The next byte has to come
 -- from where the cursor is, or the text has to end there. Otherwise the cursor is within an escape, or outside of
 -- the text.
-abbrev pub bytes_before : Description → ℕ → Option ℕ
+abbrev pub bytes_before : SourceDescription → ℕ → Option ℕ
 bytes_before d index =
     if index_in_source d (count_before d index) == index then Some (count_before d index) else None
 

@@ -3,7 +3,7 @@ use Rattle.std.specs.Prelude.{ℕ, ◌≡◌, ◌+◌, ◌-◌, ◌==◌, if◌t
 use Rattle.timefd_lang_component.specs.Tree.{Text}
 use Rattle.timefd_lint_lsp.specs.declared.editor.action.Edit.{Edit}
 use Rattle.timefd_lint_lsp.specs.Editor.Positions.{capped, range_of}
-use Rattle.timefd_lint_scan.specs.declared.description.Description.{Description}
+use Rattle.timefd_lint_scan.specs.declared.description.SourceDescription.{SourceDescription}
 use Rattle.timefd_lint_scan.specs.declared.version.VersionPosition.{VersionPosition}
 use Rattle.timefd_lint_scan.specs.declared.version.VersionPosition.TheVariants.{Digit, Unsaid, Call, Elsewhere}
 use Rattle.timefd_lint_scan.specs.Literals.{body_end, inside}
@@ -37,7 +37,7 @@ AreSaid text start digit Unsaid edits = IsArgumentEdit text start digit edits
 AreSaid text start digit Call edits = edits ≡ []
 AreSaid text start digit Elsewhere edits = edits ≡ []
 
-abbrev pub AreVersionEdits : Text → Description → Option ℕ → List Edit → Type 0
+abbrev pub AreVersionEdits : Text → SourceDescription → Option ℕ → List Edit → Type 0
 AreVersionEdits text d None edits = edits ≡ []
 AreVersionEdits text d (Some digit) edits = AreSaid text d.piece.start digit d.version edits
 
@@ -46,16 +46,16 @@ len_of None = 0
 len_of (Some text) = length text
 
 -- how many bytes are between the quotes of a description's literal
-abbrev pub inside_len : Text → Description → ℕ
+abbrev pub inside_len : Text → SourceDescription → ℕ
 inside_len text d = len_of (inside text d.piece d.kind)
 
 -- Another body replaces the one between the quotes of the literal.
-abbrev pub AreBodyEdits : Text → Description → Option Text → List Edit → Type 0
+abbrev pub AreBodyEdits : Text → SourceDescription → Option Text → List Edit → Type 0
 AreBodyEdits text d None edits = edits ≡ []
 AreBodyEdits text d (Some body) edits =
     IsOneEdit text (body_end d.piece d.kind - inside_len text d) (body_end d.piece d.kind) body edits
 
 -- first the edits of the version, then those of the body
-abbrev pub AreEdits : Text → Description → Option ℕ → Option Text → List Edit → Type 0
+abbrev pub AreEdits : Text → SourceDescription → Option ℕ → Option Text → List Edit → Type 0
 AreEdits text d digit body edits = (first : List Edit) × (second : List Edit)
     × AreVersionEdits text d digit first × AreBodyEdits text d body second × (edits ≡ first ++ second)

@@ -14,16 +14,16 @@ use Rattle.timefd_lint_lsp.specs.Editor.Finding.{AreWarnings, IsNote, IsOne}
 use Rattle.timefd_lint_lsp.specs.Editor.Others.{AreOnOther}
 use Rattle.timefd_lint_lsp.specs.Editor.Remarked.{IsRemarked}
 use Rattle.timefd_lang_fault.specs.Faults.{fault_of}
-use Rattle.timefd_lint_sources.specs.declared.reported.End.{End}
-use Rattle.timefd_lint_sources.specs.declared.reported.End.TheVariants.{PassedOver, Accepted, Converted, Refused, NotText, Allowed, UnreadCall, UnreadValue, WrongComment}
+use Rattle.timefd_lint_sources.specs.declared.reported.ItemEnd.{ItemEnd}
+use Rattle.timefd_lint_sources.specs.declared.reported.ItemEnd.TheVariants.{PassedOver, Accepted, Converted, Refused, NotText, Allowed, UnreadCall, UnreadValue, WrongComment}
 use Rattle.timefd_lint_sources.specs.declared.reported.Finder.{Finder}
-use Rattle.timefd_lint_sources.specs.declared.reported.Source.{Source}
+use Rattle.timefd_lint_sources.specs.declared.reported.SourceText.{SourceText}
 use Rattle.timefd_lint_sources.specs.Allowances.Found.{AreAllowances}
 use Rattle.timefd_lint_sources.specs.Allowed.{is_allowed}
 use Rattle.timefd_lint_sources.specs.Judged.{AreDiagnosedOf, IsJudged, language_in, other_of, text_of}
 use Rattle.timefd_lint_sources.specs.declared.remark.Remark.{Remark}
 use Rattle.timefd_lint_sources.specs.Reported.{AreJudgedIn, AreRemarksOn}
-use Rattle.timefd_lint_scan.specs.declared.description.Description.{Description}
+use Rattle.timefd_lint_scan.specs.declared.description.SourceDescription.{SourceDescription}
 use Rattle.timefd_lint_scan.specs.Found.{index_in_source}
 use Rattle.timefd_lang_warnings.specs.declared.levels.Levels.{Levels}
 
@@ -32,18 +32,18 @@ abbrev pub fault_words : Bool → Diagnostic → Text
 fault_words further g = with_help (reported_sentence further (fault_of g.fault)) (help_text g.help)
 
 -- A fault is at its bytes, with these words.
-abbrev pub IsFault : Text → Description → Bool → Diagnostic → List Finding → Type 0
+abbrev pub IsFault : Text → SourceDescription → Bool → Diagnostic → List Finding → Type 0
 IsFault text d further g found =
     IsOne text (index_in_source d g.span.start) (index_in_source d g.span.end) Error
     (name_of (code_of (fault_of g.fault).kind)) (fault_words further g) found
 
 -- the first fault, followed by the further ones
-abbrev pub AreFaults : Text → Description → Diagnostic → List Diagnostic → List Finding → Type 0
+abbrev pub AreFaults : Text → SourceDescription → Diagnostic → List Diagnostic → List Finding → Type 0
 AreFaults text d g further found = (one : List Finding) × (rest : List Finding)
     × IsFault text d false g one × AreOf (IsFault text d true) further rest × (found ≡ one ++ rest)
 
 -- What is wrong with a description of `time`, by how its check ended.
-abbrev pub AreBy : Text → Description → End → List Finding → Type 0
+abbrev pub AreBy : Text → SourceDescription → ItemEnd → List Finding → Type 0
 AreBy text d PassedOver found = ⊥
 AreBy text d (Accepted warned) found = AreWarnings text d warned found
 AreBy text d (Converted count) found = ⊥
@@ -55,34 +55,34 @@ AreBy text d UnreadCall found = ⊥
 AreBy text d UnreadValue found = ⊥
 AreBy text d WrongComment found = ⊥
 
-pub record AreOnOwn (levels : Option Levels) (text : Text) (d : Description) (found : List Finding) : Type 0 where
-  pub end : End
+pub record AreOnOwn (levels : Option Levels) (text : Text) (d : SourceDescription) (found : List Finding) : Type 0 where
+  pub end : ItemEnd
   pub is : IsJudged levels (language_in d) (text_of d) end
   pub reported : AreBy text d end found
 
 -- What is wrong with a description of `time`, or with a format of another language or library.
-abbrev pub AreOnIn : Option other.Dialect → Option Levels → Finder → Text → Description → List Finding → Type 0
+abbrev pub AreOnIn : Option other.Dialect → Option Levels → Finder → Text → SourceDescription → List Finding → Type 0
 AreOnIn None levels finder text d found = AreOnOwn levels text d found
 AreOnIn (Some dialect) levels finder text d found =
     (IsUtf8 (text_of d) × AreOnOther finder (is_some levels) text d dialect found)
     ⊎ ((¬ IsUtf8 (text_of d)) × IsNote text d found)
 
-abbrev pub AreOn : Option Levels → Finder → Text → Description → List Finding → Type 0
+abbrev pub AreOn : Option Levels → Finder → Text → SourceDescription → List Finding → Type 0
 AreOn levels finder text d found = AreOnIn (other_of d.dialect) levels finder text d found
 
 -- a finding, unless a comment allows its code
-abbrev pub unless_allowed : Source → Description → Finding → List Finding
+abbrev pub unless_allowed : SourceText → SourceDescription → Finding → List Finding
 unless_allowed s d f = if is_allowed s d f.code.now then [] else f ∷ []
 
 -- What is wrong with a description and isn't allowed.
-abbrev pub AreLeftOn : Option Levels → Source → Description → List Finding → Type 0
+abbrev pub AreLeftOn : Option Levels → SourceText → SourceDescription → List Finding → Type 0
 AreLeftOn levels s d found = (all : List Finding) × AreOn levels s.finder s.text.now d all
     × (found ≡ flat_map (unless_allowed s d) all)
 
 -- All that is wrong with the descriptions in a source and that its comments don't allow, one after another, followed by
 -- all that is wrong in its comments.
-pub record AreFindingsLeft (levels : Option Levels) (s : Source) (found : List Finding) : Type 0 where
-  pub descriptions : List Description
+pub record AreFindingsLeft (levels : Option Levels) (s : SourceText) (found : List Finding) : Type 0 where
+  pub descriptions : List SourceDescription
   pub judged : AreJudgedIn s descriptions
   pub remarks : List Remark
   pub remarked : AreRemarksOn s remarks
@@ -93,8 +93,8 @@ pub record AreFindingsLeft (levels : Option Levels) (s : Source) (found : List F
   pub all : found ≡ on_descriptions ++ on_comments
 
 -- The comments are those of the source itself.
-pub record AreFindingsOf (levels : Option Levels) (s : Source) (found : List Finding) : Type 0 where
-  pub source : Source
+pub record AreFindingsOf (levels : Option Levels) (s : SourceText) (found : List Finding) : Type 0 where
+  pub source : SourceText
   pub finder : source.finder ≡ s.finder
   pub text : source.text.now ≡ s.text.now
   pub allowed : AreAllowances source.finder source.text.now source.allowances.now

@@ -6,7 +6,7 @@ use Rattle.timefd_lang_fault.specs.declared.slot.Slot.TheVariants as slots
 use Rattle.timefd_language.specs.Slots.{IsSlotAfter}
 use Rattle.timefd_language.specs.Bytes.{is_version_three}
 use Rattle.timefd_language.specs.declared.description_version.DescriptionVersion.{DescriptionVersion}
-use Rattle.timefd_lint_lsp.specs.declared.editor.scan.Scan.{Scan}
+use Rattle.timefd_lint_lsp.specs.declared.editor.scan.TextScan.{TextScan}
 use Rattle.timefd_lint_lsp.specs.Editor.Scans.{is_in_component, scanned}
 
 -- A word after a `[` and white bytes is a name. Anywhere else it is what any word after the text should have been.
@@ -15,7 +15,7 @@ IsSlotFrom true v text found = found ≡ Some slots.Name
 IsSlotFrom false v text found = IsSlotAfter (is_version_three v) text (codes "a") found
 
 -- Outside of a component's bracket there is none.
-abbrev pub IsSlotIf : Bool → Scan → DescriptionVersion → Text → Option Slot → Type 0
+abbrev pub IsSlotIf : Bool → TextScan → DescriptionVersion → Text → Option Slot → Type 0
 IsSlotIf true s v text found = IsSlotFrom s.is_blank v text found
 IsSlotIf false s v text found = found ≡ None
 

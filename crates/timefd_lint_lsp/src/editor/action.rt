@@ -7,8 +7,8 @@ ghost use Rattle.timefd_lint_lsp.specs.Editor.Each.{Adds};
 ghost use Rattle.timefd_lint_lsp.specs.Editor.Positions.{IsCounted};
 
 use crate::editor::counter::range_from;
-use crate::editor::finding::Spot;
-use crate::editor::position::Range;
+use crate::editor::finding::DocumentSpot;
+use crate::editor::position::DocumentRange;
 use std::alloc::{AllocError, Global};
 use timefd_lint_scan::{VersionPosition, body_end, inside};
 
@@ -27,7 +27,7 @@ pub enum ActionKind {
 
 /// Which actions are wanted.
 #[derive(Clone, Copy)]
-pub struct Wanted {
+pub struct WantedActions {
     /// Fixes of the descriptions in a range.
     pub fixes: bool,
     /// Rewrites of the descriptions in a range.
@@ -39,7 +39,7 @@ pub struct Wanted {
 /// Replaces a range by another text. An empty range only inserts the text.
 #[derive(Drop)]
 pub struct Edit {
-    pub range: Range,
+    pub range: DocumentRange,
     pub text: String,
 }
 
@@ -58,7 +58,7 @@ pub struct Action {
 #[tactic(auto, using(crate::proofs::EditorLemmas::EditLemmas::both))]
 pub fn push_edits(
     alloc: Global,
-    spot: Spot<'_>,
+    spot: DocumentSpot<'_>,
     digit: Option<u8>,
     body: Option<&str>,
     edits: &mut Vec<Edit>,
@@ -74,7 +74,7 @@ pub fn push_edits(
 #[tactic(auto, using(crate::proofs::EditorLemmas::EditLemmas::same_version, crate::proofs::EditorLemmas::EditLemmas::by_digit, crate::proofs::EditorLemmas::EditLemmas::by_argument, crate::proofs::EditorLemmas::EditLemmas::by_call, crate::proofs::EditorLemmas::EditLemmas::elsewhere))]
 fn push_version(
     alloc: Global,
-    spot: Spot<'_>,
+    spot: DocumentSpot<'_>,
     digit: Option<u8>,
     edits: &mut Vec<Edit>,
 ) -> Result<(), AllocError>
@@ -96,7 +96,7 @@ fn push_version(
 // Adds the edit that writes another digit at this index.
 fn push_digit(
     alloc: Global,
-    spot: Spot<'_>,
+    spot: DocumentSpot<'_>,
     at: usize,
     digit: u8,
     edits: &mut Vec<Edit>,
@@ -112,7 +112,7 @@ fn push_digit(
 // Adds the edit that inserts an argument with the version before a description's literal.
 fn push_argument(
     alloc: Global,
-    spot: Spot<'_>,
+    spot: DocumentSpot<'_>,
     digit: u8,
     edits: &mut Vec<Edit>,
 ) -> Result<(), AllocError>
@@ -142,7 +142,7 @@ fn digit_text(digit: u8) -> &'static str
 #[tactic(auto, using(crate::proofs::EditorLemmas::EditLemmas::same_body))]
 fn push_body(
     alloc: Global,
-    spot: Spot<'_>,
+    spot: DocumentSpot<'_>,
     body: Option<&str>,
     edits: &mut Vec<Edit>,
 ) -> Result<(), AllocError>
@@ -160,7 +160,7 @@ fn push_body(
 }
 
 // How many bytes are between the quotes of a description's literal.
-fn inside_len(spot: Spot<'_>) -> usize
+fn inside_len(spot: DocumentSpot<'_>) -> usize
     ensures { result ≡ spec.inside_len spot.entry.text.now spot.entry.description.now }
 {
     match inside(spot.text, spot.description.piece, spot.description.kind) {
@@ -171,7 +171,7 @@ fn inside_len(spot: Spot<'_>) -> usize
 
 fn push_edit(
     edits: &mut Vec<Edit>,
-    spot: Spot<'_>,
+    spot: DocumentSpot<'_>,
     start: usize,
     end: usize,
     text: String,

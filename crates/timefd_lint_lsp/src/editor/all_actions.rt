@@ -6,17 +6,17 @@ ghost use Rattle.timefd_lint_lsp.specs.Editor.Actions as spec;
 ghost use Rattle.timefd_lint_lsp.specs.Editor.Each.{Adds, AreIf, AreOf};
 ghost use Rattle.timefd_lint_lsp.specs.Editor.Positions.{IsCounted};
 
-use crate::editor::action::{Action, ActionKind, Wanted, push_edits};
+use crate::editor::action::{Action, ActionKind, WantedActions, push_edits};
 use crate::editor::all_fixes::push_fix_all;
-use crate::editor::counter::{Counter, counted, none_counted};
-use crate::editor::finding::Spot;
+use crate::editor::counter::{DocumentCounter, counted, none_counted};
+use crate::editor::finding::DocumentSpot;
 use std::alloc::{AllocError, Global};
 use std::str;
 use timefd_lint_rewrite::Fixes;
 use timefd_lint_scan::version::first_position;
-use timefd_lint_scan::{Description, Piece, descriptions_of};
+use timefd_lint_scan::{PlacedToken, SourceDescription, descriptions_of};
 use timefd_lint_sources::rewriting::{Answer, Change, NewParts, answer_to};
-use timefd_lint_sources::{Finder, Source};
+use timefd_lint_sources::{Finder, SourceText};
 use timefd_parse::DescriptionVersion;
 
 /// What can be done to the descriptions that overlap or touch the bytes from `start` up to `end`, as far as it
@@ -26,8 +26,8 @@ use timefd_parse::DescriptionVersion;
 #[tactic(auto, using(crate::proofs::EditorLemmas::ActionLemmas::by_rust, crate::proofs::EditorLemmas::ActionLemmas::by_keys))]
 pub fn actions(
     alloc: Global,
-    source: Source<'_>,
-    wanted: Wanted,
+    source: SourceText<'_>,
+    wanted: WantedActions,
     start: usize,
     end: usize,
 ) -> Result<Vec<Action>, AllocError>
@@ -64,8 +64,8 @@ pub fn actions(
 fn push_all(
     alloc: Global,
     text: &str,
-    descriptions: &[Description],
-    wanted: Wanted,
+    descriptions: &[SourceDescription],
+    wanted: WantedActions,
     bytes: (usize, usize),
     actions: &mut Vec<Action>,
 ) -> Result<(), AllocError>
@@ -85,12 +85,12 @@ fn push_all(
 fn push_in(
     alloc: Global,
     text: &str,
-    description: &Description,
-    counter: Counter,
-    wanted: Wanted,
+    description: &SourceDescription,
+    counter: DocumentCounter,
+    wanted: WantedActions,
     bytes: (usize, usize),
     actions: &mut Vec<Action>,
-) -> Result<Counter, AllocError>
+) -> Result<DocumentCounter, AllocError>
     requires { IsCounted text.now counter }
     ensures counted { IfOk result (λ next. IsCounted text.now next) }
     ensures offered { OnOk result (Adds (AreActionsIn wanted text.now bytes.0 bytes.1 description.now)
@@ -101,7 +101,7 @@ fn push_in(
     }
     let first = first_position(description.version, description.piece.start);
     let counter = counted(text, counter, first);
-    let spot = Spot {
+    let spot = DocumentSpot {
         text,
         description,
         counter,
@@ -111,7 +111,7 @@ fn push_in(
 }
 
 // Whether a literal overlaps or touches the bytes from `start` up to `end`.
-fn overlaps(piece: Piece, start: usize, end: usize) -> bool
+fn overlaps(piece: PlacedToken, start: usize, end: usize) -> bool
     ensures { result ≡ spec.overlaps piece start end }
 {
     piece.start <= end && start <= piece.end
@@ -121,8 +121,8 @@ fn overlaps(piece: Piece, start: usize, end: usize) -> bool
 #[tactic(auto, using(crate::proofs::EditorLemmas::ActionLemmas::mends_and_rewrites))]
 fn push_offers(
     alloc: Global,
-    spot: Spot<'_>,
-    wanted: Wanted,
+    spot: DocumentSpot<'_>,
+    wanted: WantedActions,
     actions: &mut Vec<Action>,
 ) -> Result<(), AllocError>
     requires { IsCounted spot.text.now spot.counter }
@@ -137,7 +137,7 @@ fn push_offers(
 #[tactic(auto, using(crate::proofs::EditorLemmas::EachLemmas::unwanted, crate::proofs::EditorLemmas::EachLemmas::wanted))]
 fn push_mends_if(
     alloc: Global,
-    spot: Spot<'_>,
+    spot: DocumentSpot<'_>,
     is_wanted: bool,
     actions: &mut Vec<Action>,
 ) -> Result<(), AllocError>
@@ -155,7 +155,7 @@ fn push_mends_if(
 #[tactic(auto, using(crate::proofs::EditorLemmas::EachLemmas::unwanted, crate::proofs::EditorLemmas::ActionLemmas::rewritten))]
 fn push_rewrite_if(
     alloc: Global,
-    spot: Spot<'_>,
+    spot: DocumentSpot<'_>,
     is_wanted: bool,
     actions: &mut Vec<Action>,
 ) -> Result<(), AllocError>
@@ -173,7 +173,11 @@ fn push_rewrite_if(
 
 // Adds the fix of a description: by guesses only if there is no sure fix.
 #[tactic(auto, using(crate::proofs::EditorLemmas::ActionLemmas::surely, crate::proofs::EditorLemmas::ActionLemmas::by_guesses))]
-fn push_mends(alloc: Global, spot: Spot<'_>, actions: &mut Vec<Action>) -> Result<(), AllocError>
+fn push_mends(
+    alloc: Global,
+    spot: DocumentSpot<'_>,
+    actions: &mut Vec<Action>,
+) -> Result<(), AllocError>
     requires { IsCounted spot.text.now spot.counter }
     ensures { OnOk result (Adds (AreMends spot.entry.text.now spot.entry.description.now)
         actions.old.items actions.new.items) }
@@ -189,7 +193,7 @@ fn push_mends(alloc: Global, spot: Spot<'_>, actions: &mut Vec<Action>) -> Resul
 #[tactic(auto, using(crate::proofs::EditorLemmas::ActionLemmas::stays, crate::proofs::EditorLemmas::ActionLemmas::becomes))]
 fn push_offer(
     alloc: Global,
-    spot: Spot<'_>,
+    spot: DocumentSpot<'_>,
     change: Change,
     actions: &mut Vec<Action>,
 ) -> Result<bool, AllocError>
@@ -207,7 +211,7 @@ fn push_offer(
 #[tactic(auto, using(crate::proofs::EditorLemmas::ActionLemmas::same_text, crate::proofs::EditorLemmas::ActionLemmas::other_text, crate::proofs::EditorLemmas::ActionLemmas::no_text))]
 fn push_becoming(
     alloc: Global,
-    spot: Spot<'_>,
+    spot: DocumentSpot<'_>,
     change: Change,
     rewritten: &NewParts,
     actions: &mut Vec<Action>,
@@ -231,7 +235,7 @@ fn push_becoming(
 
 fn push_action(
     alloc: Global,
-    spot: Spot<'_>,
+    spot: DocumentSpot<'_>,
     change: Change,
     digit: Option<u8>,
     body: Option<&str>,

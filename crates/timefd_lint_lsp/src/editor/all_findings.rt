@@ -8,7 +8,7 @@ ghost use Rattle.timefd_lint_sources.specs.Judged.{text_of};
 
 use crate::editor::counter::{counted, none_counted};
 use crate::editor::faults::push_faults;
-use crate::editor::finding::{Finding, Spot};
+use crate::editor::finding::{DocumentSpot, Finding};
 use crate::editor::other::push_other;
 use crate::editor::remarked::push_remarks;
 use crate::editor::warned::{push_note, push_warnings};
@@ -16,10 +16,10 @@ use std::alloc::{AllocError, Global};
 use std::str;
 use timefd_lang_warnings::Levels;
 use timefd_lint_diagnosis::diagnose;
-use timefd_lint_scan::Description;
+use timefd_lint_scan::SourceDescription;
 use timefd_lint_sources::allowances::allowances_in;
 use timefd_lint_sources::{
-    Finder, Judged, Source, further_of, is_allowed, judged_with_remarks, language_of, other_of,
+    Finder, Judged, SourceText, further_of, is_allowed, judged_with_remarks, language_of, other_of,
 };
 use timefd_lint_warnings::found_by;
 
@@ -30,13 +30,13 @@ use timefd_lint_warnings::found_by;
 #[tactic(auto, using(crate::proofs::EditorLemmas::LeftLemmas::of_source))]
 pub fn findings(
     alloc: Global,
-    source: Source<'_>,
+    source: SourceText<'_>,
     levels: Option<Levels>,
 ) -> Result<Vec<Finding>, AllocError>
     ensures { IfOk result (λ found. AreFindingsOf levels source.entry found.items) }
 {
     let allowances = allowances_in(alloc, source.finder, source.text)?;
-    let source = Source {
+    let source = SourceText {
         file: source.file,
         finder: source.finder,
         text: source.text,
@@ -49,7 +49,7 @@ pub fn findings(
 #[tactic(auto, using(crate::proofs::EditorLemmas::LeftLemmas::all_left))]
 fn findings_left(
     alloc: Global,
-    source: Source<'_>,
+    source: SourceText<'_>,
     levels: Option<Levels>,
 ) -> Result<Vec<Finding>, AllocError>
     ensures { IfOk result (λ found. AreFindingsLeft levels source.entry found.items) }
@@ -68,9 +68,9 @@ fn findings_left(
 #[tactic(auto, using(crate::proofs::EditorLemmas::EachLemmas::at_first, crate::proofs::EditorLemmas::EachLemmas::at_last))]
 fn push_all(
     alloc: Global,
-    source: Source<'_>,
+    source: SourceText<'_>,
     levels: Option<Levels>,
-    descriptions: &[Description],
+    descriptions: &[SourceDescription],
     found: &mut Vec<Finding>,
 ) -> Result<(), AllocError>
     ensures { OnOk result (Adds (AreOf (AreLeftOn levels source.entry) descriptions.now)
@@ -80,7 +80,7 @@ fn push_all(
     let mut counter = none_counted(text);
     for description in descriptions {
         counter = counted(text, counter, description.piece.start);
-        let spot = Spot {
+        let spot = DocumentSpot {
             text,
             description,
             counter,
@@ -94,8 +94,8 @@ fn push_all(
 #[tactic(auto, using(crate::proofs::EditorLemmas::LeftLemmas::adds_left))]
 fn push_left(
     alloc: Global,
-    source: Source<'_>,
-    spot: Spot<'_>,
+    source: SourceText<'_>,
+    spot: DocumentSpot<'_>,
     levels: Option<Levels>,
     found: &mut Vec<Finding>,
 ) -> Result<(), AllocError>
@@ -111,8 +111,8 @@ fn push_left(
 
 // Adds these findings on a description, but for those that are allowed.
 fn push_unallowed(
-    source: Source<'_>,
-    description: &Description,
+    source: SourceText<'_>,
+    description: &SourceDescription,
     all: Vec<Finding>,
     found: &mut Vec<Finding>,
 ) -> Result<(), AllocError>
@@ -126,8 +126,8 @@ fn push_unallowed(
 }
 
 fn push_unless_allowed(
-    source: Source<'_>,
-    description: &Description,
+    source: SourceText<'_>,
+    description: &SourceDescription,
     finding: Finding,
     found: &mut Vec<Finding>,
 ) -> Result<(), AllocError>
@@ -144,7 +144,7 @@ fn push_unless_allowed(
 fn push_on(
     alloc: Global,
     finder: Finder<'_>,
-    spot: Spot<'_>,
+    spot: DocumentSpot<'_>,
     levels: Option<Levels>,
     found: &mut Vec<Finding>,
 ) -> Result<(), AllocError>
@@ -163,7 +163,7 @@ fn push_on(
 fn push_judged(
     alloc: Global,
     finder: Finder<'_>,
-    spot: Spot<'_>,
+    spot: DocumentSpot<'_>,
     levels: Option<Levels>,
     text: &str,
     found: &mut Vec<Finding>,
@@ -183,7 +183,7 @@ fn push_judged(
 // Adds what is wrong with a description of `time` that has this text.
 fn push_own(
     alloc: Global,
-    spot: Spot<'_>,
+    spot: DocumentSpot<'_>,
     levels: Option<Levels>,
     text: &str,
     found: &mut Vec<Finding>,

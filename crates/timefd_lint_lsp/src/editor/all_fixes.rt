@@ -6,12 +6,12 @@ ghost use Rattle.timefd_lint_lsp.specs.Editor.Each.{Adds, AreIf, AreOf};
 ghost use Rattle.timefd_lint_lsp.specs.Editor.Positions.{IsCounted};
 
 use crate::editor::action::{Action, ActionKind, Edit, push_edits};
-use crate::editor::counter::{Counter, counted, none_counted};
-use crate::editor::finding::Spot;
+use crate::editor::counter::{DocumentCounter, counted, none_counted};
+use crate::editor::finding::DocumentSpot;
 use std::alloc::{AllocError, Global};
 use std::str;
 use timefd_lint_rewrite::Fixes;
-use timefd_lint_scan::Description;
+use timefd_lint_scan::SourceDescription;
 use timefd_lint_scan::version::first_position;
 use timefd_lint_sources::rewriting::{Answer, Change, NewParts, answer_to};
 
@@ -21,7 +21,7 @@ use timefd_lint_sources::rewriting::{Answer, Change, NewParts, answer_to};
 pub fn push_fix_all(
     alloc: Global,
     text: &str,
-    descriptions: &[Description],
+    descriptions: &[SourceDescription],
     is_wanted: bool,
     actions: &mut Vec<Action>,
 ) -> Result<(), AllocError>
@@ -57,7 +57,7 @@ fn push_as_one(alloc: Global, edits: Vec<Edit>, actions: &mut Vec<Action>) -> Re
 fn push_fixes(
     alloc: Global,
     text: &str,
-    descriptions: &[Description],
+    descriptions: &[SourceDescription],
     edits: &mut Vec<Edit>,
 ) -> Result<(), AllocError>
     ensures { OnOk result (Adds (AreOf (AreFixes text.now) descriptions.now)
@@ -74,17 +74,17 @@ fn push_fixes(
 fn push_counted(
     alloc: Global,
     text: &str,
-    description: &Description,
-    counter: Counter,
+    description: &SourceDescription,
+    counter: DocumentCounter,
     edits: &mut Vec<Edit>,
-) -> Result<Counter, AllocError>
+) -> Result<DocumentCounter, AllocError>
     requires { IsCounted text.now counter }
     ensures counted { IfOk result (λ next. IsCounted text.now next) }
     ensures fixed { OnOk result (Adds (AreFixes text.now description.now) edits.old.items edits.new.items) }
 {
     let first = first_position(description.version, description.piece.start);
     let counter = counted(text, counter, first);
-    let spot = Spot {
+    let spot = DocumentSpot {
         text,
         description,
         counter,
@@ -94,7 +94,7 @@ fn push_counted(
 }
 
 #[tactic(auto, using(crate::proofs::EditorLemmas::FixLemmas::stays, crate::proofs::EditorLemmas::FixLemmas::becomes))]
-fn push_fix(alloc: Global, spot: Spot<'_>, edits: &mut Vec<Edit>) -> Result<(), AllocError>
+fn push_fix(alloc: Global, spot: DocumentSpot<'_>, edits: &mut Vec<Edit>) -> Result<(), AllocError>
     requires { IsCounted spot.text.now spot.counter }
     ensures { OnOk result (Adds (AreFixes spot.entry.text.now spot.entry.description.now)
         edits.old.items edits.new.items) }
@@ -117,7 +117,7 @@ fn push_fix(alloc: Global, spot: Spot<'_>, edits: &mut Vec<Edit>) -> Result<(), 
 #[tactic(auto, using(crate::proofs::EditorLemmas::FixLemmas::same_body, crate::proofs::EditorLemmas::FixLemmas::other_body, crate::proofs::EditorLemmas::FixLemmas::no_body))]
 fn push_parts(
     alloc: Global,
-    spot: Spot<'_>,
+    spot: DocumentSpot<'_>,
     rewritten: &NewParts,
     edits: &mut Vec<Edit>,
 ) -> Result<(), AllocError>

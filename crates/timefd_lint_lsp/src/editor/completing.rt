@@ -12,8 +12,8 @@ use crate::editor::offered::{Begun, offered};
 use crate::editor::open_slot::open_slot;
 use std::alloc::{AllocError, Global};
 use std::str;
-use timefd_lint_scan::{Description, Piece, index_in_source};
-use timefd_lint_sources::{Source, descriptions_in, language_of};
+use timefd_lint_scan::{PlacedToken, SourceDescription, index_in_source};
+use timefd_lint_sources::{SourceText, descriptions_in, language_of};
 use timefd_parse::{DescriptionVersion, Language};
 
 /// The words that may be written at a cursor, which is at this byte index: names, keys or values, in a bracket of a
@@ -22,7 +22,7 @@ use timefd_parse::{DescriptionVersion, Language};
 #[tactic(auto, using(crate::proofs::EditorLemmas::CompletionLemmas::at_first))]
 pub fn complete(
     alloc: Global,
-    source: Source<'_>,
+    source: SourceText<'_>,
     index: usize,
 ) -> Result<Option<Completion>, AllocError>
     ensures { IfOk result (IsCompletedAt source.entry index) }
@@ -35,7 +35,7 @@ pub fn complete(
 }
 
 // The first description whose literal covers an index or ends there.
-fn first_touched(descriptions: &[Description], index: usize) -> Option<&Description>
+fn first_touched(descriptions: &[SourceDescription], index: usize) -> Option<&SourceDescription>
     ensures { option_map (λ found. found.now) result ≡ spec.first_touched descriptions.now index }
 {
     for description in descriptions {
@@ -46,7 +46,7 @@ fn first_touched(descriptions: &[Description], index: usize) -> Option<&Descript
     None
 }
 
-fn touches(piece: Piece, index: usize) -> bool
+fn touches(piece: PlacedToken, index: usize) -> bool
     ensures { result ≡ spec.touches piece index }
 {
     piece.start <= index && index <= piece.end
@@ -57,7 +57,7 @@ fn touches(piece: Piece, index: usize) -> bool
 fn complete_on(
     alloc: Global,
     text: &str,
-    description: &Description,
+    description: &SourceDescription,
     index: usize,
 ) -> Result<Option<Completion>, AllocError>
     ensures { IfOk result (IsCompletedOn text.now description.now index) }
@@ -72,7 +72,7 @@ fn complete_on(
 fn complete_in(
     alloc: Global,
     text: &str,
-    description: &Description,
+    description: &SourceDescription,
     version: DescriptionVersion,
     index: usize,
 ) -> Result<Option<Completion>, AllocError>
@@ -92,7 +92,7 @@ fn complete_in(
 fn complete_over(
     alloc: Global,
     text: &str,
-    description: &Description,
+    description: &SourceDescription,
     version: DescriptionVersion,
     reported: &str,
     at: usize,
@@ -113,7 +113,7 @@ fn complete_over(
 fn complete_from(
     alloc: Global,
     text: &str,
-    description: &Description,
+    description: &SourceDescription,
     version: DescriptionVersion,
     front: &str,
     after: &str,
@@ -141,7 +141,7 @@ fn complete_from(
 fn completion_of(
     alloc: Global,
     text: &str,
-    description: &Description,
+    description: &SourceDescription,
     begun: Begun<'_>,
     index: usize,
 ) -> Result<Completion, AllocError>

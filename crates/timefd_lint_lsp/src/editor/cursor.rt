@@ -5,11 +5,11 @@ ghost use Rattle.std.specs.List.{prefix_len};
 ghost use Rattle.timefd_language.specs.Bytes as bytes;
 ghost use Rattle.timefd_lint_lsp.specs.Editor.Cursors as spec;
 
-use timefd_lint_scan::{Description, index_in_source};
+use timefd_lint_scan::{SourceDescription, index_in_source};
 
 /// How many bytes of a description precede a cursor, which is at this index of the document. `None` if the cursor
 /// is within an escape, or outside of the text.
-pub fn bytes_before(description: &Description, index: usize) -> Option<usize>
+pub fn bytes_before(description: &SourceDescription, index: usize) -> Option<usize>
     ensures { result ≡ spec.bytes_before description.now index }
 {
     let count = count_before(&description.unescaped.positions, index);

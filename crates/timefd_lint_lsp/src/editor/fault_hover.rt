@@ -9,10 +9,10 @@ use crate::editor::faults::words_on;
 use crate::editor::hovered::Hover;
 use std::alloc::{AllocError, Global};
 use timefd_lint_diagnosis::Diagnostic;
-use timefd_lint_scan::{Description, index_in_source};
+use timefd_lint_scan::{SourceDescription, index_in_source};
 
 /// Whether an index of the document is at one of the bytes at fault, or where such a byte is missing.
-pub fn is_at_fault(description: &Description, diagnostic: &Diagnostic, index: usize) -> bool
+pub fn is_at_fault(description: &SourceDescription, diagnostic: &Diagnostic, index: usize) -> bool
     ensures { result ≡ spec.is_at_fault description.now diagnostic.now index }
 {
     let start = index_in_source(description, diagnostic.span.start);
@@ -24,7 +24,7 @@ pub fn is_at_fault(description: &Description, diagnostic: &Diagnostic, index: us
 pub fn fault_hover(
     alloc: Global,
     text: &str,
-    description: &Description,
+    description: &SourceDescription,
     diagnostic: &Diagnostic,
 ) -> Result<Hover, AllocError>
     ensures { IfOk result (IsFaultHover text.now description.now diagnostic.now) }

@@ -5,7 +5,7 @@ ghost use Rattle.timefd_lint_lsp.specs.Editor.Each.{Adds, AreOf};
 ghost use Rattle.timefd_lint_lsp.specs.Editor.Findings.{AreFaults, IsFault, fault_words};
 ghost use Rattle.timefd_lint_lsp.specs.Editor.Positions.{IsCounted};
 
-use crate::editor::finding::{Finding, Severity, Spot, push};
+use crate::editor::finding::{DocumentSpot, Finding, Severity, push};
 use std::alloc::{AllocError, Global};
 use timefd_lint_diagnosis::{Diagnostic, code_of};
 use timefd_lint_drawing::help_text::help_text;
@@ -16,7 +16,7 @@ use timefd_lint_scan::index_in_source;
 /// Adds the first fault of a description, and then its further ones. An `Err` says that memory ran out.
 pub fn push_faults(
     alloc: Global,
-    spot: Spot<'_>,
+    spot: DocumentSpot<'_>,
     diagnostic: &Diagnostic,
     further: &[Diagnostic],
     found: &mut Vec<Finding>,
@@ -32,7 +32,7 @@ pub fn push_faults(
 #[tactic(auto, using(crate::proofs::EditorLemmas::EachLemmas::at_first, crate::proofs::EditorLemmas::EachLemmas::at_last))]
 fn push_further(
     alloc: Global,
-    spot: Spot<'_>,
+    spot: DocumentSpot<'_>,
     further: &[Diagnostic],
     found: &mut Vec<Finding>,
 ) -> Result<(), AllocError>
@@ -49,7 +49,7 @@ fn push_further(
 // Adds a fault, at its bytes in the document.
 fn push_fault(
     alloc: Global,
-    spot: Spot<'_>,
+    spot: DocumentSpot<'_>,
     is_further: bool,
     diagnostic: &Diagnostic,
     found: &mut Vec<Finding>,

@@ -5,10 +5,10 @@ ghost use Rattle.timefd_lint_lsp.specs.Editor.Each.{Adds};
 ghost use Rattle.timefd_lint_lsp.specs.Editor.Finding.{IsOne};
 ghost use Rattle.timefd_lint_lsp.specs.Editor.Positions.{IsCounted};
 
-use crate::editor::counter::{Counter, range_from};
-use crate::editor::position::Range;
+use crate::editor::counter::{DocumentCounter, range_from};
+use crate::editor::position::DocumentRange;
 use std::alloc::AllocError;
-use timefd_lint_scan::Description;
+use timefd_lint_scan::SourceDescription;
 
 /// How bad a finding is.
 #[derive(Clone, Copy)]
@@ -23,7 +23,7 @@ pub enum Severity {
 #[derive(Drop)]
 pub struct Finding {
     /// Where it is in the document.
-    pub range: Range,
+    pub range: DocumentRange,
     /// How bad it is.
     pub severity: Severity,
     /// The stable name of its kind.
@@ -34,20 +34,20 @@ pub struct Finding {
 
 /// A description of a document, and how far the document is counted.
 #[derive(Clone, Copy)]
-pub struct Spot<'a> {
+pub struct DocumentSpot<'a> {
     /// The document's text.
     pub text: &'a str,
     /// The description, which is in that document.
-    pub description: &'a Description,
+    pub description: &'a SourceDescription,
     /// How far the document is counted.
-    pub counter: Counter,
+    pub counter: DocumentCounter,
 }
 
 /// Adds a finding for the bytes of a document from one index up to another. An `Err` says that memory ran out.
 pub fn push_at(
     found: &mut Vec<Finding>,
     text: &str,
-    counter: Counter,
+    counter: DocumentCounter,
     start: usize,
     end: usize,
     severity: Severity,
@@ -71,7 +71,7 @@ pub fn push_at(
 /// out.
 pub fn push(
     found: &mut Vec<Finding>,
-    spot: Spot<'_>,
+    spot: DocumentSpot<'_>,
     start: usize,
     end: usize,
     severity: Severity,

@@ -12,15 +12,19 @@ use std::alloc::{AllocError, Global};
 use std::str;
 use timefd_lint_diagnosis::{Diagnostic, diagnose};
 use timefd_lint_drawing::shown::safe;
-use timefd_lint_explain::{Node, explanation_of};
-use timefd_lint_scan::{Description, Piece, index_in_source};
-use timefd_lint_sources::{Source, descriptions_in, is_passed_over, language_of};
+use timefd_lint_explain::{ShownNode, explanation_of};
+use timefd_lint_scan::{PlacedToken, SourceDescription, index_in_source};
+use timefd_lint_sources::{SourceText, descriptions_in, is_passed_over, language_of};
 
 /// What the part at a byte index means: the component with its modifiers, the bytes that it reserves, and an
 /// example. In a description with a fault: what is wrong at that index, and what helps, or else the part that is
 /// there, if the pieces before the one at fault have it. `None` if there is nothing to show. An `Err` says that
 /// memory ran out.
-pub fn hover(alloc: Global, source: Source<'_>, index: usize) -> Result<Option<Hover>, AllocError>
+pub fn hover(
+    alloc: Global,
+    source: SourceText<'_>,
+    index: usize,
+) -> Result<Option<Hover>, AllocError>
     ensures part { IfOk result (λ found. IfSome found (IsPartOrFault source.entry index)) }
     ensures shown { IfOk result (IsShownAt source.entry index) }
 {
@@ -32,7 +36,7 @@ pub fn hover(alloc: Global, source: Source<'_>, index: usize) -> Result<Option<H
 }
 
 // The first description whose literal covers an index.
-fn first_at(descriptions: &[Description], index: usize) -> Option<&Description>
+fn first_at(descriptions: &[SourceDescription], index: usize) -> Option<&SourceDescription>
     ensures { option_map (λ found. found.now) result ≡ spec.first_at descriptions.now index }
 {
     for description in descriptions {
@@ -44,7 +48,7 @@ fn first_at(descriptions: &[Description], index: usize) -> Option<&Description>
 }
 
 // Whether a literal covers an index.
-fn is_at(piece: Piece, index: usize) -> bool
+fn is_at(piece: PlacedToken, index: usize) -> bool
     ensures { result ≡ spec.is_at piece index }
 {
     piece.start <= index && index < piece.end
@@ -54,7 +58,7 @@ fn is_at(piece: Piece, index: usize) -> bool
 fn hover_on(
     alloc: Global,
     text: &str,
-    description: &Description,
+    description: &SourceDescription,
     index: usize,
 ) -> Result<Option<Hover>, AllocError>
     ensures { IfOk result (IsShownOn text.now description.now index) }
@@ -88,7 +92,7 @@ fn index_in(positions: &[usize], position: usize) -> usize
 fn hover_at(
     alloc: Global,
     text: &str,
-    description: &Description,
+    description: &SourceDescription,
     reported: &str,
     index: usize,
 ) -> Result<Option<Hover>, AllocError>
@@ -106,7 +110,7 @@ fn hover_at(
 fn refused(
     alloc: Global,
     text: &str,
-    description: &Description,
+    description: &SourceDescription,
     reported: &str,
     diagnostic: &Diagnostic,
     index: usize,
@@ -125,7 +129,7 @@ fn refused(
 fn shown(
     alloc: Global,
     text: &str,
-    description: &Description,
+    description: &SourceDescription,
     reported: &str,
     index: usize,
 ) -> Result<Option<Hover>, AllocError>
@@ -143,7 +147,7 @@ fn shown(
 }
 
 // The last node that covers an index. A node comes before the nodes inside it, so it is the innermost one.
-fn innermost(nodes: &[Node], at: usize) -> Option<&Node>
+fn innermost(nodes: &[ShownNode], at: usize) -> Option<&ShownNode>
     ensures { option_map (λ node. node.now) result ≡ spec.innermost nodes.now at }
 {
     let mut inner = None;
@@ -155,7 +159,7 @@ fn innermost(nodes: &[Node], at: usize) -> Option<&Node>
     inner
 }
 
-fn covers(node: &Node, at: usize) -> bool
+fn covers(node: &ShownNode, at: usize) -> bool
     ensures { result ≡ spec.covers node.now at }
 {
     node.start <= at && at < node.end
@@ -165,8 +169,8 @@ fn covers(node: &Node, at: usize) -> bool
 fn hover_of(
     alloc: Global,
     text: &str,
-    description: &Description,
-    node: &Node,
+    description: &SourceDescription,
+    node: &ShownNode,
 ) -> Result<Hover, AllocError>
     ensures { IfOk result (IsHoverOf text.now description.now node.now) }
 {
@@ -178,7 +182,7 @@ fn hover_of(
     })
 }
 
-fn words_on(alloc: Global, node: &Node) -> Result<String, AllocError>
+fn words_on(alloc: Global, node: &ShownNode) -> Result<String, AllocError>
     ensures { IfOk result (λ words. string_bytes words ≡ spec.words_on node.now) }
 {
     let example = example_in(alloc, &node.example)?;

@@ -9,9 +9,9 @@ ghost use Rattle.timefd_lint_lsp.specs.Editor.Each.{Adds, AreIf, AreOf};
 ghost use Rattle.timefd_lint_lsp.specs.Editor.Others.{AreOnOther, AreTrapsOf, IsRefusal, IsTrap};
 ghost use Rattle.timefd_lint_lsp.specs.Editor.Positions.{IsCounted};
 
-use crate::editor::finding::{Finding, Severity, Spot, push};
+use crate::editor::finding::{DocumentSpot, Finding, Severity, push};
 use std::alloc::{AllocError, Global};
-use timefd_lang_dialect::{Dialect, Found, Refusal, traps};
+use timefd_lang_dialect::{Dialect, Found, RefusedPart, traps};
 use timefd_lint_drawing::sarif::with_help;
 use timefd_lint_scan::index_in_source;
 use timefd_lint_sources::{Finder, first_refusal};
@@ -22,7 +22,7 @@ use timefd_lint_sources::{Finder, first_refusal};
 pub fn push_other(
     alloc: Global,
     finder: Finder<'_>,
-    spot: Spot<'_>,
+    spot: DocumentSpot<'_>,
     reports_traps: bool,
     dialect: Dialect,
     text: &str,
@@ -42,8 +42,8 @@ pub fn push_other(
 // Adds a part that is refused. Where it ends isn't known, so the finding is where it begins.
 fn push_refusal(
     alloc: Global,
-    spot: Spot<'_>,
-    refusal: Refusal,
+    spot: DocumentSpot<'_>,
+    refusal: RefusedPart,
     found: &mut Vec<Finding>,
 ) -> Result<(), AllocError>
     requires { IsCounted spot.text.now spot.counter }
@@ -55,7 +55,7 @@ fn push_refusal(
     push(found, spot, index, index, Severity::Error, code, message)
 }
 
-fn words_of_refusal(alloc: Global, refusal: Refusal) -> Result<String, AllocError>
+fn words_of_refusal(alloc: Global, refusal: RefusedPart) -> Result<String, AllocError>
     ensures { IfOk result (λ words. string_bytes words
         ≡ helped (reasons.sentence refusal.reason) (reasons.cure refusal.reason)) }
 {
@@ -66,7 +66,7 @@ fn words_of_refusal(alloc: Global, refusal: Refusal) -> Result<String, AllocErro
 #[tactic(auto, using(crate::proofs::EditorLemmas::EachLemmas::unwanted, crate::proofs::EditorLemmas::OtherLemmas::are_wanted))]
 fn push_trapped(
     alloc: Global,
-    spot: Spot<'_>,
+    spot: DocumentSpot<'_>,
     reports_traps: bool,
     dialect: Dialect,
     text: &str,
@@ -87,7 +87,7 @@ fn push_trapped(
 #[tactic(auto, using(crate::proofs::EditorLemmas::EachLemmas::at_first, crate::proofs::EditorLemmas::EachLemmas::one_more_at, crate::proofs::EditorLemmas::EachLemmas::at_last))]
 fn push_traps(
     alloc: Global,
-    spot: Spot<'_>,
+    spot: DocumentSpot<'_>,
     all: &[Found],
     found: &mut Vec<Finding>,
 ) -> Result<(), AllocError>
@@ -104,7 +104,7 @@ fn push_traps(
 // Adds a trap, at its directive.
 fn push_trap(
     alloc: Global,
-    spot: Spot<'_>,
+    spot: DocumentSpot<'_>,
     trap: Found,
     found: &mut Vec<Finding>,
 ) -> Result<(), AllocError>

@@ -5,11 +5,12 @@ ghost use Rattle.timefd_lint_lsp.specs.Editor.Each.{Adds, AreOf};
 ghost use Rattle.timefd_lint_lsp.specs.Editor.Positions.{IsCounted};
 ghost use Rattle.timefd_lint_lsp.specs.Editor.Remarked.{IsNoCode, IsNoLanguage, IsRemarked};
 
-use crate::editor::counter::{Counter, counted, none_counted};
+use crate::editor::counter::{DocumentCounter, counted, none_counted};
 use crate::editor::finding::{Finding, Severity, push_at};
 use std::alloc::{AllocError, Global};
 use timefd_lint_sources::{
-    NO_CODE, NO_LANGUAGE, NO_LANGUAGE_SENTENCE, NoCode, Remark, place_of, sentence_on, word_at,
+    NO_CODE, NO_LANGUAGE, NO_LANGUAGE_SENTENCE, NoCode, Remark, index_of_remark, sentence_on,
+    word_at,
 };
 
 /// Adds what is wrong in the comments of a document, from the remarks on it. An `Err` says that memory ran out.
@@ -24,7 +25,7 @@ pub fn push_remarks(
 {
     let mut counter = none_counted(text);
     for remark in remarks {
-        counter = counted(text, counter, place_of(*remark));
+        counter = counted(text, counter, index_of_remark(*remark));
         push_remark(alloc, text, counter, *remark, found)?;
     }
     Ok(())
@@ -35,7 +36,7 @@ pub fn push_remarks(
 fn push_remark(
     alloc: Global,
     text: &str,
-    counter: Counter,
+    counter: DocumentCounter,
     remark: Remark,
     found: &mut Vec<Finding>,
 ) -> Result<(), AllocError>
@@ -52,7 +53,7 @@ fn push_remark(
 fn push_no_language(
     alloc: Global,
     text: &str,
-    counter: Counter,
+    counter: DocumentCounter,
     at: usize,
     found: &mut Vec<Finding>,
 ) -> Result<(), AllocError>
@@ -76,7 +77,7 @@ fn push_no_language(
 fn push_no_code(
     alloc: Global,
     text: &str,
-    counter: Counter,
+    counter: DocumentCounter,
     word: NoCode,
     found: &mut Vec<Finding>,
 ) -> Result<(), AllocError>

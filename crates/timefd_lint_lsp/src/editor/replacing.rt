@@ -5,8 +5,8 @@ ghost use Rattle.std.specs.Str.{IsCharBoundary};
 ghost use Rattle.timefd_lint_lsp.specs.Editor.Positions.{index_of};
 ghost use Rattle.timefd_lint_lsp.specs.Editor.Replacing as spec;
 
-use crate::editor::position::{Position, Range, index_of};
-use crate::editor::walk::Walk;
+use crate::editor::position::{DocumentPosition, DocumentRange, index_of};
+use crate::editor::walk::CountingWalk;
 use std::alloc::{AllocError, Global};
 
 /// The text with `new` in place of a range. A character after the end of a line is taken for that end. `None`
@@ -15,7 +15,7 @@ use std::alloc::{AllocError, Global};
 pub fn replaced(
     alloc: Global,
     text: &str,
-    range: Range,
+    range: DocumentRange,
     new: &str,
 ) -> Result<Option<String>, AllocError>
     ensures { IfOk result (λ changed. option_map string_bytes changed ≡ spec.replaced text.now range new.now) }
@@ -39,7 +39,7 @@ fn joined(alloc: Global, front: &str, new: &str, back: &str) -> Result<String, A
 
 // The byte index of a position, which is between two characters.
 #[tactic(auto, using(crate::proofs::EditorLemmas::BoundaryLemmas::at_boundary))]
-fn boundary_of(text: &str, position: Position) -> usize
+fn boundary_of(text: &str, position: DocumentPosition) -> usize
     ensures index { result ≡ index_of text.now position }
     ensures boundary { IsCharBoundary text.now result }
 {
@@ -47,9 +47,9 @@ fn boundary_of(text: &str, position: Position) -> usize
 }
 
 // Whether a text has the lines of a range.
-fn has_lines(text: &str, range: Range) -> bool
+fn has_lines(text: &str, range: DocumentRange) -> bool
     ensures { result ≡ spec.has_lines text.now range }
 {
-    let last = Walk::start().through(text.as_bytes()).position.line;
+    let last = CountingWalk::start().through(text.as_bytes()).position.line;
     range.start.line <= last && range.end.line <= last
 }

@@ -8,7 +8,7 @@ use timefd_parse::DescriptionVersion;
 
 /// How far a walk through the text of a description is.
 #[derive(Clone, Copy)]
-pub struct Scan {
+pub struct TextScan {
     /// How many brackets are open. The first is one of a component, and those inside it are, in turn, one of a
     /// nested description and one of a component.
     pub depth: usize,
@@ -20,10 +20,10 @@ pub struct Scan {
 }
 
 /// The walk after all bytes of a text.
-pub fn scanned(version: DescriptionVersion, text: &[u8]) -> Scan
+pub fn scanned(version: DescriptionVersion, text: &[u8]) -> TextScan
     ensures { result ≡ spec.scanned version text.now }
 {
-    let mut scan = Scan {
+    let mut scan = TextScan {
         depth: 0,
         may_escape: false,
         is_blank: false,
@@ -34,7 +34,7 @@ pub fn scanned(version: DescriptionVersion, text: &[u8]) -> Scan
     scan
 }
 
-impl Scan {
+impl TextScan {
     /// Whether the innermost open bracket is one of a component.
     pub fn is_in_component(self) -> bool
         ensures { result ≡ spec.is_in_component self }
@@ -42,7 +42,7 @@ impl Scan {
         self.depth % 2 == 1
     }
 
-    fn step(self, version: DescriptionVersion, byte: u8) -> Scan
+    fn step(self, version: DescriptionVersion, byte: u8) -> TextScan
         ensures { result ≡ spec.step version self byte }
     {
         match version {
@@ -52,7 +52,7 @@ impl Scan {
     }
 
     // In version 1 a second `[` makes the first one a literal.
-    fn step_of_one(self, byte: u8) -> Scan
+    fn step_of_one(self, byte: u8) -> TextScan
         ensures { result ≡ spec.step_of_one self byte }
     {
         if byte != b'[' {
@@ -65,7 +65,7 @@ impl Scan {
     }
 
     // In versions 2 and 3 a backslash of a literal makes the next byte a literal.
-    fn step_of_later(self, byte: u8) -> Scan
+    fn step_of_later(self, byte: u8) -> TextScan
         ensures { result ≡ spec.step_of_later self byte }
     {
         if self.may_escape {
@@ -80,20 +80,20 @@ impl Scan {
         self.step_on(byte)
     }
 
-    fn opened(self, may_escape: bool) -> Scan
+    fn opened(self, may_escape: bool) -> TextScan
         ensures { result ≡ spec.opened self may_escape }
     {
-        Scan {
+        TextScan {
             depth: self.depth.saturating_add(1),
             may_escape,
             is_blank: true,
         }
     }
 
-    fn with_literal(self, may_escape: bool) -> Scan
+    fn with_literal(self, may_escape: bool) -> TextScan
         ensures { result ≡ spec.with_literal self may_escape }
     {
-        Scan {
+        TextScan {
             depth: self.depth,
             may_escape,
             is_blank: false,
@@ -101,10 +101,10 @@ impl Scan {
     }
 
     // A bracket is closed, if one is open.
-    fn closed(self) -> Scan
+    fn closed(self) -> TextScan
         ensures { result ≡ spec.closed self }
     {
-        Scan {
+        TextScan {
             depth: self.depth.saturating_sub(1),
             may_escape: false,
             is_blank: false,
@@ -112,13 +112,13 @@ impl Scan {
     }
 
     // The walk after a byte that opens no bracket and escapes nothing.
-    fn step_on(self, byte: u8) -> Scan
+    fn step_on(self, byte: u8) -> TextScan
         ensures { result ≡ spec.step_on self byte }
     {
         if byte == b']' {
             return self.closed();
         }
-        Scan {
+        TextScan {
             depth: self.depth,
             may_escape: false,
             is_blank: self.is_blank && is_white(byte),

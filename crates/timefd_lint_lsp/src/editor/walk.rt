@@ -3,24 +3,24 @@
 ghost use Rattle.std.specs.Prelude.{◌≡◌};
 ghost use Rattle.timefd_lint_lsp.specs.Editor.Positions as spec;
 
-use crate::editor::position::Position;
+use crate::editor::position::DocumentPosition;
 
 /// How far a walk through a text is.
 #[derive(Clone, Copy)]
-pub struct Walk {
+pub struct CountingWalk {
     /// The position of the next byte.
-    pub position: Position,
+    pub position: DocumentPosition,
     /// Whether the previous byte is a carriage return.
     pub is_after_return: bool,
 }
 
-impl Walk {
+impl CountingWalk {
     /// A walk at the start of a text.
-    pub fn start() -> Walk
+    pub fn start() -> CountingWalk
         ensures { result ≡ spec.start }
     {
-        Walk {
-            position: Position {
+        CountingWalk {
+            position: DocumentPosition {
                 line: 0,
                 character: 0,
             },
@@ -29,7 +29,7 @@ impl Walk {
     }
 
     /// The walk after these bytes.
-    pub fn through(self, bytes: &[u8]) -> Walk
+    pub fn through(self, bytes: &[u8]) -> CountingWalk
         ensures { result ≡ spec.walked self bytes.now }
     {
         let mut walk = self;
@@ -40,11 +40,11 @@ impl Walk {
     }
 
     /// The walk after one more byte.
-    pub fn step(self, byte: u8) -> Walk
+    pub fn step(self, byte: u8) -> CountingWalk
         ensures { result ≡ spec.step self byte }
     {
-        Walk {
-            position: Position {
+        CountingWalk {
+            position: DocumentPosition {
                 line: self.line_after(byte),
                 character: self.character_after(byte),
             },
@@ -54,7 +54,7 @@ impl Walk {
 
     /// Whether a walk to `sought` stops here, before this byte: this is that position, or the last one of its
     /// line.
-    pub fn stops_at(self, sought: Position, byte: u8) -> bool
+    pub fn stops_at(self, sought: DocumentPosition, byte: u8) -> bool
         ensures { result ≡ spec.stops_at self sought byte }
     {
         self.position.line == sought.line

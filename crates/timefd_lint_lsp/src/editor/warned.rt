@@ -5,14 +5,14 @@ ghost use Rattle.timefd_lint_lsp.specs.Editor.Each.{Adds, AreOf};
 ghost use Rattle.timefd_lint_lsp.specs.Editor.Finding.{AreWarnings, IsAtLiteral, IsNote, IsReported, IsWarned, IsWarnedAt};
 ghost use Rattle.timefd_lint_lsp.specs.Editor.Positions.{IsCounted};
 
-use crate::editor::finding::{Finding, Severity, Spot, push};
+use crate::editor::finding::{DocumentSpot, Finding, Severity, push};
 use std::alloc::{AllocError, Global};
 use timefd_lang_warnings::{Level, Levels, Warning};
 
 /// Adds the warnings of a description, in the order of their codes. An `Err` says that memory ran out.
 pub fn push_warnings(
     alloc: Global,
-    spot: Spot<'_>,
+    spot: DocumentSpot<'_>,
     warned: Levels,
     found: &mut Vec<Finding>,
 ) -> Result<(), AllocError>
@@ -26,7 +26,7 @@ pub fn push_warnings(
 #[tactic(auto, using(crate::proofs::EditorLemmas::EachLemmas::at_first, crate::proofs::EditorLemmas::EachLemmas::one_more_at, crate::proofs::EditorLemmas::EachLemmas::at_last))]
 fn push_each(
     alloc: Global,
-    spot: Spot<'_>,
+    spot: DocumentSpot<'_>,
     warned: Levels,
     warnings: &[Warning],
     found: &mut Vec<Finding>,
@@ -43,7 +43,7 @@ fn push_each(
 
 fn push_warning(
     alloc: Global,
-    spot: Spot<'_>,
+    spot: DocumentSpot<'_>,
     warned: Levels,
     warning: Warning,
     found: &mut Vec<Finding>,
@@ -59,7 +59,7 @@ fn push_warning(
 #[tactic(auto, using(crate::proofs::EditorLemmas::WarningLemmas::allowed))]
 fn push_at_level(
     alloc: Global,
-    spot: Spot<'_>,
+    spot: DocumentSpot<'_>,
     level: Level,
     warning: Warning,
     found: &mut Vec<Finding>,
@@ -77,7 +77,7 @@ fn push_at_level(
 
 fn push_reported(
     alloc: Global,
-    spot: Spot<'_>,
+    spot: DocumentSpot<'_>,
     severity: Severity,
     warning: Warning,
     found: &mut Vec<Finding>,
@@ -97,7 +97,11 @@ fn push_reported(
 }
 
 /// Adds that a description isn't UTF-8. An `Err` says that memory ran out.
-pub fn push_note(alloc: Global, spot: Spot<'_>, found: &mut Vec<Finding>) -> Result<(), AllocError>
+pub fn push_note(
+    alloc: Global,
+    spot: DocumentSpot<'_>,
+    found: &mut Vec<Finding>,
+) -> Result<(), AllocError>
     requires { IsCounted spot.text.now spot.counter }
     ensures { OnOk result (Adds (IsNote spot.entry.text.now spot.entry.description.now)
         found.old.items found.new.items) }
@@ -115,7 +119,7 @@ pub fn push_note(alloc: Global, spot: Spot<'_>, found: &mut Vec<Finding>) -> Res
 // Adds a finding about a description as a whole, at its literal.
 fn push_at_literal(
     alloc: Global,
-    spot: Spot<'_>,
+    spot: DocumentSpot<'_>,
     severity: Severity,
     code: &'static str,
     message: &str,

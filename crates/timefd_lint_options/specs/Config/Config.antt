@@ -1,8 +1,8 @@
 -- What a file of settings says.
 use Rattle.std.specs.Prelude.{ℤ, pos, ◌==◌, Option, Some, None, Result, Ok, Err, Bool, ◌||◌, List, [], ◌∷◌, ◌++◌, codes, bytes_eq, length, map, if◌then◌else◌, string_bytes}
 use Rattle.std.specs.Ordering.{int_eq}
-use Rattle.timefd_lint_scan.specs.declared.dialect.Dialect.{Dialect}
-use Rattle.timefd_lint_scan.specs.declared.dialect.Dialect.TheVariants.{One, Two, Three}
+use Rattle.timefd_lint_scan.specs.declared.dialect.FormatLanguage.{FormatLanguage}
+use Rattle.timefd_lint_scan.specs.declared.dialect.FormatLanguage.TheVariants.{One, Two, Three}
 use Rattle.timefd_lint_scan.specs.Bytes.{Text}
 use Rattle.timefd_lint_scan.specs.Keys.Keys.{Named}
 use Rattle.timefd_lint_scan.specs.Dialects.{dialect_named}
@@ -23,19 +23,19 @@ abbrev pub named_all : List OwnedKey → List Named
 named_all keys = map named keys
 
 -- the language that a number names
-abbrev pub dialect_numbered : ℤ → Option Dialect
+abbrev pub dialect_numbered : ℤ → Option FormatLanguage
 dialect_numbered number =
     if int_eq number (pos 1) then Some One
     else if int_eq number (pos 2) then Some Two
     else if int_eq number (pos 3) then Some Three
     else None
 
-abbrev pub known : Option Dialect → Result Dialect ValueFault
+abbrev pub known : Option FormatLanguage → Result FormatLanguage ValueFault
 known (Some dialect) = Ok dialect
 known None = Err no_language.UnknownLanguage
 
 -- the language that a value names, or why it names none
-abbrev pub dialect_valued : Data → Result Dialect ValueFault
+abbrev pub dialect_valued : Data → Result FormatLanguage ValueFault
 dialect_valued (integer number) = known (dialect_numbered number)
 dialect_valued (string word) = known (dialect_named word)
 dialect_valued (float number) = Err no_language.WrongType
@@ -44,7 +44,7 @@ dialect_valued (datetime value) = Err no_language.WrongType
 dialect_valued (array items) = Err no_language.WrongType
 dialect_valued (table _) = Err no_language.WrongType
 
-abbrev pub key_by : Text → Result Dialect ValueFault → Result Named Fault
+abbrev pub key_by : Text → Result FormatLanguage ValueFault → Result Named Fault
 key_by name (Ok dialect) = Ok (record { name = name; dialect = dialect })
 key_by name (Err no_language.WrongType) = Err (WrongType name)
 key_by name (Err no_language.UnknownLanguage) = Err (UnknownLanguage name)

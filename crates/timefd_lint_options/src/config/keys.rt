@@ -8,14 +8,14 @@ ghost use Rattle.timefd_lint_options.specs.Config.Faults as faults;
 use crate::config::error::ConfigError;
 use crate::config::language::{ValueFault, dialect_valued};
 use std::alloc::{AllocError, Global};
-use timefd_lint_scan::Dialect;
+use timefd_lint_scan::FormatLanguage;
 use toml::{Table, Value};
 
 /// A key whose strings are descriptions in a language.
 #[derive(Drop)]
 pub struct OwnedKey {
     pub name: String,
-    pub dialect: Dialect,
+    pub dialect: FormatLanguage,
 }
 
 // The key with this name and value.

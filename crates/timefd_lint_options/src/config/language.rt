@@ -4,7 +4,7 @@ ghost use Rattle.std.specs.Prelude.{◌≡◌};
 ghost use Rattle.toml.specs.View.{view};
 ghost use Rattle.timefd_lint_options.specs.Config.Config as spec;
 
-use timefd_lint_scan::Dialect;
+use timefd_lint_scan::FormatLanguage;
 use timefd_lint_scan::dialect::dialect_named;
 use toml::Value;
 
@@ -18,20 +18,20 @@ pub enum ValueFault {
 }
 
 // The language that a number names.
-fn dialect_numbered(number: i64) -> Option<Dialect>
+fn dialect_numbered(number: i64) -> Option<FormatLanguage>
     ensures { result ≡ spec.dialect_numbered number }
 {
     match number {
-        1 => Some(Dialect::One),
-        2 => Some(Dialect::Two),
-        3 => Some(Dialect::Three),
+        1 => Some(FormatLanguage::One),
+        2 => Some(FormatLanguage::Two),
+        3 => Some(FormatLanguage::Three),
         _ => None,
     }
 }
 
 /// The language that a value names: `1`, `2`, `3` as a number or a string, or a name like `"strftime"` or
 /// `"java"`. An `Err` says why it names none.
-pub fn dialect_valued(value: &Value) -> Result<Dialect, ValueFault>
+pub fn dialect_valued(value: &Value) -> Result<FormatLanguage, ValueFault>
     ensures { result ≡ spec.dialect_valued (view value.now) }
 {
     match value {
@@ -45,7 +45,7 @@ pub fn dialect_valued(value: &Value) -> Result<Dialect, ValueFault>
     }
 }
 
-fn known(dialect: Option<Dialect>) -> Result<Dialect, ValueFault>
+fn known(dialect: Option<FormatLanguage>) -> Result<FormatLanguage, ValueFault>
     ensures { result ≡ spec.known dialect }
 {
     dialect.ok_or(ValueFault::UnknownLanguage)

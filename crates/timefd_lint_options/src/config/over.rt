@@ -4,16 +4,16 @@ ghost use Rattle.std.specs.Prelude.{◌≡◌};
 ghost use Rattle.timefd_lint_options.specs.Config.Levels as spec;
 ghost use Rattle.timefd_lint_options.specs.Config.Over.{with_levels};
 
-use crate::settings::Settings;
+use crate::settings::RunSettings;
 use timefd_lang_warnings::{Level, Levels, Warning};
 
 /// The settings of a run with the levels of a file of settings. If there are any, warnings are reported, and those
 /// that the command line neither allows nor denies have the file's level.
-pub fn with_levels<'a>(settings: Settings<'a>, levels: Option<Levels>) -> Settings<'a>
+pub fn with_levels<'a>(settings: RunSettings<'a>, levels: Option<Levels>) -> RunSettings<'a>
     ensures { result ≡ with_levels settings.entry levels }
 {
     match levels {
-        Some(levels) => Settings {
+        Some(levels) => RunSettings {
             warns: true,
             levels: over(settings.levels, levels),
             ..settings

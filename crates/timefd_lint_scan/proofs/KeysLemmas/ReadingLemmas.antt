@@ -3,16 +3,16 @@ use Rattle.std.proofs.Common.{ℕ, zero, suc, ◌≡◌, ◌≤◌, ◌-◌, Lis
 use Rattle.std.proofs.lemmas.List.{drop_all}
 use Rattle.std.specs.Prelude.{Bool, Option, Some, None, if◌then◌else◌}
 use Rattle.timefd_lint_scan.specs.Bytes.{Text}
-use Rattle.timefd_lint_scan.specs.declared.part.Part as code
+use Rattle.timefd_lint_scan.specs.declared.part.StringPart as code
 use Rattle.timefd_lint_scan.specs.Escapes.{Part, all_at, parted, parted_any, stands_for}
-use Rattle.timefd_lint_scan.specs.declared.keys.style.Style.{Style}
+use Rattle.timefd_lint_scan.specs.declared.keys.style.StringStyle.{StringStyle}
 use Rattle.timefd_lint_scan.specs.Keys.Escapes.{part_of}
-use Rattle.timefd_lint_scan.specs.declared.keys.format.Format.{Format}
+use Rattle.timefd_lint_scan.specs.declared.keys.format.FileFormat.{FileFormat}
 use Rattle.timefd_lint_scan.specs.Keys.Strings.{Reading, at_end, before, closed_at, first_string, read, read_all, string_at, reported_as}
 use Rattle.timefd_lint_scan.specs.Keys.Styles.{closes, is_closed_by_end}
 
 -- The text so far, followed by what the rest denotes, is what the whole string denotes.
-pub record Left (style : Style) (end : ℕ) (text : Text) (positions : List ℕ) (rest all : Text) : Type 0 where
+pub record Left (style : StringStyle) (end : ℕ) (text : Text) (positions : List ℕ) (rest all : Text) : Type 0 where
   pub steps : ℕ
   pub enough : length rest ≤ steps
   pub within : length rest ≤ length all
@@ -34,7 +34,7 @@ nothing_more : (text : Text) (positions : List ℕ) (closing : ℕ)
 nothing_more text positions closing = ap (λ (s : Text). reported_as s positions closing) (sym (append-nil text))
     ∙ ap (λ (s : List ℕ). reported_as (text ++ []) s closing) (sym (append-nil positions))
 
-pub at_first : (style : Style) (end : ℕ) (all : Text) → Left style end [] [] all all
+pub at_first : (style : StringStyle) (end : ℕ) (all : Text) → Left style end [] [] all all
 at_first style end all = record {
   steps = length all;
   enough = omega arith;
@@ -43,22 +43,22 @@ at_first style end all = record {
 }
 
 -- the outcome of one part
-abbrev go : Style → ℕ → ℕ → ℕ → Option Part → Option Reading
+abbrev go : StringStyle → ℕ → ℕ → ℕ → Option Part → Option Reading
 go style end position steps None = None
 go style end position steps (Some p) = before p.stands (all_at position p.stands) (read steps style end p.rest)
 
 -- the outcome of one byte
-abbrev step : Style → ℕ → ℕ → ℕ → Bool → Option Part → Option Reading
+abbrev step : StringStyle → ℕ → ℕ → ℕ → Bool → Option Part → Option Reading
 step style end position steps true r = Some (closed_at position)
 step style end position steps false r = go style end position steps r
 
-abbrev cased : Style → ℕ → ℕ → ℕ → Option Part → Option Reading
+abbrev cased : StringStyle → ℕ → ℕ → ℕ → Option Part → Option Reading
 cased style end position steps t = elim t as (λ _. Option Reading) [
   | None ↦ None
   | Some p ↦ before p.stands (all_at position p.stands) (read steps style end p.rest)
 ]
 
-one_step : (style : Style) (end steps b : ℕ) (bytes : Text) (closed : Bool) (r : Option Part)
+one_step : (style : StringStyle) (end steps b : ℕ) (bytes : Text) (closed : Bool) (r : Option Part)
     → closed ≡ closes style b bytes → r ≡ part_of style b bytes
     → read (suc steps) style end (b ∷ bytes) ≡ step style end (end - length (b ∷ bytes)) steps closed r
 one_step style end steps b bytes closed r c e =
@@ -77,7 +77,7 @@ one_step style end steps b bytes closed r c e =
     same false (Some p) = refl
 
 -- what the whole string denotes, by its next byte
-by_step : (style : Style) (end : ℕ) (text : Text) (positions : List ℕ) (b : ℕ) (bytes rest all : Text)
+by_step : (style : StringStyle) (end : ℕ) (text : Text) (positions : List ℕ) (b : ℕ) (bytes rest all : Text)
     (closed : Bool) (r : Option Part)
     → Left style end text positions rest all → closed ≡ closes style b bytes → r ≡ part_of style b bytes
     → rest ≡ b ∷ bytes
@@ -97,8 +97,8 @@ by_step style end text positions b bytes rest all closed r l c e split =
     more (suc steps) enough same =
         (steps, omega arith, ap (before text positions) (sym (one_step style end steps b bytes closed r c e)) ∙ same)
 
-pub one_more : (style : Style) (end : ℕ) (text more_text : Text) (positions more_positions : List ℕ) (b : ℕ)
-    (bytes rest all : Text) (closed : Bool) (r : Option code.Part) (p : code.Part)
+pub one_more : (style : StringStyle) (end : ℕ) (text more_text : Text) (positions more_positions : List ℕ) (b : ℕ)
+    (bytes rest all : Text) (closed : Bool) (r : Option code.StringPart) (p : code.StringPart)
     → Left style end text positions rest all
     → closed ≡ closes style b bytes → closed ≡ false
     → parted_any r ≡ part_of style b bytes → r ≡ Some p → rest ≡ b ∷ bytes
@@ -124,8 +124,8 @@ one_more style end text more_text positions more_positions b bytes rest all clos
           (all_at (end - length rest) (stands_for p.stands)) (read steps style end p.rest.now)) ∙ same;
     }
 
-pub faulty : (style : Style) (end : ℕ) (text : Text) (positions : List ℕ) (b : ℕ) (bytes rest all : Text)
-    (closed : Bool) (r : Option code.Part)
+pub faulty : (style : StringStyle) (end : ℕ) (text : Text) (positions : List ℕ) (b : ℕ) (bytes rest all : Text)
+    (closed : Bool) (r : Option code.StringPart)
     → Left style end text positions rest all
     → closed ≡ closes style b bytes → closed ≡ false
     → parted_any r ≡ part_of style b bytes → r ≡ None → rest ≡ b ∷ bytes
@@ -139,7 +139,7 @@ faulty style end text positions b bytes rest all closed r l c still part is spli
         → None ≡ read_all style end all
     more (steps, enough, same) = same
 
-pub at_closing : (style : Style) (end : ℕ) (text : Text) (positions : List ℕ) (b : ℕ) (bytes rest all : Text)
+pub at_closing : (style : StringStyle) (end : ℕ) (text : Text) (positions : List ℕ) (b : ℕ) (bytes rest all : Text)
     (closed : Bool) (position : ℕ)
     → Left style end text positions rest all
     → closed ≡ closes style b bytes → closed ≡ true → rest ≡ b ∷ bytes → position ≡ end - length rest
@@ -153,7 +153,7 @@ at_closing style end text positions b bytes rest all closed position l c is spli
         → before text positions (Some (closed_at (end - length rest))) ≡ read_all style end all
     more (steps, enough, same) = same
 
-pub at_last : (style : Style) (end : ℕ) (text : Text) (positions : List ℕ) (rest all : Text)
+pub at_last : (style : StringStyle) (end : ℕ) (text : Text) (positions : List ℕ) (rest all : Text)
     → Left style end text positions rest all → rest ≡ []
     → before text positions (at_end style end) ≡ read_all style end all
 at_last style end text positions rest all l split =
@@ -167,21 +167,21 @@ at_last style end text positions rest all l split =
 abbrev ending : Text → List ℕ → ℕ → Bool → Option Reading
 ending text positions end closed = before text positions (if closed then Some (closed_at end) else None)
 
-pub ended : (style : Style) (end : ℕ) (text : Text) (positions : List ℕ) (rest all : Text) (shut : Bool)
+pub ended : (style : StringStyle) (end : ℕ) (text : Text) (positions : List ℕ) (rest all : Text) (shut : Bool)
     → Left style end text positions rest all → rest ≡ [] → shut ≡ is_closed_by_end style → shut ≡ true
     → reported_as text positions end ≡ read_all style end all
 ended style end text positions rest all shut l split same is =
     nothing_more text positions end ∙ (ap (ending text positions end) (sym is ∙ same)
     ∙ at_last style end text positions rest all l split)
 
-pub unended : (style : Style) (end : ℕ) (text : Text) (positions : List ℕ) (rest all : Text) (shut : Bool)
+pub unended : (style : StringStyle) (end : ℕ) (text : Text) (positions : List ℕ) (rest all : Text) (shut : Bool)
     → Left style end text positions rest all → rest ≡ [] → shut ≡ is_closed_by_end style → shut ≡ false
     → None ≡ read_all style end all
 unended style end text positions rest all shut l split same is =
     ap (ending text positions end) (sym is ∙ same) ∙ at_last style end text positions rest all l split
 
 -- Nothing follows the end of a source.
-pub beyond : (format : Format) (source : Text) (start : ℕ) → length source < start
+pub beyond : (format : FileFormat) (source : Text) (start : ℕ) → length source < start
     → None ≡ string_at format source start
 beyond format source start after =
     ap (first_string format (length source)) (sym (drop_all start source (omega arith)))

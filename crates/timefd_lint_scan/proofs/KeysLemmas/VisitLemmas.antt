@@ -3,11 +3,11 @@ use Rattle.std.proofs.Common.{ℕ, ◌≡◌, ◌<◌, ◌≤◌, ◌+◌, ◌^�
 use Rattle.std.specs.Option.{option_or}
 use Rattle.std.specs.Prelude.{Bool, Option, Some, None, if◌then◌else◌, min}
 use Rattle.timefd_lint_scan.specs.Bytes.{Text}
-use Rattle.timefd_lint_scan.specs.declared.description.Description.{Description}
-use Rattle.timefd_lint_scan.specs.declared.dialect.Dialect.{Dialect}
-use Rattle.timefd_lint_scan.specs.declared.keys.format.Format.{Format}
+use Rattle.timefd_lint_scan.specs.declared.description.SourceDescription.{SourceDescription}
+use Rattle.timefd_lint_scan.specs.declared.dialect.FormatLanguage.{FormatLanguage}
+use Rattle.timefd_lint_scan.specs.declared.keys.format.FileFormat.{FileFormat}
 use Rattle.timefd_lint_scan.specs.declared.keys.spot.Elements.{Elements}
-use Rattle.timefd_lint_scan.specs.declared.keys.spot.Spot.{Spot}
+use Rattle.timefd_lint_scan.specs.declared.keys.spot.KeySpot.{KeySpot}
 use Rattle.timefd_lint_scan.specs.declared.keys.step.Step.{Step}
 use Rattle.timefd_lint_scan.specs.Keys.Comments.{reported_after}
 use Rattle.timefd_lint_scan.specs.Keys.Found.{IsInLanguage, IsStep, LiesNot}
@@ -16,7 +16,7 @@ use Rattle.timefd_lint_scan.specs.Keys.Strings.{Reading, string_at}
 use Rattle.timefd_lint_scan.specs.Keys.Visits.{is_unsure, string_visit, unread_in, unread_visit, visit_of}
 
 -- It ends after all positions that there are.
-pub too_long : (format : Format) (source : Text) (start : ℕ) (reading : Reading)
+pub too_long : (format : FileFormat) (source : Text) (start : ℕ) (reading : Reading)
     → Some reading ≡ string_at format source start → 2 ^ 64 - 1 ≤ reading.closing
     → LiesNot source start (string_at format source start)
 too_long format source start reading read long =
@@ -26,19 +26,19 @@ too_long format source start reading read long =
     contrary small = absurd (omega (arith, long, small))
 
 -- A string in the language that a comment after it names, or else in another.
-pub string_reported : (format : Format) (source : Text) (start : ℕ) (reading : Reading)
-    (reported other language : Option Dialect) (answer : Option Description)
+pub string_reported : (format : FileFormat) (source : Text) (start : ℕ) (reading : Reading)
+    (reported other language : Option FormatLanguage) (answer : Option SourceDescription)
     → Some reading ≡ string_at format source start
     → reported ≡ reported_after format source reading.closing → language ≡ option_or reported other
     → IsInLanguage format source start language answer
     → IsInLanguage format source start (language_at format source start other) answer
 string_reported format source start reading reported other language answer read after is found =
-    subst (λ (l : Option Dialect). IsInLanguage format source start l answer)
-    (is ∙ ap (λ (t : Option Dialect). option_or t other) (after ∙ ap (reported_of format source) read)) found
+    subst (λ (l : Option FormatLanguage). IsInLanguage format source start l answer)
+    (is ∙ ap (λ (t : Option FormatLanguage). option_or t other) (after ∙ ap (reported_of format source) read)) found
 
 -- Its end isn't known.
-pub unsure_step : (format : Format) (source : Text) (other : Option Dialect) (start depth : ℕ)
-    (list : Option Elements) (past : Spot) (test : Bool) (step : Step)
+pub unsure_step : (format : FileFormat) (source : Text) (other : Option FormatLanguage) (start depth : ℕ)
+    (list : Option Elements) (past : KeySpot) (test : Bool) (step : Step)
     → test ≡ is_unsure format source start depth → test ≡ true
     → step.found ≡ None → step.unread ≡ unread_in other start → step.next ≡ past
     → IsStep format source (string_visit format source other start depth list past) step
@@ -48,8 +48,8 @@ unsure_step format source other start depth list past test step unsure holds fou
     (sym holds ∙ unsure) (record { found = found; unread = unread; next = next })
 
 -- There is no string.
-pub no_string_step : (format : Format) (source : Text) (other : Option Dialect) (start depth : ℕ)
-    (list : Option Elements) (past : Spot) (test : Bool) (step : Step)
+pub no_string_step : (format : FileFormat) (source : Text) (other : Option FormatLanguage) (start depth : ℕ)
+    (list : Option Elements) (past : KeySpot) (test : Bool) (step : Step)
     → test ≡ is_unsure format source start depth → test ≡ false → None ≡ string_at format source start
     → step.found ≡ None → step.unread ≡ unread_in other start → step.next ≡ past
     → IsStep format source (string_visit format source other start depth list past) step
@@ -61,8 +61,8 @@ no_string_step format source other start depth list past test step unsure fails 
     (record { found = found; unread = unread; next = next }))
 
 -- There is one, and its end is known.
-pub string_step : (format : Format) (source : Text) (other : Option Dialect) (start depth : ℕ)
-    (list : Option Elements) (past : Spot) (test : Bool) (reading : Reading) (step : Step)
+pub string_step : (format : FileFormat) (source : Text) (other : Option FormatLanguage) (start depth : ℕ)
+    (list : Option Elements) (past : KeySpot) (test : Bool) (reading : Reading) (step : Step)
     → test ≡ is_unsure format source start depth → test ≡ false → Some reading ≡ string_at format source start
     → IsInLanguage format source start (language_at format source start other) step.found
     → step.unread ≡ None

@@ -2,9 +2,9 @@
 use Rattle.std.specs.Prelude.{ℕ, zero, suc, ◌+◌, ◌-◌, ◌*◌, Bool, true, false, not, ◌&&◌, ◌||◌, ◌==◌, nat_lt, if◌then◌else◌, [], ◌∷◌, Option, Some, None}
 use Rattle.timefd_lint_scan.specs.Bytes.{Text, quote, apostrophe, slash, backslash, is_between, is_blank}
 use Rattle.timefd_lint_scan.specs.Escapes.{Part, char_part, character, hex_digit, next_value}
-use Rattle.timefd_lint_scan.specs.declared.keys.number.Number as code
-use Rattle.timefd_lint_scan.specs.declared.keys.style.Style.{Style}
-use Rattle.timefd_lint_scan.specs.declared.keys.style.Style.TheVariants.{Json, Basic, Literal, Double, Single, Plain}
+use Rattle.timefd_lint_scan.specs.declared.keys.number.ReadNumber as code
+use Rattle.timefd_lint_scan.specs.declared.keys.style.StringStyle.{StringStyle}
+use Rattle.timefd_lint_scan.specs.declared.keys.style.StringStyle.TheVariants.{Json, Basic, Literal, Double, Single, Plain}
 use Rattle.timefd_lint_scan.specs.Keys.Styles.{begins_space}
 
 -- a number, and what follows it
@@ -12,10 +12,10 @@ pub record Number : Type 0 where
   pub value : ℕ
   pub rest : Text
 
-abbrev pub numbered : code.Number → Number
+abbrev pub numbered : code.ReadNumber → Number
 numbered n = record { value = n.value; rest = n.rest.now }
 
-abbrev pub numbered_any : Option code.Number → Option Number
+abbrev pub numbered_any : Option code.ReadNumber → Option Number
 numbered_any None = None
 numbered_any (Some n) = Some (numbered n)
 
@@ -53,7 +53,7 @@ abbrev pub second_half : Text → Option Number
 second_half [] = None
 second_half (b ∷ bytes) = if b == backslash then after_letter bytes else None
 
-abbrev pub joins_halves : Style → Bool
+abbrev pub joins_halves : StringStyle → Bool
 joins_halves Json = true
 joins_halves Basic = false
 joins_halves Literal = false
@@ -61,7 +61,7 @@ joins_halves Double = false
 joins_halves Single = false
 joins_halves Plain = false
 
-abbrev pub scalar_part : Style → Option Number → Option Part
+abbrev pub scalar_part : StringStyle → Option Number → Option Part
 scalar_part style None = None
 scalar_part style (Some n) =
     if joins_halves style && is_first_half n.value then pair n.value (second_half n.rest)
@@ -112,7 +112,7 @@ or_wide (Some c) b = Some c
 or_wide None b = wide_letter b
 
 -- the character that a letter after a backslash denotes
-abbrev pub letter : Style → ℕ → Option ℕ
+abbrev pub letter : StringStyle → ℕ → Option ℕ
 letter Json b = json_letter b
 letter Basic b = toml_letter b
 letter Literal b = None
@@ -125,7 +125,7 @@ abbrev pub wide_digit_count : ℕ → ℕ
 wide_digit_count b = if b == 120 then 2 else if b == 117 then 4 else if b == 85 then 8 else 0
 
 -- how many digits follow a letter; 0 if the format doesn't have this escape
-abbrev pub digit_count : Style → ℕ → ℕ
+abbrev pub digit_count : StringStyle → ℕ → ℕ
 digit_count Json b = if b == 117 then 4 else 0
 digit_count Basic b = wide_digit_count b
 digit_count Literal b = 0
@@ -133,16 +133,16 @@ digit_count Double b = wide_digit_count b
 digit_count Single b = 0
 digit_count Plain b = 0
 
-abbrev pub numeric : Style → ℕ → Text → Option Part
+abbrev pub numeric : StringStyle → ℕ → Text → Option Part
 numeric style count bytes =
     if count == 0 then None else scalar_part style (number count (Some 0) bytes)
 
-abbrev pub escape_by : Style → ℕ → Text → Option ℕ → Option Part
+abbrev pub escape_by : StringStyle → ℕ → Text → Option ℕ → Option Part
 escape_by style b bytes (Some c) = char_part bytes (Some c)
 escape_by style b bytes None = numeric style (digit_count style b) bytes
 
 -- after a backslash
-abbrev pub escape : Style → Text → Option Part
+abbrev pub escape : StringStyle → Text → Option Part
 escape style [] = None
 escape style (b ∷ bytes) = escape_by style b bytes (letter style b)
 
@@ -155,7 +155,7 @@ abbrev pub delete : ℕ
 delete = 126 + 1
 
 -- control characters that have to be escaped: in JSON all, elsewhere all but the tab
-abbrev pub is_refused : Style → ℕ → Bool
+abbrev pub is_refused : StringStyle → ℕ → Bool
 is_refused Json b = nat_lt b 32
 is_refused Basic b = (nat_lt b 32 && not (b == 9)) || (b == delete)
 is_refused Literal b = (nat_lt b 32 && not (b == 9)) || (b == delete)
@@ -172,10 +172,10 @@ second_apostrophe (b ∷ bytes) = if b == apostrophe then Some (itself b bytes) 
 abbrev pub breaks_plain : ℕ → Text → Bool
 breaks_plain b bytes = ((b == 58) || is_blank b) && begins_space bytes
 
-abbrev pub escaped_or : Style → ℕ → Text → Option Part
+abbrev pub escaped_or : StringStyle → ℕ → Text → Option Part
 escaped_or style b bytes = if b == backslash then escape style bytes else Some (itself b bytes)
 
-abbrev pub part_by : Style → ℕ → Text → Option Part
+abbrev pub part_by : StringStyle → ℕ → Text → Option Part
 part_by Json b bytes = escaped_or Json b bytes
 part_by Basic b bytes = escaped_or Basic b bytes
 part_by Literal b bytes = Some (itself b bytes)
@@ -184,5 +184,5 @@ part_by Single b bytes = if b == apostrophe then second_apostrophe bytes else So
 part_by Plain b bytes = if breaks_plain b bytes then None else Some (itself b bytes)
 
 -- the part of a string that begins with this byte; none if the format doesn't allow it
-abbrev pub part_of : Style → ℕ → Text → Option Part
+abbrev pub part_of : StringStyle → ℕ → Text → Option Part
 part_of style b bytes = if is_refused style b then None else part_by style b bytes

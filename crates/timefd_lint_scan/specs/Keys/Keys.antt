@@ -1,15 +1,15 @@
 -- Keys whose strings are descriptions.
 use Rattle.std.specs.Prelude.{ℕ, Bool, ◌==◌, Option, Some, None, Result, Ok, Err, List, [], ◌∷◌, bytes_eq, length, map, if◌then◌else◌}
 use Rattle.std.specs.List.{before_first, after_first, position_or_len}
-use Rattle.timefd_lint_scan.specs.declared.dialect.Dialect.{Dialect}
+use Rattle.timefd_lint_scan.specs.declared.dialect.FormatLanguage.{FormatLanguage}
 use Rattle.timefd_lint_scan.specs.Bytes.{Text}
 use Rattle.timefd_lint_scan.specs.Dialects.{dialect_named}
-use Rattle.timefd_lint_scan.specs.declared.keys.key.Key.{Key}
+use Rattle.timefd_lint_scan.specs.declared.keys.key.DescriptionKey.{DescriptionKey}
 use Rattle.timefd_lint_scan.specs.declared.keys.key.KeyFault.{KeyFault}
 use Rattle.timefd_lint_scan.specs.declared.keys.key.KeyFault.TheVariants.{NoEqualsSign, EmptyName, UnknownLanguage}
 
 -- the language of the first key with this name
-abbrev pub dialect_of : List Key → Text → Option Dialect
+abbrev pub dialect_of : List DescriptionKey → Text → Option FormatLanguage
 dialect_of [] name = None
 dialect_of (key ∷ keys) name =
     if bytes_eq key.name.now name then Some key.dialect else dialect_of keys name
@@ -17,22 +17,22 @@ dialect_of (key ∷ keys) name =
 -- a key by the bytes of its name
 pub record Named : Type 0 where
   pub name : Text
-  pub dialect : Dialect
+  pub dialect : FormatLanguage
 
-abbrev pub named : Key → Named
+abbrev pub named : DescriptionKey → Named
 named key = record { name = key.name.now; dialect = key.dialect }
 
-abbrev pub named_all : List Key → List Named
+abbrev pub named_all : List DescriptionKey → List Named
 named_all keys = map named keys
 
-abbrev pub seen : Result Key KeyFault → Result Named KeyFault
+abbrev pub seen : Result DescriptionKey KeyFault → Result Named KeyFault
 seen (Ok key) = Ok (named key)
 seen (Err fault) = Err fault
 
 abbrev pub is_equals_sign : ℕ → Bool
 is_equals_sign b = b == 61
 
-abbrev pub answer_by : Text → Option Dialect → Result Named KeyFault
+abbrev pub answer_by : Text → Option FormatLanguage → Result Named KeyFault
 answer_by name (Some dialect) = Ok (record { name = name; dialect = dialect })
 answer_by name None = Err UnknownLanguage
 

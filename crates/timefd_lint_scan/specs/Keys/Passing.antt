@@ -3,9 +3,9 @@ use Rattle.std.specs.Prelude.{ℕ, ◌-◌, Bool, true, false, not, ◌&&◌, �
 use Rattle.std.specs.List.{starts_with}
 use Rattle.timefd_lint_scan.specs.After.{after_run}
 use Rattle.timefd_lint_scan.specs.Bytes.{Text, backslash, class_test, is_blank, is_line_end}
-use Rattle.timefd_lint_scan.specs.declared.class.Class.TheVariants.{Line}
-use Rattle.timefd_lint_scan.specs.declared.keys.format.Format.{Format}
-use Rattle.timefd_lint_scan.specs.declared.keys.format.Format.TheVariants.{Toml, Json, Yaml}
+use Rattle.timefd_lint_scan.specs.declared.class.ByteSet.TheVariants.{Line}
+use Rattle.timefd_lint_scan.specs.declared.keys.format.FileFormat.{FileFormat}
+use Rattle.timefd_lint_scan.specs.declared.keys.format.FileFormat.TheVariants.{Toml, Json, Yaml}
 
 abbrev pub begins_with : Text → Text → Bool
 begins_with text front = starts_with nat_eq text front
@@ -31,13 +31,13 @@ is_space_first (b ∷ bytes) = is_blank b || is_line_end b
 abbrev pub is_after_space : Text → ℕ → Bool
 is_after_space source at = if at == 0 then true else is_space_first (drop (at - 1) source)
 
-abbrev pub begins_comment_in : Format → Text → ℕ → Text → Bool
+abbrev pub begins_comment_in : FileFormat → Text → ℕ → Text → Bool
 begins_comment_in Toml source at text = begins_with text (codes "#")
 begins_comment_in Json source at text = begins_with text (codes "//") || begins_with text (codes "/*")
 begins_comment_in Yaml source at text = begins_with text (codes "#") && is_after_space source at
 
 -- whether a comment begins at a position
-abbrev pub begins_comment_at : Format → Text → ℕ → Bool
+abbrev pub begins_comment_at : FileFormat → Text → ℕ → Bool
 begins_comment_at format source at = begins_comment_in format source at (drop at source)
 
 -- What follows the comment that a text begins with. One of `/*` ends after the next `*/`, each other one at
@@ -48,7 +48,7 @@ after_comment text =
     else after_run (class_test Line) text
 
 -- what follows a text's first byte, or in TOML the string of several lines that it begins with
-abbrev pub after_quotes : Format → Text → Text
+abbrev pub after_quotes : FileFormat → Text → Text
 after_quotes Toml text =
     if begins_with text (codes "\"\"\"") then after_lines (codes "\"\"\"") true false (drop 3 text)
     else if begins_with text (codes "'''") then after_lines (codes "'''") false false (drop 3 text)
@@ -57,7 +57,7 @@ after_quotes Json text = drop 1 text
 after_quotes Yaml text = drop 1 text
 
 -- what follows the bytes that are skipped at a position without a name
-abbrev pub after_passed : Format → Text → ℕ → Text
+abbrev pub after_passed : FileFormat → Text → ℕ → Text
 after_passed format source at =
     if begins_comment_at format source at then after_comment (drop at source)
     else after_quotes format (drop at source)

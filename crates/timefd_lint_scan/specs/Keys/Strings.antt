@@ -2,9 +2,9 @@
 use Rattle.std.specs.Prelude.{ℕ, zero, suc, ◌-◌, if◌then◌else◌, List, [], ◌∷◌, ◌++◌, length, drop, Option, Some, None}
 use Rattle.timefd_lint_scan.specs.Bytes.{Text}
 use Rattle.timefd_lint_scan.specs.Escapes.{all_at}
-use Rattle.timefd_lint_scan.specs.declared.keys.format.Format.{Format}
-use Rattle.timefd_lint_scan.specs.declared.keys.reading.Reading as code
-use Rattle.timefd_lint_scan.specs.declared.keys.style.Style.{Style}
+use Rattle.timefd_lint_scan.specs.declared.keys.format.FileFormat.{FileFormat}
+use Rattle.timefd_lint_scan.specs.declared.keys.reading.StringReading as code
+use Rattle.timefd_lint_scan.specs.declared.keys.style.StringStyle.{StringStyle}
 use Rattle.timefd_lint_scan.specs.Keys.Escapes.{part_of}
 use Rattle.timefd_lint_scan.specs.Keys.Styles.{closes, is_closed_by_end, is_quoted, style_of}
 
@@ -14,14 +14,14 @@ pub record Reading : Type 0 where
   pub positions : List ℕ
   pub closing : ℕ
 
-abbrev pub seen : code.Reading → Reading
+abbrev pub seen : code.StringReading → Reading
 seen r = record {
   text = r.unescaped.text.items;
   positions = r.unescaped.positions.items;
   closing = r.closing;
 }
 
-abbrev pub seen_any : Option code.Reading → Option Reading
+abbrev pub seen_any : Option code.StringReading → Option Reading
 seen_any None = None
 seen_any (Some r) = Some (seen r)
 
@@ -38,12 +38,12 @@ before text positions (Some r) =
 abbrev pub closed_at : ℕ → Reading
 closed_at position = record { text = []; positions = []; closing = position }
 
-abbrev pub at_end : Style → ℕ → Option Reading
+abbrev pub at_end : StringStyle → ℕ → Option Reading
 at_end style end = if is_closed_by_end style then Some (closed_at end) else None
 
 -- The bytes that a string denotes, in at most this many parts, up to what closes it. The text ends at
 -- `end`, from which the positions of the parts are counted back.
-abbrev pub read : ℕ → Style → ℕ → Text → Option Reading
+abbrev pub read : ℕ → StringStyle → ℕ → Text → Option Reading
 read zero style end [] = at_end style end
 read zero style end (b ∷ bytes) = None
 read (suc steps) style end [] = at_end style end
@@ -55,21 +55,21 @@ read (suc steps) style end (b ∷ bytes) =
     ]
 
 -- what follows the quote, if there is one
-abbrev pub body : Style → ℕ → Text → Text
+abbrev pub body : StringStyle → ℕ → Text → Text
 body style b bytes = if is_quoted style then bytes else b ∷ bytes
 
-abbrev pub read_all : Style → ℕ → Text → Option Reading
+abbrev pub read_all : StringStyle → ℕ → Text → Option Reading
 read_all style end text = read (length text) style end text
 
-abbrev pub read_by : ℕ → ℕ → Text → Option Style → Option Reading
+abbrev pub read_by : ℕ → ℕ → Text → Option StringStyle → Option Reading
 read_by end b bytes None = None
 read_by end b bytes (Some style) = read_all style end (body style b bytes)
 
 -- the string that a text begins with; the text ends at `end`
-abbrev pub first_string : Format → ℕ → Text → Option Reading
+abbrev pub first_string : FileFormat → ℕ → Text → Option Reading
 first_string format end [] = None
 first_string format end (b ∷ bytes) = read_by end b bytes (style_of format b bytes)
 
 -- the string that begins at a position of a source
-abbrev pub string_at : Format → Text → ℕ → Option Reading
+abbrev pub string_at : FileFormat → Text → ℕ → Option Reading
 string_at format source start = first_string format (length source) (drop start source)

@@ -2,10 +2,10 @@
 use Rattle.std.specs.Prelude.{ℕ, Bool, true, false, not, ◌&&◌, ◌||◌, ◌==◌, nat_le, if◌then◌else◌, [], ◌∷◌, Option, Some, None}
 use Rattle.timefd_lint_scan.specs.After.{after_run}
 use Rattle.timefd_lint_scan.specs.Bytes.{Text, quote, apostrophe, hash, is_blank, is_line_end}
-use Rattle.timefd_lint_scan.specs.declared.keys.format.Format.{Format}
-use Rattle.timefd_lint_scan.specs.declared.keys.format.Format.TheVariants as formats
-use Rattle.timefd_lint_scan.specs.declared.keys.style.Style.{Style}
-use Rattle.timefd_lint_scan.specs.declared.keys.style.Style.TheVariants.{Json, Basic, Literal, Double, Single, Plain}
+use Rattle.timefd_lint_scan.specs.declared.keys.format.FileFormat.{FileFormat}
+use Rattle.timefd_lint_scan.specs.declared.keys.format.FileFormat.TheVariants as formats
+use Rattle.timefd_lint_scan.specs.declared.keys.style.StringStyle.{StringStyle}
+use Rattle.timefd_lint_scan.specs.declared.keys.style.StringStyle.TheVariants.{Json, Basic, Literal, Double, Single, Plain}
 
 -- a space, a control character, or nothing
 abbrev pub begins_space : Text → Bool
@@ -19,7 +19,7 @@ begins_two b (c ∷ []) = false
 begins_two b (c ∷ d ∷ bytes) = (c == b) && (d == b)
 
 -- Strings of several lines, which begin with three quotes, aren't among these.
-abbrev pub toml_style : ℕ → Text → Option Style
+abbrev pub toml_style : ℕ → Text → Option StringStyle
 toml_style b bytes =
     if begins_two b bytes then None
     else if b == quote then Some Basic
@@ -47,7 +47,7 @@ begins_plain b bytes =
     else if is_mark b then not (begins_space bytes)
     else true
 
-abbrev pub yaml_style : ℕ → Text → Option Style
+abbrev pub yaml_style : ℕ → Text → Option StringStyle
 yaml_style b bytes =
     if b == quote then Some Double
     else if b == apostrophe then Some Single
@@ -55,7 +55,7 @@ yaml_style b bytes =
     else None
 
 -- how a string that begins with this byte is written
-abbrev pub style_of : Format → ℕ → Text → Option Style
+abbrev pub style_of : FileFormat → ℕ → Text → Option StringStyle
 style_of formats.Toml b bytes = toml_style b bytes
 style_of formats.Json b bytes = if b == quote then Some Json else None
 style_of formats.Yaml b bytes = yaml_style b bytes
@@ -74,7 +74,7 @@ begins_apostrophe [] = false
 begins_apostrophe (b ∷ bytes) = b == apostrophe
 
 -- whether this byte closes a string; in one with single quotes two of them denote one
-abbrev pub closes : Style → ℕ → Text → Bool
+abbrev pub closes : StringStyle → ℕ → Text → Bool
 closes Json b bytes = b == quote
 closes Basic b bytes = b == quote
 closes Literal b bytes = b == apostrophe
@@ -83,7 +83,7 @@ closes Single b bytes = (b == apostrophe) && not (begins_apostrophe bytes)
 closes Plain b bytes = ends_plain b bytes
 
 -- whether the end of the text closes a string
-abbrev pub is_closed_by_end : Style → Bool
+abbrev pub is_closed_by_end : StringStyle → Bool
 is_closed_by_end Json = false
 is_closed_by_end Basic = false
 is_closed_by_end Literal = false
@@ -92,7 +92,7 @@ is_closed_by_end Single = false
 is_closed_by_end Plain = true
 
 -- whether a string begins with a quote
-abbrev pub is_quoted : Style → Bool
+abbrev pub is_quoted : StringStyle → Bool
 is_quoted Json = true
 is_quoted Basic = true
 is_quoted Literal = true

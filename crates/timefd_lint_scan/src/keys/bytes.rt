@@ -5,14 +5,14 @@ ghost use Rattle.timefd_lint_scan.specs.Keys.Styles as spec;
 ghost use Rattle.timefd_lint_scan.specs.After.{after_run};
 ghost use Rattle.timefd_lint_scan.specs.Bytes.{is_blank};
 
-use crate::class::{Class, after_run};
+use crate::class::{ByteSet, after_run};
 
 /// What follows the blanks at the front.
 pub fn after_blanks(text: &[u8]) -> &[u8]
     ensures rest { result.now ≡ after_run is_blank text.now }
     ensures within { length result.now ≤ length text.now }
 {
-    after_run(Class::Blank, text)
+    after_run(ByteSet::Blank, text)
 }
 
 /// Whether a text is empty or begins with a space or a control character.

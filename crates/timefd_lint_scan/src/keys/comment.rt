@@ -5,31 +5,31 @@ ghost use Rattle.timefd_lint_scan.specs.Keys.Comments as spec;
 ghost use Rattle.timefd_lint_scan.specs.Keys.Comments.{IsLineAt};
 ghost use Rattle.timefd_lint_scan.specs.Bytes.{seen};
 
-use crate::Dialect;
-use crate::class::{Class, after_run, is_line_end};
+use crate::FormatLanguage;
+use crate::class::{ByteSet, after_run, is_line_end};
 use crate::dialect::dialect_of_word;
 use crate::keys::bytes::after_blanks;
-use crate::keys::format::Format;
+use crate::keys::format::FileFormat;
 use crate::keys::style::ends_line;
 use crate::line::{from, line_start};
 use crate::marks::{after, first_word};
 
-fn after_sign(format: Format, text: &[u8]) -> Option<&[u8]>
+fn after_sign(format: FileFormat, text: &[u8]) -> Option<&[u8]>
     ensures { seen result ≡ spec.after_sign format text.now }
 {
     match format {
-        Format::Toml | Format::Yaml => after(text, b"#"),
-        Format::Json => after(text, b"//"),
+        FileFormat::Toml | FileFormat::Yaml => after(text, b"#"),
+        FileFormat::Json => after(text, b"//"),
     }
 }
 
 /// Whether a text begins with the end of a line, or with a comment, or is empty.
-fn ends_comment(format: Format, text: &[u8]) -> bool
+fn ends_comment(format: FileFormat, text: &[u8]) -> bool
     ensures { result ≡ spec.ends_comment format text.now }
 {
     match format {
-        Format::Toml | Format::Yaml => ends_line(text),
-        Format::Json => ends_line_of_json(text),
+        FileFormat::Toml | FileFormat::Yaml => ends_line(text),
+        FileFormat::Json => ends_line_of_json(text),
     }
 }
 
@@ -43,10 +43,10 @@ fn ends_line_of_json(text: &[u8]) -> bool
 }
 
 /// The language that the first word of a text names, if only blanks or a comment follow it in its line.
-fn word_reported(format: Format, text: &[u8]) -> Option<Dialect>
+fn word_reported(format: FileFormat, text: &[u8]) -> Option<FormatLanguage>
     ensures { result ≡ spec.word_reported format text.now }
 {
-    if ends_comment(format, after_blanks(after_run(Class::Word, text))) {
+    if ends_comment(format, after_blanks(after_run(ByteSet::Word, text))) {
         dialect_of_word(first_word(text))
     } else {
         None
@@ -54,7 +54,7 @@ fn word_reported(format: Format, text: &[u8]) -> Option<Dialect>
 }
 
 /// The language that a comment at the front of a text names.
-fn dialect_reported(format: Format, text: &[u8]) -> Option<Dialect>
+fn dialect_reported(format: FileFormat, text: &[u8]) -> Option<FormatLanguage>
     ensures { result ≡ spec.dialect_reported format text.now }
 {
     let comment = after_blanks(after_sign(format, text)?);
@@ -63,10 +63,10 @@ fn dialect_reported(format: Format, text: &[u8]) -> Option<Dialect>
 
 /// The language that a comment names after a string, in its line. The string is closed at the byte
 /// `closing`.
-pub fn reported_after(format: Format, source: &[u8], closing: usize) -> Option<Dialect>
+pub fn reported_after(format: FileFormat, source: &[u8], closing: usize) -> Option<FormatLanguage>
     ensures { result ≡ spec.reported_after format source.now closing }
 {
-    dialect_reported(format, after_run(Class::Aside, from(source, closing)))
+    dialect_reported(format, after_run(ByteSet::Aside, from(source, closing)))
 }
 
 /// The line before the one that begins at a position; empty if that is the first line.
@@ -79,7 +79,7 @@ pub fn line_in_front(source: &[u8], start: usize) -> &[u8]
 }
 
 /// The language that a comment names that is alone in the line before the one that begins at `start`.
-fn reported_in_front(format: Format, source: &[u8], start: usize) -> Option<Dialect>
+fn reported_in_front(format: FileFormat, source: &[u8], start: usize) -> Option<FormatLanguage>
     requires { start ≤ length source.now }
     ensures { result ≡ spec.reported_in_front format source.now start }
 {
@@ -88,26 +88,26 @@ fn reported_in_front(format: Format, source: &[u8], start: usize) -> Option<Dial
 
 /// The line that a position is in.
 #[derive(Clone, Copy)]
-pub struct Line {
+pub struct LinePosition {
     /// Where it begins, as a byte index.
     pub start: usize,
     /// The language that a comment names that is alone in the line before it.
-    pub reported: Option<Dialect>,
+    pub reported: Option<FormatLanguage>,
 }
 
-impl Line {
+impl LinePosition {
     /// The first line, which has no line before it.
-    pub fn first() -> Line
+    pub fn first() -> LinePosition
         ensures { result ≡ spec.first_line }
     {
-        Line {
+        LinePosition {
             start: 0,
             reported: None,
         }
     }
 
     /// The line of the later position `to`, if this is the line of `from`.
-    pub fn later(self, format: Format, source: &[u8], from: usize, to: usize) -> Line
+    pub fn later(self, format: FileFormat, source: &[u8], from: usize, to: usize) -> LinePosition
         requires line { IsLineAt format source.now from self }
         requires ordered { from ≤ to }
         requires within { to ≤ length source.now }
@@ -117,7 +117,7 @@ impl Line {
         if start == self.start {
             return self;
         }
-        Line {
+        LinePosition {
             start,
             reported: reported_in_front(format, source, start),
         }

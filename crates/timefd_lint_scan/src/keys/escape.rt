@@ -8,13 +8,18 @@ use crate::class::is_blank;
 use crate::keys::bytes::begins_space;
 use crate::keys::letter::{digit_count, letter};
 use crate::keys::scalar::numeric;
-use crate::keys::style::Style;
-use crate::part::{Part, Stands, char_part};
+use crate::keys::style::StringStyle;
+use crate::part::{Stands, StringPart, char_part};
 
 // The control character after the letters of ASCII.
 const DELETE: u8 = b'\x7f';
 
-fn escape_by(style: Style, byte: u8, after: &[u8], letter: Option<char>) -> Option<Part<'_>>
+fn escape_by(
+    style: StringStyle,
+    byte: u8,
+    after: &[u8],
+    letter: Option<char>,
+) -> Option<StringPart<'_>>
     ensures part { parted_any result ≡ spec.escape_by style byte after.now letter }
     ensures within { MatchOption result ⊤ (λ part. length part.rest.now ≤ length after.now) }
 {
@@ -24,7 +29,7 @@ fn escape_by(style: Style, byte: u8, after: &[u8], letter: Option<char>) -> Opti
     }
 }
 
-fn escape(style: Style, text: &[u8]) -> Option<Part<'_>>
+fn escape(style: StringStyle, text: &[u8]) -> Option<StringPart<'_>>
     ensures part { parted_any result ≡ spec.escape style text.now }
     ensures within { MatchOption result ⊤ (λ part. length part.rest.now ≤ length text.now) }
 {
@@ -34,27 +39,28 @@ fn escape(style: Style, text: &[u8]) -> Option<Part<'_>>
     }
 }
 
-fn itself(byte: u8, rest: &[u8]) -> Part<'_>
+fn itself(byte: u8, rest: &[u8]) -> StringPart<'_>
     ensures part { parted result ≡ spec.itself byte rest.now }
     ensures within { length result.rest.now ≤ length rest.now }
 {
-    Part {
+    StringPart {
         stands: Stands::Byte(byte),
         rest,
     }
 }
 
-fn is_refused(style: Style, byte: u8) -> bool
+fn is_refused(style: StringStyle, byte: u8) -> bool
     ensures { result ≡ spec.is_refused style byte }
 {
     match style {
-        Style::Json => byte < b' ',
-        Style::Basic | Style::Literal => byte < b' ' && byte != b'\t' || byte == DELETE,
-        Style::Double | Style::Single | Style::Plain => byte < b' ' && byte != b'\t',
+        StringStyle::Json => byte < b' ',
+        StringStyle::Basic | StringStyle::Literal => byte < b' ' && byte != b'\t' || byte == DELETE,
+        StringStyle::Double | StringStyle::Single | StringStyle::Plain => byte < b' '
+            && byte != b'\t',
     }
 }
 
-fn second_apostrophe(text: &[u8]) -> Option<Part<'_>>
+fn second_apostrophe(text: &[u8]) -> Option<StringPart<'_>>
     ensures part { parted_any result ≡ spec.second_apostrophe text.now }
     ensures within { MatchOption result ⊤ (λ part. length part.rest.now ≤ length text.now) }
 {
@@ -70,7 +76,7 @@ fn breaks_plain(byte: u8, after: &[u8]) -> bool
     (byte == b':' || is_blank(byte)) && begins_space(after)
 }
 
-fn escaped_or(style: Style, byte: u8, after: &[u8]) -> Option<Part<'_>>
+fn escaped_or(style: StringStyle, byte: u8, after: &[u8]) -> Option<StringPart<'_>>
     ensures part { parted_any result ≡ spec.escaped_or style byte after.now }
     ensures within { MatchOption result ⊤ (λ part. length part.rest.now ≤ length after.now) }
 {
@@ -81,21 +87,23 @@ fn escaped_or(style: Style, byte: u8, after: &[u8]) -> Option<Part<'_>>
     }
 }
 
-fn part_by(style: Style, byte: u8, after: &[u8]) -> Option<Part<'_>>
+fn part_by(style: StringStyle, byte: u8, after: &[u8]) -> Option<StringPart<'_>>
     ensures part { parted_any result ≡ spec.part_by style byte after.now }
     ensures within { MatchOption result ⊤ (λ part. length part.rest.now ≤ length after.now) }
 {
     match style {
-        Style::Json | Style::Basic | Style::Double => escaped_or(style, byte, after),
-        Style::Literal => Some(itself(byte, after)),
-        Style::Single if byte == b'\'' => second_apostrophe(after),
-        Style::Plain if breaks_plain(byte, after) => None,
-        Style::Single | Style::Plain => Some(itself(byte, after)),
+        StringStyle::Json | StringStyle::Basic | StringStyle::Double => escaped_or(
+            style, byte, after,
+        ),
+        StringStyle::Literal => Some(itself(byte, after)),
+        StringStyle::Single if byte == b'\'' => second_apostrophe(after),
+        StringStyle::Plain if breaks_plain(byte, after) => None,
+        StringStyle::Single | StringStyle::Plain => Some(itself(byte, after)),
     }
 }
 
 /// The part of a string that begins with this byte; `None` if the format doesn't allow it.
-pub fn part_of(style: Style, byte: u8, after: &[u8]) -> Option<Part<'_>>
+pub fn part_of(style: StringStyle, byte: u8, after: &[u8]) -> Option<StringPart<'_>>
     ensures part { parted_any result ≡ spec.part_of style byte after.now }
     ensures within { MatchOption result ⊤ (λ part. length part.rest.now ≤ length after.now) }
 {

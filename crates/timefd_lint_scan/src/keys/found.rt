@@ -5,13 +5,13 @@ ghost use Rattle.std.specs.Option.{option_to_list};
 ghost use Rattle.timefd_lint_scan.specs.Keys.Found.{AllValues, AreAllValues, AreValues};
 ghost use Rattle.timefd_lint_scan.specs.Found.{AreInOrder};
 
-use crate::Description;
+use crate::SourceDescription;
 use crate::description::push_any;
-use crate::keys::comment::Line;
-use crate::keys::format::Format;
-use crate::keys::key::Key;
-use crate::keys::spot::Spot;
-use crate::keys::step::Scan;
+use crate::keys::comment::LinePosition;
+use crate::keys::format::FileFormat;
+use crate::keys::key::DescriptionKey;
+use crate::keys::spot::KeySpot;
+use crate::keys::step::KeyScan;
 use crate::keys::visit::step_at;
 use std::alloc::{AllocError, Global};
 
@@ -19,7 +19,7 @@ use std::alloc::{AllocError, Global};
 #[derive(Drop)]
 pub struct Values {
     /// Those that are descriptions, in order; they don't overlap.
-    pub descriptions: Vec<Description>,
+    pub descriptions: Vec<SourceDescription>,
     /// Where those begin that aren't looked at, as byte indices: a key or a comment names their language, but
     /// they aren't strings, or are written in a way that isn't read.
     pub unread: Vec<usize>,
@@ -49,30 +49,30 @@ fn push_unread(positions: &mut Vec<usize>, unread: Option<usize>) -> Result<(), 
 #[tactic(auto, using(crate::proofs::KeysLemmas::FoundLemmas::none_yet, crate::proofs::KeysLemmas::FoundLemmas::first_line_reported, crate::proofs::KeysLemmas::FoundLemmas::no_stop_yet, crate::proofs::KeysLemmas::FoundLemmas::at_last, crate::proofs::KeysLemmas::FoundLemmas::each_at_last))]
 pub fn values_by(
     alloc: Global,
-    format: Format,
+    format: FileFormat,
     source: &str,
-    keys: &[Key<'_>],
+    keys: &[DescriptionKey<'_>],
 ) -> Result<Values, AllocError>
     ensures all { IfOk result (λ values. AreValues format source.now keys.now values.descriptions.items
         values.unread.items) }
     ensures stand { IfOk result (λ values. AllValues format source.now keys.now values.descriptions.items) }
     ensures in_order { IfOk result (λ values. AreInOrder 0 values.descriptions.items) }
 {
-    let scan = Scan {
+    let scan = KeyScan {
         format,
         source,
         keys,
     };
     let mut descriptions = Vec::new(alloc);
     let mut unread = Vec::new(alloc);
-    let mut line = Line::first();
-    let mut spot = Spot::first();
+    let mut line = LinePosition::first();
+    let mut spot = KeySpot::first();
     let mut end = 0;
     'steps: while spot.at < source.len() {
         let step = step_at(alloc, scan, spot, line.reported)?;
         end = push_any(&mut descriptions, step.found, end)?;
         push_unread(&mut unread, step.unread)?;
-        let next = Spot::after(source, spot.at, step.next);
+        let next = KeySpot::after(source, spot.at, step.next);
         line = line.later(format, source.as_bytes(), spot.at, next.at);
         spot = next;
     }
@@ -86,10 +86,10 @@ pub fn values_by(
 #[tactic(auto, using(crate::proofs::KeysLemmas::FoundLemmas::all_values))]
 pub fn descriptions_by(
     alloc: Global,
-    format: Format,
+    format: FileFormat,
     source: &str,
-    keys: &[Key<'_>],
-) -> Result<Vec<Description>, AllocError>
+    keys: &[DescriptionKey<'_>],
+) -> Result<Vec<SourceDescription>, AllocError>
     ensures all { IfOk result (λ found. AreAllValues format source.now keys.now found.items) }
     ensures values { IfOk result (λ found. AllValues format source.now keys.now found.items) }
     ensures in_order { IfOk result (λ found. AreInOrder 0 found.items) }

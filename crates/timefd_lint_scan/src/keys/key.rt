@@ -3,18 +3,18 @@
 ghost use Rattle.std.specs.Prelude.{◌≡◌};
 ghost use Rattle.timefd_lint_scan.specs.Keys.Keys as spec;
 
-use crate::Dialect;
+use crate::FormatLanguage;
 use crate::dialect::dialect_named;
 
 /// A key whose strings are descriptions in this language.
 #[derive(Clone, Copy)]
-pub struct Key<'a> {
+pub struct DescriptionKey<'a> {
     pub name: &'a str,
-    pub dialect: Dialect,
+    pub dialect: FormatLanguage,
 }
 
 /// The language of the first of these keys with this name.
-pub fn dialect_of(keys: &[Key<'_>], name: &[u8]) -> Option<Dialect>
+pub fn dialect_of(keys: &[DescriptionKey<'_>], name: &[u8]) -> Option<FormatLanguage>
     ensures { result ≡ spec.dialect_of keys.now name.now }
 {
     let mut rest = keys;
@@ -39,20 +39,20 @@ pub enum KeyFault {
 }
 
 // The key with this name and the word for its language.
-fn answer_of<'a>(name: &'a str, language: &str) -> Result<Key<'a>, KeyFault>
+fn answer_of<'a>(name: &'a str, language: &str) -> Result<DescriptionKey<'a>, KeyFault>
     ensures { spec.seen result ≡ spec.answer_of name.now language.now }
 {
     if name.is_empty() {
         return Err(KeyFault::EmptyName);
     }
     match dialect_named(language) {
-        Some(dialect) => Ok(Key { name, dialect }),
+        Some(dialect) => Ok(DescriptionKey { name, dialect }),
         None => Err(KeyFault::UnknownLanguage),
     }
 }
 
 /// The key in a word like `time_format=3`, split at the first equals sign; or why there is none.
-pub fn key_of(word: &str) -> Result<Key<'_>, KeyFault>
+pub fn key_of(word: &str) -> Result<DescriptionKey<'_>, KeyFault>
     ensures { spec.seen result ≡ spec.key_of word.now }
 {
     match word.split_once('=') {

@@ -3,7 +3,7 @@
 ghost use Rattle.std.specs.Prelude.{◌≡◌};
 ghost use Rattle.timefd_lint_scan.specs.Keys.Escapes as spec;
 
-use crate::keys::style::Style;
+use crate::keys::style::StringStyle;
 
 fn common_letter(byte: u8) -> Option<char>
     ensures { result ≡ spec.common_letter byte }
@@ -77,26 +77,26 @@ fn or_wide(letter: Option<char>, byte: u8) -> Option<char>
 }
 
 /// The character that a letter after a backslash denotes.
-pub fn letter(style: Style, byte: u8) -> Option<char>
+pub fn letter(style: StringStyle, byte: u8) -> Option<char>
     ensures { result ≡ spec.letter style byte }
 {
     match style {
-        Style::Json => json_letter(byte),
-        Style::Basic => toml_letter(byte),
-        Style::Double => or_wide(yaml_letter(byte), byte),
-        Style::Literal | Style::Single | Style::Plain => None,
+        StringStyle::Json => json_letter(byte),
+        StringStyle::Basic => toml_letter(byte),
+        StringStyle::Double => or_wide(yaml_letter(byte), byte),
+        StringStyle::Literal | StringStyle::Single | StringStyle::Plain => None,
     }
 }
 
 /// The number of digits that follow a letter after a backslash; 0 if the format doesn't have this
 /// escape.
-pub fn digit_count(style: Style, byte: u8) -> usize
+pub fn digit_count(style: StringStyle, byte: u8) -> usize
     ensures { result ≡ spec.digit_count style byte }
 {
     match style {
-        Style::Json if byte == b'u' => 4,
-        Style::Basic | Style::Double => wide_digit_count(byte),
-        Style::Json | Style::Literal | Style::Single | Style::Plain => 0,
+        StringStyle::Json if byte == b'u' => 4,
+        StringStyle::Basic | StringStyle::Double => wide_digit_count(byte),
+        StringStyle::Json | StringStyle::Literal | StringStyle::Single | StringStyle::Plain => 0,
     }
 }
 

@@ -5,9 +5,9 @@ ghost use Rattle.timefd_lint_scan.specs.Keys.Names as spec;
 ghost use Rattle.timefd_lint_scan.specs.Keys.Names.{now_any, seen_any};
 ghost use Rattle.timefd_lint_scan.specs.Keys.Strings.{string_at as string_of};
 
-use crate::class::{Class, after_run, is_blank, is_line_end};
+use crate::class::{ByteSet, after_run, is_blank, is_line_end};
 use crate::keys::bytes::begins_space;
-use crate::keys::format::Format;
+use crate::keys::format::FileFormat;
 use crate::keys::reading::string_at;
 use crate::keys::style::{begins_plain, is_flow};
 use crate::line::from;
@@ -16,7 +16,7 @@ use std::alloc::{AllocError, Global};
 
 /// What may be the name of a key.
 #[derive(Drop)]
-pub struct Name<'a> {
+pub struct KeyName<'a> {
     /// The bytes that it denotes.
     pub text: Vec<u8>,
     /// What follows it.
@@ -24,12 +24,12 @@ pub struct Name<'a> {
 }
 
 /// Whether a string begins with this byte.
-pub fn is_quote(format: Format, byte: u8) -> bool
+pub fn is_quote(format: FileFormat, byte: u8) -> bool
     ensures { result ≡ spec.is_quote format byte }
 {
     match format {
-        Format::Json => byte == b'"',
-        Format::Toml | Format::Yaml => byte == b'"' || byte == b'\'',
+        FileFormat::Json => byte == b'"',
+        FileFormat::Toml | FileFormat::Yaml => byte == b'"' || byte == b'\'',
     }
 }
 
@@ -68,14 +68,14 @@ fn after_plain(text: &[u8]) -> &[u8]
 
 /// What follows the name without quotes that a text begins with; the whole text if it doesn't begin with
 /// one.
-fn after_unquoted(format: Format, text: &[u8]) -> &[u8]
+fn after_unquoted(format: FileFormat, text: &[u8]) -> &[u8]
     ensures rest { result.now ≡ spec.after_unquoted format text.now }
     ensures within { length result.now ≤ length text.now }
 {
     match (format, text) {
-        (Format::Toml, _) => after_run(Class::Bare, text),
-        (Format::Yaml, [byte, after @ ..]) if begins_plain(*byte, after) => after_plain(text),
-        (Format::Json | Format::Yaml, _) => text,
+        (FileFormat::Toml, _) => after_run(ByteSet::Bare, text),
+        (FileFormat::Yaml, [byte, after @ ..]) if begins_plain(*byte, after) => after_plain(text),
+        (FileFormat::Json | FileFormat::Yaml, _) => text,
     }
 }
 
@@ -94,10 +94,10 @@ fn without_blanks(text: &[u8]) -> &[u8]
 
 fn quoted_name<'a>(
     alloc: Global,
-    format: Format,
+    format: FileFormat,
     source: &'a [u8],
     at: usize,
-) -> Result<Option<Name<'a>>, AllocError>
+) -> Result<Option<KeyName<'a>>, AllocError>
     ensures { IfOk result (λ name. seen_any name ≡ spec.quoted_name source.now (string_of format source.now at)) }
 {
     let Some(reading) = string_at(alloc, format, source, at)? else {
@@ -105,14 +105,14 @@ fn quoted_name<'a>(
     };
     let after = from(from(source, reading.closing), 1);
     let text = reading.unescaped.text;
-    Ok(Some(Name { text, after }))
+    Ok(Some(KeyName { text, after }))
 }
 
 fn unquoted_name<'a>(
     alloc: Global,
-    format: Format,
+    format: FileFormat,
     text: &'a [u8],
-) -> Result<Option<Name<'a>>, AllocError>
+) -> Result<Option<KeyName<'a>>, AllocError>
     ensures { IfOk result (λ name. seen_any name ≡ spec.unquoted_name format text.now) }
 {
     let after = after_unquoted(format, text);
@@ -120,7 +120,7 @@ fn unquoted_name<'a>(
         return Ok(None);
     }
     let word = without_blanks(in_front(text, after));
-    Ok(Some(Name {
+    Ok(Some(KeyName {
         text: word.to_vec(alloc)?,
         after,
     }))
@@ -129,10 +129,10 @@ fn unquoted_name<'a>(
 /// The name at a position.
 pub fn name_at<'a>(
     alloc: Global,
-    format: Format,
+    format: FileFormat,
     source: &'a [u8],
     at: usize,
-) -> Result<Option<Name<'a>>, AllocError>
+) -> Result<Option<KeyName<'a>>, AllocError>
     ensures { IfOk result (λ name. seen_any name ≡ spec.name_at format source.now at) }
 {
     let text = from(source, at);
@@ -144,26 +144,26 @@ pub fn name_at<'a>(
 }
 
 /// The bytes that may be between a name and its value.
-fn between(format: Format) -> Class
+fn between(format: FileFormat) -> ByteSet
     ensures { result ≡ spec.between format }
 {
     match format {
-        Format::Json => Class::Skipped,
-        Format::Toml | Format::Yaml => Class::Blank,
+        FileFormat::Json => ByteSet::Skipped,
+        FileFormat::Toml | FileFormat::Yaml => ByteSet::Blank,
     }
 }
 
-fn separator(format: Format) -> u8
+fn separator(format: FileFormat) -> u8
     ensures { result ≡ spec.separator format }
 {
     match format {
-        Format::Toml => b'=',
-        Format::Json | Format::Yaml => b':',
+        FileFormat::Toml => b'=',
+        FileFormat::Json | FileFormat::Yaml => b':',
     }
 }
 
 /// The text from the value on, given the text after a name; `None` if the name isn't a key's.
-pub fn value_after(format: Format, text: &[u8]) -> Option<&[u8]>
+pub fn value_after(format: FileFormat, text: &[u8]) -> Option<&[u8]>
     ensures { now_any result ≡ spec.value_after format text.now }
 {
     let class = between(format);

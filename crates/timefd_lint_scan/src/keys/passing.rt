@@ -4,8 +4,8 @@ ghost use Rattle.std.specs.Prelude.{◌≡◌, false};
 ghost use Rattle.timefd_lint_scan.specs.Keys.Depths.{depth_at};
 ghost use Rattle.timefd_lint_scan.specs.Keys.Passing as spec;
 
-use crate::class::{Class, after_run, is_blank, is_line_end};
-use crate::keys::format::Format;
+use crate::class::{ByteSet, after_run, is_blank, is_line_end};
+use crate::keys::format::FileFormat;
 use crate::line::from;
 
 /// The text from the wanted bytes on; nothing if it doesn't have them.
@@ -53,14 +53,14 @@ fn is_after_space(source: &[u8], at: usize) -> bool
 }
 
 /// Whether a comment begins at a position.
-pub fn begins_comment_at(format: Format, source: &[u8], at: usize) -> bool
+pub fn begins_comment_at(format: FileFormat, source: &[u8], at: usize) -> bool
     ensures { result ≡ spec.begins_comment_at format source.now at }
 {
     let text = from(source, at);
     match format {
-        Format::Toml => text.starts_with(b"#"),
-        Format::Json => text.starts_with(b"//") || text.starts_with(b"/*"),
-        Format::Yaml => text.starts_with(b"#") && is_after_space(source, at),
+        FileFormat::Toml => text.starts_with(b"#"),
+        FileFormat::Json => text.starts_with(b"//") || text.starts_with(b"/*"),
+        FileFormat::Yaml => text.starts_with(b"#") && is_after_space(source, at),
     }
 }
 
@@ -71,23 +71,27 @@ fn after_comment(text: &[u8]) -> &[u8]
     if text.starts_with(b"/*") {
         from(reaching(from(text, 2), b"*/"), 2)
     } else {
-        after_run(Class::Line, text)
+        after_run(ByteSet::Line, text)
     }
 }
 
 /// What follows a text's first byte, or the string of several lines that it begins with.
-fn after_quotes(format: Format, text: &[u8]) -> &[u8]
+fn after_quotes(format: FileFormat, text: &[u8]) -> &[u8]
     ensures { result.now ≡ spec.after_quotes format text.now }
 {
     match format {
-        Format::Toml if text.starts_with(b"\"\"\"") => after_lines(from(text, 3), b"\"\"\"", true),
-        Format::Toml if text.starts_with(b"'''") => after_lines(from(text, 3), b"'''", false),
-        Format::Toml | Format::Json | Format::Yaml => from(text, 1),
+        FileFormat::Toml if text.starts_with(b"\"\"\"") => after_lines(
+            from(text, 3),
+            b"\"\"\"",
+            true,
+        ),
+        FileFormat::Toml if text.starts_with(b"'''") => after_lines(from(text, 3), b"'''", false),
+        FileFormat::Toml | FileFormat::Json | FileFormat::Yaml => from(text, 1),
     }
 }
 
 /// What follows the bytes that are skipped at a position without a name.
-pub fn after_passed(format: Format, source: &[u8], at: usize) -> &[u8]
+pub fn after_passed(format: FileFormat, source: &[u8], at: usize) -> &[u8]
     ensures { result.now ≡ spec.after_passed format source.now at }
 {
     let text = from(source, at);

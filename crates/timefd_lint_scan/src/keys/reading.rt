@@ -6,24 +6,24 @@ ghost use Rattle.timefd_lint_scan.specs.Keys.Strings.{seen_any};
 
 use crate::Unescaped;
 use crate::keys::escape::part_of;
-use crate::keys::format::Format;
-use crate::keys::style::{Style, closes, is_closed_by_end, is_quoted, style_of};
+use crate::keys::format::FileFormat;
+use crate::keys::style::{StringStyle, closes, is_closed_by_end, is_quoted, style_of};
 use crate::part::push_part;
 use std::alloc::{AllocError, Global};
 
 /// What a string denotes, and where.
 #[derive(Drop)]
-pub struct Reading {
+pub struct StringReading {
     /// Its bytes, and for each the position of what denotes it: its own, or the backslash of its escape.
     pub unescaped: Unescaped,
     /// The position of what closes the string: the quote, or what follows a string without quotes.
     pub closing: usize,
 }
 
-fn reported_as(text: Vec<u8>, positions: Vec<usize>, closing: usize) -> Option<Reading>
+fn reported_as(text: Vec<u8>, positions: Vec<usize>, closing: usize) -> Option<StringReading>
     ensures { seen_any result ≡ spec.reported_as text.items positions.items closing }
 {
-    Some(Reading {
+    Some(StringReading {
         unescaped: Unescaped { text, positions },
         closing,
     })
@@ -32,7 +32,12 @@ fn reported_as(text: Vec<u8>, positions: Vec<usize>, closing: usize) -> Option<R
 /// The bytes that a string denotes, up to what closes it; `None` if nothing closes it, or if the format
 /// doesn't allow what is in it. The text ends at the byte `end` of its source.
 #[tactic(auto, using(crate::proofs::KeysLemmas::ReadingLemmas::at_first))]
-fn read(alloc: Global, style: Style, all: &[u8], end: usize) -> Result<Option<Reading>, AllocError>
+fn read(
+    alloc: Global,
+    style: StringStyle,
+    all: &[u8],
+    end: usize,
+) -> Result<Option<StringReading>, AllocError>
     requires { length all.now ≤ end }
     ensures { IfOk result (λ answer. seen_any answer ≡ spec.read_all style end all.now) }
 {
@@ -60,10 +65,10 @@ fn read(alloc: Global, style: Style, all: &[u8], end: usize) -> Result<Option<Re
 /// `end` of its source.
 fn first_string(
     alloc: Global,
-    format: Format,
+    format: FileFormat,
     text: &[u8],
     end: usize,
-) -> Result<Option<Reading>, AllocError>
+) -> Result<Option<StringReading>, AllocError>
     requires { length text.now ≤ end }
     ensures { IfOk result (λ answer. seen_any answer ≡ spec.first_string format end text.now) }
 {
@@ -84,10 +89,10 @@ fn first_string(
 #[tactic(auto, using(crate::proofs::KeysLemmas::ReadingLemmas::beyond))]
 pub fn string_at(
     alloc: Global,
-    format: Format,
+    format: FileFormat,
     source: &[u8],
     start: usize,
-) -> Result<Option<Reading>, AllocError>
+) -> Result<Option<StringReading>, AllocError>
     ensures { IfOk result (λ answer. seen_any answer ≡ spec.string_at format source.now start) }
 {
     if source.len() < start {

@@ -5,9 +5,9 @@ ghost use Rattle.timefd_lint_scan.specs.Keys.Escapes.{numbered, numbered_any};
 ghost use Rattle.timefd_lint_scan.specs.Keys.Escapes as spec;
 ghost use Rattle.timefd_lint_scan.specs.Escapes.{parted_any};
 
-use crate::keys::number::{Number, number_of};
-use crate::keys::style::Style;
-use crate::part::{Part, character};
+use crate::keys::number::{ReadNumber, number_of};
+use crate::keys::style::StringStyle;
+use crate::part::{StringPart, character};
 
 fn is_first_half(value: u32) -> bool
     ensures { result ≡ spec.is_first_half value }
@@ -29,7 +29,7 @@ fn joined(first: u32, second: u32) -> u32
     65536 + (first - 55296) * 1024 + (second - 56320)
 }
 
-fn after_letter(text: &[u8]) -> Option<Number<'_>>
+fn after_letter(text: &[u8]) -> Option<ReadNumber<'_>>
     ensures number { numbered_any result ≡ spec.after_letter text.now }
     ensures within { MatchOption result ⊤ (λ number. length number.rest.now ≤ length text.now) }
 {
@@ -39,7 +39,7 @@ fn after_letter(text: &[u8]) -> Option<Number<'_>>
     }
 }
 
-fn second_half(text: &[u8]) -> Option<Number<'_>>
+fn second_half(text: &[u8]) -> Option<ReadNumber<'_>>
     ensures number { numbered_any result ≡ spec.second_half text.now }
     ensures within { MatchOption result ⊤ (λ number. length number.rest.now ≤ length text.now) }
 {
@@ -50,7 +50,7 @@ fn second_half(text: &[u8]) -> Option<Number<'_>>
 }
 
 // The character of two surrogate halves.
-fn paired(first: u32, second: Number<'_>) -> Option<Part<'_>>
+fn paired(first: u32, second: ReadNumber<'_>) -> Option<StringPart<'_>>
     requires { IsTrue (spec.is_first_half first) }
     ensures part { parted_any result ≡ spec.pair first (Some (numbered second.entry)) }
     ensures within { MatchOption result ⊤ (λ part. length part.rest.now ≤ length second.entry.rest.now) }
@@ -62,7 +62,7 @@ fn paired(first: u32, second: Number<'_>) -> Option<Part<'_>>
     }
 }
 
-fn pair(first: u32, text: &[u8]) -> Option<Part<'_>>
+fn pair(first: u32, text: &[u8]) -> Option<StringPart<'_>>
     requires { IsTrue (spec.is_first_half first) }
     ensures part { parted_any result ≡ spec.pair first (spec.second_half text.now) }
     ensures within { MatchOption result ⊤ (λ part. length part.rest.now ≤ length text.now) }
@@ -73,16 +73,20 @@ fn pair(first: u32, text: &[u8]) -> Option<Part<'_>>
     }
 }
 
-fn joins_halves(style: Style) -> bool
+fn joins_halves(style: StringStyle) -> bool
     ensures { result ≡ spec.joins_halves style }
 {
     match style {
-        Style::Json => true,
-        Style::Basic | Style::Literal | Style::Double | Style::Single | Style::Plain => false,
+        StringStyle::Json => true,
+        StringStyle::Basic
+        | StringStyle::Literal
+        | StringStyle::Double
+        | StringStyle::Single
+        | StringStyle::Plain => false,
     }
 }
 
-fn scalar_part(style: Style, number: Number<'_>) -> Option<Part<'_>>
+fn scalar_part(style: StringStyle, number: ReadNumber<'_>) -> Option<StringPart<'_>>
     ensures part { parted_any result ≡ spec.scalar_part style (Some (numbered number.entry)) }
     ensures within { MatchOption result ⊤ (λ part. length part.rest.now ≤ length number.entry.rest.now) }
 {
@@ -94,7 +98,7 @@ fn scalar_part(style: Style, number: Number<'_>) -> Option<Part<'_>>
 }
 
 /// The character of an escape with `count` digits. The text begins after the escape's letter.
-pub fn numeric(style: Style, count: usize, text: &[u8]) -> Option<Part<'_>>
+pub fn numeric(style: StringStyle, count: usize, text: &[u8]) -> Option<StringPart<'_>>
     ensures part { parted_any result ≡ spec.numeric style count text.now }
     ensures within { MatchOption result ⊤ (λ part. length part.rest.now ≤ length text.now) }
 {

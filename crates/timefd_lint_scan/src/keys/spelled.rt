@@ -3,9 +3,9 @@
 ghost use Rattle.std.specs.Prelude.{◌≡◌, ◌++◌, IfOk, OnOk, false, flat_map, true};
 ghost use Rattle.timefd_lint_scan.specs.Keys.Spelled as spec;
 
-use crate::keys::format::Format;
-use crate::keys::reading::{Reading, string_at};
-use crate::keys::style::{Style, style_of};
+use crate::keys::format::FileFormat;
+use crate::keys::reading::{StringReading, string_at};
+use crate::keys::style::{StringStyle, style_of};
 use crate::line::from;
 use std::alloc::{AllocError, Global};
 
@@ -15,7 +15,7 @@ use std::alloc::{AllocError, Global};
 /// out.
 pub fn string_for(
     alloc: Global,
-    format: Format,
+    format: FileFormat,
     source: &str,
     start: usize,
     text: &[u8],
@@ -32,8 +32,8 @@ pub fn string_for(
 #[tactic(auto, using(crate::proofs::KeysLemmas::SpelledLemmas::or_escaped))]
 fn string_like(
     alloc: Global,
-    format: Format,
-    style: Style,
+    format: FileFormat,
+    style: StringStyle,
     text: &[u8],
 ) -> Result<Option<Vec<u8>>, AllocError>
     ensures { IfOk result (spec.IsStringLike format style text.now) }
@@ -45,18 +45,18 @@ fn string_like(
 }
 
 // How strings with escapes are written.
-fn escaping(format: Format) -> Style
+fn escaping(format: FileFormat) -> StringStyle
     ensures { result ≡ spec.escaping format }
 {
     match format {
-        Format::Toml => Style::Basic,
-        Format::Json => Style::Json,
-        Format::Yaml => Style::Double,
+        FileFormat::Toml => StringStyle::Basic,
+        FileFormat::Json => StringStyle::Json,
+        FileFormat::Yaml => StringStyle::Double,
     }
 }
 
 /// Where the string at a position ends that closes before the byte `end`: there, or a byte before if no quote closes it.
-pub fn string_end(format: Format, source: &str, start: usize, end: usize) -> usize
+pub fn string_end(format: FileFormat, source: &str, start: usize, end: usize) -> usize
     ensures { result ≡ spec.string_end format source.now start end }
 {
     match style_at(format, source, start) {
@@ -65,17 +65,21 @@ pub fn string_end(format: Format, source: &str, start: usize, end: usize) -> usi
     }
 }
 
-fn end_by(style: Style, end: usize) -> usize
+fn end_by(style: StringStyle, end: usize) -> usize
     ensures { result ≡ spec.end_by style end }
 {
     match style {
-        Style::Json | Style::Basic | Style::Literal | Style::Double | Style::Single => end,
-        Style::Plain => end.saturating_sub(1),
+        StringStyle::Json
+        | StringStyle::Basic
+        | StringStyle::Literal
+        | StringStyle::Double
+        | StringStyle::Single => end,
+        StringStyle::Plain => end.saturating_sub(1),
     }
 }
 
 // How the string at a position is written.
-fn style_at(format: Format, source: &str, start: usize) -> Option<Style>
+fn style_at(format: FileFormat, source: &str, start: usize) -> Option<StringStyle>
     ensures { result ≡ spec.style_at format source.now start }
 {
     match from(source.as_bytes(), start) {
@@ -87,8 +91,8 @@ fn style_at(format: Format, source: &str, start: usize) -> Option<Style>
 // The string that is written like this and denotes the text.
 fn string_by(
     alloc: Global,
-    format: Format,
-    style: Style,
+    format: FileFormat,
+    style: StringStyle,
     text: &[u8],
 ) -> Result<Option<Vec<u8>>, AllocError>
     ensures { IfOk result (spec.IsStringBy format style text.now) }
@@ -102,7 +106,12 @@ fn string_by(
 }
 
 // Whether these bytes are one string, which denotes the text.
-fn denotes(alloc: Global, format: Format, string: &[u8], text: &[u8]) -> Result<bool, AllocError>
+fn denotes(
+    alloc: Global,
+    format: FileFormat,
+    string: &[u8],
+    text: &[u8],
+) -> Result<bool, AllocError>
     ensures so { IfOk result (λ so. so ≡ true → spec.Denotes format string.now text.now) }
     ensures not { IfOk result (λ so. so ≡ false → spec.Denotes format string.now text.now → ⊥) }
 {
@@ -113,7 +122,7 @@ fn denotes(alloc: Global, format: Format, string: &[u8], text: &[u8]) -> Result<
 }
 
 // Whether a string that was read denotes the text and closes at the last byte.
-fn is_whole(reading: &Reading, string: &[u8], text: &[u8]) -> bool
+fn is_whole(reading: &StringReading, string: &[u8], text: &[u8]) -> bool
     ensures so { result ≡ true → spec.IsWhole (spec.seen reading.now) string.now text.now }
     ensures not { result ≡ false → spec.IsWhole (spec.seen reading.now) string.now text.now → ⊥ }
 {
@@ -121,7 +130,7 @@ fn is_whole(reading: &Reading, string: &[u8], text: &[u8]) -> bool
 }
 
 // A text between quotes.
-fn quoted(alloc: Global, style: Style, text: &[u8]) -> Result<Vec<u8>, AllocError>
+fn quoted(alloc: Global, style: StringStyle, text: &[u8]) -> Result<Vec<u8>, AllocError>
     ensures { IfOk result (λ string. string.items ≡ spec.quoted style text.now) }
 {
     let quote = quote_of(style);
@@ -132,17 +141,17 @@ fn quoted(alloc: Global, style: Style, text: &[u8]) -> Result<Vec<u8>, AllocErro
     Ok(string)
 }
 
-fn quote_of(style: Style) -> u8
+fn quote_of(style: StringStyle) -> u8
     ensures { result ≡ spec.quote_of style }
 {
     match style {
-        Style::Json | Style::Basic | Style::Double => b'"',
-        Style::Literal | Style::Single | Style::Plain => b'\'',
+        StringStyle::Json | StringStyle::Basic | StringStyle::Double => b'"',
+        StringStyle::Literal | StringStyle::Single | StringStyle::Plain => b'\'',
     }
 }
 
 // Appends the bytes of a text as a string spells them.
-fn push_all(string: &mut Vec<u8>, style: Style, text: &[u8]) -> Result<(), AllocError>
+fn push_all(string: &mut Vec<u8>, style: StringStyle, text: &[u8]) -> Result<(), AllocError>
     ensures { OnOk result (string.new.items ≡ string.old.items ++ flat_map (spec.spelled style) text.now) }
 {
     for byte in text {
@@ -152,7 +161,7 @@ fn push_all(string: &mut Vec<u8>, style: Style, text: &[u8]) -> Result<(), Alloc
 }
 
 // Appends a byte as a string spells it.
-fn push_spelled(string: &mut Vec<u8>, style: Style, byte: u8) -> Result<(), AllocError>
+fn push_spelled(string: &mut Vec<u8>, style: StringStyle, byte: u8) -> Result<(), AllocError>
     ensures { OnOk result (string.new.items ≡ string.old.items ++ spec.spelled style byte) }
 {
     match pair_for(style, byte) {
@@ -162,13 +171,13 @@ fn push_spelled(string: &mut Vec<u8>, style: Style, byte: u8) -> Result<(), Allo
 }
 
 // The two bytes that denote a byte which can't stand alone.
-fn pair_for(style: Style, byte: u8) -> Option<(u8, u8)>
+fn pair_for(style: StringStyle, byte: u8) -> Option<(u8, u8)>
     ensures { result ≡ spec.pair_for style byte }
 {
     match style {
-        Style::Json | Style::Basic | Style::Double => escape_for(byte),
-        Style::Literal => None,
-        Style::Single | Style::Plain => doubled(byte),
+        StringStyle::Json | StringStyle::Basic | StringStyle::Double => escape_for(byte),
+        StringStyle::Literal => None,
+        StringStyle::Single | StringStyle::Plain => doubled(byte),
     }
 }
 

@@ -7,60 +7,63 @@ ghost use Rattle.timefd_lint_scan.specs.Keys.Strings.{seen, string_at as string_
 ghost use Rattle.timefd_lint_scan.specs.Keys.Visits as spec;
 
 use crate::keys::comment::reported_after;
-use crate::keys::format::Format;
-use crate::keys::key::Key;
+use crate::keys::format::FileFormat;
+use crate::keys::key::DescriptionKey;
 use crate::keys::lies::lies;
 use crate::keys::name::is_quote;
-use crate::keys::reading::{Reading, string_at};
-use crate::keys::spot::{Elements, Spot};
+use crate::keys::reading::{StringReading, string_at};
+use crate::keys::spot::{Elements, KeySpot};
 use crate::line::from;
-use crate::{Description, Dialect, Encoding, Items, Kind, Piece, Token, VersionPosition};
+use crate::{
+    Encoding, FormatLanguage, Items, LiteralKind, PlacedToken, SourceDescription, Token,
+    VersionPosition,
+};
 use std::alloc::{AllocError, Global};
 
 /// A file that is searched, and the keys that are searched for.
 #[derive(Clone, Copy)]
-pub struct Scan<'a> {
-    pub format: Format,
+pub struct KeyScan<'a> {
+    pub format: FileFormat,
     pub source: &'a str,
-    pub keys: &'a [Key<'a>],
+    pub keys: &'a [DescriptionKey<'a>],
 }
 
 /// What is found at a spot, and where to look next.
 #[derive(Drop)]
 pub struct Step {
-    pub found: Option<Description>,
+    pub found: Option<SourceDescription>,
     /// Where a value begins that isn't looked at, though it has a language; as a byte index.
     pub unread: Option<usize>,
-    pub next: Spot,
+    pub next: KeySpot,
 }
 
 /// A string as a description; `None` if it isn't inside of the source.
 #[tactic(auto, using(crate::proofs::KeysLemmas::VisitLemmas::too_long))]
 fn described(
-    format: Format,
+    format: FileFormat,
     source: &str,
     start: usize,
-    reading: Reading,
-    dialect: Dialect,
-) -> Option<Description>
+    reading: StringReading,
+    dialect: FormatLanguage,
+) -> Option<SourceDescription>
     requires { Some (seen reading) ≡ string_of format source.now start }
     ensures described { IsDescribed format source.now start dialect result }
     ensures stands { MatchOption result ⊤ (StandsIn format source.now) }
 {
-    let Reading { unescaped, closing } = reading;
+    let StringReading { unescaped, closing } = reading;
     if closing == usize::MAX {
         return None;
     }
     if !lies(source, start, closing, &unescaped) {
         return None;
     }
-    let kind = Kind::Escaped(Encoding::Str);
-    let piece = Piece {
+    let kind = LiteralKind::Escaped(Encoding::Str);
+    let piece = PlacedToken {
         token: Token::Literal(kind),
         start,
         end: closing + 1,
     };
-    Some(Description {
+    Some(SourceDescription {
         piece,
         kind,
         dialect,
@@ -75,12 +78,12 @@ fn described(
 /// neither names one.
 #[tactic(auto, using(crate::proofs::KeysLemmas::VisitLemmas::string_reported))]
 fn reported_or_other(
-    format: Format,
+    format: FileFormat,
     source: &str,
     start: usize,
-    reading: Reading,
-    other: Option<Dialect>,
-) -> Option<Description>
+    reading: StringReading,
+    other: Option<FormatLanguage>,
+) -> Option<SourceDescription>
     requires { Some (seen reading) ≡ string_of format source.now start }
     ensures found { IsInLanguage format source.now start (language_at format source.now start other) result }
     ensures stands { MatchOption result ⊤ (StandsIn format source.now) }
@@ -97,22 +100,22 @@ fn begins_quote(text: &[u8]) -> bool
 {
     match text {
         [] => false,
-        [byte, ..] => is_quote(Format::Yaml, *byte),
+        [byte, ..] => is_quote(FileFormat::Yaml, *byte),
     }
 }
 
 /// Whether a value without quotes is in brackets, so that its end isn't known.
-fn is_unsure(format: Format, source: &[u8], start: usize, depth: usize) -> bool
+fn is_unsure(format: FileFormat, source: &[u8], start: usize, depth: usize) -> bool
     ensures { result ≡ spec.is_unsure format source.now start depth }
 {
     match format {
-        Format::Toml | Format::Json => false,
-        Format::Yaml => depth > 0 && !begins_quote(from(source, start)),
+        FileFormat::Toml | FileFormat::Json => false,
+        FileFormat::Yaml => depth > 0 && !begins_quote(from(source, start)),
     }
 }
 
 /// The position of a value that isn't looked at, if it has a language.
-fn unread_in(other: Option<Dialect>, start: usize) -> Option<usize>
+fn unread_in(other: Option<FormatLanguage>, start: usize) -> Option<usize>
     ensures { result ≡ spec.unread_in other start }
 {
     match other {
@@ -122,7 +125,7 @@ fn unread_in(other: Option<Dialect>, start: usize) -> Option<usize>
 }
 
 /// The step over a value that isn't looked at.
-pub fn unread_step(other: Option<Dialect>, start: usize, next: Spot) -> Step
+pub fn unread_step(other: Option<FormatLanguage>, start: usize, next: KeySpot) -> Step
     ensures found { result.found ≡ None }
     ensures unread { result.unread ≡ spec.unread_in other start }
     ensures next { result.next ≡ next }
@@ -139,12 +142,12 @@ pub fn unread_step(other: Option<Dialect>, start: usize, next: Spot) -> Step
 #[tactic(auto, using(crate::proofs::KeysLemmas::VisitLemmas::unsure_step, crate::proofs::KeysLemmas::VisitLemmas::no_string_step, crate::proofs::KeysLemmas::VisitLemmas::string_step))]
 pub fn string_step(
     alloc: Global,
-    scan: Scan<'_>,
-    other: Option<Dialect>,
+    scan: KeyScan<'_>,
+    other: Option<FormatLanguage>,
     start: usize,
     depth: usize,
     list: Option<Elements>,
-    past: Spot,
+    past: KeySpot,
 ) -> Result<Step, AllocError>
     ensures step { IfOk result (IsStep scan.entry.format scan.entry.source.now
         (spec.string_visit scan.entry.format scan.entry.source.now other start depth list past)) }
@@ -163,6 +166,6 @@ pub fn string_step(
     Ok(Step {
         found,
         unread: None,
-        next: Spot { at, depth, list },
+        next: KeySpot { at, depth, list },
     })
 }

@@ -5,11 +5,11 @@ ghost use Rattle.timefd_lint_scan.specs.Keys.Styles as spec;
 
 use crate::class::{is_blank, is_line_end};
 use crate::keys::bytes::{after_blanks, begins_space};
-use crate::keys::format::Format;
+use crate::keys::format::FileFormat;
 
 /// How a string is written.
 #[derive(Clone, Copy)]
-pub enum Style {
+pub enum StringStyle {
     /// In JSON.
     Json,
     /// In TOML, with double quotes.
@@ -33,15 +33,15 @@ fn begins_two(byte: u8, text: &[u8]) -> bool
     }
 }
 
-fn toml_style(byte: u8, after: &[u8]) -> Option<Style>
+fn toml_style(byte: u8, after: &[u8]) -> Option<StringStyle>
     ensures { result ≡ spec.toml_style byte after.now }
 {
     if begins_two(byte, after) {
         None
     } else if byte == b'"' {
-        Some(Style::Basic)
+        Some(StringStyle::Basic)
     } else if byte == b'\'' {
-        Some(Style::Literal)
+        Some(StringStyle::Literal)
     } else {
         None
     }
@@ -87,29 +87,29 @@ pub fn begins_plain(byte: u8, after: &[u8]) -> bool
     }
 }
 
-fn yaml_style(byte: u8, after: &[u8]) -> Option<Style>
+fn yaml_style(byte: u8, after: &[u8]) -> Option<StringStyle>
     ensures { result ≡ spec.yaml_style byte after.now }
 {
     if byte == b'"' {
-        Some(Style::Double)
+        Some(StringStyle::Double)
     } else if byte == b'\'' {
-        Some(Style::Single)
+        Some(StringStyle::Single)
     } else if begins_plain(byte, after) {
-        Some(Style::Plain)
+        Some(StringStyle::Plain)
     } else {
         None
     }
 }
 
 /// How a string that begins with this byte is written; `None` if no string does.
-pub fn style_of(format: Format, byte: u8, after: &[u8]) -> Option<Style>
+pub fn style_of(format: FileFormat, byte: u8, after: &[u8]) -> Option<StringStyle>
     ensures { result ≡ spec.style_of format byte after.now }
 {
     match format {
-        Format::Toml => toml_style(byte, after),
-        Format::Json if byte == b'"' => Some(Style::Json),
-        Format::Json => None,
-        Format::Yaml => yaml_style(byte, after),
+        FileFormat::Toml => toml_style(byte, after),
+        FileFormat::Json if byte == b'"' => Some(StringStyle::Json),
+        FileFormat::Json => None,
+        FileFormat::Yaml => yaml_style(byte, after),
     }
 }
 
@@ -139,33 +139,41 @@ fn begins_apostrophe(text: &[u8]) -> bool
 }
 
 /// Whether this byte closes a string.
-pub fn closes(style: Style, byte: u8, after: &[u8]) -> bool
+pub fn closes(style: StringStyle, byte: u8, after: &[u8]) -> bool
     ensures { result ≡ spec.closes style byte after.now }
 {
     match style {
-        Style::Json | Style::Basic | Style::Double => byte == b'"',
-        Style::Literal => byte == b'\'',
-        Style::Single => byte == b'\'' && !begins_apostrophe(after),
-        Style::Plain => ends_plain(byte, after),
+        StringStyle::Json | StringStyle::Basic | StringStyle::Double => byte == b'"',
+        StringStyle::Literal => byte == b'\'',
+        StringStyle::Single => byte == b'\'' && !begins_apostrophe(after),
+        StringStyle::Plain => ends_plain(byte, after),
     }
 }
 
 /// Whether the end of a text closes a string.
-pub fn is_closed_by_end(style: Style) -> bool
+pub fn is_closed_by_end(style: StringStyle) -> bool
     ensures { result ≡ spec.is_closed_by_end style }
 {
     match style {
-        Style::Json | Style::Basic | Style::Literal | Style::Double | Style::Single => false,
-        Style::Plain => true,
+        StringStyle::Json
+        | StringStyle::Basic
+        | StringStyle::Literal
+        | StringStyle::Double
+        | StringStyle::Single => false,
+        StringStyle::Plain => true,
     }
 }
 
 /// Whether a string begins with a quote.
-pub fn is_quoted(style: Style) -> bool
+pub fn is_quoted(style: StringStyle) -> bool
     ensures { result ≡ spec.is_quoted style }
 {
     match style {
-        Style::Json | Style::Basic | Style::Literal | Style::Double | Style::Single => true,
-        Style::Plain => false,
+        StringStyle::Json
+        | StringStyle::Basic
+        | StringStyle::Literal
+        | StringStyle::Double
+        | StringStyle::Single => true,
+        StringStyle::Plain => false,
     }
 }

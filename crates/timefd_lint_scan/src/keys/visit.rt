@@ -7,18 +7,18 @@ ghost use Rattle.timefd_lint_scan.specs.Keys.Names.{name_at as name_of, seen as 
 ghost use Rattle.timefd_lint_scan.specs.Keys.Visits as spec;
 ghost use Rattle.timefd_lint_scan.specs.Lines.{line_start};
 
-use crate::Dialect;
+use crate::FormatLanguage;
 use crate::class::{is_blank, is_line_end};
 use crate::keys::key::dialect_of;
-use crate::keys::name::{Name, name_at, value_after};
+use crate::keys::name::{KeyName, name_at, value_after};
 use crate::keys::passing::{after_passed, begins_comment_at, depth_after};
-use crate::keys::spot::{Elements, Spot};
-use crate::keys::step::{Scan, Step, string_step};
+use crate::keys::spot::{Elements, KeySpot};
+use crate::keys::step::{KeyScan, Step, string_step};
 use crate::line::from;
 use std::alloc::{AllocError, Global};
 
 /// The step that finds nothing.
-fn passing(next: Spot) -> Step
+fn passing(next: KeySpot) -> Step
     ensures found { result.found ≡ None }
     ensures unread { result.unread ≡ None }
     ensures next { result.next ≡ next }
@@ -43,8 +43,8 @@ fn begins_list(text: &[u8]) -> bool
 /// in `other`.
 fn value_step(
     alloc: Global,
-    scan: Scan<'_>,
-    other: Option<Dialect>,
+    scan: KeyScan<'_>,
+    other: Option<FormatLanguage>,
     start: usize,
     depth: usize,
 ) -> Result<Step, AllocError>
@@ -55,13 +55,13 @@ fn value_step(
 {
     let bytes = scan.source.as_bytes();
     if begins_list(from(bytes, start)) {
-        return Ok(passing(Spot {
+        return Ok(passing(KeySpot {
             at: start.saturating_add(1),
             depth: depth_after(bytes, start, depth),
             list: Some(Elements { other }),
         }));
     }
-    let past = Spot {
+    let past = KeySpot {
         at: start,
         depth,
         list: None,
@@ -70,11 +70,11 @@ fn value_step(
 }
 
 /// The spot past the comment, the string of several lines or the sign at a position.
-fn past_at(scan: Scan<'_>, at: usize, depth: usize, list: Option<Elements>) -> Spot
+fn past_at(scan: KeyScan<'_>, at: usize, depth: usize, list: Option<Elements>) -> KeySpot
     ensures { result ≡ spec.past_at scan.entry.format scan.entry.source.now at depth list }
 {
     let bytes = scan.source.as_bytes();
-    Spot {
+    KeySpot {
         at: bytes
             .len()
             .saturating_sub(after_passed(scan.format, bytes, at).len()),
@@ -104,7 +104,7 @@ fn closes_list(text: &[u8]) -> bool
 /// What is found at a position in a list that is the value of a key.
 fn element_step(
     alloc: Global,
-    scan: Scan<'_>,
+    scan: KeyScan<'_>,
     at: usize,
     depth: usize,
     elements: Elements,
@@ -129,11 +129,11 @@ fn element_step(
 /// What is found after the name at a position.
 fn name_step(
     alloc: Global,
-    scan: Scan<'_>,
+    scan: KeyScan<'_>,
     at: usize,
     depth: usize,
-    reported: Option<Dialect>,
-    name: Name<'_>,
+    reported: Option<FormatLanguage>,
+    name: KeyName<'_>,
 ) -> Result<Step, AllocError>
     requires { reported ≡ reported_in_front scan.format scan.source.now (line_start scan.source.now at) }
     ensures step { IfOk result (IsStep scan.entry.format scan.entry.source.now
@@ -143,7 +143,7 @@ fn name_step(
         (StandsIn scan.entry.format scan.entry.source.now)) }
 {
     let Some(value) = value_after(scan.format, name.after) else {
-        return Ok(passing(Spot {
+        return Ok(passing(KeySpot {
             at: scan.source.len().saturating_sub(name.after.len()),
             depth,
             list: None,
@@ -157,10 +157,10 @@ fn name_step(
 /// What is found at a spot outside of lists.
 fn key_step(
     alloc: Global,
-    scan: Scan<'_>,
+    scan: KeyScan<'_>,
     at: usize,
     depth: usize,
-    reported: Option<Dialect>,
+    reported: Option<FormatLanguage>,
 ) -> Result<Step, AllocError>
     requires { reported ≡ reported_in_front scan.format scan.source.now (line_start scan.source.now at) }
     ensures step { IfOk result (IsStep scan.entry.format scan.entry.source.now
@@ -178,9 +178,9 @@ fn key_step(
 /// What is found at a spot. `reported` is the language that a comment in the line before it names.
 pub fn step_at(
     alloc: Global,
-    scan: Scan<'_>,
-    spot: Spot,
-    reported: Option<Dialect>,
+    scan: KeyScan<'_>,
+    spot: KeySpot,
+    reported: Option<FormatLanguage>,
 ) -> Result<Step, AllocError>
     requires { reported ≡ reported_in_front scan.format scan.source.now (line_start scan.source.now spot.at) }
     ensures step { IfOk result (IsStep scan.entry.format scan.entry.source.now

@@ -6,10 +6,10 @@ use Rattle.std.specs.declared.alloc.Global.{Global}
 use Rattle.std.specs.declared.vec.Vec.{Vec}
 use denote.Ref.{Bor}
 use Rattle.timefd_lang_component.specs.Tree.{Text}
-use Rattle.timefd_lint_scan.specs.declared.description.Description.{Description}
-use Rattle.timefd_lint_scan.specs.declared.dialect.Dialect.{Dialect}
-use Rattle.timefd_lint_scan.specs.declared.piece.Piece.{Piece}
-use Rattle.timefd_lint_scan.specs.declared.token.Kind.{Kind}
+use Rattle.timefd_lint_scan.specs.declared.description.SourceDescription.{SourceDescription}
+use Rattle.timefd_lint_scan.specs.declared.dialect.FormatLanguage.{FormatLanguage}
+use Rattle.timefd_lint_scan.specs.declared.piece.PlacedToken.{PlacedToken}
+use Rattle.timefd_lint_scan.specs.declared.token.LiteralKind.{LiteralKind}
 use Rattle.timefd_lint_scan.specs.Bytes.{seen}
 use Rattle.timefd_lint_scan.specs.Escapes.{Placed, placed}
 use Rattle.timefd_lint_scan.specs.declared.version.VersionPosition.{VersionPosition}
@@ -26,13 +26,13 @@ use Rattle.timefd_lint_sources.specs.declared.rewriting.change.Change.{Change}
 use Rattle.timefd_lint_sources.specs.Rewriting.Written.{AddsRewritten, AreRewritten, IsRewritten, IsAnswer, IsPlaced, IsRenumbered, IsReplaced, IsRespelled, IsNewVersion, IsSpliced, Puts, Renumbers, Replaces, argument, can_say, is_rewriting, is_sayable, items_of}
 
 -- A description's literal has a body.
-no_text : (kind : Kind) (end : ℕ) (p : Placed) (r : Option Text)
+no_text : (kind : LiteralKind) (end : ℕ) (p : Placed) (r : Option Text)
     → Some p ≡ text_of kind end r → inside_of kind r ≡ None → ⊥
 no_text kind end p None stands none = cc
 no_text kind end p (Some literal) stands none =
     let nothing : Some p ≡ None = stands ∙ ap (body_text kind end) none in cc
 
-pub has_inside : (source : Text) (d : Description) (r : Option (Bor Text)) → StandsIn source d
+pub has_inside : (source : Text) (d : SourceDescription) (r : Option (Bor Text)) → StandsIn source d
     → seen r ≡ inside source d.piece d.kind → r ≡ None → ⊥
 has_inside source d r stands is none =
     no_text d.kind (body_end d.piece d.kind) (placed d.unescaped) (cut source d.piece) stands.text
@@ -54,7 +54,7 @@ parts source old from start next order long is =
     sym (take-append-drop (start - from) (drop from source))
     ∙ ap (λ (t : Text). take (start - from) (drop from source) ++ t) (after ∙ whole)
 
-pub replaced : (source : Text) (d : Description) (from next : ℕ) (body old kept bytes between after : Text)
+pub replaced : (source : Text) (d : SourceDescription) (from next : ℕ) (body old kept bytes between after : Text)
     (r : Option (Bor Text)) (b : Bor Text)
     → seen r ≡ inside source d.piece d.kind → r ≡ Some b → b.now ≡ old
     → next ≡ body_end d.piece d.kind → EndsAt source (body_end d.piece d.kind) old
@@ -95,19 +95,19 @@ spliced source old new bytes between after kept from start next order stands is 
     )
 
 -- The first position that belongs to a description isn't after the start of its literal.
-first_in_front : (source : Text) (p : Piece) (dialect : Dialect) (position : VersionPosition)
+first_in_front : (source : Text) (p : PlacedToken) (dialect : FormatLanguage) (position : VersionPosition)
     → IsSaid source p dialect position → first_position position p.start ≤ p.start
 first_in_front source p dialect (Digit at) said = omega (arith, said.before)
 first_in_front source p dialect Unsaid said = omega arith
 first_in_front source p dialect Call said = omega arith
 first_in_front source p dialect Elsewhere said = omega arith
 
-pub begins : (source : Text) (d : Description) (from : ℕ) → StandsIn source d → from ≤ begin_of d
+pub begins : (source : Text) (d : SourceDescription) (from : ℕ) → StandsIn source d → from ≤ begin_of d
     → from ≤ d.piece.start
 begins source d from stands order =
     omega (arith, order, first_in_front source d.piece d.dialect d.version stands.version)
 
-pub digit_stands : (source : Text) (d : Description) (from at : ℕ) → StandsIn source d → from ≤ begin_of d
+pub digit_stands : (source : Text) (d : SourceDescription) (from at : ℕ) → StandsIn source d → from ≤ begin_of d
     → d.version ≡ Digit at → (from ≤ at) × (at + 1 ≤ d.piece.start) × (at ≤ length source)
 digit_stands source d from at stands order which =
     let said : IsSaid source d.piece d.dialect (Digit at) =
@@ -117,10 +117,10 @@ digit_stands source d from at stands order which =
       omega (arith, said.before, stands.between.start.0),
     )
 
-pub start_within : (source : Text) (d : Description) → StandsIn source d → d.piece.start ≤ length source
+pub start_within : (source : Text) (d : SourceDescription) → StandsIn source d → d.piece.start ≤ length source
 start_within source d stands = stands.between.start.0
 
-pub same_version : (source : Text) (d : Description) (from : ℕ) (digit : Option ℕ) (bytes : Text) → digit ≡ None
+pub same_version : (source : Text) (d : SourceDescription) (from : ℕ) (digit : Option ℕ) (bytes : Text) → digit ≡ None
     → Renumbers source d from digit bytes bytes from
 same_version source d from digit bytes none = (
   [],
@@ -128,13 +128,13 @@ same_version source d from digit bytes none = (
   sym (append-nil bytes),
 )
 
-new_version : (source : Text) (d : Description) (from next new : ℕ) (digit : Option ℕ) (front bytes after : Text)
+new_version : (source : Text) (d : SourceDescription) (from next new : ℕ) (digit : Option ℕ) (front bytes after : Text)
     → digit ≡ Some new → IsNewVersion source from d d.version new front next → after ≡ bytes ++ front
     → Renumbers source d from digit bytes after next
 new_version source d from next new digit front bytes after some rewritten more =
     (front, subst (λ (x : Option ℕ). IsRenumbered source from d x front next) (sym some) rewritten, more)
 
-pub digit_said : (source : Text) (d : Description) (from at new : ℕ) (digit : Option ℕ)
+pub digit_said : (source : Text) (d : SourceDescription) (from at new : ℕ) (digit : Option ℕ)
     (bytes between after : Text) → StandsIn source d → from ≤ begin_of d → digit ≡ Some new
     → d.version ≡ Digit at → between ≡ bytes ++ take (at - from) (drop from source)
     → after ≡ between ++ (new ∷ []) → Renumbers source d from digit bytes after (at + 1)
@@ -149,7 +149,7 @@ digit_said source d from at new digit bytes between after stands order some whic
     (subst (λ (p : VersionPosition). IsNewVersion source from d p new (kept ++ (new ∷ [])) (at + 1)) (sym which)
     (refl, (said.digit, said.is, cut.0))) cut.1
 
-pub argument_said : (source : Text) (d : Description) (from new : ℕ) (digit : Option ℕ)
+pub argument_said : (source : Text) (d : SourceDescription) (from new : ℕ) (digit : Option ℕ)
     (bytes between after : Text) → StandsIn source d → from ≤ begin_of d → digit ≡ Some new
     → d.version ≡ Unsaid → between ≡ bytes ++ take (d.piece.start - from) (drop from source)
     → after ≡ between ++ argument new → Renumbers source d from digit bytes after d.piece.start
@@ -170,7 +170,7 @@ unsayable position other digit new says some which none =
     (subst (λ (x : Option ℕ). is_sayable position x ≡ true) some says) in cc
 
 -- Only the version changes.
-pub renumbered_alone : (source : Text) (d : Description) (from next : ℕ) (digit : Option ℕ)
+pub renumbered_alone : (source : Text) (d : SourceDescription) (from next : ℕ) (digit : Option ℕ)
     (body : Option (Vec ℕ Global)) (bytes after : Text) → Renumbers source d from digit bytes after next
     → body ≡ None → Puts source d from digit (items_of body) bytes after next
 renumbered_alone source d from next digit body bytes after (front, renumbered, more) none = (
@@ -187,7 +187,7 @@ renumbered_alone source d from next digit body bytes after (front, renumbered, m
   more,
 )
 
-pub both_put : (source : Text) (d : Description) (from middle next : ℕ) (digit : Option ℕ)
+pub both_put : (source : Text) (d : SourceDescription) (from middle next : ℕ) (digit : Option ℕ)
     (body : Option (Vec ℕ Global)) (v : Vec ℕ Global) (inner bytes between after : Text)
     → Renumbers source d from digit bytes between middle → body ≡ Some v → inner ≡ v.items
     → Replaces source d middle inner between after next
@@ -209,7 +209,7 @@ both_put source d from middle next digit body v inner bytes between after (first
     )
 
 -- A literal that stays.
-stays_placed : (source : Text) (from : ℕ) (d : Description) (o : Outcome) → is_rewriting o ≡ false
+stays_placed : (source : Text) (from : ℕ) (d : SourceDescription) (o : Outcome) → is_rewriting o ≡ false
     → IsPlaced source from d o None None [] from
 stays_placed source from d PassedOver e = (refl, refl)
 stays_placed source from d Same e = (refl, refl)
@@ -220,7 +220,7 @@ stays_placed source from d NotText e = (refl, refl)
 stays_placed source from d NotALiteral e = (refl, refl)
 stays_placed source from d ByHand e = (refl, refl)
 
-pub stays : (change : Change) (source : Text) (d : Description) (from : ℕ) (outcomes outcomes' : List Outcome)
+pub stays : (change : Change) (source : Text) (d : SourceDescription) (from : ℕ) (outcomes outcomes' : List Outcome)
     (bytes : Text) (a : Answer) (o : Outcome) → IsAnswer change source d a → a ≡ Stays o
     → outcomes' ≡ outcomes ++ (o ∷ [])
     → AddsRewritten change source d from outcomes bytes outcomes' bytes from
@@ -236,11 +236,11 @@ stays change source d from outcomes outcomes' bytes a o answer which pushed =
       more_bytes = sym (append-nil bytes);
     }
 
-pub rewritten_of : (change : Change) (source : Text) (d : Description) (a : Answer) (rewritten : NewParts)
+pub rewritten_of : (change : Change) (source : Text) (d : SourceDescription) (a : Answer) (rewritten : NewParts)
     → IsAnswer change source d a → a ≡ Becomes rewritten → IsRewritten change source d rewritten.digit (items_of rewritten.body)
 rewritten_of change source d a rewritten answer which = subst (IsAnswer change source d) which answer
 
-pub becomes : (change : Change) (source : Text) (d : Description) (from next : ℕ)
+pub becomes : (change : Change) (source : Text) (d : SourceDescription) (from next : ℕ)
     (outcomes outcomes' : List Outcome) (bytes bytes' : Text) (a : Answer) (rewritten : NewParts)
     → IsAnswer change source d a → a ≡ Becomes rewritten → outcomes' ≡ outcomes ++ (Rewritten ∷ [])
     → Puts source d from rewritten.digit (items_of rewritten.body) bytes bytes' next
@@ -257,14 +257,14 @@ becomes change source d from next outcomes outcomes' bytes bytes' a rewritten an
 }
 
 -- What is written so far, followed by what is written for the rest, is the whole new source.
-pub record AreRewrittenTo (change : Change) (source : Text) (all left : List Description) (outcomes : List Outcome)
+pub record AreRewrittenTo (change : Change) (source : Text) (all left : List SourceDescription) (outcomes : List Outcome)
     (bytes : Text) (from : ℕ) : Type 0 where
   pub others : (os : List Outcome) (new : Text) → AreRewritten change source from left os new
       → AreRewritten change source 0 all (outcomes ++ os) (bytes ++ new)
   pub in_order : AreInOrder from left
   pub within : from ≤ length source
 
-pub at_first : (change : Change) (source : Text) (all : List Description) → AreInOrder 0 all
+pub at_first : (change : Change) (source : Text) (all : List SourceDescription) → AreInOrder 0 all
     → AreRewrittenTo change source all all [] [] 0
 at_first change source all ordered = record {
   others = λ os new are. are;
@@ -272,12 +272,12 @@ at_first change source all ordered = record {
   within = omega arith;
 }
 
-pub stands_at : (source : Text) (all : List Description) (i : ℕ) (d other : Description) → i < length all
+pub stands_at : (source : Text) (all : List SourceDescription) (i : ℕ) (d other : SourceDescription) → i < length all
     → d ≡ get_or all i other → AllStandIn source all → StandsIn source d
 stands_at source all i d other below is stand = subst (StandsIn source) (sym is) (stand i other below)
 
 -- The next description begins after the position.
-pub next_after : (change : Change) (source : Text) (all : List Description) (i : ℕ) (d other : Description)
+pub next_after : (change : Change) (source : Text) (all : List SourceDescription) (i : ℕ) (d other : SourceDescription)
     (outcomes : List Outcome) (bytes : Text) (from : ℕ) → i < length all → d ≡ get_or all i other
     → AreRewrittenTo change source all (drop i all) outcomes bytes from → from ≤ begin_of d
 next_after change source all i d other outcomes bytes from below is so_far =
@@ -287,7 +287,7 @@ next_after change source all i d other outcomes bytes from below is so_far =
     order.0
 
 -- Where a new version ends.
-said_within : (source : Text) (d : Description) (position : VersionPosition) (from next digit : ℕ) (front : Text)
+said_within : (source : Text) (d : SourceDescription) (position : VersionPosition) (from next digit : ℕ) (front : Text)
     → IsSaid source d.piece d.dialect position → IsNewVersion source from d position digit front next
     → next ≤ d.piece.start
 said_within source d (Digit at) from next digit front said rewritten = omega (arith, rewritten.0, said.before)
@@ -295,14 +295,14 @@ said_within source d Unsaid from next digit front said rewritten = omega (arith,
 said_within source d Call from next digit front said rewritten = absurd rewritten
 said_within source d Elsewhere from next digit front said rewritten = absurd rewritten
 
-renumbered_within : (source : Text) (d : Description) (from next : ℕ) (digit : Option ℕ) (front : Text)
+renumbered_within : (source : Text) (d : SourceDescription) (from next : ℕ) (digit : Option ℕ) (front : Text)
     → StandsIn source d → from ≤ d.piece.start → IsRenumbered source from d digit front next
     → next ≤ d.piece.start
 renumbered_within source d from next None front stands after rewritten = omega (arith, rewritten.1, after)
 renumbered_within source d from next (Some digit) front stands after rewritten =
     said_within source d d.version from next digit front stands.version rewritten
 
-respelled_within : (source : Text) (d : Description) (from next : ℕ) (body : Option Text) (front : Text)
+respelled_within : (source : Text) (d : SourceDescription) (from next : ℕ) (body : Option Text) (front : Text)
     → StandsIn source d → from ≤ d.piece.start → IsRespelled source from d body front next → next ≤ d.piece.end
 respelled_within source d from next None front stands after rewritten =
     omega (arith, after, rewritten.1, stands.between.end_inside.after, stands.between.end_inside.before)
@@ -310,7 +310,7 @@ respelled_within source d from next (Some body) front stands after rewritten =
     omega (arith, rewritten.at_quote, stands.between.end_inside.before)
 
 -- What is written ends inside of the source, and not after the literal.
-ends_within : (source : Text) (d : Description) (from next : ℕ) (o : Outcome) (digit : Option ℕ)
+ends_within : (source : Text) (d : SourceDescription) (from next : ℕ) (o : Outcome) (digit : Option ℕ)
     (body : Option Text) (front : Text)
     → StandsIn source d → from ≤ d.piece.start → IsPlaced source from d o digit body front next
     → next ≤ d.piece.end
@@ -333,15 +333,15 @@ ends_within source d from next NotALiteral digit body front stands after placed 
 ends_within source d from next ByHand digit body front stands after placed =
     omega (arith, placed.1, stands.between.end_inside.after, stands.between.end_inside.before)
 
-earlier : (from to : ℕ) (ds : List Description) → from ≤ to → AreInOrder to ds → AreInOrder from ds
+earlier : (from to : ℕ) (ds : List SourceDescription) → from ≤ to → AreInOrder to ds → AreInOrder from ds
 earlier from to [] le order = tt
 earlier from to (d ∷ ds) le order = (omega (arith, le, order.0), order.1)
 
 -- A character boundary is inside of the text.
-in_source : (source : Text) (d : Description) → StandsIn source d → d.piece.end ≤ length source
+in_source : (source : Text) (d : SourceDescription) → StandsIn source d → d.piece.end ≤ length source
 in_source source d stands = stands.between.end.0
 
-pub one_more : (change : Change) (source : Text) (all : List Description) (i : ℕ) (d other : Description)
+pub one_more : (change : Change) (source : Text) (all : List SourceDescription) (i : ℕ) (d other : SourceDescription)
     (outcomes outcomes' : List Outcome) (bytes bytes' : Text) (from next : ℕ)
     → i < length all → d ≡ get_or all i other → StandsIn source d
     → AreRewrittenTo change source all (drop i all) outcomes bytes from
@@ -367,7 +367,7 @@ one_more change source all i d other outcomes outcomes' bytes bytes' from next b
       within = omega (arith, end, in_source source d stands);
     }
 
-pub at_last : (change : Change) (source : Text) (all : List Description) (i : ℕ) (outcomes : List Outcome)
+pub at_last : (change : Change) (source : Text) (all : List SourceDescription) (i : ℕ) (outcomes : List Outcome)
     (bytes bytes' rest : Text) (from : ℕ) → length all ≤ i
     → AreRewrittenTo change source all (drop i all) outcomes bytes from
     → rest ≡ take (length source - from) (drop from source) → bytes' ≡ bytes ++ rest

@@ -1,29 +1,29 @@
 -- All that the comments of a source allow.
 use Rattle.std.specs.Prelude.{ℕ, ◌≡◌, ◌⊎◌, Bool, false, ◌&&◌, if◌then◌else◌, true, List, [], ◌∷◌, ◌++◌, bytes_eq, codes, length, nat_le, nat_lt}
 use Rattle.timefd_lint_scan.specs.Bytes.{Text, line_feed}
-use Rattle.timefd_lint_scan.specs.declared.piece.Piece.{Piece}
+use Rattle.timefd_lint_scan.specs.declared.piece.PlacedToken.{PlacedToken}
 use Rattle.timefd_lint_scan.specs.Marks.{is_comment}
 use Rattle.timefd_lint_scan.specs.Names.{Lacks}
 use Rattle.timefd_lint_scan.specs.Sources.{AreTokens}
 use Rattle.timefd_lint_sources.specs.declared.allowances.comment.Allowance.{Allowance}
-use Rattle.timefd_lint_sources.specs.declared.allowances.comment.Sign.TheVariants.{Slashes}
+use Rattle.timefd_lint_sources.specs.declared.allowances.comment.CommentSign.TheVariants.{Slashes}
 use Rattle.timefd_lint_sources.specs.declared.reported.Finder.{Finder}
 use Rattle.timefd_lint_sources.specs.declared.reported.Finder.TheVariants.{Rust, Keys}
 use Rattle.timefd_lint_sources.specs.Allowances.Comments.{between, in_comment}
 use Rattle.timefd_lint_sources.specs.Allowances.Keyed.{in_lines}
 
 -- what a token of Rust allows, if it is a comment
-abbrev pub in_token : Text → Piece → List Allowance
+abbrev pub in_token : Text → PlacedToken → List Allowance
 in_token source p = if is_comment p.token then in_comment Slashes source p.start p.end else []
 
-abbrev pub in_tokens : Text → List Piece → List Allowance
+abbrev pub in_tokens : Text → List PlacedToken → List Allowance
 in_tokens source [] = []
 in_tokens source (p ∷ ps) = in_token source p ++ in_tokens source ps
 
 -- In Rust the comments are tokens, so no text in a string is one. In a file with keys each line may end with one.
 abbrev pub AreBy : Finder → Text → List Allowance → Type 0
 AreBy Rust source found =
-    (ps : List Piece) × AreTokens (length source) source ps × (found ≡ in_tokens source ps)
+    (ps : List PlacedToken) × AreTokens (length source) source ps × (found ≡ in_tokens source ps)
 AreBy (Keys format names) source found = found ≡ in_lines format source line_feed source
 
 -- Nothing is allowed in a source without `timefd:`.

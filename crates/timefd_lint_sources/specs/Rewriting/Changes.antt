@@ -8,15 +8,15 @@ use Rattle.timefd_language.specs.declared.description_version.DescriptionVersion
 use Rattle.timefd_language.specs.declared.language.Language.TheVariants as languages
 use Rattle.timefd_lint_rewrite.specs.declared.layout.Layout.{Layout}
 use Rattle.timefd_lint_rewrite.specs.declared.layout.Layout.TheVariants as layouts
-use Rattle.timefd_lint_scan.specs.declared.dialect.Dialect.{Dialect}
-use Rattle.timefd_lint_scan.specs.declared.dialect.Dialect.TheVariants.{One, Two, Three, Strftime, Python, C, Gnu, Chrono, Jiff, Ruby, Java, Go, Moment}
+use Rattle.timefd_lint_scan.specs.declared.dialect.FormatLanguage.{FormatLanguage}
+use Rattle.timefd_lint_scan.specs.declared.dialect.FormatLanguage.TheVariants.{One, Two, Three, Strftime, Python, C, Gnu, Chrono, Jiff, Ruby, Java, Go, Moment}
 use Rattle.timefd_lint_scan.specs.Versions.{digit_of}
 use Rattle.timefd_lint_sources.specs.Judged.{is_passed_over, language_of}
 use Rattle.timefd_lint_sources.specs.declared.rewriting.change.Change.{Change}
 use Rattle.timefd_lint_sources.specs.declared.rewriting.change.Change.TheVariants.{Mended, Least, Normal}
 
 -- the conversion of a description to a version: none from strftime, which has other calls
-abbrev pub conversion_to : Dialect → DescriptionVersion → Option Conversion
+abbrev pub conversion_to : FormatLanguage → DescriptionVersion → Option Conversion
 conversion_to One version = conversion_between (language_of One) (languages.Version version)
 conversion_to Two version = conversion_between (language_of Two) (languages.Version version)
 conversion_to Three version = conversion_between (language_of Three) (languages.Version version)
@@ -32,7 +32,7 @@ conversion_to Go version = None
 conversion_to Moment version = None
 
 -- What only another language or library knows isn't fixed.
-abbrev pub layout_of : Change → Dialect → Text → Option Layout
+abbrev pub layout_of : Change → FormatLanguage → Text → Option Layout
 layout_of (Mended fixes) dialect text =
     if is_passed_over dialect text then None else Some (layouts.Fixed (language_of dialect) fixes)
 layout_of (Least version) dialect text = option_map layouts.Least (conversion_to dialect version)
@@ -48,7 +48,7 @@ other_digit None new = Some new
 other_digit (Some old) new = if old == new then None else Some new
 
 -- the new digit of a description's version; none if the version stays
-abbrev pub new_digit : Change → Dialect → Option ℕ
+abbrev pub new_digit : Change → FormatLanguage → Option ℕ
 new_digit (Mended fixes) dialect = None
 new_digit (Least version) dialect = other_digit (digit_of dialect) (digit_in version)
 new_digit Normal dialect = other_digit (digit_of dialect) (digit_in versions.Three)

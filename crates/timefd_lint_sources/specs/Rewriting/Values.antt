@@ -14,10 +14,10 @@ use Rattle.timefd_lint_rewrite.specs.LineChanges.{IsChanged, IsUnchangeable}
 use Rattle.timefd_lint_rewrite.specs.declared.layout.Layout.TheVariants as layouts
 use Rattle.timefd_lint_rewrite.specs.declared.line_change.LineChange.{LineChange}
 use Rattle.timefd_lint_rewrite.specs.declared.line_change.LineChange.TheVariants.{Own, Other}
-use Rattle.timefd_lint_scan.specs.declared.description.Description.{Description}
-use Rattle.timefd_lint_scan.specs.declared.dialect.Dialect.{Dialect}
-use Rattle.timefd_lint_scan.specs.declared.keys.format.Format.{Format}
-use Rattle.timefd_lint_scan.specs.declared.keys.key.Key.{Key}
+use Rattle.timefd_lint_scan.specs.declared.description.SourceDescription.{SourceDescription}
+use Rattle.timefd_lint_scan.specs.declared.dialect.FormatLanguage.{FormatLanguage}
+use Rattle.timefd_lint_scan.specs.declared.keys.format.FileFormat.{FileFormat}
+use Rattle.timefd_lint_scan.specs.declared.keys.key.DescriptionKey.{DescriptionKey}
 use Rattle.timefd_lint_scan.specs.Found.{AreInOrder}
 use Rattle.timefd_lint_scan.specs.Keys.Found.{AreAllValues}
 use Rattle.timefd_lint_scan.specs.Keys.Spelled.{IsStringFor, string_end}
@@ -58,21 +58,21 @@ other_change (Mended fixes) dialect = None
 other_change (Least version) dialect = to_version version dialect
 other_change Normal dialect = None
 
-abbrev pub change_by : Change → Dialect → Option other.Dialect → Option LineChange
+abbrev pub change_by : Change → FormatLanguage → Option other.Dialect → Option LineChange
 change_by change dialect None = own_change change (language_of dialect)
 change_by change dialect (Some other) = other_change change other
 
 -- how a value in this language is changed
-abbrev pub value_change : Change → Dialect → Option LineChange
+abbrev pub value_change : Change → FormatLanguage → Option LineChange
 value_change change dialect = change_by change dialect (other_of dialect)
 
 -- The string denotes the new text in place of the value.
-abbrev pub IsNewString : Format → Text → Description → Text → Text → Type 0
+abbrev pub IsNewString : FileFormat → Text → SourceDescription → Text → Text → Type 0
 IsNewString format source d answer string =
     (found : Vec ℕ Global) × IsStringFor format source d.piece.start answer (Some found) × (string ≡ found.items)
 
 -- The outcome of a value that is changed so, and the string in its place if it is rewritten.
-abbrev pub IsOutcomeBy : LineChange → Format → Text → Description → Outcome → Option Text → Type 0
+abbrev pub IsOutcomeBy : LineChange → FileFormat → Text → SourceDescription → Outcome → Option Text → Type 0
 IsOutcomeBy change format source d PassedOver string = ⊥
 IsOutcomeBy change format source d Same string = IsChanged change (text_of d) (text_of d)
 IsOutcomeBy change format source d Rewritten None = ⊥
@@ -87,37 +87,37 @@ IsOutcomeBy change format source d NotALiteral string =
     × IsStringFor format source d.piece.start answer None
 IsOutcomeBy change format source d ByHand string = ⊥
 
-abbrev pub IsOutcomeIn : Option LineChange → Format → Text → Description → Outcome → Option Text → Type 0
+abbrev pub IsOutcomeIn : Option LineChange → FileFormat → Text → SourceDescription → Outcome → Option Text → Type 0
 IsOutcomeIn None format source d o string = o ≡ PassedOver
 IsOutcomeIn (Some change) format source d o string = IsOutcomeBy change format source d o string
 
 -- The outcome of a value: it is passed over if no change leads from its language.
-abbrev pub IsOutcome : Change → Format → Text → Description → Outcome → Option Text → Type 0
+abbrev pub IsOutcome : Change → FileFormat → Text → SourceDescription → Outcome → Option Text → Type 0
 IsOutcome change format source d o string =
     IsOutcomeIn (value_change change d.dialect) format source d o string
 
-abbrev pub IsAnswerIn : Option LineChange → Format → Text → Description → ValueAnswer → Type 0
+abbrev pub IsAnswerIn : Option LineChange → FileFormat → Text → SourceDescription → ValueAnswer → Type 0
 IsAnswerIn change format source d (Stays o) =
     (is_rewriting o ≡ false) × IsOutcomeIn change format source d o None
 IsAnswerIn change format source d (Becomes string) =
     IsOutcomeIn change format source d Rewritten (Some string.items)
 
-abbrev pub IsAnswer : Change → Format → Text → Description → ValueAnswer → Type 0
+abbrev pub IsAnswer : Change → FileFormat → Text → SourceDescription → ValueAnswer → Type 0
 IsAnswer change format source d answer = IsAnswerIn (value_change change d.dialect) format source d answer
 
 -- What is written up to the end of a value that is rewritten: what precedes it, and the new string.
-abbrev pub front_of : Text → ℕ → Description → Option Text → Text
+abbrev pub front_of : Text → ℕ → SourceDescription → Option Text → Text
 front_of source from d None = []
 front_of source from d (Some string) = take (d.piece.start - from) (drop from source) ++ string
 
 -- where the source goes on
-abbrev pub next_of : Format → Text → ℕ → Description → Option Text → ℕ
+abbrev pub next_of : FileFormat → Text → ℕ → SourceDescription → Option Text → ℕ
 next_of format source from d None = from
 next_of format source from d (Some string) = string_end format source d.piece.start d.piece.end
 
 -- What is written for a source from a position on: each of these values that is rewritten is another string, and every
 -- other byte is the source's.
-abbrev pub AreRewritten : Change → Format → Text → ℕ → List Description → List Outcome → Text → Type 0
+abbrev pub AreRewritten : Change → FileFormat → Text → ℕ → List SourceDescription → List Outcome → Text → Type 0
 AreRewritten change format source from [] [] new = new ≡ drop from source
 AreRewritten change format source from [] (o ∷ os) new = ⊥
 AreRewritten change format source from (d ∷ ds) [] new = ⊥
@@ -127,15 +127,15 @@ AreRewritten change format source from (d ∷ ds) (o ∷ os) new =
     × (new ≡ front_of source from d string ++ rest)
 
 -- A file whose values of keys are all rewritten. They are in it one after another.
-pub record AreValuesRewritten (change : Change) (format : Format) (source : Text) (keys : List Key) (new : NewSource)
+pub record AreValuesRewritten (change : Change) (format : FileFormat) (source : Text) (keys : List DescriptionKey) (new : NewSource)
     : Type 0 where
-  pub values : List Description
+  pub values : List SourceDescription
   pub all : AreAllValues format source keys values
   pub in_order : AreInOrder 0 values
   pub rewritten : AreRewritten change format source 0 values new.outcomes.items new.bytes.items
 
 -- The outcome of one more value, and what is written for it.
-pub record Adds (change : Change) (format : Format) (source : Text) (d : Description) (from : ℕ)
+pub record Adds (change : Change) (format : FileFormat) (source : Text) (d : SourceDescription) (from : ℕ)
     (outcomes : List Outcome) (bytes : Text) (outcomes' : List Outcome) (bytes' : Text) (next : ℕ) : Type 0 where
   pub outcome : Outcome
   pub string : Option Text

@@ -6,7 +6,7 @@ use Rattle.timefd_lang_component.specs.Tree.{Text}
 use Rattle.timefd_lang_fault.specs.Faults.{Fault}
 use Rattle.timefd_lint_rewrite.specs.declared.layout.Layout.{Layout}
 use Rattle.timefd_lint_rewrite.specs.Layouts.{IsConverted, IsRefusedFor}
-use Rattle.timefd_lint_scan.specs.declared.description.Description.{Description}
+use Rattle.timefd_lint_scan.specs.declared.description.SourceDescription.{SourceDescription}
 use Rattle.timefd_lint_scan.specs.declared.version.VersionPosition.{VersionPosition}
 use Rattle.timefd_lint_scan.specs.declared.version.VersionPosition.TheVariants.{Digit, Unsaid, Call, Elsewhere}
 use Rattle.timefd_lint_scan.specs.Found.{AllStandIn, AreDescriptionsOf, AreInOrder}
@@ -52,21 +52,21 @@ line_ends_in None = 0
 line_ends_in (Some text) = line_ends text
 
 -- the number of line ends between the quotes of a description's literal
-abbrev pub old_line_ends : Text → Description → ℕ
+abbrev pub old_line_ends : Text → SourceDescription → ℕ
 old_line_ends source d = line_ends_in (inside source d.piece d.kind)
 
 -- how this description is laid out
-abbrev pub IsLaidOutBy : Change → Description → Layout → Type 0
+abbrev pub IsLaidOutBy : Change → SourceDescription → Layout → Type 0
 IsLaidOutBy change d layout = layout_of change d.dialect (text_of d) ≡ Some layout
 
 -- The text is converted to the answer, or fixed, in the language of the description.
-pub record Becoming (change : Change) (d : Description) (answer : Text) : Type 0 where
+pub record Becoming (change : Change) (d : SourceDescription) (answer : Text) : Type 0 where
   pub layout : Layout
   pub chosen : IsLaidOutBy change d layout
   pub converted : IsConverted layout (text_of d) answer
 
 -- A literal of the description's kind has no body for the answer, or one that has more or fewer lines.
-abbrev pub IsUnwritable : Text → Description → Text → Type 0
+abbrev pub IsUnwritable : Text → SourceDescription → Text → Type 0
 IsUnwritable source d answer = IsFalse (has_body d.kind answer)
     ⊎ ((body : Text) × IsBodyFor d.kind answer body × (line_ends body ≢ old_line_ends source d))
 
@@ -83,7 +83,7 @@ is_sayable position None = true
 is_sayable position (Some digit) = can_say position
 
 -- If the text changes, the literal has a new body with as many line ends, and otherwise its own.
-abbrev pub IsBodyOf : Text → Description → Text → Option Text → Type 0
+abbrev pub IsBodyOf : Text → SourceDescription → Text → Option Text → Type 0
 IsBodyOf source d answer None = answer ≡ text_of d
 IsBodyOf source d answer (Some body) =
     (answer ≢ text_of d) × IsBodyFor d.kind answer body × (line_ends body ≡ old_line_ends source d)
@@ -96,7 +96,7 @@ IsChange (Some digit) None = ⊤
 IsChange (Some digit) (Some body) = ⊤
 
 -- A description is rewritten together with its version, by this digit and this body.
-pub record IsRewritten (change : Change) (source : Text) (d : Description) (digit : Option ℕ) (body : Option Text)
+pub record IsRewritten (change : Change) (source : Text) (d : SourceDescription) (digit : Option ℕ) (body : Option Text)
     : Type 0 where
   pub answer : Text
   pub becoming : Becoming change d answer
@@ -106,11 +106,11 @@ pub record IsRewritten (change : Change) (source : Text) (d : Description) (digi
   pub changes : IsChange digit body
 
 -- The description has an item that `parse` refuses and that its place takes.
-abbrev pub HasItem : Description → Type 0
+abbrev pub HasItem : SourceDescription → Type 0
 HasItem d = HoldsItem (taking d.items d.dialect) (text_of d)
 
 -- The outcome of a description, and its new digit and body if it is rewritten.
-abbrev pub IsOutcome : Change → Text → Description → Outcome → Option ℕ → Option Text → Type 0
+abbrev pub IsOutcome : Change → Text → SourceDescription → Outcome → Option ℕ → Option Text → Type 0
 IsOutcome change source d PassedOver digit body = layout_of change d.dialect (text_of d) ≡ None
 IsOutcome change source d Same digit body = Becoming change d (text_of d) × (new_digit change d.dialect ≡ None)
 IsOutcome change source d Rewritten digit body = IsRewritten change source d digit body
@@ -128,13 +128,13 @@ abbrev pub items_of : Option (Vec ℕ Global) → Option Text
 items_of None = None
 items_of (Some body) = Some body.items
 
-abbrev pub IsAnswer : Change → Text → Description → Answer → Type 0
+abbrev pub IsAnswer : Change → Text → SourceDescription → Answer → Type 0
 IsAnswer change source d (Stays o) = (is_rewriting o ≡ false) × IsOutcome change source d o None None
 IsAnswer change source d (Becomes rewritten) = IsRewritten change source d rewritten.digit (items_of rewritten.body)
 
 -- What is written for a source from a position on, up to the closing quote of a description: what precedes
 -- its literal's body, and then the new body.
-pub record IsReplaced (source : Text) (from : ℕ) (d : Description) (body front : Text) (next : ℕ) : Type 0 where
+pub record IsReplaced (source : Text) (from : ℕ) (d : SourceDescription) (body front : Text) (next : ℕ) : Type 0 where
   pub kept : Text
   pub old : Text
   pub is_inside : inside source d.piece d.kind ≡ Some old
@@ -143,7 +143,7 @@ pub record IsReplaced (source : Text) (from : ℕ) (d : Description) (body front
   pub written : front ≡ kept ++ body
 
 -- Nothing is written yet if the body stays.
-abbrev pub IsRespelled : Text → ℕ → Description → Option Text → Text → ℕ → Type 0
+abbrev pub IsRespelled : Text → ℕ → SourceDescription → Option Text → Text → ℕ → Type 0
 IsRespelled source from d None front next = (front ≡ []) × (next ≡ from)
 IsRespelled source from d (Some body) front next = IsReplaced source from d body front next
 
@@ -158,7 +158,7 @@ abbrev pub argument : ℕ → Text
 argument digit = codes "version = " ++ (digit ∷ codes ", ")
 
 -- The description's version has a new digit, or is said where it wasn't.
-abbrev pub IsNewVersion : Text → ℕ → Description → VersionPosition → ℕ → Text → ℕ → Type 0
+abbrev pub IsNewVersion : Text → ℕ → SourceDescription → VersionPosition → ℕ → Text → ℕ → Type 0
 IsNewVersion source from d (Digit at) digit front next = (next ≡ at + 1) × ((old : ℕ)
     × (digit_of d.dialect ≡ Some old) × IsSpliced source from (old ∷ []) (digit ∷ []) front next)
 IsNewVersion source from d Unsaid digit front next = (next ≡ d.piece.start)
@@ -167,12 +167,12 @@ IsNewVersion source from d Call digit front next = ⊥
 IsNewVersion source from d Elsewhere digit front next = ⊥
 
 -- Nothing is written yet if the version stays.
-abbrev pub IsRenumbered : Text → ℕ → Description → Option ℕ → Text → ℕ → Type 0
+abbrev pub IsRenumbered : Text → ℕ → SourceDescription → Option ℕ → Text → ℕ → Type 0
 IsRenumbered source from d None front next = (front ≡ []) × (next ≡ from)
 IsRenumbered source from d (Some digit) front next = IsNewVersion source from d d.version digit front next
 
 -- First the version, and then the body.
-pub record IsPut (source : Text) (from : ℕ) (d : Description) (digit : Option ℕ) (body : Option Text)
+pub record IsPut (source : Text) (from : ℕ) (d : SourceDescription) (digit : Option ℕ) (body : Option Text)
     (front : Text) (next : ℕ) : Type 0 where
   pub first : Text
   pub middle : ℕ
@@ -182,7 +182,7 @@ pub record IsPut (source : Text) (from : ℕ) (d : Description) (digit : Option 
   pub whole : front ≡ first ++ second
 
 -- Nothing is written yet if the literal stays.
-abbrev pub IsPlaced : Text → ℕ → Description → Outcome → Option ℕ → Option Text → Text → ℕ → Type 0
+abbrev pub IsPlaced : Text → ℕ → SourceDescription → Outcome → Option ℕ → Option Text → Text → ℕ → Type 0
 IsPlaced source from d PassedOver digit body front next = (front ≡ []) × (next ≡ from)
 IsPlaced source from d Same digit body front next = (front ≡ []) × (next ≡ from)
 IsPlaced source from d Rewritten digit body front next = IsPut source from d digit body front next
@@ -194,7 +194,7 @@ IsPlaced source from d ByHand digit body front next = (front ≡ []) × (next �
 
 -- What is written for a source from a position on: each of these descriptions that is rewritten has
 -- another version or another body between its quotes, and every other byte is the source's.
-abbrev pub AreRewritten : Change → Text → ℕ → List Description → List Outcome → Text → Type 0
+abbrev pub AreRewritten : Change → Text → ℕ → List SourceDescription → List Outcome → Text → Type 0
 AreRewritten change source from [] [] new = new ≡ drop from source
 AreRewritten change source from [] (o ∷ os) new = ⊥
 AreRewritten change source from (d ∷ ds) [] new = ⊥
@@ -205,29 +205,29 @@ AreRewritten change source from (d ∷ ds) (o ∷ os) new = (digit : Option ℕ)
 
 -- A source whose descriptions are all rewritten. They are in it one after another.
 pub record IsSourceRewritten (change : Change) (source : Text) (new : NewSource) : Type 0 where
-  pub descriptions : List Description
+  pub descriptions : List SourceDescription
   pub all : AreDescriptionsOf source descriptions
   pub stand : AllStandIn source descriptions
   pub in_order : AreInOrder 0 descriptions
   pub rewritten : AreRewritten change source 0 descriptions new.outcomes.items new.bytes.items
 
 -- the new body, after what is written so far
-abbrev pub Replaces : Text → Description → ℕ → Text → Text → Text → ℕ → Type 0
+abbrev pub Replaces : Text → SourceDescription → ℕ → Text → Text → Text → ℕ → Type 0
 Replaces source d from body bytes bytes' next =
     (front : Text) × IsReplaced source from d body front next × (bytes' ≡ bytes ++ front)
 
 -- the version and the body, after what is written so far
-abbrev pub Puts : Text → Description → ℕ → Option ℕ → Option Text → Text → Text → ℕ → Type 0
+abbrev pub Puts : Text → SourceDescription → ℕ → Option ℕ → Option Text → Text → Text → ℕ → Type 0
 Puts source d from digit body bytes bytes' next =
     (front : Text) × IsPut source from d digit body front next × (bytes' ≡ bytes ++ front)
 
 -- the version, after what is written so far
-abbrev pub Renumbers : Text → Description → ℕ → Option ℕ → Text → Text → ℕ → Type 0
+abbrev pub Renumbers : Text → SourceDescription → ℕ → Option ℕ → Text → Text → ℕ → Type 0
 Renumbers source d from digit bytes bytes' next =
     (front : Text) × IsRenumbered source from d digit front next × (bytes' ≡ bytes ++ front)
 
 -- The outcome of one more description, and what is written for the source up to it.
-pub record AddsRewritten (change : Change) (source : Text) (d : Description) (from : ℕ)
+pub record AddsRewritten (change : Change) (source : Text) (d : SourceDescription) (from : ℕ)
     (outcomes : List Outcome) (bytes : Text) (outcomes' : List Outcome) (bytes' : Text) (next : ℕ)
     : Type 0 where
   pub outcome : Outcome

@@ -6,7 +6,7 @@ ghost use Rattle.timefd_lint_sources.specs.Allowances.Comments as spec;
 
 use crate::cut::{after as from, between};
 use std::alloc::AllocError;
-use timefd_lint_scan::class::{Class, after_run, is_white};
+use timefd_lint_scan::class::{ByteSet, after_run, is_white};
 use timefd_lint_scan::dialect::is;
 use timefd_lint_scan::line::line_start;
 use timefd_lint_scan::marks::{after, first_word};
@@ -32,7 +32,7 @@ pub struct Reach {
 
 /// What a comment begins with.
 #[derive(Clone, Copy)]
-pub enum Sign {
+pub enum CommentSign {
     /// `//`
     Slashes,
     /// `#`
@@ -40,30 +40,30 @@ pub enum Sign {
 }
 
 /// What follows the sign of a comment that a text begins with.
-pub fn after_sign(sign: Sign, text: &[u8]) -> Option<&[u8]>
+pub fn after_sign(sign: CommentSign, text: &[u8]) -> Option<&[u8]>
     ensures { seen result ≡ spec.after_sign sign text.now }
 {
     match sign {
-        Sign::Slashes => after(text, b"//"),
-        Sign::Hash => after(text, b"#"),
+        CommentSign::Slashes => after(text, b"//"),
+        CommentSign::Hash => after(text, b"#"),
     }
 }
 
 // What follows `timefd:` in the comment that a text begins with.
-fn after_mark(sign: Sign, text: &[u8]) -> Option<&[u8]>
+fn after_mark(sign: CommentSign, text: &[u8]) -> Option<&[u8]>
     ensures { seen result ≡ spec.after_mark sign text.now }
 {
     let Some(comment) = after_sign(sign, text) else {
         return None;
     };
-    after(after_run(Class::Blank, comment), b"timefd:")
+    after(after_run(ByteSet::Blank, comment), b"timefd:")
 }
 
 // Whether a line has only a comment with `timefd:`.
-fn is_mark_line(sign: Sign, text: &[u8]) -> bool
+fn is_mark_line(sign: CommentSign, text: &[u8]) -> bool
     ensures { result ≡ spec.is_mark_line sign text.now }
 {
-    match after_mark(sign, after_run(Class::Blank, text)) {
+    match after_mark(sign, after_run(ByteSet::Blank, text)) {
         Some(_mark) => true,
         None => false,
     }
@@ -74,20 +74,20 @@ fn after_allow(text: &[u8]) -> Option<&[u8]>
     ensures { seen result ≡ spec.after_allow text.now }
 {
     if is(first_word(text), "allow") {
-        Some(after_run(Class::Word, text))
+        Some(after_run(ByteSet::Word, text))
     } else {
         None
     }
 }
 
 // The text after `allow` in a comment.
-fn allowed_words(sign: Sign, comment: &[u8]) -> Option<&[u8]>
+fn allowed_words(sign: CommentSign, comment: &[u8]) -> Option<&[u8]>
     ensures { seen result ≡ spec.allowed_words sign comment.now }
 {
     let Some(text) = after_mark(sign, comment) else {
         return None;
     };
-    after_allow(after_run(Class::Blank, text))
+    after_allow(after_run(ByteSet::Blank, text))
 }
 
 fn is_separator(byte: u8) -> bool
@@ -156,7 +156,7 @@ fn push_words(
 
 // The first line that has something else than such a comment, after one that the text follows, and all that follows
 // it.
-fn covered(sign: Sign, text: &[u8]) -> &[u8]
+fn covered(sign: CommentSign, text: &[u8]) -> &[u8]
     ensures { result.now ≡ spec.covered sign text.now }
 {
     let mut left = text;
@@ -179,11 +179,11 @@ fn line_begin(source: &[u8], at: usize) -> usize
 fn is_alone(source: &[u8], at: usize) -> bool
     ensures { result ≡ spec.is_alone source.now at }
 {
-    after_run(Class::White, between(source, line_begin(source, at), at)).is_empty()
+    after_run(ByteSet::White, between(source, line_begin(source, at), at)).is_empty()
 }
 
 // What the comment in these bytes of a source is about.
-fn reach_of(sign: Sign, source: &[u8], at: usize, end: usize) -> Reach
+fn reach_of(sign: CommentSign, source: &[u8], at: usize, end: usize) -> Reach
     ensures { result ≡ spec.reach_of sign source.now at end }
 {
     if is_alone(source, at) {
@@ -192,7 +192,7 @@ fn reach_of(sign: Sign, source: &[u8], at: usize, end: usize) -> Reach
             from: source.len().saturating_sub(line.len()),
             to: source
                 .len()
-                .saturating_sub(after_run(Class::Line, line).len()),
+                .saturating_sub(after_run(ByteSet::Line, line).len()),
         }
     } else {
         Reach {
@@ -205,7 +205,7 @@ fn reach_of(sign: Sign, source: &[u8], at: usize, end: usize) -> Reach
 /// Adds what the comment in the bytes `at..end` of a source allows. An `Err` says that memory ran out.
 pub fn push_allowed(
     found: &mut Vec<Allowance>,
-    sign: Sign,
+    sign: CommentSign,
     source: &[u8],
     at: usize,
     end: usize,

@@ -4,32 +4,32 @@ ghost use Rattle.std.specs.Prelude.{◌≡◌, ◌++◌, IfOk, OnOk};
 ghost use Rattle.timefd_lint_scan.specs.Bytes.{line_feed, seen};
 ghost use Rattle.timefd_lint_sources.specs.Allowances.Keyed as spec;
 
-use crate::allowances::comment::{Allowance, Sign, after_sign, push_allowed};
+use crate::allowances::comment::{Allowance, CommentSign, after_sign, push_allowed};
 use std::alloc::{AllocError, Global};
-use timefd_lint_scan::class::{Class, after_run, is_blank, is_word};
-use timefd_lint_scan::keys::Format;
+use timefd_lint_scan::class::{ByteSet, after_run, is_blank, is_word};
+use timefd_lint_scan::keys::FileFormat;
 use timefd_lint_scan::marks::in_front;
 
-fn sign_of(format: Format) -> Sign
+fn sign_of(format: FileFormat) -> CommentSign
     ensures { result ≡ spec.sign_of format }
 {
     match format {
-        Format::Toml | Format::Yaml => Sign::Hash,
-        Format::Json => Sign::Slashes,
+        FileFormat::Toml | FileFormat::Yaml => CommentSign::Hash,
+        FileFormat::Json => CommentSign::Slashes,
     }
 }
 
 // Whether a comment may follow this byte; 0 is the start of a line.
-fn may_follow(format: Format, before: u8) -> bool
+fn may_follow(format: FileFormat, before: u8) -> bool
     ensures { result ≡ spec.may_follow format before }
 {
     match format {
-        Format::Toml | Format::Json => true,
-        Format::Yaml => before == 0 || is_blank(before),
+        FileFormat::Toml | FileFormat::Json => true,
+        FileFormat::Yaml => before == 0 || is_blank(before),
     }
 }
 
-fn begins_comment(format: Format, before: u8, text: &[u8]) -> bool
+fn begins_comment(format: FileFormat, before: u8, text: &[u8]) -> bool
     ensures { result ≡ spec.begins_comment format before text.now }
 {
     if !may_follow(format, before) {
@@ -56,37 +56,37 @@ fn is_escaped(before: u8, opened: u8) -> bool
 // What is known in front of a byte: the byte before it, which is 0 at the start and after an escape, and the quote of
 // the string that is open, or 0.
 #[derive(Clone, Copy)]
-struct State {
+struct ByteState {
     before: u8,
     opened: u8,
 }
 
 // The state after a byte that begins no comment.
-fn state_after(state: State, byte: u8) -> State
+fn state_after(state: ByteState, byte: u8) -> ByteState
     ensures { result ≡ spec.state_after state byte }
 {
-    let State { before, opened } = state;
+    let ByteState { before, opened } = state;
     if opened == 0 {
         if opens(before, byte) {
-            State {
+            ByteState {
                 before: 0,
                 opened: byte,
             }
         } else {
-            State {
+            ByteState {
                 before: byte,
                 opened: 0,
             }
         }
     } else if is_escaped(before, opened) {
-        State { before: 0, opened }
+        ByteState { before: 0, opened }
     } else if byte == opened {
-        State {
+        ByteState {
             before: byte,
             opened: 0,
         }
     } else {
-        State {
+        ByteState {
             before: byte,
             opened,
         }
@@ -94,10 +94,10 @@ fn state_after(state: State, byte: u8) -> State
 }
 
 // The comment in a line.
-fn comment_in(format: Format, line: &[u8]) -> Option<&[u8]>
+fn comment_in(format: FileFormat, line: &[u8]) -> Option<&[u8]>
     ensures { seen result ≡ spec.comment_in format spec.at_start line.now }
 {
-    let mut state = State {
+    let mut state = ByteState {
         before: 0,
         opened: 0,
     };
@@ -115,13 +115,13 @@ fn comment_in(format: Format, line: &[u8]) -> Option<&[u8]>
 // Adds what the line allows that the rest of a source begins with.
 fn push_line(
     found: &mut Vec<Allowance>,
-    format: Format,
+    format: FileFormat,
     source: &[u8],
     rest: &[u8],
 ) -> Result<(), AllocError>
     ensures { OnOk result (found.new.items ≡ found.old.items ++ spec.in_line format source.now rest.now) }
 {
-    let after = after_run(Class::Line, rest);
+    let after = after_run(ByteSet::Line, rest);
     let end = source.len().saturating_sub(after.len());
     match comment_in(format, in_front(rest, after)) {
         Some(comment) => {
@@ -134,7 +134,7 @@ fn push_line(
 
 fn push_if_line(
     found: &mut Vec<Allowance>,
-    format: Format,
+    format: FileFormat,
     source: &[u8],
     before: u8,
     rest: &[u8],
@@ -151,7 +151,7 @@ fn push_if_line(
 /// What the comments in a file of this format allow, in order. An `Err` says that memory ran out.
 pub fn allowances_of_keys(
     alloc: Global,
-    format: Format,
+    format: FileFormat,
     source: &[u8],
 ) -> Result<Vec<Allowance>, AllocError>
     ensures { IfOk result (λ found. found.items ≡ spec.in_lines format source.now line_feed source.now) }

@@ -5,9 +5,9 @@ ghost use Rattle.timefd_lint_scan.specs.Marks as marks;
 ghost use Rattle.timefd_lint_sources.specs.declared.reported.Finder.TheVariants as finders;
 ghost use Rattle.timefd_lint_sources.specs.Allowances.Found as spec;
 
-use crate::allowances::comment::{Allowance, Sign, push_allowed};
+use crate::allowances::comment::{Allowance, CommentSign, push_allowed};
 use std::alloc::{AllocError, Global};
-use timefd_lint_scan::{Piece, Token, comments_of};
+use timefd_lint_scan::{PlacedToken, Token, comments_of};
 
 fn is_comment(token: Token) -> bool
     ensures { result ≡ marks.is_comment token }
@@ -25,11 +25,15 @@ fn is_comment(token: Token) -> bool
 }
 
 // Adds what a token allows, if it is a comment.
-fn push_token(found: &mut Vec<Allowance>, source: &[u8], piece: Piece) -> Result<(), AllocError>
+fn push_token(
+    found: &mut Vec<Allowance>,
+    source: &[u8],
+    piece: PlacedToken,
+) -> Result<(), AllocError>
     ensures { OnOk result (found.new.items ≡ found.old.items ++ spec.in_token source.now piece) }
 {
     if is_comment(piece.token) {
-        push_allowed(found, Sign::Slashes, source, piece.start, piece.end)?;
+        push_allowed(found, CommentSign::Slashes, source, piece.start, piece.end)?;
     }
     Ok(())
 }
@@ -38,7 +42,7 @@ fn push_token(found: &mut Vec<Allowance>, source: &[u8], piece: Piece) -> Result
 fn push_tokens(
     found: &mut Vec<Allowance>,
     source: &[u8],
-    pieces: &[Piece],
+    pieces: &[PlacedToken],
 ) -> Result<(), AllocError>
     ensures { OnOk result (found.new.items ≡ found.old.items ++ spec.in_tokens source.now pieces.now) }
 {

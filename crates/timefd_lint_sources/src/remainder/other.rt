@@ -9,12 +9,12 @@ use crate::allowed::{is_allowed, traps_left};
 use crate::left::left_of_traps;
 use crate::other;
 use crate::remainder::nothing_left;
-use crate::reported::{End, Reported, Reporting, Source};
+use crate::reported::{ItemEnd, Reported, Reporting, SourceText};
 use crate::search::first_refusal;
 use std::alloc::{AllocError, Global};
-use timefd_lang_dialect::{Dialect, Refusal, traps};
+use timefd_lang_dialect::{Dialect, RefusedPart, traps};
 use timefd_lint_drawing::{Counter, Style};
-use timefd_lint_scan::Description;
+use timefd_lint_scan::SourceDescription;
 
 /// Checks a format of another language or library, and reports what is left of its error or its traps. An `Err` says
 /// that memory ran out.
@@ -22,9 +22,9 @@ use timefd_lint_scan::Description;
 pub fn other_judged(
     alloc: Global,
     reporting: Reporting,
-    source: Source<'_>,
+    source: SourceText<'_>,
     from: Counter,
-    description: &Description,
+    description: &SourceDescription,
     dialect: Dialect,
     text: &str,
 ) -> Result<Reported, AllocError>
@@ -43,10 +43,10 @@ pub fn other_judged(
 fn unless_allowed(
     alloc: Global,
     style: Style,
-    source: Source<'_>,
+    source: SourceText<'_>,
     from: Counter,
-    description: &Description,
-    refusal: Refusal,
+    description: &SourceDescription,
+    refusal: RefusedPart,
 ) -> Result<Reported, AllocError>
     requires { IsCounted 1 source.text.now from }
     ensures { IfOk result (λ reported. spec.IsRefusalLeft style source.entry description.now refusal
@@ -62,9 +62,9 @@ fn unless_allowed(
 fn trapped(
     alloc: Global,
     reporting: Reporting,
-    source: Source<'_>,
+    source: SourceText<'_>,
     from: Counter,
-    description: &Description,
+    description: &SourceDescription,
     dialect: Dialect,
     text: &str,
 ) -> Result<Reported, AllocError>
@@ -74,7 +74,7 @@ fn trapped(
 {
     if reporting.levels.is_none() {
         return Ok(Reported {
-            end: End::Converted(0),
+            end: ItemEnd::Converted(0),
             message: Vec::new(alloc),
         });
     }
@@ -91,7 +91,7 @@ fn trapped(
         &mut message,
     )?;
     Ok(Reported {
-        end: End::Allowed(left_of_traps(found.len() as u64, left.len() as u64)),
+        end: ItemEnd::Allowed(left_of_traps(found.len() as u64, left.len() as u64)),
         message,
     })
 }

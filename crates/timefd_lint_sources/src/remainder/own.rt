@@ -18,12 +18,12 @@ use crate::language::language_of;
 use crate::left::{left_of_faults, left_of_warnings};
 use crate::placed::all_placed_in;
 use crate::position::FIRST_LINE;
-use crate::reported::{End, Reported, Reporting, Source};
+use crate::reported::{ItemEnd, Reported, Reporting, SourceText};
 use std::alloc::{AllocError, Global};
 use timefd_lang_warnings::Levels;
 use timefd_lint_diagnosis::{Diagnostic, diagnose};
 use timefd_lint_drawing::{Counter, Origin, Style, drawn_all_from};
-use timefd_lint_scan::Description;
+use timefd_lint_scan::SourceDescription;
 use timefd_lint_warnings::found_by;
 use timefd_parse::Language;
 
@@ -31,9 +31,9 @@ use timefd_parse::Language;
 pub fn own_judged(
     alloc: Global,
     reporting: Reporting,
-    source: Source<'_>,
+    source: SourceText<'_>,
     from: Counter,
-    description: &Description,
+    description: &SourceDescription,
     text: &str,
 ) -> Result<Reported, AllocError>
     requires counted { IsCounted 1 source.text.now from }
@@ -63,9 +63,9 @@ pub fn own_judged(
 fn accepted(
     alloc: Global,
     reporting: Reporting,
-    source: Source<'_>,
+    source: SourceText<'_>,
     from: Counter,
-    description: &Description,
+    description: &SourceDescription,
     language: Language,
     text: &str,
 ) -> Result<Reported, AllocError>
@@ -93,9 +93,9 @@ fn accepted(
 fn warned(
     alloc: Global,
     reporting: Reporting,
-    source: Source<'_>,
+    source: SourceText<'_>,
     from: Counter,
-    description: &Description,
+    description: &SourceDescription,
     language: Language,
     text: &str,
     found: Levels,
@@ -118,7 +118,7 @@ fn warned(
         left,
     )?;
     Ok(Reported {
-        end: End::Allowed(left_of_warnings(found, left)),
+        end: ItemEnd::Allowed(left_of_warnings(found, left)),
         message,
     })
 }
@@ -127,9 +127,9 @@ fn warned(
 fn faulty(
     alloc: Global,
     style: Style,
-    source: Source<'_>,
+    source: SourceText<'_>,
     from: Counter,
-    description: &Description,
+    description: &SourceDescription,
     diagnostic: Diagnostic,
     further: Vec<Diagnostic>,
 ) -> Result<Reported, AllocError>
@@ -143,7 +143,7 @@ fn faulty(
     let placed = all_placed_in(alloc, description, left)?;
     let message = drawn(alloc, style, source, from, description, &placed)?;
     Ok(Reported {
-        end: End::Allowed(left_of_faults(found as u64, count as u64)),
+        end: ItemEnd::Allowed(left_of_faults(found as u64, count as u64)),
         message,
     })
 }
@@ -152,9 +152,9 @@ fn faulty(
 fn drawn(
     alloc: Global,
     style: Style,
-    source: Source<'_>,
+    source: SourceText<'_>,
     from: Counter,
-    description: &Description,
+    description: &SourceDescription,
     faults: &[Diagnostic],
 ) -> Result<Vec<u8>, AllocError>
     requires { IsCounted 1 source.text.now from }

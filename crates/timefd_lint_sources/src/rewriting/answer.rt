@@ -14,7 +14,7 @@ use crate::rewriting::outcome::Outcome;
 use std::alloc::{AllocError, Global};
 use std::str;
 use timefd_lint_rewrite::{Layout, lay_out};
-use timefd_lint_scan::{Description, VersionPosition, body_alike, inside};
+use timefd_lint_scan::{SourceDescription, VersionPosition, body_alike, inside};
 use timefd_parse::ParseError;
 
 /// What is new in a literal or next to it.
@@ -41,7 +41,7 @@ pub fn answer_to(
     alloc: Global,
     change: Change,
     source: &str,
-    description: &Description,
+    description: &SourceDescription,
 ) -> Result<Answer, AllocError>
     ensures { IfOk result (IsAnswer change source.now description.now) }
 {
@@ -62,7 +62,7 @@ fn laid_out(
     change: Change,
     layout: Layout,
     source: &str,
-    description: &Description,
+    description: &SourceDescription,
     text: &str,
 ) -> Result<Answer, AllocError>
     requires layout { IsLaidOutBy change description.now layout }
@@ -83,7 +83,7 @@ fn refused(
     change: Change,
     layout: Layout,
     source: &str,
-    description: &Description,
+    description: &SourceDescription,
     text: &str,
 ) -> Result<Answer, AllocError>
     requires layout { IsLaidOutBy change description.now layout }
@@ -100,12 +100,12 @@ fn refused(
 
 // What a description with this text becomes if `answer` is its new text. It stays if its new version can't
 // be said.
-#[tactic(auto, using(crate::proofs::RewritingLemmas::AnswerLemmas::by_hand, crate::proofs::RewritingLemmas::AnswerLemmas::stays_the_text))]
+#[tactic(auto, using(crate::proofs::RewritingLemmas::AnswerLemmas::manual, crate::proofs::RewritingLemmas::AnswerLemmas::stays_the_text))]
 fn becoming(
     alloc: Global,
     change: Change,
     source: &str,
-    description: &Description,
+    description: &SourceDescription,
     text: &str,
     answer: &str,
 ) -> Result<Answer, AllocError>
@@ -125,7 +125,12 @@ fn becoming(
 
 // What a description becomes if its text stays.
 #[tactic(auto, using(crate::proofs::RewritingLemmas::AnswerLemmas::same, crate::proofs::RewritingLemmas::AnswerLemmas::renumbered))]
-fn renumbered(change: Change, source: &str, description: &Description, digit: Option<u8>) -> Answer
+fn renumbered(
+    change: Change,
+    source: &str,
+    description: &SourceDescription,
+    digit: Option<u8>,
+) -> Answer
     requires becoming { Becoming change description.now (text_of description.now) }
     requires version { digit ≡ changes.new_digit change description.now.dialect }
     requires sayable { IsTrue (is_sayable description.now.version digit) }
@@ -143,7 +148,7 @@ fn respelled(
     alloc: Global,
     change: Change,
     source: &str,
-    description: &Description,
+    description: &SourceDescription,
     digit: Option<u8>,
     answer: &str,
 ) -> Result<Answer, AllocError>
@@ -193,7 +198,7 @@ fn line_ends(text: &[u8]) -> usize
 }
 
 // The number of line ends between the quotes of a description's literal.
-fn old_line_ends(source: &str, description: &Description) -> usize
+fn old_line_ends(source: &str, description: &SourceDescription) -> usize
     ensures { result ≡ old_line_ends source.now description.now }
 {
     match inside(source, description.piece, description.kind) {

@@ -7,7 +7,7 @@ ghost use Rattle.timefd_lint_sources.specs.declared.rewriting.change.Change.TheV
 use crate::{is_passed_over, language_of};
 use timefd_lang_convert::{Conversion, conversion_between};
 use timefd_lint_rewrite::{Fixes, Layout};
-use timefd_lint_scan::{Dialect, digit_of};
+use timefd_lint_scan::{FormatLanguage, digit_of};
 use timefd_parse::{DescriptionVersion, Language};
 
 /// How the descriptions of a source are changed.
@@ -24,7 +24,7 @@ pub enum Change {
 
 /// How a description is laid out. `None` if it stays as it is: because only another language or library knows
 /// it, or because there is no conversion from its version, as for strftime.
-pub fn layout_of(change: Change, dialect: Dialect, text: &[u8]) -> Option<Layout>
+pub fn layout_of(change: Change, dialect: FormatLanguage, text: &[u8]) -> Option<Layout>
     ensures { result ≡ spec.layout_of change dialect text.now }
 {
     match change {
@@ -40,7 +40,7 @@ pub fn layout_of(change: Change, dialect: Dialect, text: &[u8]) -> Option<Layout
     }
 }
 
-fn mending(fixes: Fixes, dialect: Dialect, text: &[u8]) -> Option<Layout>
+fn mending(fixes: Fixes, dialect: FormatLanguage, text: &[u8]) -> Option<Layout>
     ensures { result ≡ spec.layout_of (variants.Mended fixes) dialect text.now }
 {
     if is_passed_over(dialect, text) {
@@ -51,28 +51,28 @@ fn mending(fixes: Fixes, dialect: Dialect, text: &[u8]) -> Option<Layout>
 }
 
 // The conversion of a description to a version, if there is one.
-fn conversion_to(dialect: Dialect, version: DescriptionVersion) -> Option<Conversion>
+fn conversion_to(dialect: FormatLanguage, version: DescriptionVersion) -> Option<Conversion>
     ensures { result ≡ spec.conversion_to dialect version }
 {
     match dialect {
-        Dialect::One | Dialect::Two | Dialect::Three => {
+        FormatLanguage::One | FormatLanguage::Two | FormatLanguage::Three => {
             conversion_between(language_of(dialect), Language::Version(version))
         }
-        Dialect::Strftime
-        | Dialect::Python
-        | Dialect::C
-        | Dialect::Gnu
-        | Dialect::Chrono
-        | Dialect::Jiff
-        | Dialect::Ruby
-        | Dialect::Java
-        | Dialect::Go
-        | Dialect::Moment => None,
+        FormatLanguage::Strftime
+        | FormatLanguage::Python
+        | FormatLanguage::C
+        | FormatLanguage::Gnu
+        | FormatLanguage::Chrono
+        | FormatLanguage::Jiff
+        | FormatLanguage::Ruby
+        | FormatLanguage::Java
+        | FormatLanguage::Go
+        | FormatLanguage::Moment => None,
     }
 }
 
 /// The new digit of a description's version; `None` if the version stays.
-pub fn new_digit(change: Change, dialect: Dialect) -> Option<u8>
+pub fn new_digit(change: Change, dialect: FormatLanguage) -> Option<u8>
     ensures { result ≡ spec.new_digit change dialect }
 {
     match change {

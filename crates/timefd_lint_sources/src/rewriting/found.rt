@@ -3,7 +3,7 @@
 ghost use Rattle.std.specs.Prelude.{IfOk};
 ghost use Rattle.timefd_lint_sources.specs.Rewriting.Values.{IsFoundRewritten};
 
-use crate::reported::{Finder, Source};
+use crate::reported::{Finder, SourceText};
 use crate::rewriting::change::Change;
 use crate::rewriting::source::{NewSource, rewrite_source};
 use crate::rewriting::values::rewrite_values;
@@ -14,7 +14,7 @@ use std::alloc::{AllocError, Global};
 pub fn rewrite_found(
     alloc: Global,
     change: Change,
-    source: Source<'_>,
+    source: SourceText<'_>,
 ) -> Result<NewSource, AllocError>
     ensures { IfOk result (IsFoundRewritten change source.entry.finder source.entry.text.now) }
 {

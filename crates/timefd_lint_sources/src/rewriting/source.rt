@@ -8,7 +8,7 @@ use crate::rewriting::answer::{Answer, NewParts, answer_to};
 use crate::rewriting::change::Change;
 use crate::rewriting::outcome::Outcome;
 use std::alloc::{AllocError, Global};
-use timefd_lint_scan::{Description, VersionPosition, body_end, descriptions_of, inside};
+use timefd_lint_scan::{SourceDescription, VersionPosition, body_end, descriptions_of, inside};
 
 /// A source whose descriptions are rewritten.
 #[derive(Drop)]
@@ -36,7 +36,7 @@ pub fn rewrite_all(
     alloc: Global,
     change: Change,
     source: &str,
-    descriptions: &[Description],
+    descriptions: &[SourceDescription],
 ) -> Result<NewSource, AllocError>
     requires stand { AllStandIn source.now descriptions.now }
     requires in_order { AreInOrder 0 descriptions.now }
@@ -68,7 +68,7 @@ fn push_rewritten(
     alloc: Global,
     change: Change,
     source: &str,
-    description: &Description,
+    description: &SourceDescription,
     from: usize,
     outcomes: &mut Vec<Outcome>,
     bytes: &mut Vec<u8>,
@@ -95,7 +95,7 @@ fn push_rewritten(
 #[tactic(auto, using(crate::proofs::RewritingLemmas::SourceLemmas::renumbered_alone, crate::proofs::RewritingLemmas::SourceLemmas::both_put))]
 fn put(
     source: &str,
-    description: &Description,
+    description: &SourceDescription,
     from: usize,
     rewritten: &NewParts,
     bytes: &mut Vec<u8>,
@@ -118,7 +118,7 @@ fn put(
 #[tactic(auto, using(crate::proofs::RewritingLemmas::SourceLemmas::same_version, crate::proofs::RewritingLemmas::SourceLemmas::digit_said, crate::proofs::RewritingLemmas::SourceLemmas::argument_said))]
 fn renumber(
     source: &str,
-    description: &Description,
+    description: &SourceDescription,
     from: usize,
     digit: Option<u8>,
     bytes: &mut Vec<u8>,
@@ -171,7 +171,7 @@ fn push_argument(digit: u8, bytes: &mut Vec<u8>) -> Result<(), AllocError>
 #[tactic(auto, using(crate::proofs::RewritingLemmas::SourceLemmas::replaced))]
 fn replace(
     source: &str,
-    description: &Description,
+    description: &SourceDescription,
     from: usize,
     body: &[u8],
     bytes: &mut Vec<u8>,

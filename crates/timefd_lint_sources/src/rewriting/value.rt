@@ -13,8 +13,8 @@ use std::str;
 use timefd_lang_convert::{Conversion, conversion_between};
 use timefd_lang_dialect::Dialect as Other;
 use timefd_lint_rewrite::{Layout, LineChange, changed_text};
-use timefd_lint_scan::keys::{Format, string_for};
-use timefd_lint_scan::{Description, Dialect};
+use timefd_lint_scan::keys::{FileFormat, string_for};
+use timefd_lint_scan::{FormatLanguage, SourceDescription};
 use timefd_parse::{DescriptionVersion, Language};
 
 /// What becomes of the string of a value.
@@ -31,9 +31,9 @@ pub enum ValueAnswer {
 pub fn answer_for(
     alloc: Global,
     change: Change,
-    format: Format,
+    format: FileFormat,
     source: &str,
-    value: &Description,
+    value: &SourceDescription,
 ) -> Result<ValueAnswer, AllocError>
     ensures { IfOk result (spec.IsAnswer change format source.now value.now) }
 {
@@ -47,7 +47,7 @@ pub fn answer_for(
 }
 
 /// How a value in this language is changed. `None` if no change leads from there.
-pub fn value_change(change: Change, dialect: Dialect) -> Option<LineChange>
+pub fn value_change(change: Change, dialect: FormatLanguage) -> Option<LineChange>
     ensures { result ≡ spec.value_change change dialect }
 {
     match other_of(dialect) {
@@ -111,9 +111,9 @@ fn to_version(version: DescriptionVersion, other: Other) -> Option<LineChange>
 fn answer_by(
     alloc: Global,
     change: LineChange,
-    format: Format,
+    format: FileFormat,
     source: &str,
-    value: &Description,
+    value: &SourceDescription,
     text: &str,
 ) -> Result<ValueAnswer, AllocError>
     requires { text.now ≡ text_of value.now }
@@ -133,9 +133,9 @@ fn answer_by(
 fn respelled(
     alloc: Global,
     change: LineChange,
-    format: Format,
+    format: FileFormat,
     source: &str,
-    value: &Description,
+    value: &SourceDescription,
     new: &str,
 ) -> Result<ValueAnswer, AllocError>
     requires changed { IsChanged change (text_of value.now) new.now }

@@ -9,17 +9,17 @@ use crate::rewriting::outcome::Outcome;
 use crate::rewriting::source::NewSource;
 use crate::rewriting::value::{ValueAnswer, answer_for};
 use std::alloc::{AllocError, Global};
-use timefd_lint_scan::Description;
-use timefd_lint_scan::keys::{Format, Key, descriptions_by, string_end};
+use timefd_lint_scan::SourceDescription;
+use timefd_lint_scan::keys::{DescriptionKey, FileFormat, descriptions_by, string_end};
 
 /// Fixes or converts the values of keys in a file of this format, each in its language. The strings of those that change
-/// are written anew, and every other byte stays. An `Err` says that memory ran out.
+/// are written again, and every other byte stays. An `Err` says that memory ran out.
 pub fn rewrite_values(
     alloc: Global,
     change: Change,
-    format: Format,
+    format: FileFormat,
     source: &str,
-    keys: &[Key<'_>],
+    keys: &[DescriptionKey<'_>],
 ) -> Result<NewSource, AllocError>
     ensures { IfOk result (spec.AreValuesRewritten change format source.now keys.now) }
 {
@@ -32,9 +32,9 @@ pub fn rewrite_values(
 fn rewrite_each(
     alloc: Global,
     change: Change,
-    format: Format,
+    format: FileFormat,
     source: &str,
-    values: &[Description],
+    values: &[SourceDescription],
 ) -> Result<NewSource, AllocError>
     ensures { IfOk result (λ new. spec.AreRewritten change format source.now 0 values.now
         new.outcomes.items new.bytes.items) }
@@ -64,9 +64,9 @@ fn rewrite_each(
 fn push_rewritten(
     alloc: Global,
     change: Change,
-    format: Format,
+    format: FileFormat,
     source: &str,
-    value: &Description,
+    value: &SourceDescription,
     from: usize,
     outcomes: &mut Vec<Outcome>,
     bytes: &mut Vec<u8>,

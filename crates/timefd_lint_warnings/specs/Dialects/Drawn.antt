@@ -7,7 +7,7 @@ use Rattle.timefd_lint_drawing.specs.declared.draw.Format.TheVariants.{Human, Js
 use Rattle.timefd_lint_drawing.specs.declared.draw.Style.{Style}
 use Rattle.timefd_lint_drawing.specs.declared.position.Origin.{Origin}
 use Rattle.timefd_lint_drawing.specs.Drawing.{margin, source}
-use Rattle.timefd_lint_drawing.specs.Github.{annotation}
+use Rattle.timefd_lint_drawing.specs.Github.{span_annotation}
 use Rattle.timefd_lint_drawing.specs.Json.{text_field, number_field}
 use Rattle.timefd_lint_drawing.specs.Lines.{position_line, help_line}
 use Rattle.timefd_lint_drawing.specs.Positions.{line_number, column, char_column, before, spanned, after_span}
@@ -23,7 +23,7 @@ human_at colored file line text level code message help span =
     ++ (source colored (paint level) line (before span.start text) (spanned span text) (after_span span text)
     ++ (help_line colored (margin line) help ++ codes "\n")))
 
--- its sentence, its place, the line with carets under the part, and the help
+-- its sentence, its position, the line with carets under the part, and the help
 abbrev pub human : Bool → Origin → Text → Level → Text → Text → Text → Span → Text
 human colored origin text level code message help span =
     human_at colored origin.file.now (line_number origin.line text span.start) text level code message help
@@ -52,8 +52,8 @@ json origin text level code message help span =
 
 abbrev pub github : Origin → Text → Level → Text → Text → Text → Span → Text
 github origin text level code message help span =
-    annotation (command level) code origin.file.now (line_number origin.line text span.start)
-    (column text span.start) (with_help message help)
+    span_annotation (command level) code origin.file.now (line_number origin.line text span.start)
+    (column text span.start) (line_number origin.line text span.end) (column text span.end) (with_help message help)
 
 -- a result of SARIF, whose column counts characters
 abbrev pub sarif : Origin → Text → Level → Text → Text → Text → Span → Text

@@ -9,7 +9,7 @@ use crate::dialects::human::human;
 use std::alloc::{AllocError, Global};
 use timefd_lang_warnings::Level;
 use timefd_lint_diagnosis::Span;
-use timefd_lint_drawing::github::{Command, annotation};
+use timefd_lint_drawing::github::{Command, span_annotation};
 use timefd_lint_drawing::json::{Entry, push_number, push_text};
 use timefd_lint_drawing::sarif::{note_result, with_help};
 use timefd_lint_drawing::shown::safe;
@@ -19,7 +19,7 @@ use timefd_lint_drawing::{
 
 /// What is found in a part of a text.
 #[derive(Clone, Copy)]
-pub struct Finding<'a> {
+pub struct PartFinding<'a> {
     /// How bad it is: an error is `Denied`, and a warning `Warned`.
     pub level: Level,
     /// Its stable name.
@@ -40,7 +40,7 @@ pub fn drawn(
     origin: Origin<'_>,
     text: &str,
     from: Counter,
-    finding: Finding<'_>,
+    finding: PartFinding<'_>,
 ) -> Result<Vec<u8>, AllocError>
     requires { IsCounted origin.line text.now from }
     ensures { IfOk result (λ message. message.items
@@ -79,7 +79,7 @@ fn short(
     origin: Origin<'_>,
     text: &str,
     from: Counter,
-    finding: Finding<'_>,
+    finding: PartFinding<'_>,
 ) -> Result<String, AllocError>
     requires { IsCounted origin.line text.now from }
     ensures { IfOk result (λ line. string_bytes line ≡ spec.short origin.entry text.now finding.entry.level
@@ -98,7 +98,7 @@ fn json(
     origin: Origin<'_>,
     text: &str,
     from: Counter,
-    finding: Finding<'_>,
+    finding: PartFinding<'_>,
 ) -> Result<Vec<u8>, AllocError>
     requires { IsCounted origin.line text.now from }
     ensures { IfOk result (λ object. object.items ≡ spec.json origin.entry text.now finding.entry.level
@@ -114,7 +114,7 @@ fn object(
     file: &str,
     position: Position,
     severity: &str,
-    finding: Finding<'_>,
+    finding: PartFinding<'_>,
 ) -> Result<Vec<u8>, AllocError>
     ensures { IfOk result (λ made. made.items ≡ spec.object finding.entry.code.now position.column
         finding.entry.span.end file.now finding.entry.help.now position.line finding.entry.message.now
@@ -150,22 +150,23 @@ fn github(
     origin: Origin<'_>,
     text: &str,
     from: Counter,
-    finding: Finding<'_>,
+    finding: PartFinding<'_>,
 ) -> Result<Vec<u8>, AllocError>
     requires { IsCounted origin.line text.now from }
     ensures { IfOk result (λ line. line.items ≡ spec.github origin.entry text.now finding.entry.level
         finding.entry.code.now finding.entry.message.now finding.entry.help.now finding.entry.span) }
 {
-    let position = position_from(alloc, origin.line, text, from, finding.span.start)?;
+    let start = position_from(alloc, origin.line, text, from, finding.span.start)?;
+    let end = position_from(alloc, origin.line, text, from, finding.span.end)?;
     let message = with_help(alloc, finding.message, finding.help)?;
     let entry = Entry {
         code: finding.code,
         file: origin.file,
-        line: position.line,
-        column: position.column as u64,
+        line: start.line,
+        column: start.column as u64,
         message: &message,
     };
-    annotation(alloc, command(finding.level), entry)
+    span_annotation(alloc, command(finding.level), entry, end)
 }
 
 // A result of SARIF. Its column counts characters.
@@ -174,7 +175,7 @@ fn sarif(
     origin: Origin<'_>,
     text: &str,
     from: Counter,
-    finding: Finding<'_>,
+    finding: PartFinding<'_>,
 ) -> Result<Vec<u8>, AllocError>
     requires { IsCounted origin.line text.now from }
     ensures { IfOk result (λ reported. reported.items ≡ spec.sarif origin.entry text.now finding.entry.level

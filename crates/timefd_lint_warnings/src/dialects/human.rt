@@ -4,7 +4,7 @@ ghost use Rattle.std.specs.Prelude.{◌≡◌, IfOk, string_bytes};
 ghost use Rattle.timefd_lint_drawing.specs.Counted.{IsCounted};
 ghost use Rattle.timefd_lint_warnings.specs.Dialects.Drawn as spec;
 
-use crate::dialects::finding::Finding;
+use crate::dialects::finding::PartFinding;
 use crate::{head, paint};
 use std::alloc::{AllocError, Global};
 use timefd_lint_drawing::lines::{push_help_line, push_position_line};
@@ -19,7 +19,7 @@ pub fn human(
     origin: Origin<'_>,
     text: &str,
     from: Counter,
-    finding: Finding<'_>,
+    finding: PartFinding<'_>,
 ) -> Result<String, AllocError>
     requires { IsCounted origin.line text.now from }
     ensures { IfOk result (λ drawing. string_bytes drawing

@@ -5,9 +5,9 @@ ghost use Rattle.timefd_lang_dialect.specs.Reading.{Means, Piece};
 ghost use Rattle.timefd_lint_drawing.specs.Counted.{IsCounted};
 ghost use Rattle.timefd_lint_warnings.specs.Dialects.Judging as spec;
 
-use crate::dialects::finding::{Finding, drawn};
+use crate::dialects::finding::{PartFinding, drawn};
 use std::alloc::{AllocError, Global};
-use timefd_lang_dialect::{Dialect, DialectError, Found, Refusal, to_version_three, traps};
+use timefd_lang_dialect::{Dialect, DialectError, Found, RefusedPart, to_version_three, traps};
 use timefd_lang_warnings::Level;
 use timefd_lint_diagnosis::Span;
 use timefd_lint_drawing::{Counter, Origin, Style, none_counted};
@@ -23,7 +23,7 @@ pub enum Judgement {
 
 /// What a format is, and the messages on it.
 #[derive(Drop)]
-pub struct Judged {
+pub struct JudgedFormat {
     pub judgement: Judgement,
     /// The messages, in the form that is asked for.
     pub message: Vec<u8>,
@@ -39,7 +39,7 @@ pub fn judge(
     reports_traps: bool,
     dialect: Dialect,
     text: &str,
-) -> Result<Judged, AllocError>
+) -> Result<JudgedFormat, AllocError>
     ensures { IfOk result (λ judged. spec.IsJudged style origin.entry reports_traps dialect text.now
         judged.judgement judged.message.items) }
 {
@@ -54,7 +54,7 @@ pub fn judge(
                 none_counted(origin.line),
                 refusal,
             )?;
-            Ok(Judged {
+            Ok(JudgedFormat {
                 judgement: Judgement::Refused,
                 message,
             })
@@ -72,12 +72,12 @@ fn converted(
     reports_traps: bool,
     dialect: Dialect,
     text: &str,
-) -> Result<Judged, AllocError>
+) -> Result<JudgedFormat, AllocError>
     ensures { IfOk result (λ judged. spec.IsTrapped style origin.entry reports_traps dialect text.now
         judged.judgement judged.message.items) }
 {
     if !reports_traps {
-        return Ok(Judged {
+        return Ok(JudgedFormat {
             judgement: Judgement::Converted(0),
             message: Vec::new(alloc),
         });
@@ -85,7 +85,7 @@ fn converted(
     let found = traps(alloc, dialect, text)?;
     let mut message = Vec::new(alloc);
     push_traps(alloc, style, origin, text, &found, &mut message)?;
-    Ok(Judged {
+    Ok(JudgedFormat {
         judgement: Judgement::Converted(found.len() as u64),
         message,
     })
@@ -124,7 +124,7 @@ pub fn trap_drawn(
     ensures { IfOk result (λ message. message.items
         ≡ spec.trap_drawn style origin.entry text.now found) }
 {
-    let finding = Finding {
+    let finding = PartFinding {
         level: Level::Warned,
         code: found.trap.name(),
         message: found.trap.sentence(),
@@ -145,13 +145,13 @@ pub fn refusal_drawn(
     origin: Origin<'_>,
     text: &str,
     from: Counter,
-    refusal: Refusal,
+    refusal: RefusedPart,
 ) -> Result<Vec<u8>, AllocError>
     requires { IsCounted origin.line text.now from }
     ensures { IfOk result (λ message. message.items
         ≡ spec.refusal_drawn style origin.entry text.now refusal.reason refusal.index) }
 {
-    let finding = Finding {
+    let finding = PartFinding {
         level: Level::Denied,
         code: refusal.reason.name(),
         message: refusal.reason.sentence(),

@@ -4,12 +4,12 @@ use crate::lint_files::fake::Fake;
 use std::alloc::{AllocError, Global};
 use std::io::ErrorKind;
 use timefd_lint_files::{
-    Excluded, Group, Nearest, Reason, Sought, WalkError, expanded, first_upwards, folders_above,
-    found_for, front_below, grouped,
+    Excluded, NameGroup, Nearest, SoughtFiles, WalkError, WalkReason, expanded, first_upwards,
+    folders_above, found_for, front_below, grouped,
 };
 
 /// Sources of Rust, and nothing excluded.
-const RUST: Sought<'static> = Sought {
+const RUST: SoughtFiles<'static> = SoughtFiles {
     endings: &[".rs"],
     excluded: Excluded {
         patterns: "",
@@ -84,7 +84,7 @@ const EXCLUDED: &[(&str, &str, &[&str], &str)] = &[
 #[test]
 fn folders_around_exclude_files(rt: HostRuntime) {
     for &(front, patterns, names, all) in EXCLUDED {
-        let sought = Sought {
+        let sought = SoughtFiles {
             endings: &[".rs"],
             excluded: Excluded {
                 patterns,
@@ -130,7 +130,7 @@ const EXCLUDED_BELOW: &[(&str, &str, &[&str], &str)] = &[
 #[test]
 fn named_folders_exclude_files(rt: HostRuntime) {
     for &(folder, patterns, names, all) in EXCLUDED_BELOW {
-        let sought = Sought {
+        let sought = SoughtFiles {
             endings: &[".rs"],
             excluded: Excluded {
                 patterns,
@@ -173,7 +173,7 @@ fn a_file_is_found_for_a_name(rt: HostRuntime) {
 }
 
 /// How many names each group has, and what is found for it, each after a space.
-fn shown_groups(alloc: Global, groups: &[Group<'_>]) -> Result<String, AllocError> {
+fn shown_groups(alloc: Global, groups: &[NameGroup<'_>]) -> Result<String, AllocError> {
     let mut all = String::new(alloc);
     for group in groups {
         let found = shown_found(alloc, &group.found)?;
@@ -233,7 +233,7 @@ fn a_file_is_sought_upwards(rt: HostRuntime) {
 }
 
 /// Whether a name fails, for this reason, and which name is reported.
-fn fails(alloc: Global, name: &str, path: &str, reason: Reason) -> bool {
+fn fails(alloc: Global, name: &str, path: &str, reason: WalkReason) -> bool {
     match expanded(&Fake, alloc, RUST, &[name]) {
         Err(
             WalkError::Failed {
@@ -249,7 +249,7 @@ fn fails(alloc: Global, name: &str, path: &str, reason: Reason) -> bool {
 fn length_too_deep(alloc: Global, name: &str) -> Option<usize> {
     match expanded(&Fake, alloc, RUST, &[name]) {
         Err(WalkError::Failed { path, reason }) => {
-            if reason == Reason::TooDeep {
+            if reason == WalkReason::TooDeep {
                 Some(path.len())
             } else {
                 None
@@ -261,7 +261,7 @@ fn length_too_deep(alloc: Global, name: &str) -> Option<usize> {
 
 #[test]
 fn folders_that_fail_are_reported(rt: HostRuntime) {
-    let denied = Reason::Unread(ErrorKind::PermissionDenied);
+    let denied = WalkReason::Unread(ErrorKind::PermissionDenied);
     assert!(rt; fails(rt.alloc(), "closed", "closed/", denied));
     assert_eq!(rt; length_too_deep(rt.alloc(), "deep"), Some(5 * 256));
 }

@@ -2,7 +2,7 @@
 
 use crate::fault::RowFault;
 use std::alloc::Global;
-use timefd_date_moment::fields::{Fields, ReadError, Reason, Signed};
+use timefd_date_moment::fields::{Fields, ReadError, Signed, UnreadReason};
 
 /// The fields, or what doesn't read and where.
 pub fn fields_text(alloc: Global, answer: Result<Fields, ReadError>) -> Result<String, RowFault> {
@@ -20,10 +20,10 @@ pub fn fields_text(alloc: Global, answer: Result<Fields, ReadError>) -> Result<S
 
 fn fault_text(alloc: Global, error: ReadError) -> Result<String, RowFault> {
     let reason = match error.reason {
-        Reason::Unread(_) => "unread",
-        Reason::Contradiction(_) => "contradiction",
-        Reason::Literal => "literal",
-        Reason::Trailing => "trailing",
+        UnreadReason::Unread(_) => "unread",
+        UnreadReason::Contradiction(_) => "contradiction",
+        UnreadReason::Literal => "literal",
+        UnreadReason::Trailing => "trailing",
     };
     let index = error.index;
     Ok(format!(in alloc; " {reason} at {index}")?)

@@ -1,5 +1,6 @@
 //! Whether a version reads the rewritten text as the version before it reads the text.
 
+use super::owned;
 use crate::fault::RowFault;
 use crate::trees::reading::described;
 use std::alloc::Global;
@@ -26,7 +27,7 @@ fn of_one(alloc: Global, text: &str) -> Result<String, RowFault> {
 }
 
 fn of_two(alloc: Global, text: &str) -> Result<String, RowFault> {
-    let rewritten = accepted(v2_to_v3(alloc, text))?;
+    let rewritten = accepted(owned(alloc, v2_to_v3(alloc, text)))?;
     let before = in_turn(alloc, &items(alloc, DescriptionVersion::Two, text)?)?;
     let after = parts(alloc, &described(alloc, &rewritten)?)?;
     alike(alloc, &before, &after)

@@ -4,19 +4,21 @@ use crate::fault::RowFault;
 use crate::fields::one;
 use crate::sources::shown::all_shown;
 use std::alloc::{AllocError, Global};
-use timefd_lint_scan::keys::{Format, Key, descriptions_by, format_named, key_fault, key_of};
-use timefd_lint_scan::{Description, index_in_source};
+use timefd_lint_scan::keys::{
+    DescriptionKey, FileFormat, descriptions_by, format_named, key_fault, key_of,
+};
+use timefd_lint_scan::{SourceDescription, index_in_source};
 
-fn format_of(word: &str) -> Result<Format, RowFault> {
+fn format_of(word: &str) -> Result<FileFormat, RowFault> {
     match word {
-        "toml" => Ok(Format::Toml),
-        "json" => Ok(Format::Json),
-        "yaml" => Ok(Format::Yaml),
+        "toml" => Ok(FileFormat::Toml),
+        "json" => Ok(FileFormat::Json),
+        "yaml" => Ok(FileFormat::Yaml),
         _ => Err(RowFault::Field("a format: toml, json or yaml")),
     }
 }
 
-fn all_keys<'a>(alloc: Global, words: &[&'a str]) -> Result<Vec<Key<'a>>, RowFault> {
+fn all_keys<'a>(alloc: Global, words: &[&'a str]) -> Result<Vec<DescriptionKey<'a>>, RowFault> {
     let mut keys = Vec::new(alloc);
     for word in words {
         match key_of(word) {
@@ -28,7 +30,7 @@ fn all_keys<'a>(alloc: Global, words: &[&'a str]) -> Result<Vec<Key<'a>>, RowFau
 }
 
 /// The values of keys in a source.
-fn found(alloc: Global, fields: &[&str]) -> Result<Vec<Description>, RowFault> {
+fn found(alloc: Global, fields: &[&str]) -> Result<Vec<SourceDescription>, RowFault> {
     let [format, source, words @ ..] = fields else {
         return Err(RowFault::Fields("FORMAT SOURCE KEY.."));
     };
@@ -42,7 +44,7 @@ pub fn keys(alloc: Global, fields: &[&str]) -> Result<String, RowFault> {
 }
 
 /// The position in the source of each byte of a value, and of what closes the value.
-fn positions_of(alloc: Global, description: &Description) -> Result<Vec<usize>, AllocError> {
+fn positions_of(alloc: Global, description: &SourceDescription) -> Result<Vec<usize>, AllocError> {
     let mut positions = Vec::new(alloc);
     for index in 0..description.unescaped.positions.len() {
         positions.push(index_in_source(description, index))?;

@@ -5,7 +5,7 @@ use crate::fields::two;
 use crate::sources::shown::text_of;
 use std::alloc::{AllocError, Global};
 use timefd_lint_scan::{
-    Encoding, Kind, Token, Unescaped, body_alike, body_for, descriptions_of, literal_text,
+    Encoding, LiteralKind, Token, Unescaped, body_alike, body_for, descriptions_of, literal_text,
     pieces_of,
 };
 
@@ -41,16 +41,16 @@ pub fn literal(alloc: Global, source: &str) -> Result<String, RowFault> {
 }
 
 /// The kind of the literals that begin so in Rust.
-fn kind_of(word: &str) -> Result<Kind, RowFault> {
+fn kind_of(word: &str) -> Result<LiteralKind, RowFault> {
     match word {
-        "str" => Ok(Kind::Escaped(Encoding::Str)),
-        "b" => Ok(Kind::Escaped(Encoding::Bytes)),
-        "c" => Ok(Kind::Escaped(Encoding::C)),
-        "r" => Ok(Kind::Raw(Encoding::Str, 0)),
-        "r#" => Ok(Kind::Raw(Encoding::Str, 1)),
-        "br" => Ok(Kind::Raw(Encoding::Bytes, 0)),
-        "br##" => Ok(Kind::Raw(Encoding::Bytes, 2)),
-        "cr" => Ok(Kind::Raw(Encoding::C, 0)),
+        "str" => Ok(LiteralKind::Escaped(Encoding::Str)),
+        "b" => Ok(LiteralKind::Escaped(Encoding::Bytes)),
+        "c" => Ok(LiteralKind::Escaped(Encoding::C)),
+        "r" => Ok(LiteralKind::Raw(Encoding::Str, 0)),
+        "r#" => Ok(LiteralKind::Raw(Encoding::Str, 1)),
+        "br" => Ok(LiteralKind::Raw(Encoding::Bytes, 0)),
+        "br##" => Ok(LiteralKind::Raw(Encoding::Bytes, 2)),
+        "cr" => Ok(LiteralKind::Raw(Encoding::C, 0)),
         _ => Err(RowFault::Field("a kind of literal: str, b, c, r, r#, br, br## or cr")),
     }
 }

@@ -1,27 +1,27 @@
 //! Descriptions and texts, as the answers have them.
 
 use std::alloc::{AllocError, Global};
-use timefd_lint_scan::{Description, Dialect};
+use timefd_lint_scan::{FormatLanguage, SourceDescription};
 
-fn dialect_mark(dialect: Dialect) -> &'static str {
+fn dialect_mark(dialect: FormatLanguage) -> &'static str {
     match dialect {
-        Dialect::One => "1",
-        Dialect::Two => "2",
-        Dialect::Three => "3",
-        Dialect::Strftime => "strftime",
-        Dialect::Python => "python",
-        Dialect::C => "c",
-        Dialect::Gnu => "gnu",
-        Dialect::Chrono => "chrono",
-        Dialect::Jiff => "jiff",
-        Dialect::Ruby => "ruby",
-        Dialect::Java => "java",
-        Dialect::Go => "go",
-        Dialect::Moment => "moment",
+        FormatLanguage::One => "1",
+        FormatLanguage::Two => "2",
+        FormatLanguage::Three => "3",
+        FormatLanguage::Strftime => "strftime",
+        FormatLanguage::Python => "python",
+        FormatLanguage::C => "c",
+        FormatLanguage::Gnu => "gnu",
+        FormatLanguage::Chrono => "chrono",
+        FormatLanguage::Jiff => "jiff",
+        FormatLanguage::Ruby => "ruby",
+        FormatLanguage::Java => "java",
+        FormatLanguage::Go => "go",
+        FormatLanguage::Moment => "moment",
     }
 }
 
-fn push_description(shown: &mut String, description: &Description) -> Result<(), AllocError> {
+fn push_description(shown: &mut String, description: &SourceDescription) -> Result<(), AllocError> {
     shown.push_str(dialect_mark(description.dialect))?;
     shown.push_str(" ")?;
     shown.push_str(str::from_utf8(&description.unescaped.text).unwrap_or("?"))?;
@@ -29,7 +29,7 @@ fn push_description(shown: &mut String, description: &Description) -> Result<(),
 }
 
 /// The descriptions, each as its language and its text, between bars.
-pub fn all_shown(alloc: Global, descriptions: &[Description]) -> Result<String, AllocError> {
+pub fn all_shown(alloc: Global, descriptions: &[SourceDescription]) -> Result<String, AllocError> {
     let mut shown = String::new(alloc);
     for description in descriptions {
         push_description(&mut shown, description)?;

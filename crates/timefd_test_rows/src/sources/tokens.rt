@@ -3,7 +3,7 @@
 use crate::fault::RowFault;
 use crate::sources::shown::all_shown;
 use std::alloc::{AllocError, Global};
-use timefd_lint_scan::{Encoding, Kind, Token, VersionPosition, descriptions_of, pieces_of};
+use timefd_lint_scan::{Encoding, LiteralKind, Token, VersionPosition, descriptions_of, pieces_of};
 
 fn encoding_mark(encoding: Encoding) -> &'static str {
     match encoding {
@@ -20,8 +20,8 @@ fn token_mark(token: Token) -> &'static str {
         Token::Word => "word",
         Token::Lifetime => "lifetime",
         Token::Character => "char",
-        Token::Literal(Kind::Escaped(encoding)) => encoding_mark(encoding),
-        Token::Literal(Kind::Raw(_, _)) => "raw",
+        Token::Literal(LiteralKind::Escaped(encoding)) => encoding_mark(encoding),
+        Token::Literal(LiteralKind::Raw(_, _)) => "raw",
         Token::Sign => "sign",
         Token::Unclosed => "unclosed",
     }

@@ -4,7 +4,7 @@ use crate::fault::RowFault;
 use crate::fields::one;
 use crate::language::{fault_of, version_of};
 use std::alloc::Global;
-use timefd_lang_warnings::{Description, Style, Warning, read_elsewhere, warns};
+use timefd_lang_warnings::{LanguageStyle, ReadDescription, Warning, read_elsewhere, warns};
 use timefd_parse::{
     BorrowedOutput, DescriptionVersion, StrftimeTables, parse_borrowed, parse_strftime_borrowed,
 };
@@ -34,11 +34,15 @@ fn has(
 ) -> Result<bool, RowFault> {
     match parse_borrowed(alloc, version, text) {
         Ok(BorrowedOutput::Description(description)) => {
-            let seen = Description::Version3(description.view());
-            Ok(warns(Style::Brackets, seen, warning))
+            let seen = ReadDescription::Version3(description.view());
+            Ok(warns(LanguageStyle::Brackets, seen, warning))
         }
         Ok(BorrowedOutput::Items(items)) => {
-            Ok(warns(Style::Brackets, Description::Items(&items), warning))
+            Ok(warns(
+                LanguageStyle::Brackets,
+                ReadDescription::Items(&items),
+                warning,
+            ))
         }
         Err(error) => Err(fault_of(error)),
     }
@@ -48,7 +52,11 @@ fn has(
 fn has_strftime(alloc: Global, warning: Warning, text: &str) -> Result<bool, RowFault> {
     let tables = StrftimeTables::new();
     match parse_strftime_borrowed(alloc, &tables, text) {
-        Ok(items) => Ok(warns(Style::Percents, Description::Items(&items), warning)),
+        Ok(items) => Ok(warns(
+            LanguageStyle::Percents,
+            ReadDescription::Items(&items),
+            warning,
+        )),
         Err(error) => Err(fault_of(error)),
     }
 }

@@ -7,10 +7,11 @@ use std::alloc::{AllocError, Global};
 use timefd_bin_streams::{FromReader, ToWriter};
 use timefd_lang_warnings::{Level, Levels};
 use timefd_lint_lsp::editor::{
-    Action, Finding, Position, Range, Wanted, actions, findings, hover, index_of, position_of,
+    Action, DocumentPosition, DocumentRange, Finding, WantedActions, actions, findings, hover,
+    index_of, position_of,
 };
-use timefd_lint_lsp::{Settings, serve};
-use timefd_lint_sources::{Finder, Source};
+use timefd_lint_lsp::{EditorSettings, serve};
+use timefd_lint_sources::{Finder, SourceText};
 
 fn number(field: &str) -> Result<usize, RowFault> {
     match field.parse::<usize>() {
@@ -22,14 +23,14 @@ fn number(field: &str) -> Result<usize, RowFault> {
 /// The line and the UTF-16 unit of the byte at an index.
 pub fn position(alloc: Global, fields: &[&str]) -> Result<String, RowFault> {
     let (text, index) = two(fields, "TEXT INDEX")?;
-    let Position { line, character } = position_of(text, number(index)?);
+    let DocumentPosition { line, character } = position_of(text, number(index)?);
     Ok(format!(in alloc; "{line} {character}")?)
 }
 
 /// The index of the byte in a line, at a UTF-16 unit.
 pub fn index(alloc: Global, fields: &[&str]) -> Result<String, RowFault> {
     let (text, line, character) = three(fields, "TEXT LINE UNIT")?;
-    let position = Position {
+    let position = DocumentPosition {
         line: number(line)?,
         character: number(character)?,
     };
@@ -37,8 +38,8 @@ pub fn index(alloc: Global, fields: &[&str]) -> Result<String, RowFault> {
     Ok(format!(in alloc; "{index}")?)
 }
 
-fn rust(text: &str) -> Source<'_> {
-    Source {
+fn rust(text: &str) -> SourceText<'_> {
+    SourceText {
         file: "",
         finder: Finder::Rust,
         text,
@@ -46,7 +47,7 @@ fn rust(text: &str) -> Source<'_> {
     }
 }
 
-fn position_shown(alloc: Global, position: Position) -> Result<String, AllocError> {
+fn position_shown(alloc: Global, position: DocumentPosition) -> Result<String, AllocError> {
     format!(in alloc; "({}, {})", position.line, position.character)
 }
 
@@ -75,7 +76,7 @@ pub fn all_findings(alloc: Global, fields: &[&str]) -> Result<String, RowFault> 
     }
 }
 
-fn units_shown(alloc: Global, range: Range) -> Result<String, AllocError> {
+fn units_shown(alloc: Global, range: DocumentRange) -> Result<String, AllocError> {
     format!(in alloc; "{}-{}", range.start.character, range.end.character)
 }
 
@@ -91,7 +92,7 @@ fn push_action(alloc: Global, shown: &mut String, action: &Action) -> Result<(),
 /// The actions that are offered from one byte of a source of Rust to another, one per line.
 pub fn all_actions(alloc: Global, fields: &[&str]) -> Result<String, RowFault> {
     let (text, start, end) = three(fields, "SOURCE START END")?;
-    let wanted = Wanted {
+    let wanted = WantedActions {
         fixes: true,
         rewrites: true,
         fix_all: false,
@@ -118,7 +119,7 @@ pub fn hovered(alloc: Global, fields: &[&str]) -> Result<String, RowFault> {
 /// How a session ends, and what it writes.
 pub fn session(alloc: Global, fields: &[&str]) -> Result<String, RowFault> {
     let input = one(fields, "INPUT")?;
-    let settings = Settings {
+    let settings = EditorSettings {
         keys: &[],
         levels: None,
     };

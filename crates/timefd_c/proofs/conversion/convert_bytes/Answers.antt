@@ -5,11 +5,11 @@ use Rattle.timefd_c.specs.declared.answer.TheConstants.{ACCEPTED}
 use Rattle.timefd_c.proofs.ConversionLemmas.{converted, error_has_room, unconverted}
 use Rattle.timefd_c.proofs.conversion.convert_bytes.Goals as goal
 
-pub returns-in-Ok-convert_by_borrowed : goal.returns-in-Ok-convert_by_borrowed
-returns-in-Ok-convert_by_borrowed c =
+pub returns-in-Ok-convert_by : goal.returns-in-Ok-convert_by
+returns-in-Ok-convert_by c =
     let read = c.in-Ok.ensures.cases in
-    let v = c.in-Ok-convert_by_borrowed.ensures in
-    let answer = c.in-Ok-convert_by_borrowed.converted in
+    let v = c.in-Ok-convert_by.ensures in
+    let answer = c.in-Ok-convert_by.converted in
     let by = c.args.conversion in
     record {
       converts = subst (λ bytes. ConvertsTo by bytes c.args.buffer.now c.write_whole.new.buffer

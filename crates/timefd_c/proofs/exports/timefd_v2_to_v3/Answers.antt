@@ -7,11 +7,11 @@ use Rattle.timefd_c.specs.declared.answer.TheConstants.{ACCEPTED}
 use Rattle.timefd_c.proofs.ConversionLemmas.{converted, unconverted}
 use Rattle.timefd_c.proofs.exports.timefd_v2_to_v3.Goals as goal
 
-pub returns-in-Ok-v2_to_v3_borrowed : goal.returns-in-Ok-v2_to_v3_borrowed
-returns-in-Ok-v2_to_v3_borrowed c =
+pub returns-in-Ok-v2_to_v3 : goal.returns-in-Ok-v2_to_v3
+returns-in-Ok-v2_to_v3 c =
     let read = c.in-Ok.ensures.cases in
-    let v = c.in-Ok-v2_to_v3_borrowed.ensures in
-    let answer = c.in-Ok-v2_to_v3_borrowed.modern in
+    let v = c.in-Ok-v2_to_v3.ensures in
+    let answer = c.in-Ok-v2_to_v3.modern in
     record {
       converts = subst (λ bytes. ConvertsBy (Version Two) IsWrittenOf KeepsItemsOf bytes c.args.buffer.now
           c.write_whole.new.buffer (record {

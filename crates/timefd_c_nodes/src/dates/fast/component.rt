@@ -4,7 +4,7 @@ ghost use Rattle.std.specs.Prelude.{◌≡◌, IfSome, Some};
 ghost use Rattle.timefd_c_nodes.specs.Decoding as decoded;
 ghost use Rattle.timefd_lang_component.specs.Modern.{modern};
 
-use crate::Node;
+use crate::RawNode;
 use timefd_lang_component::Component;
 use timefd_modifier::{
     CalendarYearFullExtendedRange, CalendarYearFullStandardRange, Day, Hour24, Minute,
@@ -19,7 +19,7 @@ const NO: u8 = 1;
 
 /// The component of a node, if it is a number of two digits, or a year of four without a sign.
 #[inline(always)]
-pub fn number_of(node: &Node) -> Option<Component>
+pub fn number_of(node: &RawNode) -> Option<Component>
     ensures is { IfSome result (λ component. decoded.component_of node.now ≡ Some component) }
     ensures modern { IfSome result (λ component. modern component ≡ component) }
 {
@@ -49,7 +49,7 @@ pub fn number_of(node: &Node) -> Option<Component>
 
 /// The year of a node, if it has no sign.
 #[inline(always)]
-fn year_of(node: &Node) -> Option<Component>
+fn year_of(node: &RawNode) -> Option<Component>
     requires { node.now.padding ≡ 2 }
     ensures is { IfSome result (λ component. decoded.component_of node.now ≡ Some component) }
     ensures modern { IfSome result (λ component. modern component ≡ component) }

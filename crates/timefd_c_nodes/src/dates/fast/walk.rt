@@ -6,7 +6,7 @@ ghost use Rattle.timefd_c_nodes.specs.Dates.Shown.{AreShown, IsShown};
 ghost use Rattle.timefd_c_nodes.specs.Dates.Taken as spec;
 ghost use Rattle.timefd_c_nodes.specs.Dates.Taken.{IsTaken};
 
-use crate::Node;
+use crate::RawNode;
 use crate::dates::fast::component::number_of;
 use crate::dates::fast::literal::{begins, literal_of};
 use timefd_date_moment::Moment;
@@ -27,7 +27,7 @@ const COMPOUND: u8 = 3;
 /// turn. `None` says nothing about the nodes and the date.
 #[inline(always)]
 #[tactic(auto, using(crate::proofs::DatesLemmas::WalkLemmas::moment_read))]
-pub fn moment_shown(nodes: &[Node], literals: &[u8], date: &[u8]) -> Option<Moment>
+pub fn moment_shown(nodes: &[RawNode], literals: &[u8], date: &[u8]) -> Option<Moment>
     ensures { IfSome result (IsShown nodes.now literals.now date.now) }
 {
     if !date.is_ascii() {
@@ -51,7 +51,7 @@ pub struct Taken {
 /// The numbers that a date shows by nodes.
 #[inline(always)]
 #[tactic(auto, using(crate::proofs::DatesLemmas::WalkLemmas::none_read, crate::proofs::DatesLemmas::WalkLemmas::all_read))]
-fn numbers_shown(nodes: &[Node], literals: &[u8], date: &[u8]) -> Option<Numbers>
+fn numbers_shown(nodes: &[RawNode], literals: &[u8], date: &[u8]) -> Option<Numbers>
     requires { IsAscii date.now }
     ensures { IfSome result (AreShown nodes.now literals.now date.now) }
 {
@@ -71,7 +71,7 @@ fn numbers_shown(nodes: &[Node], literals: &[u8], date: &[u8]) -> Option<Numbers
 #[inline(always)]
 #[tactic(auto, using(crate::proofs::DatesLemmas::StepLemmas::literal_taken, crate::proofs::DatesLemmas::StepLemmas::compound_taken))]
 fn take_node(
-    node: &Node,
+    node: &RawNode,
     literals: &[u8],
     left: &[u8],
     numbers: Numbers,

@@ -3,7 +3,7 @@ use Rattle.timefd_lang_component.specs.declared.component.Component.{Component}
 use Rattle.timefd_lang_component.specs.Modern.{modern}
 use Rattle.timefd_lang_component.specs.Tree.{Text}
 use Rattle.timefd_date_moment.specs.declared.moment.Moment.{Moment}
-use Rattle.timefd_date_format.specs.declared.field.Field.{Field}
+use Rattle.timefd_date_format.specs.declared.field.WrittenField.{WrittenField}
 use Rattle.timefd_date_format.specs.declared.field.Lack.{Lack}
 use Rattle.timefd_date_format.specs.Fields.{field, field_text}
 use Rattle.timefd_date_format.specs.Outcomes.{IsOutcome}
@@ -14,7 +14,7 @@ use Rattle.timefd_date_format.proofs.Utf8Lemmas.{shown_utf8}
 use Rattle.timefd_date_format.proofs.write.write_component.Goals as goal
 
 -- The text of its field, at the end of the buffer.
-text_placed : (m : Moment) (c d : Component) (r : Result Field Lack) (f : Field) (old new : Text) (at : ℕ)
+text_placed : (m : Moment) (c d : Component) (r : Result WrittenField Lack) (f : WrittenField) (old new : Text) (at : ℕ)
     → d ≡ modern c → r ≡ field m d → r ≡ Ok f → Puts (field_text f) old (length old) new (Some at)
     → IsOutcome (shown m c) old new (Ok at)
 text_placed m c d r f old new at current is ok put =

@@ -13,5 +13,9 @@ returns-in-Ok-clause-refused c = λ f has. absurd (c.in-Ok.ensures.refused f has
 
 pub returns-in-Err-clause-spelled : goal.returns-in-Err-clause-spelled
 returns-in-Err-clause-spelled c = λ list spelled.
-    nothing_shown (written_all c.args.moment (trees list)) c.strftime_error.result
-    (c.strftime_error.ensures.spelled list spelled)
+    nothing_shown (written_all c.args.moment (trees list)) c.of_parse_error.result
+    (c.of_parse_error.ensures.memory (c.unread_error.ensures.spelled list spelled))
+
+pub returns-in-Err-clause-refused : goal.returns-in-Err-clause-refused
+returns-in-Err-clause-refused c = λ f has.
+    c.of_parse_error.ensures.fault f (c.unread_error.ensures.refused f has)

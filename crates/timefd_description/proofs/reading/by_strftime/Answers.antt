@@ -3,7 +3,7 @@ use Rattle.timefd_lang_node_list.specs.Item.Meaning.{item_trees}
 use Rattle.timefd_language.specs.Grammar.{nesting_limit}
 use Rattle.timefd_parse.specs.Language.{FaultIn}
 use Rattle.timefd_date_moment.specs.Fields.Reads.{fields_of}
-use Rattle.timefd_description.proofs.ReadTextLemmas.{no_fault, nothing_read, strftime_read}
+use Rattle.timefd_description.proofs.ReadTextLemmas.{fault_kept, fault_reported, memory_reported, no_fault, strftime_read}
 use Rattle.timefd_description.specs.ReadAnswers.{fields_in}
 use Rattle.timefd_language.specs.declared.language.Language.TheVariants as languages
 use Rattle.timefd_description.proofs.reading.by_strftime.Goals as goal
@@ -24,5 +24,15 @@ returns-in-Ok-clause-fault c =
 
 pub returns-in-Err-clause-spelled : goal.returns-in-Err-clause-spelled
 returns-in-Err-clause-spelled c = λ list spelled.
-    nothing_read (fields_in list c.args.text.now) c.strftime_error.result
-    (c.strftime_error.ensures.spelled list spelled)
+    memory_reported (fields_in list c.args.text.now) c.unread_error.result c.of_parse_error.result
+    c.of_parse_error.ensures (c.unread_error.ensures.spelled list spelled)
+
+pub returns-in-Err-clause-refused : goal.returns-in-Err-clause-refused
+returns-in-Err-clause-refused c = λ f has.
+    fault_reported f c.unread_error.result c.of_parse_error.result c.of_parse_error.ensures
+    (c.unread_error.ensures.refused f has)
+
+pub returns-in-Err-clause-fault : goal.returns-in-Err-clause-fault
+returns-in-Err-clause-fault c =
+    fault_kept (FaultIn languages.Strftime nesting_limit c.args.description.now) c.unread_error.result
+    c.of_parse_error.result c.of_parse_error.ensures c.unread_error.ensures.fault

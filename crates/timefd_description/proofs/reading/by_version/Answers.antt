@@ -2,7 +2,6 @@ use Rattle.std.proofs.Common.{subst}
 use Rattle.timefd_lang_component.specs.Tree.{compound, trees}
 use Rattle.timefd_lang_node_list.specs.Item.Meaning.{item_trees}
 use Rattle.timefd_items.specs.Description.{description_tree}
-use Rattle.timefd_language.specs.Grammar.{nesting_limit}
 use Rattle.timefd_parse.specs.Answers.{IsOutput}
 use Rattle.timefd_language.specs.declared.language.Language.TheVariants as languages
 use Rattle.timefd_parse.specs.Language.{FaultIn}
@@ -23,7 +22,7 @@ returns-in-Ok-Items-clause-refused c = λ f has. absurd (c.in-Ok-Items.ensures.r
 
 pub returns-in-Ok-Items-clause-fault : goal.returns-in-Ok-Items-clause-fault
 returns-in-Ok-Items-clause-fault c =
-    no_fault (FaultIn (languages.Version c.args.version) nesting_limit c.args.description.now)
+    no_fault (FaultIn (languages.Version c.args.version) c.args.limit c.args.description.now)
     (fields_of (compound (trees (item_trees c.deref.result.now))) c.args.text.now)
     c.read_by_items.result c.read_by_items.ensures
 
@@ -40,7 +39,7 @@ returns-in-Ok-Description-clause-refused c = λ f has.
 
 pub returns-in-Ok-Description-clause-fault : goal.returns-in-Ok-Description-clause-fault
 returns-in-Ok-Description-clause-fault c =
-    no_fault (FaultIn (languages.Version c.args.version) nesting_limit c.args.description.now)
+    no_fault (FaultIn (languages.Version c.args.version) c.args.limit c.args.description.now)
     (fields_of (description_tree c.in-Ok-Description.description) c.args.text.now)
     c.read_by_description.result c.read_by_description.ensures
 
@@ -56,5 +55,5 @@ returns-in-Err-clause-refused c = λ f has.
 
 pub returns-in-Err-clause-fault : goal.returns-in-Err-clause-fault
 returns-in-Err-clause-fault c =
-    fault_kept (FaultIn (languages.Version c.args.version) nesting_limit c.args.description.now)
+    fault_kept (FaultIn (languages.Version c.args.version) c.args.limit c.args.description.now)
     c.in-Err.error c.of_parse_error.result c.of_parse_error.ensures c.in-Err.ensures.fault

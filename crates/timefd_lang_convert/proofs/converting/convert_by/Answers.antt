@@ -1,23 +1,31 @@
+use Rattle.std.proofs.Common.{subst}
 use Rattle.timefd_lang_convert.specs.Conversions.{language_of}
+use Rattle.timefd_lang_convert.proofs.ConvertLemmas.{one_to_three}
 use Rattle.timefd_language.specs.Grammar.{nesting_limit}
-use Rattle.timefd_lang_fault.proofs.OwnedLemmas.{owned_fault, owned_memory}
-use Rattle.timefd_language.proofs.PlacedLemmas.{owned_placed}
-use Rattle.timefd_parse.proofs.AmountLemmas.{owned-assigned-in}
+use Rattle.timefd_parse.specs.Language.{FaultIn}
 use Rattle.timefd_lang_convert.proofs.converting.convert_by.Goals as goal
 
-pub returns-in-Err-clause-fault : goal.returns-in-Err-clause-fault
-returns-in-Err-clause-fault c =
-    owned-assigned-in (language_of c.args.conversion) nesting_limit c.args.text.now _ _
-    c.in-Err.ensures.fault c.into_owned.ensures
+pub returns-in-OneToThree-clause-described : goal.returns-in-OneToThree-clause-described
+returns-in-OneToThree-clause-described c =
+    one_to_three c.args.conversion c.v1_to_v3.result c.args.text.now c.in-OneToThree.is
+    c.v1_to_v3.ensures.spelled
 
-pub returns-in-Err-clause-described : goal.returns-in-Err-clause-described
-returns-in-Err-clause-described c = λ list s.
-    owned_memory _ _ (c.in-Err.ensures.described list s) c.into_owned.ensures
+pub returns-in-OneToTwo-clause-refused : goal.returns-in-OneToTwo-clause-refused
+returns-in-OneToTwo-clause-refused c = λ f has. c.v1_to_v2_borrowed.ensures.refused f
+    (subst (λ by. FaultIn (language_of by) nesting_limit c.args.text.now f) c.in-OneToTwo.is has)
 
-pub returns-in-Err-clause-refused : goal.returns-in-Err-clause-refused
-returns-in-Err-clause-refused c = λ f h.
-    owned_fault f _ _ (c.in-Err.ensures.refused f h) c.into_owned.ensures
+pub returns-in-OneToThree-clause-refused : goal.returns-in-OneToThree-clause-refused
+returns-in-OneToThree-clause-refused c = λ f has. c.v1_to_v3.ensures.refused f
+    (subst (λ by. FaultIn (language_of by) nesting_limit c.args.text.now f) c.in-OneToThree.is has)
 
-pub returns-in-Err-clause-position : goal.returns-in-Err-clause-position
-returns-in-Err-clause-position c =
-    owned_placed c.args.text.now _ _ c.in-Err.ensures.position c.into_owned.ensures
+pub returns-in-TwoToThree-clause-refused : goal.returns-in-TwoToThree-clause-refused
+returns-in-TwoToThree-clause-refused c = λ f has. c.v2_to_v3.ensures.refused f
+    (subst (λ by. FaultIn (language_of by) nesting_limit c.args.text.now f) c.in-TwoToThree.is has)
+
+pub returns-in-ThreeToThree-clause-refused : goal.returns-in-ThreeToThree-clause-refused
+returns-in-ThreeToThree-clause-refused c = λ f has. c.normalize_v3.ensures.refused f
+    (subst (λ by. FaultIn (language_of by) nesting_limit c.args.text.now f) c.in-ThreeToThree.is has)
+
+pub returns-in-StrftimeToThree-clause-refused : goal.returns-in-StrftimeToThree-clause-refused
+returns-in-StrftimeToThree-clause-refused c = λ f has. c.strftime_to_v3.ensures.refused f
+    (subst (λ by. FaultIn (language_of by) nesting_limit c.args.text.now f) c.in-StrftimeToThree.is has)

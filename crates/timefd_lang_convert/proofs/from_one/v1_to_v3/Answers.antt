@@ -1,22 +1,35 @@
-use Rattle.timefd_language.specs.declared.description_version.DescriptionVersion.TheVariants.{One}
-use Rattle.timefd_language.specs.Grammar.{nesting_limit}
-use Rattle.timefd_lang_fault.proofs.OwnedLemmas.{owned_fault, owned_memory}
-use Rattle.timefd_language.proofs.PlacedLemmas.{owned_placed}
-use Rattle.timefd_parse.proofs.ParseLemmas.{owned_assigned}
+use Rattle.std.proofs.Common.{refl, sym, subst, ◌∙◌, string_bytes}
+use Rattle.timefd_lang_fault.specs.BorrowedFaults.{IsMemory}
+use Rattle.timefd_language.specs.Grammar.{items}
+use Rattle.timefd_lift.specs.Answers.{HasItemsOf, IsRewritten}
+use Rattle.timefd_lift.specs.Modernized.{IsWrittenOf}
 use Rattle.timefd_lang_convert.proofs.from_one.v1_to_v3.Goals as goal
 
-pub returns-in-Err-clause-fault : goal.returns-in-Err-clause-fault
-returns-in-Err-clause-fault c =
-    owned_assigned One nesting_limit c.args.s.now _ _ c.in-Err.ensures.fault c.into_owned.ensures
+pub returns-in-Ok-v2_to_v3-clause-rewritten :
+    goal.returns-in-Ok-v2_to_v3-clause-rewritten
+returns-in-Ok-v2_to_v3-clause-rewritten c = (
+  c.deref.result.now,
+  subst (IsRewritten c.args.s.now) (sym c.deref.ensures) c.in-Ok.ensures.rewritten,
+  c.in-Ok-v2_to_v3.ensures.rewritten,
+)
 
-pub returns-in-Err-clause-spelled : goal.returns-in-Err-clause-spelled
-returns-in-Err-clause-spelled c = λ ps s.
-    owned_memory _ _ (c.in-Err.ensures.spelled ps s) c.into_owned.ensures
+pub returns-in-Ok-v2_to_v3-clause-same_items :
+    goal.returns-in-Ok-v2_to_v3-clause-same_items
+returns-in-Ok-v2_to_v3-clause-same_items c = λ list spelled.
+    let two = subst (HasItemsOf c.args.s.now) (sym c.deref.ensures) c.in-Ok.ensures.same_items list
+    spelled in
+    (two.0, c.in-Ok-v2_to_v3.ensures.same_items two.0 two.1, two.2)
 
-pub returns-in-Err-clause-refused : goal.returns-in-Err-clause-refused
-returns-in-Err-clause-refused c = λ f h.
-    owned_fault f _ _ (c.in-Err.ensures.refused f h) c.into_owned.ensures
+pub returns-in-Ok-v2_to_v3-clause-spelled :
+    goal.returns-in-Ok-v2_to_v3-clause-spelled
+returns-in-Ok-v2_to_v3-clause-spelled c = λ ps spelled.
+    subst (λ text. IsWrittenOf text (string_bytes c.in-Ok-v2_to_v3.answer))
+    (c.deref.ensures ∙ c.in-Ok.ensures.spelled ps spelled)
+    c.in-Ok-v2_to_v3.ensures.rewritten
 
-pub returns-in-Err-clause-position : goal.returns-in-Err-clause-position
-returns-in-Err-clause-position c =
-    owned_placed c.args.s.now _ _ c.in-Err.ensures.position c.into_owned.ensures
+pub unreachable-requires : goal.unreachable-requires
+unreachable-requires c =
+    let is = c.in-Ok.ensures.rewritten in
+    let two = subst (HasItemsOf c.args.s.now) (sym c.deref.ensures) c.in-Ok.ensures.same_items
+    (items is.0) (is.0, is.1.0, is.1.1, refl) in
+    subst IsMemory c.in-Err-Invalid.field-0-is (c.in-Err-Invalid.ensures.spelled two.0 two.1)

@@ -1,7 +1,8 @@
 use Rattle.timefd_language.specs.declared.description_version.DescriptionVersion.TheVariants.{One}
+use Rattle.timefd_language.specs.declared.language.Language.TheVariants.{Version}
 use Rattle.timefd_language.specs.Grammar.{nesting_limit}
 use Rattle.timefd_lang_fault.proofs.OwnedLemmas.{owned_fault, owned_memory}
-use Rattle.timefd_language.proofs.PlacedLemmas.{owned_placed}
+use Rattle.timefd_language.proofs.PlacedLemmas.{owned_placed, owned_spanned}
 use Rattle.timefd_parse.proofs.ParseLemmas.{owned_assigned}
 use Rattle.timefd_lift.proofs.from_one.v1_to_v2.Goals as goal
 
@@ -20,3 +21,7 @@ returns-in-Err-clause-refused c = λ f h.
 pub returns-in-Err-clause-position : goal.returns-in-Err-clause-position
 returns-in-Err-clause-position c =
     owned_placed c.args.s.now _ _ c.in-Err.ensures.position c.into_owned.ensures
+
+pub returns-in-Err-clause-span : goal.returns-in-Err-clause-span
+returns-in-Err-clause-span c =
+    owned_spanned (Version One) c.args.s.now _ _ c.in-Err.ensures.span c.into_owned.ensures

@@ -5,19 +5,19 @@ use Rattle.timefd_lint.proofs.run.lint_files.Goals as goal
 
 pub names-init : goal.names-init
 names-init g c =
-    subst (IsRunTo (IsOpenedBy (g.S.Source.opens c.args.source.now) g.S.Opened.BufferedSource.has_failed) (g.S.Source.fails c.args.source.now)
+    subst (IsRunTo (IsOpenedBy (g.S.FileOpener.opens c.args.source.now) g.S.Opened.BufferedSource.has_failed) (g.S.FileOpener.fails c.args.source.now)
     c.args.options c.args.options.files.now c.args.options.files.now
     (g.I.BufferedSource.remaining c.args.input.now) (g.I.BufferedSource.remaining c.args.input.now)
     (g.I.BufferedSource.has_failed c.args.input.now)
     (g.W.Sink.contents c.args.writer.now) (g.W.Sink.contents c.args.writer.now))
     (sym c.new-tally.ensures)
-    (no_name (IsOpenedBy (g.S.Source.opens c.args.source.now) g.S.Opened.BufferedSource.has_failed) (g.S.Source.fails c.args.source.now)
+    (no_name (IsOpenedBy (g.S.FileOpener.opens c.args.source.now) g.S.Opened.BufferedSource.has_failed) (g.S.FileOpener.fails c.args.source.now)
     c.args.options c.args.options.files.now (g.I.BufferedSource.remaining c.args.input.now)
     (g.W.Sink.contents c.args.writer.now) (g.I.BufferedSource.has_failed c.args.input.now))
 
 pub names-preserved : goal.names-preserved
 names-preserved g c =
-    one_name (IsOpenedBy (g.S.Source.opens c.args.source.now) g.S.Opened.BufferedSource.has_failed) (g.S.Source.fails c.args.source.now)
+    one_name (IsOpenedBy (g.S.FileOpener.opens c.args.source.now) g.S.Opened.BufferedSource.has_failed) (g.S.FileOpener.fails c.args.source.now)
     c.args.options c.args.options.files.now c.names.rest.now _ _
     (g.I.BufferedSource.remaining c.args.input.now) (g.I.BufferedSource.remaining c.names.input)
     (g.I.BufferedSource.remaining c.lint_named.new.input)

@@ -5,10 +5,10 @@ use Rattle.timefd_lint_scan.specs.Keys.Keys.{named_all}
 use Rattle.timefd_lint.specs.Roots.{levels_of}
 use Rattle.timefd_lint.proofs.session.served.Goals as goal
 
-pub returns : goal.returns
-returns g c = record {
+pub returns-clause-served : goal.returns-clause-served
+returns-clause-served g c = record {
   project = c.in_ok-project.project;
-  found = c.in_ok-project.ensures;
+  found = c.in_ok-project.ensures.project;
   served = record { keys = c.deref.result; levels = c.reported_levels.result };
   keys_are = ap named_all c.deref.ensures.value
       ∙ (c.in_ok-keys.ensures ∙ ap (λ k. named_all c.args.keys.now ++ configs.named_all k) c.counted_keys.ensures);

@@ -1,6 +1,6 @@
 use Rattle.std.proofs.Common.{◌≡◌, ◌∙◌, ◌+◌, ◌∷◌, add-one, ap, drop, drop-cons, get_or, string_bytes, sym}
 use Rattle.std.proofs.lemmas.List.{drop_all}
-use Rattle.timefd_lint_explain.specs.declared.node.Node.{Node}
+use Rattle.timefd_lint_explain.specs.declared.node.ShownNode.{ShownNode}
 use Rattle.timefd_lint_explain.proofs.LineLemmas.{all_shown, one_more}
 use Rattle.timefd_lint_explain.proofs.line.push_lines.Goals as goal
 
@@ -14,7 +14,7 @@ loop-node-preserved c =
     rw add-one (drop-cons nodes at node c.loop-node-test.true) in
     one_more c.args.text.now nodes (drop at nodes) (drop (at + 1) nodes) node
     (string_bytes c.args.out.now) (string_bytes c.loop-node.out) (string_bytes c.push_line.new.out) more.0
-    c.loop-node.invariant (first ∙ ap (λ (n : Node). n ∷ drop (at + 1) nodes) (sym c.node-item.is)) more.1
+    c.loop-node.invariant (first ∙ ap (λ (n : ShownNode). n ∷ drop (at + 1) nodes) (sym c.node-item.is)) more.1
     more.2
 
 pub returns : goal.returns

@@ -12,7 +12,7 @@ loop-name-preserved g c =
       outside = c.in_ok-expand.ensures.ignores;
       so_far = one_more
           (IsWalkBut c.args.sought.endings.now c.args.sought.excluded (g.S.FileSystem.lists c.args.system.now) (g.S.FileSystem.holds c.args.system.now))
-          (IsKept c.args.sought.excluded) (g.S.FileSystem.tells c.args.system.now) c.args.names.now c.loop-name.name-index _
+          (IsKept c.args.sought.excluded) (g.S.FileSystem.folders c.args.system.now) c.args.names.now c.loop-name.name-index _
           (texts c.loop-name.walk.names.items) (texts c.expand.new.walk.names.items) lt
           c.loop-name.invariant.so_far c.in_ok-expand.ensures.names;
     }
@@ -23,7 +23,7 @@ returns-clause-all g c =
     let same : texts c.into_names.result.items ≡ texts c.loop-name.walk.names.items =
     first_of (cc, search rules, grind (arith, common_steps)) in
     at_last (IsWalkBut c.args.sought.endings.now c.args.sought.excluded (g.S.FileSystem.lists c.args.system.now) (g.S.FileSystem.holds c.args.system.now))
-    (IsKept c.args.sought.excluded) (g.S.FileSystem.tells c.args.system.now) c.args.names.now c.loop-name.name-index
+    (IsKept c.args.sought.excluded) (g.S.FileSystem.folders c.args.system.now) c.args.names.now c.loop-name.name-index
     (texts c.loop-name.walk.names.items) (texts c.into_names.result.items) end same
     c.loop-name.invariant.so_far
 

@@ -8,5 +8,5 @@ abbrev pub invariant-loop-name : goal.invariant-loop-name
 invariant-loop-name g l = record {
   outside : l.walk.ignores.items ≡ [];
   so_far : NamesGoOn (IsWalkBut l.sought.endings.now l.sought.excluded (g.S.FileSystem.lists l.system) (g.S.FileSystem.holds l.system))
-      (IsKept l.sought.excluded) (g.S.FileSystem.tells l.system) l.names l.name-index (texts l.walk.names.items);
+      (IsKept l.sought.excluded) (g.S.FileSystem.folders l.system) l.names l.name-index (texts l.walk.names.items);
 }

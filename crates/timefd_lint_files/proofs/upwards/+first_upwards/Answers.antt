@@ -13,5 +13,5 @@ returns-in-Some-clause-found g t c =
     let has : holds (c.args.folder.now ++ c.args.name.now) c.in-Some.text.items =
     subst (λ t. IsTextOr holds fails (c.args.folder.now ++ c.args.name.now) (items_any t)) c.in-Some.is
     c.in_ok-text.ensures.text in
-    found_here holds fails (g.S.FileSystem.tells c.args.system.now) c.args.name.now c.args.above c.args.folder.now
+    found_here holds fails (g.S.FileSystem.folders c.args.system.now) c.args.name.now c.args.above c.args.folder.now
     (string_bytes c.in_ok-folder.folder) c.in-Some.text.items has same

@@ -1,7 +1,7 @@
 use Rattle.std.proofs.Common.{◌≡◌, ◌≤◌, ◌-◌, ◌+◌, take}
 use Rattle.std.specs.List.{suffix_len}
 use Rattle.timefd_lint_scan.specs.Bytes.{class_test}
-use Rattle.timefd_lint_scan.specs.declared.class.Class.TheVariants.{Line}
+use Rattle.timefd_lint_scan.specs.declared.class.ByteSet.TheVariants.{Line}
 use Rattle.timefd_lint_scan.proofs.line.line_start.Given as goal
 
 -- There is no line feed between `start` and `to`.

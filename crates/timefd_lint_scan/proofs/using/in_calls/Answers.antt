@@ -12,7 +12,7 @@ loop-index-preserved c =
     refl
     (c.in_ok-pass.ensures
     ∙ ap (λ u. passed c.args.source.now c.args.pieces.now c.args.aliases.now u c.loop-index.index c.loop-index.frames.items)
-    c.no_uses.ensures.none)
+    c.no_uses-none.ensures.none)
     (c.use_at.ensures
     ∙ used_at c.args.source.now c.args.pieces.now c.loop-index.index _ c.pass.new.frames.items c.deref.result.now
     c.innermost-frame.result c.deref.ensures.value c.innermost-frame.ensures)

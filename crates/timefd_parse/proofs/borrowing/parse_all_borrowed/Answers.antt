@@ -16,22 +16,22 @@ use Rattle.timefd_parse.proofs.borrowing.parse_all_borrowed.Goals as goal
 
 pub returns-in-Ok-clause-refused : goal.returns-in-Ok-clause-refused
 returns-in-Ok-clause-refused c = subst (λ v. (f : Fault) → FaultOf v c.args.limit c.args.s.now f
-    → ⊥) (sym c.in-Three.is) c.in-Ok.ensures.refused
+    → ⊥) (sym c.in-Three.is) c.in-Ok.ensures.read.refused
 
 pub returns-in-Err-clause-spelled : goal.returns-in-Err-clause-spelled
 returns-in-Err-clause-spelled c = subst (λ v. (list : List Tree)
     → Spells v c.args.limit 0 c.args.s.now list → IsMemory c.in-Err.error) (sym c.in-Three.is)
-    c.in-Err.ensures.spelled
+    c.in-Err.ensures.read.spelled
 
 pub returns-in-Err-clause-refused : goal.returns-in-Err-clause-refused
 returns-in-Err-clause-refused c = subst (λ v. (f : Fault) → FaultOf v c.args.limit c.args.s.now f
-    → IsBorrowed f c.in-Err.error) (sym c.in-Three.is) c.in-Err.ensures.refused
+    → IsBorrowed f c.in-Err.error) (sym c.in-Three.is) c.in-Err.ensures.read.refused
 
 pub returns-in-Err-clause-words : goal.returns-in-Err-clause-words
 returns-in-Err-clause-words c =
     short_borrowed (FaultOf Three c.args.limit c.args.s.now)
     (short_fault Three c.args.limit c.args.s.now)
-    c.in-Err.error c.in-Err.ensures.fault
+    c.in-Err.error c.in-Err.ensures.read.fault
 
 pub returns-in-Err-parse_items-clause-words : goal.returns-in-Err-parse_items-clause-words
 returns-in-Err-parse_items-clause-words c =
@@ -42,7 +42,7 @@ pub returns-in-Err-clause-position : goal.returns-in-Err-clause-position
 returns-in-Err-clause-position c =
     borrowed_more (FaultOf Three c.args.limit c.args.s.now) (IsPlaced c.args.s.now)
     (is_placed Three c.args.limit c.args.s.now c.utf8.s)
-    c.in-Err.error c.in-Err.ensures.fault
+    c.in-Err.error c.in-Err.ensures.read.fault
 
 pub returns-in-Err-parse_items-clause-position : goal.returns-in-Err-parse_items-clause-position
 returns-in-Err-parse_items-clause-position c =
@@ -70,4 +70,4 @@ returns-in-Ok-parse_items c =
 pub returns-in-Err-clause-span : goal.returns-in-Err-clause-span
 returns-in-Err-clause-span c =
     subst (λ v. HasSpan (Version v) c.args.s.now c.in-Err.error) (sym c.in-Three.is)
-    c.in-Err.ensures.span
+    c.in-Err.ensures.read.span

@@ -4,7 +4,6 @@ use Rattle.timefd_items.specs.Builder.{built}
 use Rattle.timefd_lang_component.specs.Reserved.{reserve, reserve_all}
 use Rattle.timefd_lang_component.specs.Tree.{trees}
 use Rattle.timefd_language.specs.declared.description_version.DescriptionVersion.TheVariants.{Three}
-use Rattle.timefd_parse.proofs.AmountLemmas.{borrowed-in-version}
 use Rattle.timefd_parse.proofs.BuildingLemmas.{list_within}
 use Rattle.timefd_parse.proofs.CountingLemmas.{none_built, pack_sum}
 use Rattle.timefd_parse.proofs.ParseLemmas.{is_amount, none_read, no_fault_in}
@@ -58,24 +57,28 @@ pub returns-in-Ok : goal.returns-in-Ok
 returns-in-Ok c =
     let m = c.in-Ok.ensures.bytes in
     record {
-      found = tt;
-      fault = tt;
-      spelled = λ list s. tt;
-      refused = λ f h. no_fault_in _ _ _ _ _ f m.1 h;
+      read = record {
+        found = tt;
+        fault = tt;
+        spelled = λ list s. tt;
+        refused = λ f h. no_fault_in _ _ _ _ _ f m.1 h;
+        span = tt;
+        empty = λ e. c.in-Err-finish.ensures.empty
+            (none_built _ m.0 m.3 (none_read _ _ _ _ _ m.1 e));
+      };
       memory = λ lax. absurd (true≢false lax);
-      empty = λ e. c.in-Err-finish.ensures.empty
-          (none_built _ m.0 m.3 (none_read _ _ _ _ _ m.1 e));
-      span = tt;
     }
 
 pub returns : goal.returns
 returns c =
     record {
-      found = tt;
-      fault = borrowed-in-version _ _ _ _ c.error_of.ensures.fault;
-      spelled = c.error_of.ensures.spelled;
-      refused = c.error_of.ensures.refused;
+      read = record {
+        found = tt;
+        fault = c.error_of.ensures.fault;
+        spelled = c.error_of.ensures.spelled;
+        refused = c.error_of.ensures.refused;
+        span = c.error_of.ensures.span c.in-Err.ensures.span;
+        empty = λ e. absurd (omega (arith, c.in-Err.ensures.some, ap length e));
+      };
       memory = λ lax. absurd (true≢false lax);
-      empty = λ e. absurd (omega (arith, c.in-Err.ensures.some, ap length e));
-      span = c.error_of.ensures.span c.in-Err.ensures.span;
     }

@@ -1,5 +1,5 @@
 use Rattle.std.proofs.Common.{◌∙◌, [], length, ap, arith}
-use Rattle.timefd_parse.proofs.AmountLemmas.{lax-amount, borrowed-in-version}
+use Rattle.timefd_parse.proofs.AmountLemmas.{lax-amount}
 use Rattle.timefd_parse.proofs.ParseLemmas.{is_amount, borrowed_assigned, borrowed_spelled, borrowed_refusal, borrowed_refused, spanned_version}
 use Rattle.timefd_parse.proofs.counting.count_items.Goals as goal
 
@@ -13,11 +13,14 @@ pub returns : goal.returns
 returns c =
     let bad = c.in-Err.ensures.count in
     record {
-      found = tt;
-      fault = borrowed-in-version _ _ _ _ (borrowed_assigned _ _ _ _ _ bad c.borrowed.ensures.borrows);
-      spelled = λ list s. borrowed_spelled _ _ _ _ _ list bad c.borrowed.ensures.borrows s;
-      refused = λ f h. borrowed_refused _ _ _ _ _ f bad c.in-Err.ensures.invalid c.borrowed.ensures.borrows h;
+      read = record {
+        found = tt;
+        fault = borrowed_assigned _ _ _ _ _ bad c.borrowed.ensures.borrows;
+        spelled = λ list s. borrowed_spelled _ _ _ _ _ list bad c.borrowed.ensures.borrows s;
+        refused = λ f h.
+            borrowed_refused _ _ _ _ _ f bad c.in-Err.ensures.invalid c.borrowed.ensures.borrows h;
+        span = spanned_version _ _ _ _ c.in-Err.ensures.span c.borrowed.ensures.span;
+        empty = λ e. absurd (omega (arith, c.in-Err.ensures.some, ap length e));
+      };
       memory = λ lax. borrowed_refusal _ _ _ _ _ bad c.in-Err.ensures.invalid c.borrowed.ensures.borrows;
-      empty = λ e. absurd (omega (arith, c.in-Err.ensures.some, ap length e));
-      span = spanned_version _ _ _ _ c.in-Err.ensures.span c.borrowed.ensures.span;
     }

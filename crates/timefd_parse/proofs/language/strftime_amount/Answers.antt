@@ -1,18 +1,31 @@
+use Rattle.std.proofs.Common.{[], refl}
 use Rattle.timefd_language.proofs.DirectiveLemmas.DirectiveLemmas.{counted_once, counted_unrefused, one}
+use Rattle.timefd_language.specs.Strftime.{no_directives}
 use Rattle.timefd_parse.proofs.language.strftime_amount.Goals as goal
 
-pub returns-in-Ok-clause-spelled : goal.returns-in-Ok-clause-spelled
-returns-in-Ok-clause-spelled c = λ list s. counted_once c.args.text.now _ c.in-Ok.ensures.found list
-    s
+pub returns-in-Ok : goal.returns-in-Ok
+returns-in-Ok c = λ limit. record {
+  read = record {
+    found = c.in-Ok.ensures.found;
+    fault = tt;
+    spelled = λ list s. counted_once c.args.text.now _ c.in-Ok.ensures.found list s;
+    refused = λ f h. counted_unrefused c.args.text.now _ c.in-Ok.ensures.found f h;
+    span = tt;
+    empty = λ none. refl;
+  };
+  memory = λ lax. tt;
+}
 
-pub returns-in-Ok-clause-refused : goal.returns-in-Ok-clause-refused
-returns-in-Ok-clause-refused c = λ f h. counted_unrefused c.args.text.now _ c.in-Ok.ensures.found f
-    h
-
-pub returns-in-Err-clause-spelled : goal.returns-in-Err-clause-spelled
-returns-in-Err-clause-spelled c = λ list s.
-    (one c.args.text.now).not_both list _ s c.in-Err.ensures.fault
-
-pub returns-in-Err-clause-refused : goal.returns-in-Err-clause-refused
-returns-in-Err-clause-refused c = λ f h.
-    (one c.args.text.now).one_fault _ f c.in-Err.ensures.fault h
+pub returns-in-Err : goal.returns-in-Err
+returns-in-Err c = λ limit. record {
+  read = record {
+    found = tt;
+    fault = c.in-Err.ensures.fault;
+    spelled = λ list s. (one c.args.text.now).not_both list _ s c.in-Err.ensures.fault;
+    refused = λ f h. (one c.args.text.now).one_fault _ f c.in-Err.ensures.fault h;
+    span = c.in-Err.ensures.span;
+    empty = λ none. absurd
+        ((one c.args.text.now).not_both [] _ (no_directives, tt, none, refl) c.in-Err.ensures.fault);
+  };
+  memory = λ lax. tt;
+}

@@ -2,8 +2,8 @@ use Rattle.std.proofs.Common.{◌≡◌, ◌∙◌, ◌∷◌, [], ◌⊎◌, in
 use Rattle.timefd_lang_component.specs.Tree.{component}
 use Rattle.timefd_lang_node_list.specs.Leaves.{role_leaves}
 use Rattle.timefd_lang_node_list.proofs.LeafLemmas.{at_leaf, at_inner}
-use Rattle.timefd_c_nodes.specs.declared.formatting.part.Part.{Part}
-use Rattle.timefd_c_nodes.specs.declared.formatting.part.Part.TheVariants as part
+use Rattle.timefd_c_nodes.specs.declared.formatting.part.WritingPart.{WritingPart}
+use Rattle.timefd_c_nodes.specs.declared.formatting.part.WritingPart.TheVariants as part
 use Rattle.timefd_c_nodes.specs.Formatting.Parts.{role}
 use Rattle.timefd_c_nodes.proofs.FormattingLemmas.CutLemmas.{as_part}
 use Rattle.timefd_c_nodes.proofs.formatting.leaf.split_last.Goals as goal
@@ -19,7 +19,7 @@ returns-in-Component-clause-leaves c =
     (ap (λ p. role_leaves (role p)) c.in-Component.is ∙ ap (λ x. component x ∷ []) (sym c.modern.ensures.table))
     refl
 
-inner : (p : Part) → ((n : ℕ) × (p ≡ part.Compound n)) ⊎ (((b : Bool) × (p ≡ part.Optional b)) ⊎ ((n : ℕ) × (p ≡ part.First n)))
+inner : (p : WritingPart) → ((n : ℕ) × (p ≡ part.Compound n)) ⊎ (((b : Bool) × (p ≡ part.Optional b)) ⊎ ((n : ℕ) × (p ≡ part.First n)))
     → role_leaves (role p) ≡ []
 inner p (inl h) = ap (λ x. role_leaves (role x)) h.1
 inner p (inr (inl h)) = ap (λ x. role_leaves (role x)) h.1

@@ -2,15 +2,15 @@ use Rattle.std.proofs.Common.{ℕ, ◌≡◌, ◌∙◌, ◌≤◌, sym, ap, sub
 use Rattle.timefd_lang_component.specs.Tree.{trees}
 use Rattle.timefd_date_moment.specs.declared.moment.Moment.{Moment}
 use Rattle.timefd_date_format.specs.Written.{written_all}
-use Rattle.timefd_c_nodes.specs.declared.formatting.part.Part.{Part}
-use Rattle.timefd_c_nodes.specs.declared.formatting.part.Part.TheVariants as part
+use Rattle.timefd_c_nodes.specs.declared.formatting.part.WritingPart.{WritingPart}
+use Rattle.timefd_c_nodes.specs.declared.formatting.part.WritingPart.TheVariants as part
 use Rattle.timefd_c_nodes.specs.Formatting.Parts.{role}
 use Rattle.timefd_c_nodes.specs.Formatting.Cursors.{TriesToWrite}
 use Rattle.timefd_c_nodes.specs.Formatting.Walk.{leaves_here}
 use Rattle.timefd_c_nodes.proofs.FormattingLemmas.WriteLemmas.{component_by_itself}
 use Rattle.timefd_c_nodes.proofs.formatting.write.put_part.Goals as goal
 
-written_here : (m : Moment) (skip : ℕ) (p q : Part) → skip ≤ 0 → p ≡ q
+written_here : (m : Moment) (skip : ℕ) (p q : WritingPart) → skip ≤ 0 → p ≡ q
     → written_all m (trees (leaves_here skip (role p))) ≡ written_all m (trees (leaves_here 0 (role q)))
 written_here m skip p q none is =
     let zero_is : skip ≡ 0 = omega (arith, none) in

@@ -3,7 +3,7 @@ use Rattle.std.proofs.lemmas.Result.{err_from_is_err_and}
 use Rattle.timefd_language.specs.Directives.PieceMeaning.{piece_tree}
 use Rattle.timefd_language.proofs.DirectiveLemmas.DirectiveLemmas.{IsNext, all_read, continues_more, fault_after}
 use Rattle.timefd_c_nodes.proofs.ReadingLemmas.PieceLemmas.{piece_counted, pieces_more}
-use Rattle.timefd_c_nodes.specs.declared.reading.progress.Progress.{Progress}
+use Rattle.timefd_c_nodes.specs.declared.reading.progress.ReadProgress.{ReadProgress}
 use Rattle.timefd_c_nodes.proofs.ReadingLemmas.CountedLemmas.{FitsIf, fits_more, none_past}
 use Rattle.timefd_c_nodes.proofs.reading.strftime.write_pieces.Goals as goal
 
@@ -35,7 +35,7 @@ pieces-preserved g c =
       continues_more _ _ _ _ _ c.pieces.invariant.3 next.leads,
       pieces_more _ c.pieces.invariant.2 c.in-Some.piece _ _ _ _ _ _ _ _ _
           c.pieces.invariant.4 c.in-Some-write_piece.ensures.some c.one_more-progress.ensures,
-      subst (λ (p : Progress). FitsIf _ p.end c.args.text.now c.in-Some.after.now)
+      subst (λ (p : ReadProgress). FitsIf _ p.end c.args.text.now c.in-Some.after.now)
           (sym c.one_more-progress.ensures)
           (fits_more _ _ c.pieces.rest.now c.in-Some.after.now c.in-Some.piece c.pieces.progress.end
           c.in-Some-write_piece.written _ _ _ _ next c.in-Some-write_piece.ensures.some c.pieces.invariant.5),

@@ -5,7 +5,7 @@ use Rattle.timefd_items.specs.Builder.{built}
 use Rattle.timefd_parse.specs.Read.{IsFaultIn, IsNext, PiecesToEnd}
 use Rattle.timefd_parse.proofs.BuildingLemmas.{is_leaf}
 use Rattle.timefd_parse.proofs.ReadLemmas.{continues_more, items_end, items_fault, memory_or, end_outside}
-use Rattle.timefd_c_nodes.specs.declared.reading.progress.Progress.{Progress}
+use Rattle.timefd_c_nodes.specs.declared.reading.progress.ReadProgress.{ReadProgress}
 use Rattle.timefd_c_nodes.proofs.ReadingLemmas.CountedLemmas.{Fits, leaf_counted, leaf_fits}
 use Rattle.timefd_c_nodes.proofs.ReadingLemmas.ProgressLemmas.{counted_below, leaf_tree, written_more}
 use Rattle.timefd_c_nodes.proofs.reading.version.write_pieces.Goals as goal
@@ -60,7 +60,7 @@ pieces-preserved c =
       written_more c.pieces.invariant.2 next.0 _ _ _ _ _ _ _ _ _ c.pieces.invariant.4
           (c.in-Some-write_leaf.ensures.some next.0 (leaf_tree _ _ _ _ _ _ leaf next.2))
           c.one_more-progress.ensures,
-      subst (λ (p : Progress). Fits p.end c.args.text.now c.in-Some.after.now)
+      subst (λ (p : ReadProgress). Fits p.end c.args.text.now c.in-Some.after.now)
           (sym c.one_more-progress.ensures)
           (leaf_fits c.args.version c.args.limit _ c.pieces.rest.now c.in-Some.after.now c.in-Some.piece next.0
           c.pieces.progress.end _ _ _ _ _ next.1.leads next.1.shorter (leaf_tree _ _ _ _ _ _ leaf next.2)

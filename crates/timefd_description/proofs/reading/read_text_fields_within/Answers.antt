@@ -1,0 +1,13 @@
+use Rattle.std.proofs.Common.{subst}
+use Rattle.timefd_parse.specs.Language.{FaultIn}
+use Rattle.timefd_description.proofs.reading.read_text_fields_within.Goals as goal
+
+pub returns-in-Version-clause-refused : goal.returns-in-Version-clause-refused
+returns-in-Version-clause-refused c = λ f has.
+    c.by_version.ensures.refused f
+    (subst (λ l. FaultIn l c.args.limit c.args.description.now f) c.in-Version.is has)
+
+pub returns-in-Strftime-clause-refused : goal.returns-in-Strftime-clause-refused
+returns-in-Strftime-clause-refused c = λ f has.
+    c.by_strftime.ensures.refused f
+    (subst (λ l. FaultIn l c.args.limit c.args.description.now f) c.in-Strftime.is has)

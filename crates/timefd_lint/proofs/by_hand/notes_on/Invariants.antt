@@ -1,8 +1,0 @@
-use Rattle.std.proofs.Common.{string_bytes}
-use Rattle.timefd_lint.proofs.HandLemmas.{AreNotedTo}
-use Rattle.timefd_lint.proofs.by_hand.notes_on.Given as goal
-
--- The descriptions up to the index have their notes.
-abbrev pub invariant-each : goal.invariant-each
-invariant-each l =
-    AreNotedTo l.change l.version l.name l.source l.descriptions l.outcomes l.index (string_bytes l.notes)

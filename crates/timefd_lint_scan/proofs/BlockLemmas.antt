@@ -1,0 +1,107 @@
+-- Where the blocks that tokens are in begin and end.
+use Rattle.std.proofs.Common.{ℕ, ◌≡◌, ◌==◌, ◌≢◌, ◌∙◌, ◌+◌, ◌-◌, ◌<◌, ◌≤◌, ◌++◌, List, [], ◌∷◌, add-one, ap, arith, drop, false, get_or, inl, inr, length, length-append, length-set, nat_le, nat_lt, refl, reverse, set, subst, suc, sym, true, zero}
+use Rattle.std.proofs.lemmas.Bool.{cases_Bool}
+use Rattle.std.proofs.lemmas.Bool.Decides.{nat_tests}
+use Rattle.std.proofs.lemmas.Grind.{reverse_onto}
+use Rattle.std.proofs.lemmas.List.{drop_all, drop_more, get_or-set_other, get_or-set_same, get_or_push}
+use Rattle.std.proofs.lemmas.Option.{unwrap_or-slice_get}
+use Rattle.std.specs.List.{slice_get}
+use Rattle.std.specs.Option.{unwrap_or}
+use Rattle.timefd_lint_scan.specs.declared.piece.PlacedToken.{PlacedToken}
+use Rattle.timefd_lint_scan.specs.Bytes.{Text}
+use Rattle.timefd_lint_scan.specs.Layouts.{AreEnds, but_first, closings, closings_before}
+use Rattle.timefd_lint_scan.specs.Scopes.{stays_open}
+use Rattle.timefd_lint_scan.specs.Words.{is_closing, is_opening, text_of}
+
+pub reversed : (n : ℕ) (ns : List ℕ) → reverse (n ∷ ns) ≡ reverse ns ++ n ∷ []
+reversed n ns = reverse_onto ns n []
+
+further_on : (ns : List ℕ) (d other : ℕ) → get_or (but_first ns) d other ≡ get_or ns (d + 1) other
+further_on [] d other = refl
+further_on (n ∷ ns) d other = rw (add-one) refl
+
+closed : (source : Text) (position other depth : ℕ) (p : PlacedToken) (ps : List PlacedToken) → nat_le position p.start ≡ false
+    → is_opening (text_of source p) ≡ false → is_closing (text_of source p) ≡ true
+    → position ≤ get_or (p.start ∷ closings source ps) depth other
+    → ((d : ℕ) → position ≤ get_or (closings source ps) d other → stays_open source position d ps ≡ true)
+    → stays_open source position depth (p ∷ ps) ≡ true
+closed source position other zero p ps late not closes within further =
+    absurd (grind (arith, nat_tests, late, within))
+closed source position other (suc depth) p ps late not closes within further =
+    let positive : (suc depth == 0) ≡ false = grind (arith, nat_tests) in
+    let less : suc depth - 1 ≡ depth = omega arith in
+    rw (late, not, closes, positive, less) (further depth within)
+
+-- Up to the position of the bracket that closes a block, the block is open.
+pub stays : (source : Text) (position other depth : ℕ) (ps : List PlacedToken) → position ≤ get_or (closings source ps) depth other
+    → stays_open source position depth ps ≡ true
+stays source position other depth [] within = refl
+stays source position other depth (p ∷ ps) within = elim (cases_Bool (nat_le position p.start)) [
+  | inl early ↦ rw early refl
+  | inr late ↦ elim (cases_Bool (is_opening (text_of source p))) [
+    | inl opens ↦
+        let here : closings source (p ∷ ps) ≡ but_first (closings source ps) = rw opens refl in
+        let bound : position ≤ get_or (closings source ps) (depth + 1) other =
+        subst (λ n. position ≤ n) (ap (λ ns. get_or ns depth other) here ∙ further_on (closings source ps) depth other) within in
+        rw (late, opens) (stays source position other (depth + 1) ps bound)
+    | inr not ↦ elim (cases_Bool (is_closing (text_of source p))) [
+      | inl closes ↦
+          let here : closings source (p ∷ ps) ≡ p.start ∷ closings source ps = rw (not, closes) refl in
+          let bound : position ≤ get_or (p.start ∷ closings source ps) depth other =
+          subst (λ ns. position ≤ get_or ns depth other) here within in
+          closed source position other depth p ps late not closes bound (λ d fits. stays source position other d ps fits)
+      | inr neither ↦
+          let here : closings source (p ∷ ps) ≡ closings source ps = rw (not, neither) refl in
+          let bound : position ≤ get_or (closings source ps) depth other =
+          subst (λ ns. position ≤ get_or ns depth other) here within in
+          rw (late, not, neither) (stays source position other depth ps bound)
+    ]
+  ]
+]
+
+pub last_is : (ns st : List ℕ) (other : ℕ) → ns ≡ reverse st → unwrap_or (slice_get ns (length ns - 1)) other ≡ get_or st 0 other
+last_is ns [] other same = subst (λ l. unwrap_or (slice_get l (length l - 1)) other ≡ other) (sym same) refl
+last_is ns (n ∷ st) other same =
+    let here : ns ≡ reverse st ++ n ∷ [] = same ∙ reversed n st in
+    let place : length (reverse st) ≡ length ns - 1 = omega (arith, ap length here, length-append (reverse st) (n ∷ [])) in
+    unwrap_or-slice_get ns (length ns - 1) other
+    ∙ (ap (λ l. get_or l (length ns - 1) other) here ∙ get_or_push (reverse st) n other (length ns - 1) place)
+
+-- one token more, from the back
+pub one_back : (source : Text) (ps : List PlacedToken) (n left : ℕ) (p other : PlacedToken) (before now : List ℕ) → n + 1 ≡ left
+    → n < length ps → p ≡ get_or ps n other → before ≡ reverse (closings source (drop left ps))
+    → ((st : List ℕ) → before ≡ reverse st → now ≡ reverse (closings_before source p st))
+    → now ≡ reverse (closings source (drop n ps))
+one_back source ps n left p other before now next below at was passed =
+    let split : drop n ps ≡ p ∷ drop left ps =
+    drop_more ps n other below ∙ (ap (λ x. x ∷ drop (n + 1) ps) (sym at) ∙ ap (λ k. p ∷ drop k ps) next) in
+    passed (closings source (drop left ps)) was ∙ ap (λ l. reverse (closings source l)) (sym split)
+
+pub end_more : (source : Text) (ps : List PlacedToken) (n left value other : ℕ) (stack ends : List ℕ) → n + 1 ≡ left
+    → n < length ends → stack ≡ reverse (closings source (drop n ps))
+    → ((st : List ℕ) → stack ≡ reverse st → value ≡ get_or st 0 other) → AreEnds source ps left ends
+    → AreEnds source ps n (set ends n value)
+end_more source ps n left value other stack ends next below closed last are = record {
+  open_up_to = λ i position from inside within. elim (cases_Bool (nat_lt n i)) [
+    | inl later ↦
+        let after : left ≤ i = grind (arith, nat_tests, later, next) in
+        let apart : i ≢ n = λ same. omega (arith, same, after, next) in
+        are.open_up_to i position after (omega (arith, inside, length-set ends n value))
+        (subst (λ k. position ≤ k) (get_or-set_other ends n i value 0 apart) within)
+    | inr not ↦
+        let same : i ≡ n = grind (arith, nat_tests, not, from) in
+        let is : get_or (set ends n value) i 0 ≡ get_or (closings source (drop n ps)) 0 other =
+        ap (λ k. get_or (set ends n value) k 0) same
+        ∙ (get_or-set_same ends n value 0 below ∙ last (closings source (drop n ps)) closed) in
+        subst (λ k. stays_open source position 0 (drop k ps) ≡ true) (sym same)
+        (stays source position other 0 (drop n ps) (subst (λ k. position ≤ k) is within))
+  ];
+}
+
+pub no_ends : (source : Text) (ps : List PlacedToken) (from : ℕ) (ends : List ℕ) → length ends ≤ from → AreEnds source ps from ends
+no_ends source ps from ends none = record {
+  open_up_to = λ i position at inside within. absurd (omega (arith, none, at, inside));
+}
+
+pub none_closed : (source : Text) (ps : List PlacedToken) (n : ℕ) → length ps ≤ n → [] ≡ reverse (closings source (drop n ps))
+none_closed source ps n none = ap (λ l. reverse (closings source l)) (sym (drop_all n ps none))
