@@ -7,6 +7,7 @@ mod cursor;
 mod digits;
 mod field;
 mod forward;
+mod forward_items;
 mod fraction;
 mod front;
 mod instant;

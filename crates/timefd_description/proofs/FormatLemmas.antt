@@ -1,5 +1,6 @@
 -- An answer for what was read is an answer for what the text spells.
-use Rattle.std.proofs.Common.{ℕ, ◌≡◌, ◌∙◌, [], ◌∷◌, List, Result, Ok, Err, map, refl, sym, ap, subst}
+use Rattle.std.proofs.Common.{ℕ, ◌≡◌, ◌∙◌, [], ◌∷◌, ◌++◌, List, Result, Ok, Err, drop, length, map, refl, sym, take, ap, subst}
+use Rattle.std.proofs.Math.Seq.{take-append_seam}
 use Rattle.std.proofs.lemmas.List.{append-nil}
 use Rattle.std.specs.declared.alloc.Global.{Global}
 use Rattle.std.specs.declared.vec.Vec.{Vec}
@@ -8,6 +9,8 @@ use Rattle.timefd_date_format.specs.declared.unshown.Unshown.{Unshown}
 use Rattle.timefd_date_format.specs.Written.{written, written_all, followed}
 use Rattle.timefd_lang_node_list.specs.declared.item.borrowed_format_item.BorrowedFormatItem.{BorrowedFormatItem}
 use Rattle.timefd_lang_node_list.specs.Item.Meaning.{item_tree, item_trees}
+use Rattle.timefd_date_format.specs.Fronts.{IsFront}
+use Rattle.timefd_date_format.specs.declared.write.FormatError.TheVariants as writes
 use Rattle.timefd_description.specs.declared.format_error.FormatTextError.{FormatTextError}
 use Rattle.timefd_description.specs.declared.format_error.FormatTextError.TheVariants as fails
 use Rattle.timefd_description.specs.Formatted.{IsShownAs, IsMemory}
@@ -67,3 +70,16 @@ nothing_shown (Ok text) (fails.Memory e) right = tt
 nothing_shown (Err v) (fails.Fault f) wrong = absurd wrong
 nothing_shown (Err v) (fails.Unshown u) wrong = absurd wrong
 nothing_shown (Err v) (fails.Memory e) right = tt
+
+-- What was put over the front of a buffer is the text.
+pub front_shown : (w : Result Text Unshown) (old new : Text) (len : ℕ) (v : Vec ℕ Global) → IsFront w old new (Ok len)
+    → v.items ≡ take len new → IsShownAs w (Ok v)
+front_shown (Ok text) old new len v front is =
+    is ∙ ap (take len) front.1 ∙ ap (λ n. take n (text ++ drop (length text) old)) front.0
+    ∙ take-append_seam text (drop (length text) old)
+front_shown (Err u) old new len v front is = absurd front
+
+pub unshown_front : (w : Result Text Unshown) (old new : Text) (u : Unshown) → IsFront w old new (Err (writes.Unshown u))
+    → IsShownAs w (Err (fails.Unshown u))
+unshown_front (Ok text) old new u front = absurd front
+unshown_front (Err v) old new u front = front.0

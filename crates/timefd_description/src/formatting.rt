@@ -5,6 +5,7 @@ ghost use Rattle.timefd_lang_component.specs.Tree.{Tree, trees};
 ghost use Rattle.timefd_lang_fault.specs.Faults as spec;
 ghost use Rattle.timefd_date_format.specs.Written.{written, written_all};
 ghost use Rattle.timefd_lang_node_list.specs.Item.Meaning.{item_trees};
+ghost use Rattle.timefd_lang_node_list.specs.Views.{view_tree};
 ghost use Rattle.timefd_description.specs.Formatted.{IsRefusedFor, IsShownAs};
 ghost use Rattle.timefd_items.specs.Description.{description_tree};
 ghost use Rattle.timefd_language.specs.Grammar.{nesting_limit};
@@ -12,14 +13,19 @@ ghost use Rattle.timefd_parse.specs.Language.{FaultIn, SpellsIn};
 
 use crate::format_error::{FormatTextError, of_parse_error, of_text_error};
 use crate::strftime::unread_error;
+use crate::writing::write_view;
 use std::alloc::Global;
-use timefd_date_format::{format, format_items};
+use timefd_date_format::{FormatError, format, format_items};
 use timefd_date_moment::Moment;
+use timefd_lang_node_list::View;
 use timefd_lang_node_list::item::BorrowedFormatItem;
 use timefd_parse::{
     BorrowedOutput, DescriptionVersion, FormatDescriptionV3, Language, NESTING_LIMIT,
     StrftimeTables, parse_all_borrowed, parse_strftime_all_borrowed,
 };
+
+// A description that reserves no more bytes is written here first.
+const ROOM: usize = 128;
 
 /// The bytes that a text of a language writes for the moment.
 ///
@@ -127,7 +133,43 @@ fn shown_description<'e>(
 ) -> Result<Vec<u8>, FormatTextError<'e>>
     ensures { IsShownAs (written moment (description_tree description.now)) result }
 {
-    match format(alloc, moment, description.view()) {
+    let view = description.view();
+    if view.max_bytes_needed() <= ROOM {
+        return short_text(alloc, moment, view, &mut [0; ROOM]);
+    }
+    long_text(alloc, moment, view)
+}
+
+// Writes the description over the front of `room`, and copies that.
+#[tactic(auto, using(crate::proofs::FormatLemmas::front_shown, crate::proofs::FormatLemmas::unshown_front))]
+fn short_text<'e>(
+    alloc: Global,
+    moment: Moment,
+    view: View<'_, '_>,
+    room: &mut [u8],
+) -> Result<Vec<u8>, FormatTextError<'e>>
+    ensures { IsShownAs (written moment (view_tree view.entry)) result }
+{
+    match write_view(&moment, view, room) {
+        Ok(len) => match Vec::from_slice(alloc, &room[..len]) {
+            Ok(bytes) => Ok(bytes),
+            Err(error) => Err(FormatTextError::Memory(error)),
+        },
+        Err(FormatError::Unshown(unshown)) => Err(FormatTextError::Unshown(unshown)),
+        Err(FormatError::Room) => long_text(alloc, moment, view),
+    }
+}
+
+// Writes the description in as many bytes as it may need.
+#[inline(never)]
+fn long_text<'e>(
+    alloc: Global,
+    moment: Moment,
+    view: View<'_, '_>,
+) -> Result<Vec<u8>, FormatTextError<'e>>
+    ensures { IsShownAs (written moment (view_tree view.entry)) result }
+{
+    match format(alloc, moment, view) {
         Ok(text) => Ok(text.into_bytes()),
         Err(error) => Err(of_text_error(error)),
     }

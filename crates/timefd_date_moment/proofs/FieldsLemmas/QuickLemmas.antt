@@ -1,5 +1,5 @@
 -- Numbers that are taken at once.
-use Rattle.std.proofs.Common.{ℕ, ◌≡◌, ◌∙◌, ◌≤◌, ◌&&◌, Bool, true, false, nat_le, length, Option, Some, None, refl, sym, ap, subst, arith}
+use Rattle.std.proofs.Common.{ℕ, ◌≡◌, ◌∙◌, ◌≤◌, ◌+◌, ◌&&◌, Bool, true, false, nat_le, length, Option, Some, None, refl, sym, ap, subst, arith}
 use Rattle.std.proofs.lemmas.Bool.{le-leb}
 use Rattle.timefd_modifier.specs.declared.enums.Padding.{Padding}
 use Rattle.timefd_lang_component.specs.declared.component.Component.{Component}
@@ -11,10 +11,12 @@ use Rattle.timefd_date_moment.specs.declared.fields.fields.Count.{Count}
 use Rattle.timefd_date_moment.specs.declared.fields.fields.Fields.{Fields}
 use Rattle.timefd_date_moment.specs.declared.fields.fields.Signed.{Signed}
 use Rattle.timefd_date_moment.specs.declared.fields.reading.Reading.TheVariants as reads
+use Rattle.timefd_date_moment.specs.declared.fields.rule.NameList.{NameList}
 use Rattle.timefd_date_moment.specs.declared.fields.rule.NumberForm.{NumberForm}
 use Rattle.timefd_date_moment.specs.declared.fields.rule.FieldRule.TheVariants as by
 use Rattle.timefd_date_moment.specs.Fields.Fields.{amount, count}
-use Rattle.timefd_date_moment.specs.Fields.Inputs.{as_amount, as_count, input}
+use Rattle.timefd_date_moment.specs.Fields.Inputs.{as_amount, as_count, as_name, input, name}
+use Rattle.timefd_date_moment.specs.Fields.Names.{listed, name_from}
 use Rattle.timefd_date_moment.specs.Fields.Numbers.{digits, padded, sign_in, signed, signed_by, with_sign, within}
 use Rattle.timefd_date_moment.specs.Fields.Readings.{amount_with, count_with}
 use Rattle.timefd_date_moment.specs.Fields.Reads.{TakesFront}
@@ -42,6 +44,16 @@ signed_is_modern (UnixTimestamp m) field b form e = absurd cc
 signed_is_modern (Year m) field b form e = absurd cc
 signed_is_modern _ field b form e = refl
 
+name_is_modern : (c : Component) (field : Count) (names : NameList) (b : Bool) (first : ℕ)
+    → by.Name field names b first ≡ rule_of c → modern c ≡ c
+name_is_modern (Month m) field names b first e = absurd cc
+name_is_modern (Weekday m) field names b first e = absurd cc
+name_is_modern (WeekNumber m) field names b first e = absurd cc
+name_is_modern (Hour m) field names b first e = absurd cc
+name_is_modern (UnixTimestamp m) field names b first e = absurd cc
+name_is_modern (Year m) field names b first e = absurd cc
+name_is_modern _ field names b first e = refl
+
 pub by_number : (c : Component) (field : Count) (l h : ℕ) (text : Text) (old new : Fields) (r : Option ℕ)
     → by.Number field Padding.Zero 2 l h ≡ rule_of c
     → TakesFront (as_count field (within l h (digits 2 2 text))) text old new r
@@ -57,6 +69,14 @@ pub by_sign : (c : Component) (field : Amount) (form : NumberForm) (text : Text)
 by_sign c field form text old new r is takes =
     subst (λ rule. TakesFront (input rule text) text old new r)
     (is ∙ ap rule_of (sym (signed_is_modern c field false form is))) takes
+
+pub by_name : (c : Component) (field : Count) (names : NameList) (b : Bool) (first : ℕ) (text : Text) (old new : Fields)
+    (r : Option ℕ) → by.Name field names b first ≡ rule_of c
+    → TakesFront (name field names b first text) text old new r
+    → TakesFront (input (rule_of (modern c)) text) text old new r
+by_name c field names b first text old new r is takes =
+    subst (λ rule. TakesFront (input rule text) text old new r)
+    (is ∙ ap rule_of (sym (name_is_modern c field names b first is))) takes
 
 -- The number that was found is in the range.
 inside : (l h n len : ℕ) → l ≤ n → n ≤ h → within l h (Some (n, len)) ≡ Some (n, len)
@@ -90,3 +110,15 @@ four_taken field form n text old new four found none long low takes =
       takes,
       long,
     )
+
+-- The name that was found has this index in its list.
+pub name_taken : (field : Count) (names : NameList) (b : Bool) (first index len : ℕ) (text : Text) (old new : Fields)
+    → name_from 0 b (listed names) text ≡ Some (index, len) → len ≤ length text
+    → count_with old field (first + index) (count old field) ≡ Some new
+    → TakesFront (name field names b first text) text old new (Some len)
+name_taken field names b first index len text old new found long takes = (
+  reads.Count field (first + index),
+  ap (as_name field first) found,
+  takes,
+  long,
+)

@@ -1,5 +1,5 @@
 -- Numbers that are read without fields.
-use Rattle.std.proofs.Common.{ℕ, ◌≡◌, ◌∙◌, ◌≤◌, ◌==◌, false, if◌then◌else◌, [], ◌∷◌, length, drop, Option, Some, None, Result, Ok, Err, refl, sym, ap, subst}
+use Rattle.std.proofs.Common.{ℕ, ◌≡◌, ◌∙◌, ◌≤◌, ◌==◌, Bool, false, if◌then◌else◌, [], ◌∷◌, length, drop, Option, Some, None, Result, Ok, Err, refl, sym, ap, subst}
 use Rattle.timefd_modifier.specs.declared.enums.Padding.{Padding}
 use Rattle.timefd_lang_component.specs.declared.component.Component.{Component}
 use Rattle.timefd_lang_component.specs.Modern.{modern}
@@ -9,10 +9,11 @@ use Rattle.timefd_date_moment.specs.declared.fields.fields.Amount.{Amount}
 use Rattle.timefd_date_moment.specs.declared.fields.fields.Count.{Count}
 use Rattle.timefd_date_moment.specs.declared.fields.fields.Fields.{Fields}
 use Rattle.timefd_date_moment.specs.declared.fields.reading.Reading.{Reading}
+use Rattle.timefd_date_moment.specs.declared.fields.rule.NameList.{NameList}
 use Rattle.timefd_date_moment.specs.declared.fields.rule.NumberForm.{NumberForm}
 use Rattle.timefd_date_moment.specs.declared.fields.rule.FieldRule.TheVariants as by
 use Rattle.timefd_date_moment.specs.declared.fields.short.Numbers.{Numbers}
-use Rattle.timefd_date_moment.specs.Fields.Inputs.{as_amount, as_count, input}
+use Rattle.timefd_date_moment.specs.Fields.Inputs.{as_amount, as_count, input, name}
 use Rattle.timefd_date_moment.specs.Fields.Numbers.{digits, signed, within}
 use Rattle.timefd_date_moment.specs.Fields.Readings.{with_reading}
 use Rattle.timefd_date_moment.specs.Fields.Reads.{Point, TakesFront, agreed, at, ended, fields_of, read, read_all, start, taken, whole}
@@ -27,6 +28,13 @@ pub number_by : (c : Component) (field : Count) (l h : ℕ) (text : Text) (old :
 number_by c field l h text old None is takes = tt
 number_by c field l h text old (Some r) is takes =
     quick.by_number c field l h text (fields_with old) (fields_with r.1) (Some r.0) is takes
+
+pub month_by : (c : Component) (names : NameList) (b : Bool) (text : Text) (old : Numbers) (r : Option (ℕ × Numbers))
+    → by.Name Count.Month names b 1 ≡ rule_of c → TakesNumber (name Count.Month names b 1 text) text old r
+    → TakesNumber (input (rule_of (modern c)) text) text old r
+month_by c names b text old None is takes = tt
+month_by c names b text old (Some r) is takes =
+    quick.by_name c Count.Month names b 1 text (fields_with old) (fields_with r.1) (Some r.0) is takes
 
 pub sign_by : (c : Component) (form : NumberForm) (text : Text) (old : Numbers) (r : Option (ℕ × Numbers))
     → by.Signed Amount.Year false form ≡ rule_of c

@@ -1,12 +1,12 @@
-//! Years of four digits, and months, days, hours, minutes and seconds of two: most texts show only these. All
-//! other texts are read into fields.
+//! Years of four digits, months, days, hours, minutes and seconds of two, and names of months: most texts show only
+//! these. All other texts are read into fields.
 
 ghost use Rattle.std.specs.Prelude.{◌≡◌, ◌≤◌, IfSome, Ok, Some, drop, false, length, map};
 ghost use Rattle.timefd_lang_component.specs.Modern.{modern};
 ghost use Rattle.timefd_lang_component.specs.Tree.{compound, trees};
 ghost use Rattle.timefd_lang_node_list.specs.LeafMeaning.{leaf_tree};
 ghost use Rattle.timefd_date_moment.specs.Fields.Fields.{amount, count};
-ghost use Rattle.timefd_date_moment.specs.Fields.Inputs.{as_amount, as_count, input};
+ghost use Rattle.timefd_date_moment.specs.Fields.Inputs.{as_amount, as_count, input, name};
 ghost use Rattle.timefd_date_moment.specs.Fields.Numbers.{digits, signed, within};
 ghost use Rattle.timefd_date_moment.specs.Fields.Readings.{amount_with, count_with};
 ghost use Rattle.timefd_date_moment.specs.Fields.Reads as spec;
@@ -17,8 +17,9 @@ ghost use Rattle.timefd_date_moment.specs.Fields.Short.{TakesNumber, fields_with
 
 use crate::fields::digits::{four_digits, two_digits};
 use crate::fields::fields::{Amount, Count, Fields, NO_FIELDS, Signed};
+use crate::fields::names::leading_name;
 use crate::fields::part::begins;
-use crate::fields::rule::{FieldRule, NumberForm, rule_of};
+use crate::fields::rule::{FieldRule, NameList, NumberForm, rule_of};
 use timefd_lang_component::Component;
 use timefd_lang_node_list::Leaf;
 use timefd_modifier::Padding;
@@ -172,18 +173,20 @@ pub fn numbers_shown(leaves: &[Leaf<'_>], text: &[u8]) -> Option<Numbers>
 #[inline(always)]
 fn is_short(leaf: &Leaf<'_>) -> bool {
     match leaf {
-        Leaf::Component(component) => is_number(*component),
+        Leaf::Component(component) => is_taken(*component),
         Leaf::Literal(_) => true,
     }
 }
 
 #[inline(always)]
-fn is_number(component: Component) -> bool {
+fn is_taken(component: Component) -> bool {
     matches!(
         component,
         Component::CalendarYearFullExtendedRange(_)
             | Component::CalendarYearFullStandardRange(_)
             | Component::MonthNumerical(_)
+            | Component::MonthShort(_)
+            | Component::MonthLong(_)
             | Component::Day(_)
             | Component::Hour24(_)
             | Component::Minute(_)
@@ -220,9 +223,9 @@ fn take_literal(literal: &[u8], text: &[u8], numbers: Numbers) -> Option<(usize,
     }
 }
 
-/// Takes the number of a component.
+/// Takes the number of a component, or the name of a month.
 #[inline(always)]
-#[tactic(auto, using(crate::proofs::FieldsLemmas::ShortLemmas::number_by, crate::proofs::FieldsLemmas::ShortLemmas::sign_by))]
+#[tactic(auto, using(crate::proofs::FieldsLemmas::ShortLemmas::number_by, crate::proofs::FieldsLemmas::ShortLemmas::month_by, crate::proofs::FieldsLemmas::ShortLemmas::sign_by))]
 fn take_component(component: Component, text: &[u8], numbers: Numbers) -> Option<(usize, Numbers)>
     ensures { TakesNumber (input (rules.rule_of (modern component)) text.now) text.now numbers result }
 {
@@ -263,6 +266,12 @@ fn take_component(component: Component, text: &[u8], numbers: Numbers) -> Option
             lowest,
             highest,
         } => take_two(Count::Second, lowest, highest, text, numbers),
+        FieldRule::Name {
+            field: Count::Month,
+            names,
+            is_case_sensitive,
+            first: 1,
+        } => take_month(names, is_case_sensitive, text, numbers),
         FieldRule::Signed {
             field: Amount::Year,
             is_mandatory: false,
@@ -270,6 +279,21 @@ fn take_component(component: Component, text: &[u8], numbers: Numbers) -> Option
         } => take_year(form, text, numbers),
         _ => None,
     }
+}
+
+/// Takes the name of a month.
+#[inline(never)]
+fn take_month(
+    names: NameList,
+    is_case_sensitive: bool,
+    text: &[u8],
+    numbers: Numbers,
+) -> Option<(usize, Numbers)>
+    ensures { TakesNumber (name Count.Month names is_case_sensitive 1 text.now) text.now numbers result }
+{
+    let found = leading_name(text, names, is_case_sensitive)?;
+    let after = numbers.with(Count::Month, 1 + found.0 as u16)?;
+    Some((found.1, after))
 }
 
 /// Takes a number of two digits that is in the range.
