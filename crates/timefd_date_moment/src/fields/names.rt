@@ -6,6 +6,7 @@ ghost use Rattle.timefd_date_moment.specs.Fields.Names as spec;
 use crate::fields::rule::NameList;
 
 /// The index of the first name of the list that the text begins with, and its length in bytes.
+#[inline(never)]
 pub(crate) fn leading_name(
     text: &[u8],
     names: NameList,

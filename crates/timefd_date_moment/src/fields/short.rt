@@ -282,7 +282,7 @@ fn take_component(component: Component, text: &[u8], numbers: Numbers) -> Option
 }
 
 /// Takes the name of a month.
-#[inline(never)]
+#[inline(always)]
 fn take_month(
     names: NameList,
     is_case_sensitive: bool,
