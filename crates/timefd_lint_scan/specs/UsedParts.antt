@@ -7,9 +7,11 @@ use Rattle.timefd_lint_scan.specs.Bytes.{Text}
 use Rattle.timefd_lint_scan.specs.Values.{hands_on, is_begun}
 use Rattle.timefd_lint_scan.specs.Words.{is_closing, is_opening, text_after, text_at, text_of, tokens_after}
 
--- A word with this after it isn't the whole value: a field or a method, a path, an index.
-abbrev pub goes_on : Text → Bool
-goes_on after = bytes_eq after (codes ".") || bytes_eq after (codes ":") || bytes_eq after (codes "[")
+-- A word with these tokens after it isn't the whole value: a field or a method, a path, an index.
+abbrev pub goes_on : Text → Text → Bool
+goes_on after next =
+    bytes_eq after (codes ".") || bytes_eq after (codes "[")
+    || (bytes_eq after (codes ":") && bytes_eq next (codes ":"))
 
 -- These macros make a text.
 abbrev pub makes_text : Text → Bool
@@ -44,11 +46,11 @@ abbrev pub leads_on : Text → List PlacedToken → ℕ → Bool
 leads_on source ps i =
     if bytes_eq (text_at source ps i) (codes "self") then bytes_eq (text_after source ps i 3) (codes "(")
     else bytes_eq (text_at source ps i) (codes "Self")
-    && (not (goes_on (text_after source ps i 4)) || hands_on (text_after source ps i 5))
+    && (not (goes_on (text_after source ps i 4) (text_after source ps i 5)) || hands_on (text_after source ps i 5))
 
 -- A value begins with this token, and nothing in it is looked at.
 abbrev pub is_part : Text → List PlacedToken → ℕ → Bool
 is_part source ps i =
     is_begun source ps i && not (leads_on source ps i)
     && ((makes_text (text_at source ps i) && bytes_eq (text_after source ps i 1) (codes "!"))
-    || (goes_on (text_after source ps i 1) && is_bare source 0 (tokens_after ps i)))
+    || (goes_on (text_after source ps i 1) (text_after source ps i 2) && is_bare source 0 (tokens_after ps i)))

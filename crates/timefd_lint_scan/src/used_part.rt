@@ -10,11 +10,11 @@ use crate::token::Token;
 use crate::value::{hands_on, is_begun};
 use crate::word::{is_closing, is_opening, text_after, text_at, text_of, tokens_after};
 
-/// Whether a word with this after it isn't the whole value: a field or a method, a path, an index follows.
-fn goes_on(after: &[u8]) -> bool
-    ensures { result ≡ spec.goes_on after.now }
+/// Whether a word with these tokens after it isn't the whole value: a field or a method, a path, an index follows.
+fn goes_on(after: &[u8], next: &[u8]) -> bool
+    ensures { result ≡ spec.goes_on after.now next.now }
 {
-    is(after, ".") || is(after, ":") || is(after, "[")
+    is(after, ".") || is(after, "[") || (is(after, ":") && is(next, ":"))
 }
 
 /// Whether a macro makes a text.
@@ -81,8 +81,10 @@ fn leads_on(source: &[u8], pieces: &[PlacedToken], index: usize) -> bool
         is(text_after(source, pieces, index, 3), "(")
     } else {
         is(name, "Self")
-            && (!goes_on(text_after(source, pieces, index, 4))
-                || hands_on(text_after(source, pieces, index, 5)))
+            && (!goes_on(
+                text_after(source, pieces, index, 4),
+                text_after(source, pieces, index, 5),
+            ) || hands_on(text_after(source, pieces, index, 5)))
     }
 }
 
@@ -94,5 +96,6 @@ pub fn is_part(source: &[u8], pieces: &[PlacedToken], index: usize) -> bool
     is_begun(source, pieces, index)
         && !leads_on(source, pieces, index)
         && ((makes_text(text_at(source, pieces, index)) && is(after, "!"))
-            || (goes_on(after) && is_bare(source, tokens_after(pieces, index))))
+            || (goes_on(after, text_after(source, pieces, index, 2))
+                && is_bare(source, tokens_after(pieces, index))))
 }
