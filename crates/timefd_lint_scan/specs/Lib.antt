@@ -21,6 +21,7 @@ pub mod Uses
 pub mod Kept
 pub mod FoundUses
 pub mod Values
+pub mod UsedParts
 pub mod Flows
 pub mod Frames
 pub mod Using

@@ -4,7 +4,7 @@ use Rattle.timefd_lint_scan.specs.declared.piece.PlacedToken.{PlacedToken}
 use Rattle.timefd_lint_scan.specs.declared.known.Known.{Known}
 use Rattle.timefd_lint_scan.specs.declared.uses.Use.{Use}
 use Rattle.timefd_lint_scan.specs.declared.uses.Way.{Way}
-use Rattle.timefd_lint_scan.specs.declared.uses.Way.TheVariants.{Value, Call}
+use Rattle.timefd_lint_scan.specs.declared.uses.Way.TheVariants.{Value, Call, Part}
 use Rattle.timefd_lint_scan.specs.Aliases.{after_first}
 use Rattle.timefd_lint_scan.specs.Bytes.{Text}
 use Rattle.timefd_lint_scan.specs.Declarations.{is_declared_before, is_named}
@@ -37,10 +37,11 @@ is_meant source ps declared position =
     is_seen source (text_at source ps declared) (after_first source (codes "{") (tokens_after ps declared)) position
     else reaches source ps declared position && is_only source ps declared
 
--- The use fits the declaration: a function is called, and anything else isn't.
+-- The use fits the declaration: a function is called, and anything else isn't. A part of something never does.
 abbrev pub is_alike : Way → Bool → Bool
 is_alike Value is_function = not is_function
 is_alike Call is_function = is_function
+is_alike Part is_function = false
 
 abbrev pub is_use_of : Text → List PlacedToken → ℕ → Use → Bool
 is_use_of source ps declared u =

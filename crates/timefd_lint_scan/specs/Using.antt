@@ -8,10 +8,11 @@ use Rattle.timefd_lint_scan.specs.declared.piece.PlacedToken.{PlacedToken}
 use Rattle.timefd_lint_scan.specs.declared.known.Known.{Known}
 use Rattle.timefd_lint_scan.specs.declared.uses.Use.{Use}
 use Rattle.timefd_lint_scan.specs.declared.uses.Way.{Way}
-use Rattle.timefd_lint_scan.specs.declared.uses.Way.TheVariants.{Value, Call}
+use Rattle.timefd_lint_scan.specs.declared.uses.Way.TheVariants.{Value, Call, Part}
 use Rattle.timefd_lint_scan.specs.Bytes.{Text}
 use Rattle.timefd_lint_scan.specs.Flows.{outermost, pending_of}
 use Rattle.timefd_lint_scan.specs.Frames.{innermost, passed}
+use Rattle.timefd_lint_scan.specs.UsedParts.{is_part}
 use Rattle.timefd_lint_scan.specs.Uses.{known_by_name}
 use Rattle.timefd_lint_scan.specs.Values.{ends_value, is_begun}
 use Rattle.timefd_lint_scan.specs.Words.{is_word_token, text_at, text_before, text_after}
@@ -40,6 +41,14 @@ way_from source ps i (Some start) =
 abbrev pub way_of : Text → List PlacedToken → ℕ → Option Way
 way_of source ps i = way_from source ps i (path_start source ps i)
 
+abbrev pub or_part : Option Way → Bool → Option Way
+or_part None is_part = if is_part then Some Part else None
+or_part (Some way) is_part = Some way
+
+-- how a name is used, as a value or as a part of one
+abbrev pub way_at : Text → List PlacedToken → ℕ → Option Way
+way_at source ps i = or_part (way_of source ps i) (is_part source ps i)
+
 abbrev pub use_of : PlacedToken → Option Way → Known → Option Use
 use_of name None known = None
 use_of name (Some way) known =
@@ -48,7 +57,7 @@ use_of name (Some way) known =
 abbrev pub use_reported : Text → List PlacedToken → ℕ → PlacedToken → Option Known → Option Use
 use_reported source ps i p None = None
 use_reported source ps i p (Some known) =
-    if is_word_token p.token then use_of p (way_of source ps i) known else None
+    if is_word_token p.token then use_of p (way_at source ps i) known else None
 
 -- the use of the name at a token, with this bracket open
 abbrev pub use_at : Text → List PlacedToken → ℕ → PlacedToken → Option OpenBracket → Option Use

@@ -40,6 +40,7 @@ mod shadow;
 mod string;
 mod token;
 mod unescape;
+mod used_part;
 mod uses;
 mod using;
 mod value;

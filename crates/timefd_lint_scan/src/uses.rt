@@ -29,6 +29,9 @@ pub enum Way {
     Value,
     /// It is called.
     Call,
+    /// Only a part of it is used, or what another name stands for: `config.format`, `other::F`, `F[0]`,
+    /// `concat!(..)`. No text is looked for there.
+    Part,
 }
 
 /// A name that is used instead of a description: a constant, a variable, or a function that is called.
@@ -96,13 +99,15 @@ fn is_meant(
     }
 }
 
-/// Whether the use fits the declaration: a function is called, and anything else isn't.
+/// Whether the use fits the declaration: a function is called, and anything else isn't. A part of something never
+/// does.
 fn is_alike(way: Way, is_function: bool) -> bool
     ensures { result ≡ spec.is_alike way is_function }
 {
     match way {
         Way::Value => !is_function,
         Way::Call => is_function,
+        Way::Part => false,
     }
 }
 

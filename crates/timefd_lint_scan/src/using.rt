@@ -16,6 +16,7 @@ use crate::furthest::furthest_of;
 use crate::known::Known;
 use crate::layout::TokenLayout;
 use crate::piece::PlacedToken;
+use crate::used_part::is_part;
 use crate::uses::{Use, Uses, Way, known_by_name};
 use crate::value::{ends_value, is_begun};
 use crate::word::{is_word_token, text_after, text_at, text_before};
@@ -63,6 +64,17 @@ fn way_of(source: &[u8], pieces: &[PlacedToken], index: usize) -> Option<Way>
     }
 }
 
+/// How a name is used, as a value or as a part of one.
+fn way_at(source: &[u8], pieces: &[PlacedToken], index: usize) -> Option<Way>
+    ensures { result ≡ spec.way_at source.now pieces.now index }
+{
+    match way_of(source, pieces, index) {
+        Some(way) => Some(way),
+        None if is_part(source, pieces, index) => Some(Way::Part),
+        None => None,
+    }
+}
+
 fn use_of(name: PlacedToken, way: Option<Way>, known: Known) -> Option<Use>
     ensures { result ≡ spec.use_of name way known }
 {
@@ -92,7 +104,7 @@ fn use_at(
     match pending_of(frame) {
         Some(known) if is_word_token(piece.token) => use_of(
             piece,
-            way_of(source, pieces, index),
+            way_at(source, pieces, index),
             known,
         ),
         Some(_) | None => None,

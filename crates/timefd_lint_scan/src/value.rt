@@ -36,7 +36,7 @@ fn begins_value(source: &[u8], pieces: &[PlacedToken], index: usize) -> bool
 }
 
 /// Whether a method passes a text on as it is.
-fn hands_on(method: &[u8]) -> bool
+pub fn hands_on(method: &[u8]) -> bool
     ensures { result ≡ spec.hands_on method.now }
 {
     is(method, "as_ref")

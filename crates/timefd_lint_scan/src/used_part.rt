@@ -1,0 +1,101 @@
+//! What a known call takes in place of a text, and isn't looked into: `config.format`, `other::F`, `F[0]`,
+//! `concat!(..)`.
+
+ghost use Rattle.std.specs.Prelude.{◌≡◌};
+ghost use Rattle.timefd_lint_scan.specs.UsedParts as spec;
+
+use crate::dialect::is;
+use crate::piece::PlacedToken;
+use crate::token::Token;
+use crate::value::{hands_on, is_begun};
+use crate::word::{is_closing, is_opening, text_after, text_at, text_of, tokens_after};
+
+/// Whether a word with these tokens after it isn't the whole value: a field or a method, a path, an index follows.
+fn goes_on(after: &[u8], next: &[u8]) -> bool
+    ensures { result ≡ spec.goes_on after.now next.now }
+{
+    is(after, ".") || is(after, "[") || (is(after, ":") && is(next, ":"))
+}
+
+/// Whether a macro makes a text.
+fn makes_text(name: &[u8]) -> bool
+    ensures { result ≡ spec.makes_text name.now }
+{
+    is(name, "concat")
+        || is(name, "format")
+        || is(name, "env")
+        || is(name, "option_env")
+        || is(name, "include_str")
+}
+
+fn is_literal(token: Token) -> bool
+    ensures { result ≡ spec.is_literal token }
+{
+    match token {
+        Token::Literal(_) => true,
+        Token::White
+        | Token::Comment
+        | Token::Word
+        | Token::Lifetime
+        | Token::Character
+        | Token::Sign
+        | Token::Unclosed => false,
+    }
+}
+
+/// Whether a value that these tokens go on with, up to a comma or to the bracket after it, has no literal, and is
+/// neither a pattern nor a statement.
+fn is_bare(source: &[u8], pieces: &[PlacedToken]) -> bool
+    ensures { result ≡ spec.is_bare source.now 0 pieces.now }
+{
+    let mut depth: usize = 0;
+    let mut rest = pieces;
+    'tokens: while let [piece, after @ ..] = rest {
+        if is_literal(piece.token) {
+            return false;
+        }
+        let text = text_of(source, *piece);
+        if is_opening(text) {
+            depth += 1;
+        } else if is_closing(text) {
+            if depth == 0 {
+                return true;
+            }
+            depth -= 1;
+        } else if depth == 0 && is(text, ",") {
+            return true;
+        } else if depth == 0 && (is(text, ";") || is(text, "=")) {
+            return false;
+        }
+        rest = after;
+    }
+    true
+}
+
+/// Whether `self` or `Self` only leads to a name that is used itself: `self.f()`, `Self::F`, `Self::F.as_str()`.
+fn leads_on(source: &[u8], pieces: &[PlacedToken], index: usize) -> bool
+    ensures { result ≡ spec.leads_on source.now pieces.now index }
+{
+    let name = text_at(source, pieces, index);
+    if is(name, "self") {
+        is(text_after(source, pieces, index, 3), "(")
+    } else {
+        is(name, "Self")
+            && (!goes_on(
+                text_after(source, pieces, index, 4),
+                text_after(source, pieces, index, 5),
+            ) || hands_on(text_after(source, pieces, index, 5)))
+    }
+}
+
+/// Whether a value begins with a token, and nothing in it is looked at.
+pub fn is_part(source: &[u8], pieces: &[PlacedToken], index: usize) -> bool
+    ensures { result ≡ spec.is_part source.now pieces.now index }
+{
+    let after = text_after(source, pieces, index, 1);
+    is_begun(source, pieces, index)
+        && !leads_on(source, pieces, index)
+        && ((makes_text(text_at(source, pieces, index)) && is(after, "!"))
+            || (goes_on(after, text_after(source, pieces, index, 2))
+                && is_bare(source, tokens_after(pieces, index))))
+}
