@@ -64,13 +64,14 @@ class Trial:
 
     @contextlib.contextmanager
     def kept(self):
-        """A folder for what checks of the crate keep, with what `rt check` has kept before."""
+        """A folder for what checks of the crate keep, with what `rt check` has kept before on this machine."""
         with tempfile.TemporaryDirectory(prefix="wrong-kept-") as room:
-            before = f"{self.crate.folder}/out/incremental"
-            if os.path.isdir(before):
-                shutil.copytree(before, f"{room}/kept", copy_function=link_or_copy)
-            else:
-                os.mkdir(f"{room}/kept")
+            before = kit.kept_of(self.crate)
+            if before:
+                # Another checkout may be changing it: what is lost meanwhile is proved once more.
+                with contextlib.suppress(OSError):
+                    shutil.copytree(before, f"{room}/kept", copy_function=link_or_copy)
+            os.makedirs(f"{room}/kept", exist_ok=True)
             yield f"{room}/kept"
 
     def try_copies(self, bodies, kept):
@@ -116,7 +117,8 @@ class Trial:
 def link_or_copy(one, other):
     """A second name for what was proved, which a check replaces and doesn't change, and else a copy."""
     if one.endswith(".oantt"):
-        return os.link(one, other)
+        with contextlib.suppress(OSError):
+            return os.link(one, other)
     return shutil.copy2(one, other)
 
 
