@@ -46,6 +46,8 @@ class Trial:
     def __init__(self, crate, edits):
         self.crate, self.source = crate, kit.source_of(crate)
         self.bodies, self.tried = [], {}
+        # The functions that a check has proved as they are.
+        self.proved = set()
         for edit in edits:
             try:
                 edit.texts()
@@ -56,9 +58,10 @@ class Trial:
     def run(self):
         """What came of each wrong body; those that have no copy, or are left open, come last."""
         copied = sorted((it for it in self.bodies if it.copy), key=lambda it: (it.copy.function.file, it.copy.function.first))
+        placed = [it for it in self.bodies if not it.copy]
         with self.kept() as kept:
             for at in range(0, len(copied), MOST):
-                self.try_copies(copied[at : at + MOST], kept)
+                self.try_copies(copied[at : at + MOST], [] if at else placed, kept)
             self.try_in_place([it for it in self.bodies if it.edit not in self.tried], kept)
         return self.tried
 
@@ -74,13 +77,16 @@ class Trial:
             os.makedirs(f"{room}/kept", exist_ok=True)
             yield f"{room}/kept"
 
-    def try_copies(self, bodies, kept):
-        """Tries wrong bodies in copies; what is left open has to be tried in its place."""
+    def try_copies(self, bodies, placed, kept):
+        """Tries wrong bodies in copies; what is left open has to be tried in its place. The same check proves the functions of others, which are
+        tried in their places, as they are."""
         copies = [it.copy for it in bodies]
         unchanged = {it.function: Copy(it.function, f"{it.function.name}_as_it_is") for it in copies}
         copies += unchanged.values()
-        said = self.check({}, copies, {it.path for it in copies}, kept).stdout
-        lines = function_lines(said)
+        functions = {it for body in placed for it in body.functions}
+        lines = function_lines(self.check({}, copies, {it.path for it in copies} | {path_of(it) for it in functions}, kept).stdout)
+        self.proved |= {it for it in functions if is_proved(lines, path_of(it))}
+        self.proved |= {function for function, it in unchanged.items() if is_proved(lines, it.path)}
         for it in bodies:
             refusal = refusal_of(lines, it.copy.path)
             if refusal and is_proved(lines, unchanged[it.copy.function].path):
@@ -88,11 +94,10 @@ class Trial:
 
     def try_in_place(self, bodies, kept):
         """Tries wrong bodies each in its place, once the functions are proved as they are."""
-        if not bodies:
-            return
-        ran = self.check({}, [], set().union(*(it.paths() for it in bodies)), kept)
+        wanting = [it for it in bodies if not it.functions or not it.functions <= self.proved]
+        ran = self.check({}, [], set().union(*(it.paths() for it in wanting)), kept) if wanting else None
         for it in bodies:
-            if ran.returncode:
+            if ran and ran.returncode and it in wanting:
                 self.tried[it.edit] = Tried(False, f"NOT TRIED: the crate isn't proved as it is: {ran.stdout[-300:]}")
             else:
                 self.tried[it.edit] = what_came_of(self.check(it.edit.texts(), [], it.paths(), kept))
