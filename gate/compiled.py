@@ -95,7 +95,7 @@ def nearest(bodies, sources, texts, crate, file, line):
 
     def begins(body):
         parts = [body.copy.text(sources[crate])] if body.copy else [new for _, _, new in body.pairs if new]
-        return max((at for at in (text.find(it, 0, None) for it in parts) if 0 <= at < end), default=-1)
+        return max((at for at in map(text.find, parts) if at < end), default=-1)
 
     own = [it for it in bodies if it.edit.crate == crate and any(file == it for it, _, _ in it.pairs)]
     return max(own, key=begins, default=None)
