@@ -11,6 +11,7 @@ import importlib.machinery
 import importlib.util
 import os
 import shutil
+import subprocess
 import sys
 
 sys.dont_write_bytecode = True
@@ -86,6 +87,29 @@ def source_of(crate):
     for it in source.functions[:1]:
         with_names(it, "a function", OBJECTS["a function"])
     return source
+
+
+def kept_of(crate):
+    """The folder of what a check of the crate best begins with: what checks of it have kept in this checkout, or in another one on this
+    machine, where the kit knows of these. Nothing if there is none."""
+    found = getattr(module("rt"), "work_for", None)
+    here = f"{crate.folder}/out/incremental"
+    return found(crate) if found else here if os.path.isdir(here) else None
+
+
+def begin_with_kept(crate):
+    """Has checks of the crate here begin with what another checkout on this machine has kept, where that serves better."""
+    adopt = getattr(module("rt"), "adopt", None)
+    if adopt:
+        adopt(crate)
+
+
+def link(made, program):
+    """Links a program's object, as `rt ci` does, and returns whether that went well."""
+    top = os.path.dirname(folder())
+    words = ["--target", "x86_64-unknown-linux-gnu", "--toolchain", f"{top}/toolchain", "-o", program, made]
+    how = {"stdin": subprocess.DEVNULL, "stdout": subprocess.DEVNULL, "stderr": subprocess.DEVNULL}
+    return subprocess.run([f"{top}/bin/rattle-link", *words, f"{top}/c/libos_c.a", f"{top}/c/liblibc_c.a"], **how).returncode == 0
 
 
 def lanes():

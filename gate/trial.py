@@ -3,7 +3,10 @@
 A wrong body is put into a copy of its function, with the same clauses and proofs, and the same check has to prove another copy, of the
 function as it is. What can't be copied (a method of a trait, a function in a cycle of calls, what is outside of functions) is tried
 alone, in place, and so is what a check leaves open because it doesn't compile or has a limit. The checks of a crate run one after
-another, because each takes over what those before it have proved: a check also proves what is called.
+another, because each takes over what those before it have proved.
+
+A check also proves what is called, which `rt ci` has done already, and which takes half of the time. So stand-ins take the place of these proofs
+(stand_ins.py). What is left open over these is tried once more without them.
 """
 import contextlib
 import os
@@ -13,6 +16,7 @@ import subprocess
 import tempfile
 
 import kit
+import stand_ins
 from copies import Copy, copy_of, functions_at, path_of, texts_with
 from edits import NoLongerApplies
 
@@ -54,50 +58,70 @@ class Trial:
                 self.tried[edit] = Tried(False, f"NO LONGER APPLIES: {why}")
 
     def run(self):
-        """What came of each wrong body; those that have no copy, or are left open, come last."""
+        """What came of each wrong body. Those that have no copy, or are left open, come last; those that are left open over stand-ins
+        are tried once more without these."""
         copied = sorted((it for it in self.bodies if it.copy), key=lambda it: (it.copy.function.file, it.copy.function.first))
         with self.kept() as kept:
-            for at in range(0, len(copied), MOST):
-                self.try_copies(copied[at : at + MOST], kept)
-            self.try_in_place([it for it in self.bodies if it.edit not in self.tried], kept)
+            for stands_in in (True, False):
+                left = [it for it in copied if it.edit not in self.tried]
+                for at in range(0, len(left), MOST):
+                    self.try_copies(left[at : at + MOST], kept, stands_in)
+                if stands_in:
+                    self.try_in_place([it for it in self.bodies if it.functions and not it.copy], kept, stands_in)
+            self.try_in_place([it for it in self.bodies if it.edit not in self.tried], kept, False)
         return self.tried
 
     @contextlib.contextmanager
     def kept(self):
-        """A folder for what checks of the crate keep, with what `rt check` has kept before."""
+        """A folder for what checks of the crate keep, with what `rt check` has kept before on this machine."""
         with tempfile.TemporaryDirectory(prefix="wrong-kept-") as room:
-            before = f"{self.crate.folder}/out/incremental"
-            if os.path.isdir(before):
-                shutil.copytree(before, f"{room}/kept", copy_function=link_or_copy)
-            else:
-                os.mkdir(f"{room}/kept")
+            before = kit.kept_of(self.crate)
+            if before:
+                # Another checkout may be changing it: what is lost meanwhile is proved once more.
+                with contextlib.suppress(OSError):
+                    shutil.copytree(before, f"{room}/kept", copy_function=link_or_copy)
+            os.makedirs(f"{room}/kept", exist_ok=True)
             yield f"{room}/kept"
 
-    def try_copies(self, bodies, kept):
-        """Tries wrong bodies in copies; what is left open has to be tried in its place."""
+    def try_copies(self, bodies, kept, stands_in):
+        """Tries wrong bodies in copies. What is left open has to be tried again."""
         copies = [it.copy for it in bodies]
         unchanged = {it.function: Copy(it.function, f"{it.function.name}_as_it_is") for it in copies}
         copies += unchanged.values()
-        said = self.check({}, copies, {it.path for it in copies}, kept).stdout
-        lines = function_lines(said)
+        ran = self.check({}, copies, {it.path for it in copies}, kept, self.source.functions if stands_in else ())
+        lines = function_lines(ran.stdout)
         for it in bodies:
             refusal = refusal_of(lines, it.copy.path)
-            if refusal and is_proved(lines, unchanged[it.copy.function].path):
+            if refusal and self.is_proved(lines, unchanged[it.copy.function].path):
                 self.tried[it.edit] = Tried(True, refusal)
 
-    def try_in_place(self, bodies, kept):
+    def is_proved(self, lines, path):
+        """Whether a check has proved the function at this path."""
+        return any(name.endswith(f"::{path}") and stand_ins.is_proved(self.crate, words) for name, (words, _) in lines.items())
+
+    def try_in_place(self, bodies, kept, stands_in):
         """Tries wrong bodies each in its place, once the functions are proved as they are."""
         if not bodies:
             return
-        ran = self.check({}, [], set().union(*(it.paths() for it in bodies)), kept)
+        functions = {function for it in bodies for function in it.functions}
+        others = [it for it in self.source.functions if it not in functions] if stands_in else ()
+        ran = self.check({}, [], set().union(*(it.paths() for it in bodies)), kept, others)
+        as_it_is = function_lines(ran.stdout).values()
+        is_good = as_it_is and all(stand_ins.is_proved(self.crate, words) for words, _ in as_it_is) if stands_in else not ran.returncode
         for it in bodies:
-            if ran.returncode:
+            if is_good:
+                self.take(it, self.check(it.edit.texts(), [], it.paths(), kept, others), stands_in)
+            elif not stands_in:
                 self.tried[it.edit] = Tried(False, f"NOT TRIED: the crate isn't proved as it is: {ran.stdout[-300:]}")
-            else:
-                self.tried[it.edit] = what_came_of(self.check(it.edit.texts(), [], it.paths(), kept))
 
-    def check(self, texts, copies, paths, kept):
-        """A check of the functions at these paths, with these texts and copies in the crate."""
+    def take(self, body, ran, stands_in):
+        """Takes what came of a wrong body in its place. Over stand-ins only a refusal is an answer."""
+        came = what_came_of(ran)
+        if came.is_refused and ran.returncode == 1 or not stands_in:
+            self.tried[body.edit] = came
+
+    def check(self, texts, copies, paths, kept, others=()):
+        """A check of the functions at these paths, with these texts and copies in the crate, and stand-ins for the proofs of other functions."""
         with tempfile.TemporaryDirectory(prefix="wrong-") as room:
             for part in kit.rtlib().PARTS:
                 if os.path.isdir(f"{self.crate.folder}/{part}"):
@@ -107,16 +131,20 @@ class Trial:
                     it.write(text)
             for it in copies:
                 it.add_proofs(self.crate, room)
+            stand_ins.write(self.crate, others, room)
             only = [word for path in sorted(paths) for word in ("--only", path)] if "" not in paths else []
             words = [kit.rtlib().RATTLE, "check", *self.crate.words(["--jobs", "1", *only], keeps=False), "--incremental", kept]
             how = {"stdout": subprocess.PIPE, "stderr": subprocess.STDOUT, "text": True, "errors": "replace"}
+            # Half the search closes nearly all that the whole one does, and what fails costs half.
+            words += ["--allow-holes", "--margin"] if others else []
             return subprocess.run(words, cwd=room, stdin=subprocess.DEVNULL, **how)
 
 
 def link_or_copy(one, other):
     """A second name for what was proved, which a check replaces and doesn't change, and else a copy."""
     if one.endswith(".oantt"):
-        return os.link(one, other)
+        with contextlib.suppress(OSError):
+            return os.link(one, other)
     return shutil.copy2(one, other)
 
 
@@ -147,14 +175,11 @@ def function_lines(said):
 
 
 def is_refusal(words):
-    return re.match("no proof|not proved", words) is not None
+    """Whether a function is refused for its own body, and not only for what it calls."""
+    return re.match("(no proof|not proved)(?!(: |; )it calls )", words) is not None
 
 
 def refusal_of(lines, path):
     """For what the copy at this path was refused; nothing where it wasn't, or that isn't known."""
     found = [note or words for name, (words, note) in lines.items() if name.endswith(f"::{path}") and is_refusal(words)]
     return found[0] if found else None
-
-
-def is_proved(lines, path):
-    return any(name.endswith(f"::{path}") and words == "proved" for name, (words, _) in lines.items())
