@@ -1,5 +1,5 @@
 -- A diagnostic as a finding: its parts are those of the diagnostic.
-use Rattle.std.proofs.Common.{◌≡◌, Option, None, Some}
+use Rattle.std.proofs.Common.{◌≡◌, Option, Some}
 use Rattle.timefd_lang_component.specs.Tree.{Text}
 use Rattle.timefd_lint_diagnosis.specs.declared.diagnostic.Diagnostic.{Diagnostic}
 use Rattle.timefd_lint_diagnosis.specs.Helps.{nearest_in}

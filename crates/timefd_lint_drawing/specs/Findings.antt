@@ -151,12 +151,15 @@ abbrev pub whole_result : Located → Said → Text → Text
 whole_result l s message =
     sarifs.note_result s.code l.file l.start.line l.start.column message (word s.severity)
 
-abbrev pub sarif_in : Option Position → Located → Said → Text
-sarif_in None l s = whole_result l s (described s)
-sarif_in (Some end) l s = part_result l end s (described s)
+abbrev pub sarif_in : Option Position → Located → Said → Text → Text
+sarif_in None l s message = whole_result l s message
+sarif_in (Some end) l s message = part_result l end s message
+
+abbrev pub described_result : Located → Said → Text → Text
+described_result l s message = sarif_in l.end l s message
 
 abbrev pub sarif : Located → Said → Text
-sarif l s = sarif_in l.end l s
+sarif l s = described_result l s (described s)
 
 abbrev pub drawn_in : Format → Bool → Located → Said → Text
 drawn_in Human colored l s = human colored l s

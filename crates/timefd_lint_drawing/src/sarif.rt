@@ -30,9 +30,22 @@ pub fn result(
         ≡ findings.sarif (located_of location.entry) (said_of finding.entry)) }
 {
     let message = described(alloc, finding)?;
+    described_result(alloc, location, finding, &message)
+}
+
+// A result with this sentence and help.
+fn described_result(
+    alloc: Global,
+    location: FindingLocation<'_, '_>,
+    finding: FindingWords<'_, '_>,
+    message: &str,
+) -> Result<Vec<u8>, AllocError>
+    ensures { IfOk result (λ reported. reported.items ≡ findings.described_result (located_of location.entry)
+        (said_of finding.entry) message.now) }
+{
     match location.end {
-        Some(end) => part_result(alloc, location, end, finding, &message),
-        None => whole_result(alloc, location, finding, &message),
+        Some(end) => part_result(alloc, location, end, finding, message),
+        None => whole_result(alloc, location, finding, message),
     }
 }
 
